@@ -1,0 +1,52 @@
+-- Members that go to the end of an object.
+use Rattle.std.proofs.Common.{◌≡◌, ◌∙◌, ℕ, List, [], ◌∷◌, refl, ap}
+use Rattle.std.specs.Ordering.{nat_cmp, match_ordering, ordering_reverse}
+use Rattle.std.specs.Cmp.Lexicographic.{slice_cmp}
+use Rattle.std.specs.List.{AllByRecursion}
+use Rattle.std.specs.declared.cmp.Ordering.TheVariants.{Less, Greater}
+use Rattle.std.proofs.lemmas.Cmp.{nat_list_cmp_total}
+use Rattle.serde_json.specs.Data.{Data, Members, no_members, member, put}
+use Rattle.attributes.specs.Exact.{keys_of}
+
+-- the members of one object, then those of another
+abbrev pub then_members : Members → Members → Members
+then_members no_members ns = ns
+then_members (member k d ms) ns = member k d (then_members ms ns)
+
+pub then_members-no_members : (ms : Members) → then_members ms no_members ≡ ms
+then_members-no_members no_members = refl
+then_members-no_members (member k d ms) = ap (member k d) (then_members-no_members ms)
+
+pub then_members-assoc : (ls ms ns : Members) → then_members (then_members ls ms) ns ≡ then_members ls (then_members ms ns)
+then_members-assoc no_members ms ns = refl
+then_members-assoc (member k d ls) ms ns = ap (member k d) (then_members-assoc ls ms ns)
+
+-- every key is below the name
+abbrev pub AreBelow : Members → List ℕ → Type 0
+AreBelow ms name = AllByRecursion (λ l. slice_cmp nat_cmp l name ≡ Less) (keys_of ms)
+
+pub AreBelow-more : (ms : Members) (k : List ℕ) (d : Data) (name : List ℕ) → AreBelow ms name → slice_cmp nat_cmp k name ≡ Less → AreBelow (then_members ms (member k d no_members)) name
+AreBelow-more no_members k d name h less = (less, tt)
+AreBelow-more (member l e ms) k d name h less = (h.0, AreBelow-more ms k d name h.1 less)
+
+greater : (k l : List ℕ) → slice_cmp nat_cmp l k ≡ Less → slice_cmp nat_cmp k l ≡ Greater
+greater k l h = nat_list_cmp_total.antisymm k l ∙ ap ordering_reverse h
+
+-- a member above all others goes last
+pub put-last : (ms : Members) (k : List ℕ) (d : Data) → AreBelow ms k → put k d ms ≡ then_members ms (member k d no_members)
+put-last no_members k d h = refl
+put-last (member l e ms) k d h =
+    ap (λ o. match_ordering o (member k d (member l e ms)) (member l d ms) (member l e (put k d ms))) (greater k l h.0)
+    ∙ ap (member l e) (put-last ms k d h.1)
+
+-- every key is below each of the names
+abbrev pub AreBelowAll : Members → List (List ℕ) → Type 0
+AreBelowAll ms names = AllByRecursion (λ name. AreBelow ms name) names
+
+pub AreBelowAll-no_members : (names : List (List ℕ)) → AreBelowAll no_members names
+AreBelowAll-no_members [] = tt
+AreBelowAll-no_members (n ∷ names) = (tt, AreBelowAll-no_members names)
+
+pub AreBelowAll-more : (ms : Members) (k : List ℕ) (d : Data) (names : List (List ℕ)) → AreBelowAll ms names → AllByRecursion (λ name. slice_cmp nat_cmp k name ≡ Less) names → AreBelowAll (then_members ms (member k d no_members)) names
+AreBelowAll-more ms k d [] h less = tt
+AreBelowAll-more ms k d (n ∷ names) h less = (AreBelow-more ms k d n h.0 less.0, AreBelowAll-more ms k d names h.1 less.1)

@@ -1,0 +1,85 @@
+-- What an event is, and its canonical text.
+use Rattle.std.specs.Prelude.{ℕ, List, [], ◌∷◌, Option, Some, None, codes, String}
+use Rattle.std.specs.declared.alloc.Global.{Global}
+use Rattle.serde_json.specs.Data.{Data, boolean, number, string, object, Members, no_members, put}
+use Rattle.serde_json.specs.Find.{of_integer}
+use Rattle.serde_json.specs.Written.{compact_text}
+use Rattle.attributes.specs.Members.{named, value_at}
+use Rattle.attributes.specs.declared.scalars.Scalar.{Scalar}
+use Rattle.attributes.specs.declared.scalars.Scalar.TheVariants as scalar
+use Rattle.attributes.specs.declared.scalars.Given.{Given}
+use Rattle.attributes.specs.declared.scalars.Given.TheVariants as given
+use Rattle.attributes.specs.declared.scalars.Content.{Content}
+use Rattle.attributes.specs.declared.scalars.Content.TheVariants.{Nothing}
+
+-- attributes by name, and what the event carries (CloudEvents 1.0.2, "Context Attributes", "Event Data")
+pub record EventValue : Type 0 where
+  pub attributes : List (List ℕ × Scalar)
+  pub content : Content
+
+-- an attribute as JSON (CloudEvents JSON Event Format 1.0.2, "Type System Mapping")
+abbrev pub json_of : Scalar → Data
+json_of (scalar.Flag b) = boolean b
+json_of (scalar.Whole z) = number (of_integer z)
+json_of (scalar.Words t) = string t
+
+-- the members, with those of the attributes put to them
+abbrev pub with_all : Members → List (List ℕ × Scalar) → Members
+with_all ms [] = ms
+with_all ms (a ∷ rest) = with_all (put a.0 (json_of a.1) ms) rest
+
+-- the members of the event's JSON object, which has each name once and in byte order
+abbrev pub members_of : EventValue → Members
+members_of e = with_all no_members e.attributes
+
+-- the canonical text
+abbrev pub text : EventValue → List ℕ
+text e = compact_text (object (members_of e))
+
+-- the attribute that is given; `Other` gives none
+abbrev pub given_member : List ℕ → Given → List (List ℕ × Scalar) → List (List ℕ × Scalar)
+given_member name (given.Flag b) rest = (name, scalar.Flag b) ∷ rest
+given_member name (given.Whole z) rest = (name, scalar.Whole z) ∷ rest
+given_member name (given.Words t) rest = (name, scalar.Words t) ∷ rest
+given_member name given.Other rest = rest
+
+abbrev pub scalars_of : List (List ℕ × Given) → List (List ℕ × Scalar)
+scalars_of [] = []
+scalars_of (m ∷ ms) = given_member m.0 m.1 (scalars_of ms)
+
+-- the event of the parts
+abbrev pub event_of : List (List ℕ × Given) → EventValue
+event_of p = record { attributes = scalars_of p; content = Nothing }
+
+-- ---- what readers answer
+
+abbrev pub words_or_empty : Option Scalar → List ℕ
+words_or_empty None = []
+words_or_empty (Some (scalar.Flag b)) = []
+words_or_empty (Some (scalar.Whole z)) = []
+words_or_empty (Some (scalar.Words t)) = t
+
+abbrev pub words_of : Option Scalar → Option (List ℕ)
+words_of None = None
+words_of (Some (scalar.Flag b)) = None
+words_of (Some (scalar.Whole z)) = None
+words_of (Some (scalar.Words t)) = Some t
+
+abbrev pub attribute_of : List ℕ → EventValue → Option Scalar
+attribute_of name e = value_at name e.attributes
+
+abbrev pub id_of : EventValue → List ℕ
+id_of e = words_or_empty (attribute_of (codes "id") e)
+
+abbrev pub source_of : EventValue → List ℕ
+source_of e = words_or_empty (attribute_of (codes "source") e)
+
+abbrev pub kind_of : EventValue → List ℕ
+kind_of e = words_or_empty (attribute_of (codes "type") e)
+
+abbrev pub subject_of : EventValue → Option (List ℕ)
+subject_of e = words_of (attribute_of (codes "subject") e)
+
+-- the value that the fields of an `Event` stand for
+abbrev pub view_of : List (String Global × Scalar) → Content → EventValue
+view_of attributes content = record { attributes = named attributes; content = content }

@@ -1,0 +1,6 @@
+pub mod Characters
+pub mod Members
+pub mod Events
+pub mod Faults
+pub mod Sequences
+pub mod Exact

@@ -1,0 +1,152 @@
+//! Sequence numbers, and events that have one.
+
+ghost use Rattle.std.specs.Prelude.{◌≡◌, ◌≤◌, ℕ, if◌then◌else◌, IfErr, IfOk, None, Some};
+ghost use Rattle.std.specs.Option.{option_copied};
+ghost use Rattle.attributes.specs.Sequences.{fault_at, is_sequence, number_at, number_of, sequence_fault, sequence_of};
+
+use crate::characters::are_digits;
+use crate::events::Event;
+use crate::faults::Fault;
+use crate::scalars::Scalar;
+use std::alloc::AllocError;
+use std::marker::Model;
+
+/// The number of an event among those of its source, in 1..=9,223,372,036,854,775,807.
+#[derive(Clone, Copy, PartialEq, Eq, Debug)]
+pub struct Sequence {
+    number: u64,
+}
+
+impl Model for Sequence {
+    ghost use Rattle.std.specs.Prelude.{◌≡◌, ℕ, true};
+    ghost use Rattle.attributes.specs.Sequences.{is_sequence};
+
+    ghost Value = { ℕ };
+
+    ghost view = { λ s. s.number };
+
+    ghost invariant = { λ s. is_sequence s.number ≡ true };
+
+    ghost inverse = { λ n. record { number = n } };
+}
+
+fn in_range(number: u64) -> Option<Sequence>
+    ensures { result ≡ (if is_sequence number then Some number else None) }
+{
+    if number >= 1 && number <= 9_223_372_036_854_775_807 {
+        Some(Sequence { number })
+    } else {
+        None
+    }
+}
+
+impl Sequence {
+    /// Reads exactly twenty digits of ASCII. At a fixed width the order of the texts as bytes is that of the numbers.
+    pub fn of_text(text: &str) -> Option<Sequence>
+        ensures { result ≡ sequence_of text.now }
+    {
+        if text.len() != 20 || !are_digits(text) {
+            return None;
+        }
+        match text.parse::<u64>() {
+            Ok(number) => in_range(number),
+            Err(_) => None,
+        }
+    }
+
+    pub fn number(self) -> u64
+        ensures value { result ≡ self }
+        ensures low { 1 ≤ result }
+        ensures high { result ≤ 9223372036854775807 }
+    {
+        self.number
+    }
+}
+
+/// An event that has a number; seen as the event.
+#[derive(Drop)]
+pub struct Sequenced {
+    event: Event,
+    number: Sequence,
+}
+
+impl Model for Sequenced {
+    ghost use Rattle.std.specs.Prelude.{◌≡◌, Some};
+    ghost use Rattle.attributes.specs.Events.{EventValue};
+    ghost use Rattle.attributes.specs.Sequences.{number_of};
+
+    ghost Value = { EventValue };
+
+    ghost view = { λ s. s.event };
+
+    ghost invariant = { λ s. number_of s.event ≡ Some s.number };
+}
+
+/// An event without a number, and why it has none: `NoSequence` or `BadSequence`.
+#[derive(Drop)]
+pub struct Unsequenced {
+    pub event: Event,
+    pub fault: Fault,
+}
+
+fn number_in(scalar: Option<&Scalar>) -> Option<Sequence>
+    ensures { result ≡ number_at (option_copied scalar.entry) }
+{
+    match scalar {
+        Some(Scalar::Words(text)) => Sequence::of_text(text.as_str()),
+        _ => None,
+    }
+}
+
+fn fault_in(scalar: Option<&Scalar>) -> Fault
+    ensures { result ≡ fault_at (option_copied scalar.entry) }
+{
+    match scalar {
+        Some(_) => Fault::BadSequence,
+        None => Fault::NoSequence,
+    }
+}
+
+impl Sequenced {
+    /// The event with the number of its attribute `sequence` (CloudEvents Sequence extension): twenty digits whose
+    /// number is in 1..=9,223,372,036,854,775,807. Otherwise the event comes back with the reason.
+    pub fn of(event: Event) -> Result<Sequenced, Unsequenced>
+        ensures ok { IfOk result (λ s. s ≡ event) }
+        ensures numbered { IfOk result (λ s. (n : ℕ) × (number_of event ≡ Some n)) }
+        ensures refused { IfErr result (λ u. number_of event ≡ None) }
+        ensures handed_back { IfErr result (λ u. u.event ≡ event) }
+        ensures fault { IfErr result (λ u. u.fault ≡ sequence_fault event) }
+    {
+        let number = number_in(event.attribute("sequence"));
+        match number {
+            Some(number) => Ok(Sequenced { event, number }),
+            None => {
+                let fault = fault_in(event.attribute("sequence"));
+                Err(Unsequenced { event, fault })
+            }
+        }
+    }
+
+    pub fn event(&self) -> &Event
+        ensures { result.now ≡ self.now }
+    {
+        &self.event
+    }
+
+    pub fn number(&self) -> Sequence
+        ensures { number_of self.now ≡ Some result }
+    {
+        self.number
+    }
+
+    /// An event that is equal. Time and memory in proportion to its text.
+    pub fn copy(&self) -> Result<Sequenced, AllocError>
+        ensures { IfOk result (λ s. s ≡ self.now) }
+    {
+        let event = self.event.copy()?;
+        Ok(Sequenced {
+            event,
+            number: self.number,
+        })
+    }
+}
