@@ -11,6 +11,8 @@ pub mod parts;
 pub mod scalars;
 pub mod strings;
 mod tested;
+#[cfg(test)]
+mod tests;
 
 pub use events::Event;
 pub use faults::Fault;

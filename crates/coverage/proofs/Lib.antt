@@ -1,0 +1,11 @@
+pub mod HoldsLemmas
+pub mod StartsLemmas
+pub mod JoinsLemmas
+pub mod PlacesLemmas
+pub mod PairsLemmas
+pub mod EntriesLemmas
+pub mod UnionsLemmas
+pub mod TokensLemmas
+pub mod GapsLemmas
+pub mod CoversLemmas
+pub mod SameLemmas

@@ -1,0 +1,27 @@
+-- The text of a summary, version 1: a JSON object without white space (RFC 8259), this project's own.
+use Rattle.std.specs.Prelude.{ℕ, List, [], ◌∷◌, codes}
+use Rattle.serde_json.specs.Data.{unsigned, Data, number, array, object, Items, no_items, item, Members, no_members, member}
+use Rattle.serde_json.specs.Written.{compact_text}
+use Rattle.coverage.specs.Intervals.{Interval}
+use Rattle.coverage.specs.Summary.{Sources}
+
+-- an interval as the array of its first and its last number
+abbrev pub interval_data : Interval → Data
+interval_data p = array (item (number (unsigned p.0)) (item (number (unsigned p.1)) no_items))
+
+abbrev pub intervals_items : List Interval → Items
+intervals_items [] = no_items
+intervals_items (p ∷ ps) = item (interval_data p) (intervals_items ps)
+
+-- a member for each source, with its intervals
+abbrev pub sources_members : Sources → Members
+sources_members [] = no_members
+sources_members (e ∷ es) = member e.0 (array (intervals_items e.1)) (sources_members es)
+
+-- the summary as JSON: its sources and the version
+abbrev pub summary_data : Sources → Data
+summary_data s = object (member (codes "sources") (object (sources_members s)) (member (codes "version") (number (unsigned 1)) no_members))
+
+-- the text of a summary
+unfoldable pub summary_text : Sources → List ℕ
+summary_text s = compact_text (summary_data s)

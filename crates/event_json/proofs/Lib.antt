@@ -1,0 +1,5 @@
+pub mod Gathered
+pub mod Firsts
+pub mod Unnamed
+pub mod Joined
+pub mod ReadBack

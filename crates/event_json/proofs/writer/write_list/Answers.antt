@@ -1,0 +1,28 @@
+use Rattle.std.proofs.Common.{◌≡◌, ◌≤◌, ◌∷◌, length, true, string_bytes, IsUtf8, ◌∙◌, subst, arith}
+use Rattle.std.proofs.lemmas.Str.{IsUtf8-had}
+use Rattle.event_json.specs.Reading.{max_input}
+use Rattle.event_json.specs.BatchText.{joined, batch_text}
+use Rattle.event_json.proofs.Joined.{write_step, events_step, all_written, all_events}
+use Rattle.event_json.proofs.ReadBack.{Reads-batch_text}
+use Rattle.event_json.proofs.writer.write_list.Goals as goal
+
+pub loop-i-preserved : goal.loop-i-preserved
+loop-i-preserved g c =
+    let es = g.L.EventList.list c.args.list.now in
+    let i = c.loop-i.i in
+    let e = c.event_at.result.now in (
+      write_step es i e _ _ (91 ∷ joined true es) c.event_at.ensures c.in_ok-append.ensures.text c.loop-i.invariant.0,
+      events_step es i e c.event_at.ensures c.append.ensures.event c.loop-i.invariant.1,
+    )
+
+pub returns-clause-reads_back : goal.returns-clause-reads_back
+returns-clause-reads_back g c = λ fits.
+    let es = g.L.EventList.list c.args.list.now in
+    let i = c.loop-i.i in
+    let past : length es ≤ i = omega (arith, c.count-i-end.ensures, c.loop-i-test.false) in
+    let is : string_bytes c.push_str-2.new.self ≡ batch_text es =
+    all_written es i (string_bytes c.loop-i.out) (string_bytes c.push_str-2.new.self) past c.loop-i.invariant.0 c.in_ok-push_str-2.ensures.bytes in
+    let utf8 : IsUtf8 (batch_text es) = subst IsUtf8 is (IsUtf8-had (string_bytes c.push_str-2.new.self) c.push_str-2.new.self.ok) in
+    let text : c.from_string.result ≡ batch_text es = c.from_string.ensures ∙ is in
+    let short : length (batch_text es) ≤ max_input = subst (λ t. length t ≤ max_input) text fits in
+    rw text (Reads-batch_text es (all_events es i past c.loop-i.invariant.1) utf8 short)

@@ -1,0 +1,5 @@
+pub mod Refusals
+pub mod Spelling
+pub mod Reading
+pub mod Walk
+pub mod BatchText

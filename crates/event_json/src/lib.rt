@@ -1,0 +1,13 @@
+//! Events in the JSON Event Format of CloudEvents 1.0.2: a reader of single events and of batches,
+//! and writers of the canonical texts.
+#![tactic(auto)]
+
+mod faults;
+mod reader;
+#[cfg(test)]
+mod tests;
+mod writer;
+
+pub use faults::ReadFault;
+pub use reader::{MAX_INPUT, read_events, readings_are_one};
+pub use writer::{batch_texts_tell_lists, write_batch, write_event, write_sequenced};

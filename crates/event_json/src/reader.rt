@@ -1,0 +1,160 @@
+ghost use Rattle.std.specs.Prelude.{◌≡◌, ◌≢◌, ℕ, List, [], ◌∷◌, map, IfOk, IfErr, IsUtf8};
+ghost use Rattle.serde_json.specs.Find.{as_i64};
+ghost use Rattle.serde_json.specs.Read.{read as read_text};
+ghost use Rattle.serde_json.specs.View.{view, number_view, members_view};
+ghost use Rattle.attributes.specs.Events.{EventValue};
+ghost use Rattle.event_json.specs.Spelling.{given_whole, given_by, spelled, fault_in, event_in};
+ghost use Rattle.event_json.specs.Reading.{Spells, IsNoSpelling, Reads, IsRefused};
+ghost use Rattle.event_json.specs.Walk.{bad, bad_or, first_bad};
+
+use crate::faults::ReadFault;
+use attributes::{Event, Events, Fault, Given, Parts, Text};
+use serde_json::{Category, Map, Number, Value};
+use std::alloc::{AllocError, Global};
+
+/// The greatest length of an input, in bytes (32 MiB).
+pub const MAX_INPUT: u64 = 33_554_432;
+
+/// Reads the events that a JSON object or an array of objects spells, in their order (CloudEvents
+/// JSON Event Format 1.0.2, sections 3 and 4). A member that is null is unset, and of a name that
+/// stands twice the last value counts.
+///
+/// The refusals are tested in the order that [`ReadFault`] gives, and the first member of a batch
+/// that is no event is named. Time and memory are proportional to the length of the input; about
+/// twelve times its length is held for a moment.
+pub fn read_events(alloc: Global, bytes: &[u8]) -> Result<Events, ReadFault>
+    ensures ok { IfOk result (λ l. Reads bytes.now l) }
+    ensures refused { IfErr result (λ f. f ≢ ReadFault.OutOfMemory → IsRefused bytes.now f) }
+
+    // Want of memory is never the fault of a member.
+    ensures named { IfErr result (λ f. (i : ℕ) → f ≢ ReadFault.BadEvent i Fault.OutOfMemory) }
+{
+    if bytes.len() as u64 > MAX_INPUT {
+        return Err(ReadFault::InputTooLarge);
+    }
+    let value = parse(alloc, bytes)?;
+    events(alloc, value)
+}
+
+/// Bytes spell at most one list of events, and are refused only where they spell none.
+pub fn readings_are_one()
+    ensures one { (b : List ℕ) (l m : List EventValue) → Reads b l → Reads b m → l ≡ m }
+    ensures apart { (b : List ℕ) (l : List EventValue) (f : ReadFault) → Reads b l
+        → IsRefused b f → ⊥ }
+{}
+
+fn parse(alloc: Global, bytes: &[u8]) -> Result<Value, ReadFault>
+    ensures utf8 { IfOk result (λ v. IsUtf8 bytes.now) }
+    ensures value { IfOk result (λ v. read_text bytes.now ≡ Some (view v)) }
+    ensures fault { IfErr result (λ f. f ≢ ReadFault.OutOfMemory → f ≡ ReadFault.NotJson) }
+    ensures none { IfErr result (λ f. f ≢ ReadFault.OutOfMemory → IsUtf8 bytes.now
+        → read_text bytes.now ≡ None) }
+{
+    match Value::from_slice(alloc, bytes) {
+        Ok(value) => Ok(value),
+        Err(e) => match e.classify() {
+            Category::Memory => Err(ReadFault::OutOfMemory),
+            _ => Err(ReadFault::NotJson),
+        },
+    }
+}
+
+fn events(alloc: Global, value: Value) -> Result<Events, ReadFault>
+    ensures ok { IfOk result (λ l. Spells (view value) l) }
+    ensures refused { IfErr result (λ f. f ≢ ReadFault.OutOfMemory
+        → IsNoSpelling (view value) f) }
+{
+    match value {
+        Value::Object(members) => one(alloc, Value::Object(members)),
+        Value::Array(items) => many(alloc, items),
+        _ => Err(ReadFault::NotEvent),
+    }
+}
+
+fn one(alloc: Global, value: Value) -> Result<Events, ReadFault>
+    ensures ok { IfOk result (λ l. (fault_in (view value) ≡ None)
+        × (l ≡ event_in (view value) ∷ [])) }
+    ensures refused { IfErr result (λ f. f ≢ ReadFault.OutOfMemory
+        → bad_or 0 (fault_in (view value)) None ≡ Some f) }
+{
+    let mut events = Events::empty(alloc);
+    match event(alloc, value) {
+        Ok(event) => events.push(event)?,
+        Err(fault) => return Err(refusal(0, fault)),
+    }
+    Ok(events)
+}
+
+// Each member's tree is given back as soon as its event stands.
+fn many(alloc: Global, items: Vec<Value>) -> Result<Events, ReadFault>
+    ensures ok { IfOk result (λ l. (first_bad 0 (map view items.items) ≡ None)
+        × (l ≡ map event_in (map view items.items))) }
+    ensures refused { IfErr result (λ f. f ≢ ReadFault.OutOfMemory
+        → first_bad 0 (map view items.items) ≡ Some f) }
+{
+    let mut events = Events::empty(alloc);
+    for item in items {
+        match event(alloc, item) {
+            Ok(member) => events.push(member)?,
+            Err(fault) => return Err(refusal(events.len(), fault)),
+        }
+    }
+    Ok(events)
+}
+
+fn refusal(index: u64, fault: Fault) -> ReadFault
+    ensures value { result ≢ ReadFault.OutOfMemory → result ≡ bad index fault }
+    ensures cause { result ≢ ReadFault.OutOfMemory → fault ≢ Fault.OutOfMemory }
+{
+    match fault {
+        Fault::OutOfMemory => ReadFault::OutOfMemory,
+        _ => ReadFault::BadEvent { index, fault },
+    }
+}
+
+fn event(alloc: Global, value: Value) -> Result<Event, Fault>
+    ensures ok { IfOk result (λ e. fault_in (view value) ≡ None) }
+    ensures built { IfOk result (λ e. e ≡ event_in (view value)) }
+    ensures refused { IfErr result (λ f. f ≢ Fault.OutOfMemory
+        → fault_in (view value) ≡ Some f) }
+{
+    match value {
+        Value::Object(members) => Event::build(parts(alloc, members)?),
+        _ => Err(Fault::SpecVersion),
+    }
+}
+
+// A map's names are in order and each stands once, so each part is new.
+fn parts(alloc: Global, members: Map<String, Value>) -> Result<Parts, AllocError>
+    ensures { IfOk result (λ p. p ≡ spelled (members_view members.entries)) }
+{
+    let mut parts = Parts::empty(alloc);
+    for (name, value) in members {
+        if let Some(given) = given(value) {
+            parts.insert(name, given)?;
+        }
+    }
+    Ok(parts)
+}
+
+fn given(value: Value) -> Option<Given>
+    ensures { result ≡ given_by (view value) }
+{
+    match value {
+        Value::Null => None,
+        Value::Bool(flag) => Some(Given::Flag(flag)),
+        Value::Number(number) => Some(whole(&number)),
+        Value::String(words) => Some(Given::Words(Text::from_string(words))),
+        Value::Array(_) => Some(Given::Other),
+        Value::Object(_) => Some(Given::Other),
+    }
+}
+
+fn whole(number: &Number) -> Given
+    ensures { result ≡ given_whole (as_i64 (number_view number.now)) }
+{
+    match number.as_i64() {
+        Some(n) if n >= -2_147_483_648 && n < 2_147_483_648 => Given::Whole(n as i32),
+        _ => Given::Other,
+    }
+}

@@ -1,0 +1,5 @@
+mod ClapLemmas
+mod CountLemmas
+mod FileLemmas
+mod SourceLemmas
+mod StatusLemmas

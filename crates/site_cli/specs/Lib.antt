@@ -1,0 +1,5 @@
+pub mod Queries
+pub mod Commands
+pub mod Plans
+pub mod Reports
+pub mod Runs
