@@ -1,27 +1,29 @@
 -- Different events have different texts.
-use Rattle.std.proofs.Common.{◌≡◌, ◌∙◌, ◌≤◌, ℕ, pos, negsuc, true, List, [], ◌∷◌, Some, refl, ap, sym, subst, arith}
+use Rattle.std.proofs.Common.{◌≡◌, ◌∙◌, ◌≤◌, ℕ, pos, negsuc, Bool, true, List, [], ◌∷◌, Some, refl, ap, sym, subst, arith}
+use Rattle.std.specs.Prelude.{codes, int_lt, ltb, not}
 use Rattle.std.specs.List.{list_all}
-use Rattle.std.proofs.lemmas.Bool.Decides.{nat_tests}
 use Rattle.std.specs.Ordering.{nat_cmp}
 use Rattle.std.specs.Cmp.Lexicographic.{slice_cmp}
 use Rattle.std.specs.List.Sorted.{IsStrictlySortedBy}
-use Rattle.serde_json.specs.Data.{object, Members, no_members, members_depth}
+use Rattle.std.proofs.lemmas.Bool.Decides.{nat_tests}
+use Rattle.base64.specs.Engines.{standard}
+use Rattle.base64.specs.GeneralPurpose.{encode_of}
+use Rattle.serde_json.specs.Data.{Data, object, string, Members, no_members, member, put, members_depth}
 use Rattle.serde_json.specs.Read.{read}
-use Rattle.attributes.specs.Events.{EventValue, json_of, members_of, text, with_all}
-use Rattle.attributes.specs.Exact.{IsExact, MembersAreExact}
-use Rattle.std.specs.Prelude.{int_lt, ltb, not}
-use Rattle.std.specs.Ordering.{is_eq}
-use Rattle.std.specs.declared.cmp.Ordering.{Ordering}
-use Rattle.std.specs.declared.cmp.Ordering.TheVariants.{Less, Equal, Greater}
-use Rattle.std.proofs.lemmas.Map.Text.{is_eq-slice_cmp}
-use Rattle.std.proofs.lemmas.Slice.Eq.{bytes_eq-Decides}
-use Rattle.attributes.specs.Faults.{IsEvent, KeepsText, is_attribute, given_of, given_all, parts_of}
+use Rattle.attributes.specs.Members.{names_of, InOrder}
+use Rattle.attributes.specs.Events.{EventValue, json_of, members_of, text, with_all, with_content}
+use Rattle.attributes.specs.Exact.{IsExact, IsWhole, KeysAscend, MembersAreExact}
+use Rattle.attributes.specs.Faults.{IsCarried, IsEvent, KeepsText, is_attribute, is_integer, is_shallow, given_of, given_all, offered_of, parts_of}
 use Rattle.attributes.specs.declared.scalars.Scalar.{Scalar}
 use Rattle.attributes.specs.declared.scalars.Scalar.TheVariants as scalar
-use Rattle.attributes.proofs.Alike.{direct, keys_of-direct, with_all-direct, same_members}
+use Rattle.attributes.specs.declared.contents.Content.{Content}
+use Rattle.attributes.specs.declared.contents.Content.TheVariants as content
+use Rattle.attributes.proofs.Alike.{direct, keys_of-direct, members_of-direct, same_members}
+use Rattle.attributes.proofs.Image.{KeysAscend-put}
+use Rattle.attributes.proofs.Ordered.{by_order}
 use Rattle.attributes.proofs.RoundTrip.{read-compact_text}
-use Rattle.attributes.proofs.Faultless.{and_parts, values_pass, no_member_fault}
-use Rattle.attributes.proofs.Written.{depth-with_all}
+use Rattle.attributes.proofs.Faultless.{and_parts, values_pass, depth_passes, no_member_fault, no_payload_fault}
+use Rattle.attributes.proofs.Written.{depth-with_all, shallow_with}
 
 abbrev InOrderNames : List (List ℕ) → Type 0
 InOrderNames names = IsStrictlySortedBy (slice_cmp nat_cmp) names
@@ -36,39 +38,42 @@ exact_direct : (attributes : List (List ℕ × Scalar)) → list_all (λ m. is_a
 exact_direct [] h = tt
 exact_direct (a ∷ rest) h = let both = and_parts (is_attribute (given_of a.1)) _ h in (exact_json a.1 both.0, exact_direct rest both.1)
 
+MembersAreExact-put : (k : List ℕ) (d : Data) (ms : Members) → IsExact d → MembersAreExact ms → MembersAreExact (put k d ms)
+MembersAreExact-put k d no_members h m = (h, tt)
+MembersAreExact-put k d (member l e ms) h m =
+    by_order MembersAreExact (slice_cmp nat_cmp k l) (member k d (member l e ms)) (member l d ms) (member l e (put k d ms))
+    (h, (m.0, m.1)) (h, m.1) (m.0, MembersAreExact-put k d ms h m.1)
+
+exact_with : (c : Content) (ms : Members) → IsCarried c → KeysAscend ms → MembersAreExact ms → IsExact (object (with_content c ms))
+exact_with content.Nothing ms h keys m = (keys, m)
+exact_with (content.Tree d) ms h keys m = (KeysAscend-put (codes "data") d ms keys, MembersAreExact-put (codes "data") d ms h.1 m)
+exact_with (content.Bytes b) ms h keys m = (KeysAscend-put (codes "data_base64") (string (encode_of standard b)) ms keys, MembersAreExact-put (codes "data_base64") (string (encode_of standard b)) ms tt m)
+
 pub exact_event : (e : EventValue) → IsEvent e → IsExact (object (members_of e))
 exact_event e h =
-    let is : with_all no_members e.attributes ≡ direct e.attributes = with_all-direct e.attributes h.in_order in
-    let passed = values_pass (parts_of e) (no_member_fault (parts_of e) h.faultless) in
-    subst (λ ms. IsExact (object ms)) (sym is)
-    (subst InOrderNames (sym (keys_of-direct e.attributes)) h.in_order, exact_direct e.attributes passed)
+    let passed = values_pass (given_all e.attributes) (no_member_fault (parts_of e) h.faultless) in
+    subst (λ ms. IsExact (object ms)) (sym (members_of-direct e h))
+    (exact_with e.content (direct e.attributes) h.carried (subst InOrderNames (sym (keys_of-direct e.attributes)) h.in_order) (exact_direct e.attributes passed))
+
+-- how deep an event's object nests, inside it
+pub depth_event : (e : EventValue) → IsEvent e → members_depth (members_of e) ≤ 120
+depth_event e h =
+    let flat : members_depth (with_all no_members e.attributes) ≤ 0 = depth-with_all e.attributes no_members 0 (omega arith) in
+    shallow_with e.content (with_all no_members e.attributes) (depth_passes (offered_of e.content) (no_payload_fault (parts_of e) h.faultless)) flat
 
 -- an event's text reads back as its object
 pub read-text : (e : EventValue) → IsEvent e → read (text e) ≡ Some (object (members_of e))
 read-text e h =
-    let flat : members_depth (with_all no_members e.attributes) ≤ 0 = depth-with_all e.attributes no_members 0 (omega arith) in
-    read-compact_text (object (members_of e)) (exact_event e h) (omega arith)
+    let low : members_depth (members_of e) ≤ 120 = depth_event e h in
+    read-compact_text (object (members_of e)) (exact_event e h) (omega (arith, low))
 
 pub same_object : (ms ns : Members) → Some (object ms) ≡ Some (object ns) → ms ≡ ns
 same_object ms ns h = cc
 
 -- different events have different texts
 pub same_text : (e f : EventValue) → IsEvent e → IsEvent f → text e ≡ text f → e ≡ f
-same_text e f p q h = same_members e f p.in_order q.in_order (same_object _ _ (sym (read-text e p) ∙ (ap read h ∙ read-text f q)))
-
--- ---- texts as they are compared
-
-pub text_equal : (xs ys : List ℕ) → slice_cmp nat_cmp xs ys ≡ Equal → xs ≡ ys
-text_equal xs ys h = (bytes_eq-Decides xs ys).0 (sym (is_eq-slice_cmp xs ys) ∙ ap is_eq h)
-
-from_is_eq : (o : Ordering) → is_eq o ≡ true → o ≡ Equal
-from_is_eq Less h = cc
-from_is_eq Equal h = refl
-from_is_eq Greater h = cc
-
-pub equal_text : (xs ys : List ℕ) → xs ≡ ys → slice_cmp nat_cmp xs ys ≡ Equal
-equal_text xs ys h = from_is_eq (slice_cmp nat_cmp xs ys) (is_eq-slice_cmp xs ys ∙ (bytes_eq-Decides xs ys).1 h)
+same_text e f p q h = same_members e f p q (same_object _ _ (sym (read-text e p) ∙ (ap read h ∙ read-text f q)))
 
 -- events that keep one text are the same
 pub same_kept : (e f : EventValue) (t u : List ℕ) → KeepsText e t → KeepsText f u → t ≡ u → e ≡ f
-same_kept e f t u h k same = same_members e f h.event.in_order k.event.in_order (same_object _ _ (sym h.reads_back ∙ (ap read same ∙ k.reads_back)))
+same_kept e f t u h k same = same_members e f h.event k.event (same_object _ _ (sym h.reads_back ∙ (ap read same ∙ k.reads_back)))

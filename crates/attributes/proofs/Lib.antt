@@ -6,3 +6,6 @@ pub mod Alike
 pub mod RoundTrip
 pub mod Law
 pub mod Built
+pub mod Image
+pub mod Timed
+pub mod Digits

@@ -1,9 +1,14 @@
 -- Members that go to the end of an object.
 use Rattle.std.proofs.Common.{◌≡◌, ◌∙◌, ℕ, List, [], ◌∷◌, refl, ap}
-use Rattle.std.specs.Ordering.{nat_cmp, match_ordering, ordering_reverse}
+use Rattle.std.proofs.Common.{true, sym, Bool}
+use Rattle.std.specs.Prelude.{bytes_eq}
+use Rattle.std.specs.Ordering.{nat_cmp, match_ordering, ordering_reverse, is_eq}
+use Rattle.std.specs.declared.cmp.Ordering.{Ordering}
+use Rattle.std.proofs.lemmas.Map.Text.{is_eq-slice_cmp}
+use Rattle.std.proofs.lemmas.Slice.Eq.{bytes_eq-Decides}
 use Rattle.std.specs.Cmp.Lexicographic.{slice_cmp}
 use Rattle.std.specs.List.{AllByRecursion}
-use Rattle.std.specs.declared.cmp.Ordering.TheVariants.{Less, Greater}
+use Rattle.std.specs.declared.cmp.Ordering.TheVariants.{Less, Equal, Greater}
 use Rattle.std.proofs.lemmas.Cmp.{nat_list_cmp_total}
 use Rattle.serde_json.specs.Data.{Data, Members, no_members, member, put}
 use Rattle.attributes.specs.Exact.{keys_of}
@@ -50,3 +55,21 @@ AreBelowAll-no_members (n ∷ names) = (tt, AreBelowAll-no_members names)
 pub AreBelowAll-more : (ms : Members) (k : List ℕ) (d : Data) (names : List (List ℕ)) → AreBelowAll ms names → AllByRecursion (λ name. slice_cmp nat_cmp k name ≡ Less) names → AreBelowAll (then_members ms (member k d no_members)) names
 AreBelowAll-more ms k d [] h less = tt
 AreBelowAll-more ms k d (n ∷ names) h less = (AreBelow-more ms k d n h.0 less.0, AreBelowAll-more ms k d names h.1 less.1)
+
+-- ---- texts as they are compared
+
+pub text_equal : (xs ys : List ℕ) → slice_cmp nat_cmp xs ys ≡ Equal → xs ≡ ys
+text_equal xs ys h = (bytes_eq-Decides xs ys).0 (sym (is_eq-slice_cmp xs ys) ∙ ap is_eq h)
+
+from_is_eq : (o : Ordering) → is_eq o ≡ true → o ≡ Equal
+from_is_eq Less h = cc
+from_is_eq Equal h = refl
+from_is_eq Greater h = cc
+
+pub equal_text : (xs ys : List ℕ) → xs ≡ ys → slice_cmp nat_cmp xs ys ≡ Equal
+equal_text xs ys h = from_is_eq (slice_cmp nat_cmp xs ys) (is_eq-slice_cmp xs ys ∙ (bytes_eq-Decides xs ys).1 h)
+
+pub by_order : (P : Members → Type 0) (o : Ordering) (a b c : Members) → P a → P b → P c → P (match_ordering o a b c)
+by_order P Less a b c x y z = x
+by_order P Equal a b c x y z = y
+by_order P Greater a b c x y z = z

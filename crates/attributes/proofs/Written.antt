@@ -1,12 +1,28 @@
 -- What the JSON object of attributes is made of: no float, and no depth of its own.
-use Rattle.std.proofs.Common.{◌≡◌, ◌∙◌, ◌≤◌, ℕ, pos, negsuc, Bool, true, false, ◌||◌, List, [], ◌∷◌, refl, ap, arith}
+use Rattle.std.proofs.Common.{◌≡◌, sym, ◌∙◌, ◌≤◌, ℕ, pos, negsuc, Bool, true, false, ◌||◌, List, [], ◌∷◌, refl, ap, arith}
 use Rattle.std.specs.Ordering.{nat_cmp, match_ordering}
 use Rattle.std.specs.Cmp.Lexicographic.{slice_cmp}
 use Rattle.std.specs.declared.cmp.Ordering.{Ordering}
 use Rattle.std.specs.declared.cmp.Ordering.TheVariants.{Less, Equal, Greater}
-use Rattle.serde_json.specs.Data.{Data, Members, no_members, member, put, depth, members_depth}
-use Rattle.serde_json.specs.Written.{has_float, members_have_float}
-use Rattle.attributes.specs.Events.{json_of, with_all}
+use Rattle.serde_json.specs.Data.{Data, string, object, Members, no_members, member, put, depth, members_depth}
+use Rattle.serde_json.specs.Written.{has_float, members_have_float, compact_text}
+use Rattle.serde_json.specs.Read.{read, max_depth}
+use Rattle.std.specs.Prelude.{codes, option_map, Option, Some, None, String, string_bytes, not}
+use Rattle.std.specs.Map.{lookup}
+use Rattle.std.specs.BTreeMap.{is_at}
+use Rattle.std.specs.declared.alloc.Global.{Global}
+use Rattle.std.proofs.lemmas.Bool.Decides.{nat_tests}
+use Rattle.base64.specs.Engines.{standard}
+use Rattle.base64.specs.GeneralPurpose.{encode_of}
+use Rattle.serde_json.specs.Find.{get_member}
+use Rattle.serde_json.specs.View.{view, members_view}
+use Rattle.serde_json.specs.declared.value.Value.{Value}
+use Rattle.serde_json.proofs.Views.{view-lookup, get_member-put}
+use Rattle.attributes.proofs.Ordered.{by_order}
+use Rattle.attributes.specs.Events.{json_of, with_all, with_content}
+use Rattle.attributes.specs.Faults.{has_whole_numbers, is_shallow, offered_of}
+use Rattle.attributes.specs.declared.contents.Content.{Content}
+use Rattle.attributes.specs.declared.contents.Content.TheVariants as content
 use Rattle.attributes.specs.declared.scalars.Scalar.{Scalar}
 use Rattle.attributes.specs.declared.scalars.Scalar.TheVariants as scalar
 
@@ -17,14 +33,13 @@ left_false : (a b : Bool) → (a || b) ≡ false → a ≡ false
 left_false true b h = h
 left_false false b h = refl
 
+not_true : (b : Bool) → not b ≡ true → b ≡ false
+not_true true h = sym h
+not_true false h = refl
+
 right_false : (a b : Bool) → (a || b) ≡ false → b ≡ false
 right_false true b h = cc
 right_false false b h = h
-
-by_order : (P : Members → Type 0) (o : Ordering) (a b c : Members) → P a → P b → P c → P (match_ordering o a b c)
-by_order P Less a b c x y z = x
-by_order P Equal a b c x y z = y
-by_order P Greater a b c x y z = z
 
 pub has_float-put : (k : List ℕ) (d : Data) (ms : Members) → has_float d ≡ false → members_have_float ms ≡ false → members_have_float (put k d ms) ≡ false
 has_float-put k d no_members h m = or_false (has_float d) false h refl
@@ -64,3 +79,38 @@ depth-with_all [] ms n h = h
 depth-with_all (a ∷ rest) ms n h =
     let flat : depth (json_of a.1) ≡ 0 = depth-json_of a.1 in
     depth-with_all rest (put a.0 (json_of a.1) ms) n (depth-put a.0 (json_of a.1) ms n (omega arith) h)
+
+-- ---- with a payload member
+
+pub whole_with : (c : Content) (ms : Members) → has_whole_numbers (offered_of c) ≡ true → members_have_float ms ≡ false → members_have_float (with_content c ms) ≡ false
+whole_with content.Nothing ms h m = m
+whole_with (content.Tree d) ms h m = has_float-put (codes "data") d ms (not_true (has_float d) h) m
+whole_with (content.Bytes b) ms h m = has_float-put (codes "data_base64") (string (encode_of standard b)) ms refl m
+
+pub shallow_with : (c : Content) (ms : Members) → is_shallow (offered_of c) ≡ true → members_depth ms ≤ 0 → members_depth (with_content c ms) ≤ 120
+shallow_with content.Nothing ms h m = omega arith
+shallow_with (content.Tree d) ms h m = let low : depth d ≤ 120 = grind (arith, nat_tests) in depth-put (codes "data") d ms 120 low (omega arith)
+shallow_with (content.Bytes b) ms h m = let flat : depth (string (encode_of standard b)) ≤ 120 = omega arith in depth-put (codes "data_base64") (string (encode_of standard b)) ms 120 flat (omega arith)
+
+-- what a look-up in the entries finds behind a put
+pub taken : (name : List ℕ) (es : List (String Global × Value)) (r : Option Value) (d : Data) (ms : Members) → r ≡ lookup (is_at (λ (k : String Global). slice_cmp nat_cmp name (string_bytes k))) es → members_view es ≡ put name d ms → option_map view r ≡ Some d
+taken name es r d ms found is = ap (option_map view) found ∙ (view-lookup name es ∙ (ap (get_member name) is ∙ get_member-put name d ms))
+
+pub taken_value : (v : Value) (d : Data) → option_map view (Some v) ≡ Some d → view v ≡ d
+taken_value v d h = cc
+
+pub taken_none : (d : Data) → option_map view None ≡ Some d → ⊥
+taken_none d h = cc
+
+-- what is written of members that are those of an event
+pub text_of : (c : Content) (attributes : List (List ℕ × Scalar)) (ms : Members) (t : List ℕ) → ms ≡ with_content c (with_all no_members attributes) → has_whole_numbers (offered_of c) ≡ true → (has_float (object ms) ≡ false → t ≡ compact_text (object ms)) → t ≡ compact_text (object (with_content c (with_all no_members attributes)))
+text_of c attributes ms t is whole h =
+    let none : members_have_float ms ≡ false = ap members_have_float is ∙ whole_with c (with_all no_members attributes) whole (has_float-with_all attributes no_members refl) in
+    h none ∙ ap (λ xs. compact_text (object xs)) is
+
+pub read_of : (c : Content) (attributes : List (List ℕ × Scalar)) (ms : Members) (t : List ℕ) → ms ≡ with_content c (with_all no_members attributes) → is_shallow (offered_of c) ≡ true → (depth (object ms) ≤ max_depth → read t ≡ Some (object ms)) → read t ≡ Some (object (with_content c (with_all no_members attributes)))
+read_of c attributes ms t is shallow h =
+    let flat : members_depth (with_all no_members attributes) ≤ 0 = depth-with_all attributes no_members 0 (omega arith) in
+    let low : members_depth (with_content c (with_all no_members attributes)) ≤ 120 = shallow_with c (with_all no_members attributes) shallow flat in
+    let same : members_depth ms ≡ members_depth (with_content c (with_all no_members attributes)) = ap members_depth is in
+    h (omega (arith, low, same)) ∙ ap (λ xs. Some (object xs)) is

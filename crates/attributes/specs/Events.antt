@@ -1,16 +1,21 @@
 -- What an event is, and its canonical text.
-use Rattle.std.specs.Prelude.{ℕ, List, [], ◌∷◌, Option, Some, None, codes, String}
+use Rattle.std.specs.Prelude.{ℕ, List, [], ◌∷◌, Option, Some, None, option_and_then, codes, String, ℤ}
 use Rattle.std.specs.declared.alloc.Global.{Global}
-use Rattle.serde_json.specs.Data.{Data, boolean, number, string, object, Members, no_members, put}
+use Rattle.base64.specs.Engines.{standard}
+use Rattle.base64.specs.GeneralPurpose.{encode_of}
+use Rattle.serde_json.specs.Data.{Data, null, boolean, number, string, array, object, Members, no_members, put}
 use Rattle.serde_json.specs.Find.{of_integer}
 use Rattle.serde_json.specs.Written.{compact_text}
 use Rattle.attributes.specs.Members.{named, value_at}
+use Rattle.attributes.specs.Times.{time_day}
 use Rattle.attributes.specs.declared.scalars.Scalar.{Scalar}
 use Rattle.attributes.specs.declared.scalars.Scalar.TheVariants as scalar
 use Rattle.attributes.specs.declared.scalars.Given.{Given}
 use Rattle.attributes.specs.declared.scalars.Given.TheVariants as given
-use Rattle.attributes.specs.declared.scalars.Content.{Content}
-use Rattle.attributes.specs.declared.scalars.Content.TheVariants.{Nothing}
+use Rattle.attributes.specs.declared.contents.Content.{Content}
+use Rattle.attributes.specs.declared.contents.Content.TheVariants as content
+use Rattle.attributes.specs.declared.contents.Offered.{Offered}
+use Rattle.attributes.specs.declared.contents.Offered.TheVariants as offered
 
 -- attributes by name, and what the event carries (CloudEvents 1.0.2, "Context Attributes", "Event Data")
 pub record EventValue : Type 0 where
@@ -28,9 +33,15 @@ abbrev pub with_all : Members → List (List ℕ × Scalar) → Members
 with_all ms [] = ms
 with_all ms (a ∷ rest) = with_all (put a.0 (json_of a.1) ms) rest
 
+-- the members, with the payload member put to them (CloudEvents JSON Event Format 1.0.2, "Handling of data"; RFC 4648, section 4)
+abbrev pub with_content : Content → Members → Members
+with_content content.Nothing ms = ms
+with_content (content.Tree d) ms = put (codes "data") d ms
+with_content (content.Bytes b) ms = put (codes "data_base64") (string (encode_of standard b)) ms
+
 -- the members of the event's JSON object, which has each name once and in byte order
 abbrev pub members_of : EventValue → Members
-members_of e = with_all no_members e.attributes
+members_of e = with_content e.content (with_all no_members e.attributes)
 
 -- the canonical text
 abbrev pub text : EventValue → List ℕ
@@ -47,9 +58,31 @@ abbrev pub scalars_of : List (List ℕ × Given) → List (List ℕ × Scalar)
 scalars_of [] = []
 scalars_of (m ∷ ms) = given_member m.0 m.1 (scalars_of ms)
 
+-- what is to be an event: members by name, and what the payload members were
+pub record OfferValue : Type 0 where
+  pub members : List (List ℕ × Given)
+  pub offered : Offered
+
+-- a tree that is null is nothing
+abbrev pub tree_content : Data → Content
+tree_content null = content.Nothing
+tree_content (boolean b) = content.Tree (boolean b)
+tree_content (number n) = content.Tree (number n)
+tree_content (string s) = content.Tree (string s)
+tree_content (array ds) = content.Tree (array ds)
+tree_content (object ms) = content.Tree (object ms)
+
+-- what parts without a fault carry
+abbrev pub content_of : Offered → Content
+content_of offered.Nothing = content.Nothing
+content_of (offered.Tree d) = tree_content d
+content_of (offered.Bytes b) = content.Bytes b
+content_of offered.Both = content.Nothing
+content_of offered.Undecodable = content.Nothing
+
 -- the event of the parts
-abbrev pub event_of : List (List ℕ × Given) → EventValue
-event_of p = record { attributes = scalars_of p; content = Nothing }
+abbrev pub event_of : OfferValue → EventValue
+event_of p = record { attributes = scalars_of p.members; content = content_of p.offered }
 
 -- ---- what readers answer
 
@@ -79,6 +112,17 @@ kind_of e = words_or_empty (attribute_of (codes "type") e)
 
 abbrev pub subject_of : EventValue → Option (List ℕ)
 subject_of e = words_of (attribute_of (codes "subject") e)
+
+-- the parts of members and of what was offered beside them
+abbrev pub offer_of : List (String Global × Given) → Offered → OfferValue
+offer_of members offered = record { members = named members; offered = offered }
+
+abbrev pub time_of : EventValue → Option (List ℕ)
+time_of e = words_of (attribute_of (codes "time") e)
+
+-- the UTC day of the event's time, counted from 1970-01-01, where it has a time
+abbrev pub day_of : EventValue → Option ℤ
+day_of e = option_and_then time_day (time_of e)
 
 -- the value that the fields of an `Event` stand for
 abbrev pub view_of : List (String Global × Scalar) → Content → EventValue

@@ -1,6 +1,9 @@
 pub mod Characters
 pub mod Members
+pub mod TreeCode
+pub mod Times
 pub mod Events
+pub mod Codes
+pub mod Exact
 pub mod Faults
 pub mod Sequences
-pub mod Exact

@@ -1,25 +1,23 @@
 //! Events, built of parts.
 
-ghost use Rattle.std.specs.Prelude.{◌≡◌, ◌≢◌, ◌↔◌, bytes_eq, IfErr, IfOk, None, Some, List, ℕ, length, string_bytes};
+ghost use Rattle.std.specs.Prelude.{◌≡◌, ◌≢◌, ◌↔◌, bytes_eq, IfErr, IfOk, Some, None, option_and_then};
 ghost use Rattle.std.specs.Option.{option_copied};
 ghost use Rattle.std.specs.Ordering.{nat_cmp};
 ghost use Rattle.std.specs.Cmp.Lexicographic.{slice_cmp};
 ghost use Rattle.std.specs.declared.cmp.Ordering.TheVariants.{Equal};
-ghost use Rattle.serde_json.specs.Data.{no_members, object};
-ghost use Rattle.serde_json.specs.Read.{read};
-ghost use Rattle.serde_json.specs.View.{members_view, view};
-ghost use Rattle.serde_json.specs.Written.{compact_text};
 ghost use Rattle.attributes.specs.Members.{InOrder, named, value_at};
-ghost use Rattle.attributes.specs.Events.{EventValue, attribute_of, event_of, id_of, json_of, kind_of, scalars_of, source_of, subject_of, text, with_all, words_of, words_or_empty};
+ghost use Rattle.attributes.specs.Times.{time_day};
+ghost use Rattle.attributes.specs.Events.{attribute_of, content_of, day_of, event_of, id_of, kind_of, scalars_of, source_of, subject_of, text, time_of, words_of, words_or_empty};
 ghost use Rattle.attributes.specs.Faults.{IsEvent, fault};
 ghost use Rattle.attributes.specs.declared.faults.Fault.TheVariants.{OutOfMemory};
 
+use crate::canonical::canonical;
+use crate::contents::{Content, Offered};
 use crate::faults::Fault;
 use crate::parts::Parts;
-use crate::scalars::{Content, Given, Scalar};
-use crate::strings::Text;
-use crate::tested::first_fault;
-use serde_json::{Map, Number, Value};
+use crate::scalars::{Given, Scalar};
+use crate::tested::{first_member_fault, first_payload_fault};
+use crate::times::day_in;
 use std::alloc::{AllocError, Global};
 use std::cmp::Ordering;
 use std::collections::BTreeMap;
@@ -39,10 +37,13 @@ pub struct Event {
 
 impl Model for Event {
     ghost use Rattle.std.specs.Prelude.{string_bytes};
+    ghost use Rattle.attributes.specs.Codes.{event_code};
     ghost use Rattle.attributes.specs.Events.{EventValue, view_of};
     ghost use Rattle.attributes.specs.Faults.{KeepsText};
 
     ghost Value = { EventValue };
+
+    ghost coded = { event_code };
 
     ghost view = { λ e. view_of e.attributes.items e.content };
 
@@ -67,35 +68,6 @@ fn scalars(
         }
     }
     Ok(attributes)
-}
-
-fn value_of(alloc: Global, scalar: &Scalar) -> Result<Value, AllocError>
-    ensures { IfOk result (λ v. view v ≡ json_of scalar.now) }
-{
-    match scalar {
-        Scalar::Flag(flag) => Ok(Value::Bool(*flag)),
-        Scalar::Whole(number) => Ok(Value::Number(Number::from(*number))),
-        Scalar::Words(text) => Ok(Value::String(String::from_str(alloc, text.as_str())?)),
-    }
-}
-
-/// The members of the event's JSON object.
-fn members(alloc: Global, attributes: &[(String, Scalar)]) -> Result<Map<String, Value>, AllocError>
-    ensures { IfOk result (λ m. members_view m.entries ≡ with_all no_members (named attributes.now)) }
-{
-    let mut map = Map::new(alloc);
-    for (name, scalar) in attributes {
-        serde_json::put(&mut map, alloc, name.as_str(), value_of(alloc, scalar)?)?;
-    }
-    Ok(map)
-}
-
-fn canonical(alloc: Global, attributes: &[(String, Scalar)]) -> Result<String, AllocError>
-    ensures text { IfOk result (λ s. string_bytes s ≡ compact_text (object (with_all no_members (named attributes.now)))) }
-    ensures reads_back { IfOk result (λ s. read (string_bytes s) ≡ Some (object (with_all no_members (named attributes.now)))) }
-{
-    let members = members(alloc, attributes)?;
-    Value::Object(members).to_string(alloc)
 }
 
 fn are_same(name: &str, other: &str) -> bool
@@ -156,6 +128,44 @@ fn copies(
     Ok(own)
 }
 
+/// What offered data is carried as.
+fn content_in(offered: Offered) -> Content
+    ensures { result ≡ content_of offered }
+{
+    match offered {
+        Offered::Tree(tree) => {
+            if tree.is_null() {
+                Content::Nothing
+            } else {
+                Content::Tree(tree)
+            }
+        }
+        Offered::Bytes(bytes) => Content::Bytes(bytes),
+        Offered::Nothing => Content::Nothing,
+        Offered::Both => Content::Nothing,
+        Offered::Undecodable => Content::Nothing,
+    }
+}
+
+fn content_copy(content: &Content) -> Result<Content, AllocError>
+    ensures { IfOk result (λ c. c ≡ content.now) }
+{
+    match content {
+        Content::Nothing => Ok(Content::Nothing),
+        Content::Tree(tree) => Ok(Content::Tree(tree.copy()?)),
+        Content::Bytes(bytes) => Ok(Content::Bytes(bytes.copy()?)),
+    }
+}
+
+fn day_where_there(time: Option<&str>) -> Option<i32>
+    ensures { result ≡ option_and_then time_day (option_copied time.entry) }
+{
+    match time {
+        Some(time) => day_in(time),
+        None => None,
+    }
+}
+
 impl Event {
     /// Tests the parts in the order of the faults, and answers the first one or the event. Want of memory may come in
     /// the place of `TooLarge`, since the text is made before it is measured.
@@ -165,18 +175,23 @@ impl Event {
         ensures built { IfOk result (λ e. (fault parts ≡ None) × (e ≡ event_of parts)) }
         ensures refused { IfErr result (λ f. f ≢ OutOfMemory → fault parts ≡ Some f) }
     {
-        match first_fault(&parts.members) {
+        match first_member_fault(&parts.members) {
+            None => {}
+            Some(fault) => return Err(fault),
+        }
+        match first_payload_fault(&parts.offered) {
             None => {}
             Some(fault) => return Err(fault),
         }
         let attributes = scalars(parts.alloc, parts.members)?;
-        let text = canonical(parts.alloc, attributes.as_slice())?;
+        let content = content_in(parts.offered);
+        let (text, content) = canonical(parts.alloc, attributes.as_slice(), content)?;
         if text.len() > MAX_TEXT {
             return Err(Fault::TooLarge);
         }
         Ok(Event {
             attributes,
-            content: Content::Nothing,
+            content,
             text,
         })
     }
@@ -223,6 +238,20 @@ impl Event {
         words(self.attribute("subject"))
     }
 
+    /// The attribute `time` (RFC 3339).
+    pub fn time(&self) -> Option<&str>
+        ensures { option_copied result ≡ time_of self.now }
+    {
+        words(self.attribute("time"))
+    }
+
+    /// The UTC day of `time`, counted from 1970-01-01, in -719,528 to 2,932,896.
+    pub fn day(&self) -> Option<i32>
+        ensures { result ≡ day_of self.now }
+    {
+        day_where_there(self.time())
+    }
+
     pub fn content(&self) -> &Content
         ensures { result.now ≡ self.now.content }
     {
@@ -236,9 +265,10 @@ impl Event {
         let alloc = *self.text.allocator();
         let attributes = copies(alloc, self.attributes.as_slice())?;
         let text = String::from_str(alloc, self.text.as_str())?;
+        let content = content_copy(&self.content)?;
         Ok(Event {
             attributes,
-            content: Content::Nothing,
+            content,
             text,
         })
     }

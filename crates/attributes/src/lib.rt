@@ -1,7 +1,9 @@
 //! Events as values: their attributes, their faults, their canonical text and their sequence numbers.
 #![tactic(auto)]
 
+mod canonical;
 mod characters;
+pub mod contents;
 pub mod events;
 pub mod faults;
 pub mod laws;
@@ -13,11 +15,16 @@ pub mod strings;
 mod tested;
 #[cfg(test)]
 mod tests;
+pub mod times;
+pub mod trees;
 
+pub use contents::{Content, Offered};
 pub use events::Event;
 pub use faults::Fault;
 pub use lists::{Batch, Events};
 pub use numbers::{Sequence, Sequenced, Unsequenced};
 pub use parts::Parts;
-pub use scalars::{Content, Given, Scalar};
+pub use scalars::{Given, Scalar};
 pub use strings::{Octets, Text};
+pub use times::Moment;
+pub use trees::Tree;

@@ -16,9 +16,13 @@ pub struct Events {
 
 impl Model for Events {
     ghost use Rattle.std.specs.Prelude.{List};
+    ghost use Rattle.std.specs.Coded.{coded_list};
+    ghost use Rattle.attributes.specs.Codes.{event_code};
     ghost use Rattle.attributes.specs.Events.{EventValue};
 
     ghost Value = { List EventValue };
+
+    ghost coded = { coded_list event_code };
 
     ghost view = { λ l. l.items.items };
 }
@@ -70,9 +74,13 @@ pub struct Batch {
 
 impl Model for Batch {
     ghost use Rattle.std.specs.Prelude.{List};
+    ghost use Rattle.std.specs.Coded.{coded_list};
+    ghost use Rattle.attributes.specs.Codes.{event_code};
     ghost use Rattle.attributes.specs.Events.{EventValue};
 
     ghost Value = { List EventValue };
+
+    ghost coded = { coded_list event_code };
 
     ghost view = { λ l. l.items.items };
 }

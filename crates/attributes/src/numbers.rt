@@ -8,7 +8,8 @@ use crate::characters::are_digits;
 use crate::events::Event;
 use crate::faults::Fault;
 use crate::scalars::Scalar;
-use std::alloc::AllocError;
+use crate::strings::Text;
+use std::alloc::{AllocError, Global};
 use std::marker::Model;
 
 /// The number of an event among those of its source, in 1..=9,223,372,036,854,775,807.
@@ -30,16 +31,6 @@ impl Model for Sequence {
     ghost inverse = { λ n. record { number = n } };
 }
 
-fn in_range(number: u64) -> Option<Sequence>
-    ensures { result ≡ (if is_sequence number then Some number else None) }
-{
-    if number >= 1 && number <= 9_223_372_036_854_775_807 {
-        Some(Sequence { number })
-    } else {
-        None
-    }
-}
-
 impl Sequence {
     /// Reads exactly twenty digits of ASCII. At a fixed width the order of the texts as bytes is that of the numbers.
     pub fn of_text(text: &str) -> Option<Sequence>
@@ -49,9 +40,33 @@ impl Sequence {
             return None;
         }
         match text.parse::<u64>() {
-            Ok(number) => in_range(number),
+            Ok(number) => Sequence::of_u64(number),
             Err(_) => None,
         }
+    }
+
+    /// The sequence of a number, where it is in range.
+    pub fn of_u64(number: u64) -> Option<Sequence>
+        ensures { result ≡ (if is_sequence number then Some number else None) }
+    {
+        if number >= 1 && number <= 9_223_372_036_854_775_807 {
+            Some(Sequence { number })
+        } else {
+            None
+        }
+    }
+
+    /// The twenty digits of the number.
+    pub fn digits(self, alloc: Global) -> Result<Text, AllocError>
+        ensures { IfOk result (λ t. sequence_of t ≡ Some self) }
+    {
+        let digits = format!(in alloc; "{}", self.number)?;
+        let mut text = String::with_capacity(alloc, 20)?;
+        for _place in digits.as_str().len()..20 {
+            text.push('0')?;
+        }
+        text.push_str(digits.as_str())?;
+        Ok(Text::from_string(text))
     }
 
     pub fn number(self) -> u64
@@ -72,10 +87,13 @@ pub struct Sequenced {
 
 impl Model for Sequenced {
     ghost use Rattle.std.specs.Prelude.{◌≡◌, Some};
+    ghost use Rattle.attributes.specs.Codes.{event_code};
     ghost use Rattle.attributes.specs.Events.{EventValue};
     ghost use Rattle.attributes.specs.Sequences.{number_of};
 
     ghost Value = { EventValue };
+
+    ghost coded = { event_code };
 
     ghost view = { λ s. s.event };
 

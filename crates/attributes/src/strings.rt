@@ -1,6 +1,7 @@
 //! Texts and byte strings that an event owns.
 
 ghost use Rattle.std.specs.Prelude.{◌≡◌, IfOk, string_bytes};
+ghost use Rattle.base64.specs.GeneralPurpose.{IsBytes};
 ghost use Rattle.attributes.specs.Characters.{is_filled};
 
 use crate::characters::are_filled;
@@ -59,6 +60,13 @@ impl Text {
     }
 }
 
+fn as_they_are(bytes: &[u8]) -> &[u8]
+    ensures value { result.now ≡ bytes.now }
+    ensures bytes { IsBytes bytes.now }
+{
+    bytes
+}
+
 /// Bytes as they are.
 #[derive(Drop)]
 pub struct Octets {
@@ -90,9 +98,16 @@ impl Octets {
         Octets { bytes }
     }
 
-    pub fn as_bytes(&self) -> &[u8]
-        ensures { result.now ≡ self.now }
+    pub fn copy(&self) -> Result<Octets, AllocError>
+        ensures { IfOk result (λ o. o ≡ self.now) }
     {
-        self.bytes.as_slice()
+        Octets::of(*self.bytes.allocator(), self.bytes.as_slice())
+    }
+
+    pub fn as_bytes(&self) -> &[u8]
+        ensures value { result.now ≡ self.now }
+        ensures bytes { IsBytes self.now }
+    {
+        as_they_are(self.bytes.as_slice())
     }
 }

@@ -1,6 +1,10 @@
 //! What no contract says: that calls succeed, and that the contracts mean what the standards say.
 
-use crate::{Batch, Event, Events, Fault, Given, Octets, Parts, Scalar, Sequence, Sequenced, Text};
+use crate::{
+    Batch, Content, Event, Events, Fault, Given, Moment, Octets, Offered, Parts, Scalar, Sequence,
+    Sequenced, Text, Tree,
+};
+use serde_json::Value;
 use std::alloc::{AllocError, Global};
 use std::cmp::Ordering;
 
@@ -54,31 +58,40 @@ fn an_event_has_its_text_and_its_attributes(rt: HostRuntime) -> Result<(), Fault
     Ok(())
 }
 
+// The members that are at fault, in the order in which they are tested.
+const SPOILED: [(&str, &str, &str, u8); 11] = [
+    ("specversion", "0.3", "SpecVersion", 2),
+    ("id", "", "Id", 3),
+    ("source", "", "Source", 4),
+    ("type", "a\u{7f}", "Kind", 5),
+    ("subject", "", "Subject", 6),
+    ("time", "2024-02-30T10:00:00Z", "Time", 7),
+    ("datacontenttype", "", "ContentType", 8),
+    ("dataschema", "", "Schema", 9),
+    ("Bad", "x", "ExtensionName", 10),
+    ("data", "x", "ExtensionName", 10),
+    ("comment", "a\u{85}b", "ExtensionValue", 11),
+];
+
 #[test]
-fn members_at_fault_are_named(rt: HostRuntime) -> Result<(), Fault> {
+fn the_first_fault_is_named(rt: HostRuntime) -> Result<(), Fault> {
     let alloc = rt.alloc();
-    let words = [
-        ("specversion", "0.3", "SpecVersion", 2),
-        ("id", "", "Id", 3),
-        ("source", "", "Source", 4),
-        ("type", "a\u{7f}", "Kind", 5),
-        ("subject", "", "Subject", 6),
-        ("time", "2024-02-29T10:00:00Z", "Time", 7),
-        ("datacontenttype", "", "ContentType", 8),
-        ("dataschema", "", "Schema", 9),
-        ("Bad", "x", "ExtensionName", 10),
-        ("data", "x", "ExtensionName", 10),
-        ("data_base64", "AQI=", "ExtensionName", 10),
-        ("comment", "a\u{85}b", "ExtensionValue", 11),
-    ];
-    for (name, value, fault, number) in words {
-        match fault_of(alloc, name, given(alloc, value)?)? {
-            Some(found) => {
+    for (place, (name, value, fault, number)) in SPOILED.iter().enumerate() {
+        let mut parts = parts(alloc, "a1", "comment", given(alloc, "")?)?;
+        parts.set(name, given(alloc, value)?)?;
+        if place + 1 < SPOILED.len() {
+            let (name, value, _, _) = SPOILED[place + 1];
+            parts.set(name, given(alloc, value)?)?;
+        } else {
+            parts.offer(Offered::Both);
+        }
+        match Event::build(parts) {
+            Ok(_) => assert!(rt; false, "{name} is taken"),
+            Err(found) => {
                 let text = format!(in alloc; "{found}")?;
-                assert_eq!(rt; text.as_str(), fault, "{name}");
-                assert_eq!(rt; found.number(), number, "{name}");
+                assert_eq!(rt; text.as_str(), *fault, "{name}");
+                assert_eq!(rt; found.number(), *number, "{name}");
             }
-            None => assert!(rt; false, "{name} is taken"),
         }
     }
     assert!(rt; fault_of(alloc, "comment", given(alloc, "")?)?.is_none());
@@ -86,6 +99,118 @@ fn members_at_fault_are_named(rt: HostRuntime) -> Result<(), Fault> {
     assert!(rt; fault_of(alloc, "open", Given::Flag(true))?.is_none());
     assert!(rt; fault_of(alloc, "open", Given::Other)? == Some(Fault::ExtensionValue));
     assert!(rt; fault_of(alloc, "id", Given::Whole(1))? == Some(Fault::Id));
+    Ok(())
+}
+
+fn json(alloc: Global, text: &str) -> Result<Offered, Fault> {
+    match Value::from_str(alloc, text) {
+        Ok(value) => Ok(Offered::Tree(Tree::of(value))),
+        Err(_) => Err(Fault::OutOfMemory),
+    }
+}
+
+fn nested(alloc: Global, depth: usize, inside: &str) -> Result<Offered, Fault> {
+    let mut text = String::new(alloc);
+    for _ in 0..depth {
+        text.push('[')?;
+    }
+    text.push_str(inside)?;
+    for _ in 0..depth {
+        text.push(']')?;
+    }
+    json(alloc, text.as_str())
+}
+
+fn carrying(alloc: Global, offered: Offered) -> Result<Event, Fault> {
+    let mut parts = parts(alloc, "a1", "answer", Given::Whole(42))?;
+    parts.offer(offered);
+    Event::build(parts)
+}
+
+#[test]
+fn data_is_carried_or_refused(rt: HostRuntime) -> Result<(), Fault> {
+    let alloc = rt.alloc();
+    let event = carrying(
+        alloc,
+        json(alloc, "{\"b\":[1,-2,true,null],\"a\":\"\\u00e9\"}")?,
+    )?;
+    assert_eq!(rt;
+        event.text(),
+        "{\"answer\":42,\"data\":{\"a\":\"é\",\"b\":[1,-2,true,null]},\"id\":\"a1\",\"source\":\"/orders\",\"specversion\":\"1.0\",\"subject\":\"x\",\"type\":\"t.a\"}"
+    );
+    assert!(rt; matches!(event.content(), Content::Tree(_)));
+    assert!(rt; event.compare(&event.copy()?) == Ordering::Equal);
+    let event = carrying(
+        alloc,
+        Offered::Bytes(Octets::of(alloc, [1u8, 2].as_slice())?),
+    )?;
+    assert_eq!(rt;
+        event.text(),
+        "{\"answer\":42,\"data_base64\":\"AQI=\",\"id\":\"a1\",\"source\":\"/orders\",\"specversion\":\"1.0\",\"subject\":\"x\",\"type\":\"t.a\"}"
+    );
+    assert!(rt; matches!(event.copy()?.content(), Content::Bytes(_)));
+    let event = carrying(alloc, json(alloc, "null")?)?;
+    assert!(rt; matches!(event.content(), Content::Nothing));
+    assert!(rt; carrying(alloc, nested(alloc, 120, "0")?).is_ok());
+    let refused = [
+        (Offered::Both, Fault::TwoData),
+        (Offered::Undecodable, Fault::Base64),
+        (json(alloc, "{\"p\":1.5}")?, Fault::DataNumber),
+        (json(alloc, "18446744073709551616")?, Fault::DataNumber),
+        (nested(alloc, 121, "1e2")?, Fault::DataNumber),
+        (nested(alloc, 121, "0")?, Fault::TooDeep),
+    ];
+    for (offered, fault) in refused {
+        match carrying(alloc, offered) {
+            Ok(_) => assert!(rt; false, "{fault} is taken"),
+            Err(found) => assert!(rt; found == fault, "{fault}"),
+        }
+    }
+    Ok(())
+}
+
+#[test]
+fn times_have_days(rt: HostRuntime) -> Result<(), Fault> {
+    let alloc = rt.alloc();
+    for (text, day) in [
+        ("2024-02-29T23:59:60+00:00", 19_782),
+        ("2024-03-01T00:30:00+01:00", 19_782),
+        ("9999-12-31T23:59:59Z", 2_932_896),
+        ("0000-01-01T00:00:00Z", -719_528),
+        ("1970-01-01t00:00:00.123456789z", 0),
+        ("1969-12-31T23:59:59-00:00", -1),
+        ("1970-01-01T00:00:00+23:59", -1),
+    ] {
+        let moment = Moment::of_text(alloc, text)?;
+        assert_eq!(rt; moment.day(), day, "{text}");
+        assert_eq!(rt; moment.as_str(), text);
+        let event = Event::build(parts(alloc, "a1", "time", given(alloc, text)?)?)?;
+        assert!(rt; event.time() == Some(moment.as_str()), "{text}");
+        assert_eq!(rt; event.day(), Some(day), "{text}");
+    }
+    for text in [
+        "2023-02-29T00:00:00Z",
+        "0000-01-01T00:00:00+01:00",
+        "9999-12-31T23:59:59-00:01",
+        "",
+        "2024-02-29",
+        "2024-02-29T10:00:00",
+        "2024-02-29 10:00:00Z",
+        "2024-02-29T24:00:00Z",
+        "2024-02-29T10:60:00Z",
+        "2024-02-29T10:00:61Z",
+        "2024-02-29T10:00:00.Z",
+        "2024-02-29T10:00:00+24:00",
+        "2024-02-29T10:00:00+01:60",
+        "2024-02-29T10:00:00Zx",
+        "2024-13-01T10:00:00Z",
+        "2024-00-01T10:00:00Z",
+    ] {
+        match Moment::of_text(alloc, text) {
+            Ok(_) => assert!(rt; false, "{text} is taken"),
+            Err(fault) => assert!(rt; fault == Fault::Time, "{text}"),
+        }
+    }
     Ok(())
 }
 
@@ -126,6 +251,11 @@ fn sequences_have_twenty_digits_in_range(rt: HostRuntime) -> Result<(), Fault> {
         "000000000000000000001",
     ] {
         assert!(rt; Sequence::of_text(text).is_none(), "{text}");
+    }
+    assert!(rt; Sequence::of_u64(0).is_none());
+    match Sequence::of_u64(1) {
+        Some(one) => assert_eq!(rt; one.digits(alloc)?.as_str(), "00000000000000000001"),
+        None => assert!(rt; false, "1 is a sequence"),
     }
     let mut batch = Batch::empty(alloc);
     let mut events = Events::empty(alloc);
@@ -177,6 +307,9 @@ fn texts_and_bytes_are_kept(rt: HostRuntime) -> Result<(), AllocError> {
     ] {
         assert_eq!(rt; Text::of(alloc, text)?.is_source(), is_source, "{text}");
     }
-    assert_eq!(rt; Octets::of(alloc, &[1, 2])?.as_bytes(), [1u8, 2].as_slice());
+    assert_eq!(rt;
+        Octets::of(alloc, &[1, 2])?.copy()?.as_bytes(),
+        [1u8, 2].as_slice()
+    );
     Ok(())
 }

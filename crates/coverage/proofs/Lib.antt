@@ -9,3 +9,7 @@ pub mod TokensLemmas
 pub mod GapsLemmas
 pub mod CoversLemmas
 pub mod SameLemmas
+pub mod ShapeLemmas
+pub mod ReadingLemmas
+pub mod RoundLemmas
+pub mod TextLemmas

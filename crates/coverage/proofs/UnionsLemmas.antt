@@ -12,13 +12,9 @@ use Rattle.std.specs.Map.{keys_of}
 use Rattle.std.proofs.lemmas.Map.Keys.{sorted_head, sorted_tail}
 use Rattle.coverage.specs.Intervals.{holds, IsCanonical}
 use Rattle.coverage.specs.Summary.{Entry, Sources, IsEntry, AreEntries, InOrder, IsSummary, numbers_of, holds_at}
-use Rattle.coverage.specs.Places.{entry_at}
+use Rattle.coverage.specs.Places.{entry_at, EndsBefore}
 use Rattle.coverage.proofs.HoldsLemmas.{holds-nil, or-false, or_assoc, holds_first}
 use Rattle.coverage.proofs.EntriesLemmas.{bytes_eq-equal, cmp-chain, apart_from_less, numbers_of-tail, InOrder-at, InOrder-cons, InOrder-nil, AreEntries-at, holds_some}
-
--- each source of the list is below the key
-abbrev pub EndsBefore : Sources → List ℕ → Type 0
-EndsBefore es key = (k : ℕ) → k < length es → slice_cmp nat_cmp (entry_at es k).0 key ≡ Less
 
 ends_before_tail : (e : Entry) (es : Sources) (key : List ℕ) → EndsBefore (e ∷ es) key → EndsBefore es key
 ends_before_tail e es key h k hk = h (suc k) (omega arith)

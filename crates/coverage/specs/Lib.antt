@@ -4,3 +4,6 @@ pub mod Summary
 pub mod Places
 pub mod SummaryText
 pub mod Tokens
+pub mod SummaryShape
+pub mod Refusals
+pub mod Faults

@@ -19,3 +19,7 @@ IsGapFor es source i =
     (i ≤ length es)
     × ((k : ℕ) → k < i → slice_cmp nat_cmp source (entry_at es k).0 ≡ Greater)
     × ((k : ℕ) → i ≤ k → k < length es → slice_cmp nat_cmp source (entry_at es k).0 ≡ Less)
+
+-- each source of the list is below the key
+abbrev pub EndsBefore : Sources → List ℕ → Type 0
+EndsBefore es key = (k : ℕ) → k < length es → slice_cmp nat_cmp (entry_at es k).0 key ≡ Less

@@ -144,6 +144,24 @@ impl Intervals {
         })
     }
 
+    /// Whether no number is held.
+    pub(crate) fn is_empty(&self) -> bool
+        ensures { IsTrue result ↔ (self.now ≡ []) }
+    {
+        self.starts.is_empty()
+    }
+
+    /// The set of these intervals.
+    pub(crate) fn of_pairs(alloc: Global, pairs: &[Interval]) -> Result<Intervals, AllocError>
+        requires { IsCanonical pairs.now }
+        ensures { IfOk result (λ r. r ≡ pairs.now) }
+    {
+        Ok(Intervals {
+            starts: starts_of(alloc, pairs)?,
+            alloc,
+        })
+    }
+
     /// Whether every number of the other set is held. Time linear in the intervals of the other, times
     /// the logarithm of the own ones.
     pub(crate) fn covers(&self, other: &Intervals) -> bool

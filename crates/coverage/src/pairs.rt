@@ -9,7 +9,7 @@ use std::alloc::{AllocError, Global};
 pub type Interval = (u64, u64);
 
 /// The greatest sequence number, 2^63 - 1.
-const MAX_NUMBER: u64 = 0x7FFF_FFFF_FFFF_FFFF;
+pub(crate) const MAX_NUMBER: u64 = 0x7FFF_FFFF_FFFF_FFFF;
 
 /// Adds an interval that starts no earlier than those already there.
 fn append(pairs: &mut Vec<Interval>, interval: Interval) -> Result<(), AllocError>

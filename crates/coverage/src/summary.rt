@@ -1,12 +1,15 @@
 //! Which sequence numbers of which sources have been seen.
-ghost use Rattle.std.specs.Prelude.{◌≡◌, ◌≢◌, ◌<◌, ◌↔◌, ℕ, ◌||◌, ◌&&◌, ◌==◌, true, false, not, List, [], length, slice_get, bytes_eq, Some, IsTrue, IfOk, IfSome, MatchOption, OnOk, OnErr};
+ghost use Rattle.std.specs.Prelude.{◌≡◌, ◌≢◌, ◌<◌, ◌↔◌, ℕ, ◌||◌, ◌&&◌, ◌==◌, true, false, not, List, [], length, slice_get, bytes_eq, Some, IsTrue, IfOk, IfErr, IfSome, MatchOption, MatchResult, OnOk, OnErr};
 ghost use Rattle.attributes.specs.Characters.{is_filled};
 ghost use Rattle.coverage.specs.Intervals.{IsCanonical};
-ghost use Rattle.coverage.specs.Summary.{Covers, IsSummary, holds_at, numbers_of, sources_of};
+ghost use Rattle.coverage.specs.Summary.{Covers, IsSummary, Sources, holds_at, numbers_of, sources_of};
 ghost use Rattle.coverage.specs.SummaryText.{summary_text};
+ghost use Rattle.coverage.specs.Refusals.{Refuses};
 
 use crate::entries::{Entry, add, copy, covers, has, numbers_at, same};
+use crate::faults::SummaryFault;
 use crate::intervals::Intervals;
+use crate::texts::entries_of;
 use crate::united::united;
 use crate::written::text_of;
 use attributes::{Sequence, Text};
@@ -99,6 +102,7 @@ impl Summary {
     pub fn same(&self, other: &Summary) -> bool
         ensures equal { IsTrue result ↔ (self.now ≡ other.now) }
         ensures numbers { IsTrue result ↔ ((s : List ℕ) (m : ℕ) → holds_at self.now s m ≡ holds_at other.now s m) }
+        ensures texts { IsTrue result ↔ (summary_text self.now ≡ summary_text other.now) }
     {
         same(&self.entries, &other.entries)
     }
@@ -129,5 +133,20 @@ impl Summary {
         ensures summary { IsSummary self.now }
     {
         text_of(*self.entries.allocator(), &self.entries)
+    }
+
+    /// The summary of which these are the text, byte for byte as `to_text` writes it. Tested in this
+    /// order: `NotJson`; `Shape`, where there is no version; `Version`; `Shape`, where the members are
+    /// others; `NotCanonical`, where a space, another order or spelling, an interval that doesn't
+    /// ascend or touches the one before, an empty list or a source that isn't allowed makes the bytes
+    /// no summary's text. Time and memory linear in the bytes.
+    pub fn of_text(alloc: Global, bytes: &[u8]) -> Result<Summary, SummaryFault>
+        ensures text { IfOk result (λ s. bytes.now ≡ summary_text s) }
+        ensures summary { IfOk result (λ s. IsSummary s) }
+        ensures refused { IfErr result (Refuses bytes.now) }
+        ensures accepted { (s : Sources) → IsSummary s → bytes.now ≡ summary_text s → MatchResult result (λ r. r ≡ s) (λ e. e ≡ SummaryFault.OutOfMemory) }
+    {
+        let entries = entries_of(alloc, bytes)?;
+        Ok(Summary { entries })
     }
 }

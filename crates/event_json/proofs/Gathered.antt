@@ -1,4 +1,4 @@
--- Setting the parts of a map's entries one after another gives the parts that its object spells.
+-- Setting the values of a map's entries one after another gives the values that its object spells.
 use Rattle.std.proofs.Common.{◌≡◌, List, [], ◌∷◌, ◌++◌, map, ℕ, Option, Some, None, String, Global, string_bytes, string_cmp, nat_cmp, Less, Greater, refl, sym, ap, ◌∙◌, subst, append-nil}
 use Rattle.std.proofs.lemmas.Cmp.{nat_list_cmp_total}
 use Rattle.std.specs.Cmp.Lexicographic.{slice_cmp}
@@ -8,10 +8,13 @@ use Rattle.std.specs.Map.{keys_of}
 use Rattle.std.specs.Ordering.{ordering_reverse}
 use Rattle.serde_json.specs.View.{view, members_view}
 use Rattle.serde_json.specs.declared.value.Value.{Value}
-use Rattle.attributes.specs.Faults.{Offer}
 use Rattle.attributes.specs.Members.{with_value, names_of}
 use Rattle.attributes.specs.declared.scalars.Given.{Given}
 use Rattle.event_json.specs.Spelling.{given_by, with_given, spelled}
+
+-- values by name
+abbrev pub Offer : Type 0
+Offer = List (List ℕ × Given)
 
 abbrev pub Entry : Type 0
 Entry = String Global × Value

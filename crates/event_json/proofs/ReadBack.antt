@@ -1,24 +1,18 @@
 -- The canonical text of a batch spells the events that it was written of.
-use Rattle.std.proofs.Common.{◌≡◌, ◌≤◌, ◌^◌, ℕ, pos, negsuc, Bool, true, false, not, List, [], ◌∷◌, ◌++◌, map, length, Some, nat_lt, IsUtf8, refl, sym, ap, ap₂, ◌∙◌, arith, append_assoc, ltb-true, lt-ltb}
-use Rattle.std.specs.List.{list_all, AllByRecursion}
-use Rattle.serde_json.specs.Data.{Data, array, object, Items, no_items, item, no_members, members_depth, items_depth}
+use Rattle.std.proofs.Common.{◌≡◌, ◌≤◌, Bool, true, false, not, List, [], ◌∷◌, ◌++◌, map, length, Some, IsUtf8, refl, sym, ap, ap₂, ◌∙◌, arith, append_assoc}
+use Rattle.std.specs.List.{AllByRecursion}
+use Rattle.serde_json.specs.Data.{Data, array, object, Items, no_items, item, members_depth, items_depth}
 use Rattle.serde_json.specs.Read.{read}
 use Rattle.serde_json.specs.Written.{compact_text, items_text}
-use Rattle.attributes.specs.Events.{EventValue, json_of, with_all, members_of, text, scalars_of, event_of}
+use Rattle.attributes.specs.Events.{EventValue, members_of, text, event_of}
 use Rattle.attributes.specs.Exact.{ItemsAreExact}
-use Rattle.attributes.specs.Faults.{IsEvent, is_attribute, given_of, given_all, parts_of, fault}
-use Rattle.attributes.specs.declared.scalars.Scalar.{Scalar}
-use Rattle.attributes.specs.declared.scalars.Scalar.TheVariants as scalar
-use Rattle.attributes.specs.declared.scalars.Content.{Content}
-use Rattle.attributes.specs.declared.scalars.Content.TheVariants.{Nothing}
-use Rattle.attributes.proofs.Alike.{direct, with_all-direct}
-use Rattle.attributes.proofs.Faultless.{and_parts, values_pass, no_member_fault}
-use Rattle.attributes.proofs.Law.{exact_event, same_text}
+use Rattle.attributes.specs.Faults.{IsEvent, fault}
+use Rattle.attributes.proofs.Law.{exact_event, depth_event, same_text}
 use Rattle.attributes.proofs.RoundTrip.{read-compact_text}
-use Rattle.attributes.proofs.Written.{depth-with_all}
-use Rattle.event_json.specs.Spelling.{given_by, with_given, spelled, event_in, list_of}
+use Rattle.event_json.specs.Spelling.{event_in, list_of}
 use Rattle.event_json.specs.Reading.{AreFaultless, Reads, max_input}
 use Rattle.event_json.specs.BatchText.{joined, batch_text}
+use Rattle.event_json.proofs.Carried.{offer_by-members_of, event_of-parts_of}
 
 -- the members of the array that a batch is
 abbrev objects : List EventValue → Items
@@ -32,11 +26,11 @@ items_text-objects first [] = refl
 items_text-objects true (e ∷ es) = ap (λ r. text e ++ r) (items_text-objects false es) ∙ sym (append_assoc (text e) (joined false es) (93 ∷ []))
 items_text-objects false (e ∷ es) = ap (λ r. 44 ∷ (text e ++ r)) (items_text-objects false es) ∙ ap (λ r. 44 ∷ r) (sym (append_assoc (text e) (joined false es) (93 ∷ [])))
 
-shallow : (es : List EventValue) → items_depth (objects es) ≤ 1
-shallow [] = omega arith
-shallow (e ∷ es) =
-    let flat : members_depth (with_all no_members e.attributes) ≤ 0 = depth-with_all e.attributes no_members 0 (omega arith) in
-    let rest : items_depth (objects es) ≤ 1 = shallow es in
+shallow : (es : List EventValue) → AllByRecursion IsEvent es → items_depth (objects es) ≤ 121
+shallow [] h = omega arith
+shallow (e ∷ es) h =
+    let event : members_depth (members_of e) ≤ 120 = depth_event e h.0 in
+    let rest : items_depth (objects es) ≤ 121 = shallow es h.1 in
     omega arith
 
 exact_objects : (es : List EventValue) → AllByRecursion IsEvent es → ItemsAreExact (objects es)
@@ -45,52 +39,19 @@ exact_objects (e ∷ es) h = (exact_event e h.0, exact_objects es h.1)
 
 pub read-batch_text : (es : List EventValue) → AllByRecursion IsEvent es → read (batch_text es) ≡ Some (array (objects es))
 read-batch_text es h =
-    let deep : items_depth (objects es) ≤ 1 = shallow es in
+    let deep : items_depth (objects es) ≤ 121 = shallow es h in
     ap (λ r. read (91 ∷ r)) (sym (items_text-objects true es)) ∙ read-compact_text (array (objects es)) (exact_objects es h) (omega arith)
-
--- ---- an event's object spells the parts that the event is made of
-
-wide : (n : ℕ) → nat_lt n 2147483648 ≡ true → nat_lt n (2 ^ 63) ≡ true
-wide n h = lt-ltb n (2 ^ 63) (omega (arith, ltb-true n 2147483648 h))
-
-given_by-json_of : (s : Scalar) → is_attribute (given_of s) ≡ true → given_by (json_of s) ≡ Some (given_of s)
-given_by-json_of (scalar.Flag b) h = refl
-given_by-json_of (scalar.Whole (pos n)) h = rw (wide n h, h)
-given_by-json_of (scalar.Whole (negsuc n)) h = rw h
-given_by-json_of (scalar.Words t) h = refl
-
-spelled-direct : (attributes : List (List ℕ × Scalar)) → list_all (λ m. is_attribute m.1) (given_all attributes) ≡ true → spelled (direct attributes) ≡ given_all attributes
-spelled-direct [] h = refl
-spelled-direct (a ∷ rest) h =
-    let both = and_parts (is_attribute (given_of a.1)) (list_all (λ m. is_attribute m.1) (given_all rest)) h in
-    ap₂ (with_given a.0) (given_by-json_of a.1 both.0) (spelled-direct rest both.1)
-
-spelled-members_of : (e : EventValue) → IsEvent e → spelled (members_of e) ≡ parts_of e
-spelled-members_of e h =
-    ap spelled (with_all-direct e.attributes h.in_order) ∙ spelled-direct e.attributes (values_pass (parts_of e) (no_member_fault (parts_of e) h.faultless))
-
-scalars_of-given_all : (attributes : List (List ℕ × Scalar)) → scalars_of (given_all attributes) ≡ attributes
-scalars_of-given_all [] = refl
-scalars_of-given_all ((name, scalar.Flag b) ∷ rest) = ap (λ r. (name, scalar.Flag b) ∷ r) (scalars_of-given_all rest)
-scalars_of-given_all ((name, scalar.Whole z) ∷ rest) = ap (λ r. (name, scalar.Whole z) ∷ r) (scalars_of-given_all rest)
-scalars_of-given_all ((name, scalar.Words t) ∷ rest) = ap (λ r. (name, scalar.Words t) ∷ r) (scalars_of-given_all rest)
-
-no_content : (c : Content) → Nothing ≡ c
-no_content Nothing = refl
-
-event_of-parts_of : (e : EventValue) → event_of (parts_of e) ≡ e
-event_of-parts_of e = ap₂ (λ a c. record { attributes = a; content = c }) (scalars_of-given_all e.attributes) (no_content e.content)
 
 -- ---- the array spells the events
 
 faultless_objects : (es : List EventValue) → AllByRecursion IsEvent es → AreFaultless (list_of (objects es))
 faultless_objects [] h = tt
-faultless_objects (e ∷ es) h = (ap fault (spelled-members_of e h.0) ∙ h.0.faultless, faultless_objects es h.1)
+faultless_objects (e ∷ es) h = (ap fault (offer_by-members_of e h.0) ∙ h.0.faultless, faultless_objects es h.1)
 
 events_of_objects : (es : List EventValue) → AllByRecursion IsEvent es → es ≡ map event_in (list_of (objects es))
 events_of_objects [] h = refl
 events_of_objects (e ∷ es) h =
-    let event : e ≡ event_in (object (members_of e)) = sym (ap event_of (spelled-members_of e h.0) ∙ event_of-parts_of e) in
+    let event : e ≡ event_in (object (members_of e)) = sym (ap event_of (offer_by-members_of e h.0) ∙ event_of-parts_of e h.0) in
     ap₂ (λ (x : EventValue) (xs : List EventValue). x ∷ xs) event (events_of_objects es h.1)
 
 pub Reads-batch_text : (es : List EventValue) → AllByRecursion IsEvent es → IsUtf8 (batch_text es) → length (batch_text es) ≤ max_input → Reads (batch_text es) es

@@ -1,12 +1,14 @@
 -- No event's fault is want of memory.
-use Rattle.std.proofs.Common.{◌≡◌, ℕ, List, [], ◌∷◌, Bool, true, false, cond, Option, Some, None, is_some, option_and_then, slice_get, nat_lt, length, subst}
+use Rattle.std.proofs.Common.{◌≡◌, ℕ, List, [], ◌∷◌, Bool, true, false, cond, Option, Some, None, option_and_then, slice_get, nat_lt, length, subst}
 use Rattle.std.specs.List.{AllByRecursion}
 use Rattle.serde_json.specs.Data.{Data, null, boolean, number, string, array, object}
-use Rattle.attributes.specs.Events.{event_of, text}
-use Rattle.attributes.specs.Faults.{Offer, first_failed, member_tests, member_fault, max_text, fault}
+use Rattle.attributes.specs.Events.{OfferValue, event_of, text}
+use Rattle.attributes.specs.Faults.{first_failed, member_tests, payload_tests, member_fault, payload_fault, or_else, max_text, fault}
+use Rattle.attributes.specs.declared.contents.Offered.{Offered}
+use Rattle.attributes.specs.declared.scalars.Given.{Given}
 use Rattle.attributes.specs.declared.faults.Fault.{Fault}
 use Rattle.attributes.specs.declared.faults.Fault.TheVariants.{OutOfMemory, TooLarge}
-use Rattle.event_json.specs.Spelling.{spelled, fault_in}
+use Rattle.event_json.specs.Spelling.{offer_by, fault_in}
 use Rattle.event_json.specs.Reading.{IsNoSpelling}
 use Rattle.event_json.specs.declared.faults.ReadFault.{ReadFault}
 use Rattle.event_json.specs.declared.faults.ReadFault.TheVariants as refusal
@@ -22,17 +24,26 @@ first_failed-other : (ts : List (Bool × Fault)) → AllByRecursion (λ t. t.1 �
 first_failed-other [] others h = cc
 first_failed-other (t ∷ ts) others h = unfailed t.0 t.1 (first_failed ts) others.0 (λ e. first_failed-other ts others.1 e) h
 
-member_fault-other : (p : Offer) → IsMemory (member_fault p) → ⊥
-member_fault-other p h =
-    first_failed-other (member_tests p) (λ e. (cc), (λ e. (cc), (λ e. (cc), (λ e. (cc), (λ e. (cc), (λ e. (cc), (λ e. (cc), (λ e. (cc), (λ e. (cc), (λ e. (cc), tt)))))))))) h
+member_fault-other : (ms : List (List ℕ × Given)) → IsMemory (member_fault ms) → ⊥
+member_fault-other ms h =
+    first_failed-other (member_tests ms) (λ e. (cc), (λ e. (cc), (λ e. (cc), (λ e. (cc), (λ e. (cc), (λ e. (cc), (λ e. (cc), (λ e. (cc), (λ e. (cc), (λ e. (cc), tt)))))))))) h
 
-either_other : (o : Option Fault) (large : Bool) → (IsMemory o → ⊥) → IsMemory (cond (is_some o) o (cond large (Some TooLarge) None)) → ⊥
-either_other None true other h = cc
-either_other None false other h = cc
-either_other (Some f) large other h = other h
+payload_fault-other : (o : Offered) → IsMemory (payload_fault o) → ⊥
+payload_fault-other o h = first_failed-other (payload_tests o) (λ e. (cc), (λ e. (cc), (λ e. (cc), (λ e. (cc), tt)))) h
 
-fault-other : (p : Offer) → IsMemory (fault p) → ⊥
-fault-other p h = either_other (member_fault p) (nat_lt max_text (length (text (event_of p)))) (member_fault-other p) h
+either_other : (first next : Option Fault) → (IsMemory first → ⊥) → (IsMemory next → ⊥) → IsMemory (or_else first next) → ⊥
+either_other None next other later h = later h
+either_other (Some f) next other later h = other h
+
+large_other : (large : Bool) → IsMemory (cond large (Some TooLarge) None) → ⊥
+large_other true h = cc
+large_other false h = cc
+
+fault-other : (p : OfferValue) → IsMemory (fault p) → ⊥
+fault-other p h =
+    let large = nat_lt max_text (length (text (event_of p))) in
+    either_other (member_fault p.members) (or_else (payload_fault p.offered) (cond large (Some TooLarge) None)) (member_fault-other p.members)
+    (λ e. either_other (payload_fault p.offered) (cond large (Some TooLarge) None) (payload_fault-other p.offered) (large_other large) e) h
 
 pub fault_in-other : (d : Data) → IsMemory (fault_in d) → ⊥
 fault_in-other null h = cc
@@ -40,7 +51,7 @@ fault_in-other (boolean b) h = cc
 fault_in-other (number n) h = cc
 fault_in-other (string s) h = cc
 fault_in-other (array ds) h = cc
-fault_in-other (object ms) h = fault-other (spelled ms) h
+fault_in-other (object ms) h = fault-other (offer_by ms) h
 
 of_found : (o : Option Data) → IsMemory (option_and_then fault_in o) → ⊥
 of_found None h = cc

@@ -1,4 +1,5 @@
 pub mod Refusals
+pub mod Payload
 pub mod Spelling
 pub mod Reading
 pub mod Walk

@@ -2,12 +2,13 @@
 use Rattle.std.specs.Prelude.{ℕ, ℤ, List, [], ◌∷◌, Option, Some, None, if◌then◌else◌}
 use Rattle.serde_json.specs.Data.{Data, null, boolean, number, string, array, object, Items, no_items, item, Members, no_members, member}
 use Rattle.serde_json.specs.Find.{as_i64}
-use Rattle.attributes.specs.Events.{EventValue, event_of}
-use Rattle.attributes.specs.Faults.{Offer, is_integer, fault}
+use Rattle.attributes.specs.Events.{EventValue, OfferValue, event_of}
+use Rattle.attributes.specs.Faults.{is_integer, fault}
 use Rattle.attributes.specs.declared.scalars.Given.{Given}
 use Rattle.attributes.specs.declared.scalars.Given.TheVariants as given
 use Rattle.attributes.specs.declared.faults.Fault.{Fault}
 use Rattle.attributes.specs.declared.faults.Fault.TheVariants.{SpecVersion}
+use Rattle.event_json.specs.Payload.{attribute_members, offered_by}
 
 -- a whole number of 32 bits, or a value of no attribute type
 abbrev pub given_whole : Option ℤ → Given
@@ -23,15 +24,19 @@ given_by (string s) = Some (given.Words s)
 given_by (array ds) = Some given.Other
 given_by (object ms) = Some given.Other
 
--- the parts, with what is offered at the name before them
-abbrev pub with_given : List ℕ → Option Given → Offer → Offer
+-- the values by name, with what is offered at the name before them
+abbrev pub with_given : List ℕ → Option Given → List (List ℕ × Given) → List (List ℕ × Given)
 with_given name None rest = rest
 with_given name (Some g) rest = (name, g) ∷ rest
 
--- the parts that an object's members spell
-abbrev pub spelled : Members → Offer
+-- the values by name that members spell
+abbrev pub spelled : Members → List (List ℕ × Given)
 spelled no_members = []
 spelled (member k d ms) = with_given k (given_by d) (spelled ms)
+
+-- the parts that an object's members spell
+abbrev pub offer_by : Members → OfferValue
+offer_by ms = record { members = spelled (attribute_members ms); offered = offered_by ms }
 
 -- the first fault of what is to be an event; what is no object has no version
 abbrev pub fault_in : Data → Option Fault
@@ -40,7 +45,7 @@ fault_in (boolean b) = Some SpecVersion
 fault_in (number n) = Some SpecVersion
 fault_in (string s) = Some SpecVersion
 fault_in (array ds) = Some SpecVersion
-fault_in (object ms) = fault (spelled ms)
+fault_in (object ms) = fault (offer_by ms)
 
 -- the members of an object
 abbrev pub members_in : Data → Members
@@ -53,7 +58,7 @@ members_in (object ms) = ms
 
 -- the event that an object without fault spells
 abbrev pub event_in : Data → EventValue
-event_in d = event_of (spelled (members_in d))
+event_in d = event_of (offer_by (members_in d))
 
 -- the members of an array
 abbrev pub list_of : Items → List Data

@@ -1,14 +1,19 @@
-ghost use Rattle.std.specs.Prelude.{◌≡◌, ◌≢◌, ℕ, List, [], ◌∷◌, map, IfOk, IfErr, IsUtf8};
+ghost use Rattle.std.specs.Prelude.{◌≡◌, ◌≢◌, ℕ, List, [], ◌∷◌, map, option_map, IfOk, IfErr, IsUtf8};
+ghost use Rattle.base64.specs.Engines.{standard};
+ghost use Rattle.base64.specs.GeneralPurpose.{decode_of};
 ghost use Rattle.serde_json.specs.Find.{as_i64};
 ghost use Rattle.serde_json.specs.Read.{read as read_text};
 ghost use Rattle.serde_json.specs.View.{view, number_view, members_view};
 ghost use Rattle.attributes.specs.Events.{EventValue};
-ghost use Rattle.event_json.specs.Spelling.{given_whole, given_by, spelled, fault_in, event_in};
+ghost use Rattle.event_json.specs.Payload.{unless_null, payload, bytes_by, decoded};
+ghost use Rattle.event_json.specs.Spelling.{given_whole, given_by, spelled, offer_by, fault_in, event_in};
 ghost use Rattle.event_json.specs.Reading.{Spells, IsNoSpelling, Reads, IsRefused};
 ghost use Rattle.event_json.specs.Walk.{bad, bad_or, first_bad};
 
 use crate::faults::ReadFault;
-use attributes::{Event, Events, Fault, Given, Parts, Text};
+use attributes::{Event, Events, Fault, Given, Octets, Offered, Parts, Text, Tree};
+use base64::DecodeAllocError;
+use base64::engine::general_purpose::STANDARD;
 use serde_json::{Category, Map, Number, Value};
 use std::alloc::{AllocError, Global};
 
@@ -20,8 +25,8 @@ pub const MAX_INPUT: u64 = 33_554_432;
 /// stands twice the last value counts.
 ///
 /// The refusals are tested in the order that [`ReadFault`] gives, and the first member of a batch
-/// that is no event is named. Time and memory are proportional to the length of the input; about
-/// twelve times its length is held for a moment.
+/// that is no event is named. Time and memory are proportional to the length of the input: for a
+/// moment usual events take about nine times its length, and the tree of `[0,0,..]` twenty times.
 pub fn read_events(alloc: Global, bytes: &[u8]) -> Result<Events, ReadFault>
     ensures ok { IfOk result (λ l. Reads bytes.now l) }
     ensures refused { IfErr result (λ f. f ≢ ReadFault.OutOfMemory → IsRefused bytes.now f) }
@@ -124,9 +129,23 @@ fn event(alloc: Global, value: Value) -> Result<Event, Fault>
     }
 }
 
+// The payload members are taken out first, so that their values are moved and not copied.
+fn parts(alloc: Global, mut members: Map<String, Value>) -> Result<Parts, AllocError>
+    ensures { IfOk result (λ p. p ≡ offer_by (members_view members.entries)) }
+{
+    let tree = members.remove("data");
+    let coded = members.remove("data_base64");
+    let mut parts = attributes(alloc, members)?;
+    parts.offer(offered(alloc, unless_null(tree), unless_null(coded))?);
+    Ok(parts)
+}
+
 // A map's names are in order and each stands once, so each part is new.
-fn parts(alloc: Global, members: Map<String, Value>) -> Result<Parts, AllocError>
-    ensures { IfOk result (λ p. p ≡ spelled (members_view members.entries)) }
+fn attributes(alloc: Global, members: Map<String, Value>) -> Result<Parts, AllocError>
+    ensures { IfOk result (λ p. p ≡ record {
+      members = spelled (members_view members.entries);
+      offered = Offered.Nothing;
+    }) }
 {
     let mut parts = Parts::empty(alloc);
     for (name, value) in members {
@@ -156,5 +175,44 @@ fn whole(number: &Number) -> Given
     match number.as_i64() {
         Some(n) if n >= -2_147_483_648 && n < 2_147_483_648 => Given::Whole(n as i32),
         _ => Given::Other,
+    }
+}
+
+fn unless_null(member: Option<Value>) -> Option<Value>
+    ensures { option_map view result ≡ unless_null (option_map view member) }
+{
+    match member {
+        Some(Value::Null) => None,
+        other => other,
+    }
+}
+
+fn offered(alloc: Global, tree: Option<Value>, coded: Option<Value>) -> Result<Offered, AllocError>
+    ensures { IfOk result (λ o. o ≡ payload (option_map view tree) (option_map view coded)) }
+{
+    match (tree, coded) {
+        (None, None) => Ok(Offered::Nothing),
+        (Some(tree), None) => Ok(Offered::Tree(Tree::of(tree))),
+        (None, Some(coded)) => bytes(alloc, coded),
+        (Some(_), Some(_)) => Ok(Offered::Both),
+    }
+}
+
+fn bytes(alloc: Global, coded: Value) -> Result<Offered, AllocError>
+    ensures { IfOk result (λ o. o ≡ bytes_by (view coded)) }
+{
+    match coded {
+        Value::String(text) => decoded(alloc, text.as_str()),
+        _ => Ok(Offered::Undecodable),
+    }
+}
+
+fn decoded(alloc: Global, text: &str) -> Result<Offered, AllocError>
+    ensures { IfOk result (λ o. o ≡ decoded (decode_of standard text.now)) }
+{
+    match STANDARD.decode(alloc, text.as_bytes()) {
+        Ok(bytes) => Ok(Offered::Bytes(Octets::from_vec(bytes))),
+        Err(DecodeAllocError::DecodeError(_)) => Ok(Offered::Undecodable),
+        Err(DecodeAllocError::OutOfMemory) => Err(AllocError),
     }
 }

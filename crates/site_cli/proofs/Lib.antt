@@ -1,5 +1,7 @@
 mod ClapLemmas
 mod CountLemmas
 mod FileLemmas
+mod FirstsLemmas
+mod ShownLemmas
 mod SourceLemmas
 mod StatusLemmas

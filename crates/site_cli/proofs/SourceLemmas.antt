@@ -4,7 +4,7 @@ use Rattle.std.specs.Prelude.{Option, Some, None, codes, bytes_eq, is_some, if�
 use Rattle.std.specs.Option.{option_map}
 use Rattle.attributes.specs.Characters.{is_filled}
 use Rattle.attributes.specs.Events.{EventValue, attribute_of, source_of, words_or_empty}
-use Rattle.attributes.specs.Faults.{IsEvent, first_failed, given_all, given_of, is_required, member_fault, member_tests, parts_of}
+use Rattle.attributes.specs.Faults.{IsEvent, first_failed, given_all, given_of, is_required, member_fault, member_tests, or_else}
 use Rattle.attributes.specs.Members.{value_at}
 use Rattle.attributes.specs.declared.faults.Fault.{Fault}
 use Rattle.attributes.specs.declared.faults.Fault.TheVariants.{Source}
@@ -12,7 +12,7 @@ use Rattle.attributes.specs.declared.scalars.Scalar.{Scalar}
 use Rattle.attributes.specs.declared.scalars.Scalar.TheVariants.{Flag, Whole, Words}
 use Rattle.attributes.specs.declared.scalars.Given.{Given}
 
-first_none : (o x : Option Fault) → (if is_some o then o else x) ≡ None → o ≡ None
+first_none : (o x : Option Fault) → or_else o x ≡ None → o ≡ None
 first_none None x h = refl
 first_none (Some f) x h = h
 
@@ -46,7 +46,8 @@ filled (Some (Words t)) h = h
 
 pub source_is_filled : (e : EventValue) → IsEvent e → is_filled (source_of e) ≡ true
 source_is_filled e h =
-    let tests = member_tests (parts_of e) in
-    let none = later 2 tests (first_none (member_fault (parts_of e)) _ h.faultless) in
-    let required = passed (is_required is_filled (value_at (codes "source") (parts_of e))) Source (drop 3 tests) none in
+    let members = given_all e.attributes in
+    let tests = member_tests members in
+    let none = later 2 tests (first_none (member_fault members) _ h.faultless) in
+    let required = passed (is_required is_filled (value_at (codes "source") members)) Source (drop 3 tests) none in
     filled (attribute_of (codes "source") e) (ap (is_required is_filled) (sym (value_at-given_all (codes "source") e.attributes)) ∙ required)

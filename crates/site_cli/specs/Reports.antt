@@ -8,7 +8,8 @@ use Rattle.event_json.specs.Reading.{IsRefused, Reads}
 use Rattle.coverage.specs.Summary.{IsSummary, Sources, holds_at}
 use Rattle.coverage.specs.SummaryText.{summary_text}
 use Rattle.site_cli.specs.declared.queries.Query.{Query}
-use Rattle.site_cli.specs.declared.queries.Query.TheVariants.{Cover}
+use Rattle.site_cli.specs.Shown.{AreShown, Row}
+use Rattle.site_cli.specs.declared.queries.Query.TheVariants.{Cover, Shown}
 use Rattle.site_cli.specs.declared.refusals.ReportFault.{ReportFault}
 use Rattle.site_cli.specs.declared.refusals.ReportFault.TheVariants as fault
 use Rattle.site_cli.specs.declared.refusals.Refused.{Refused}
@@ -52,9 +53,14 @@ pub record Summarizes (events : List EventValue) (summary : Sources) : Type 0 wh
 abbrev pub line : List ℕ → List ℕ
 line text = text ++ 10 ∷ []
 
+-- the line of a shown event
+abbrev pub text_line : Row → List ℕ
+text_line row = line row.2
+
 -- the text answers the question about the events
 abbrev pub IsAnswer : Query → List EventValue → List ℕ → Type 0
 IsAnswer Cover events text = (summary : Sources) × Summarizes events summary × (text ≡ line (summary_text summary))
+IsAnswer Shown events text = (rows : List Row) × AreShown events rows × (text ≡ flat_map text_line rows)
 
 -- the text answers the question about the events of the files, which all spell events with numbers
 abbrev pub IsReport : Query → List (List ℕ) → List ℕ → Type 0

@@ -3,10 +3,10 @@ ghost use Rattle.std.specs.Prelude.{◌≡◌, ◌≢◌, IfOk, IfErr, [], ⊤, 
 ghost use Rattle.clap.specs.Words.{app_of, fault_of, kind_of};
 ghost use Rattle.clap.specs.declared.error.kind.ErrorKind.{ErrorKind};
 ghost use Rattle.site_cli.specs.Commands.{ask_app};
-ghost use Rattle.site_cli.specs.Plans.{Blames, IsPlan, IsAsked};
+ghost use Rattle.site_cli.specs.Plans.{Blames, IsAsked};
 
 use crate::arguments::{files, texts_of};
-use crate::asked::{Faulty, Plan};
+use crate::asked::Faulty;
 use crate::queries::Query;
 use crate::texts::Texts;
 use attributes::Text;
@@ -75,7 +75,8 @@ fn program<'a>(alloc: Global) -> Result<Command<'a>, AllocError> {
         .no_binary_name(true)
         .subcommand_required(true)
         .arg_required_else_help(true)
-        .subcommand(ask_command(alloc, Query::Cover)?)
+        .subcommand(ask_command(alloc, Query::Cover)?)?
+        .subcommand(ask_command(alloc, Query::Shown)?)
 }
 
 /// What is said of words whose first is no command: help, the version, or which word is unknown.

@@ -6,6 +6,7 @@ mod asked;
 mod commands;
 mod gathering;
 mod inputs;
+mod listing;
 mod planning;
 mod queries;
 mod refusals;
@@ -17,7 +18,6 @@ mod texts;
 
 use attributes::Text;
 use running::perform;
-use std::alloc::Global;
 use std::env;
 use std::io::Write;
 use std::process::ExitCode;

@@ -1,5 +1,5 @@
 //! The questions that the program answers about the events of files.
-ghost use Rattle.std.specs.Prelude.{◌≡◌, ◌≢◌, IfSome, IsNone, codes};
+ghost use Rattle.std.specs.Prelude.{◌≡◌, ◌≢◌, IfSome, IsNone};
 ghost use Rattle.site_cli.specs.Queries.{word_of};
 ghost use Rattle.site_cli.specs.declared.queries.Query.{Query};
 
@@ -8,6 +8,8 @@ ghost use Rattle.site_cli.specs.declared.queries.Query.{Query};
 pub enum Query {
     /// Which numbers of each source there are, as a summary.
     Cover,
+    /// The events that are shown: of those with one source and id the one with the least text.
+    Shown,
 }
 
 impl Query {
@@ -18,6 +20,7 @@ impl Query {
     {
         match word {
             "cover" => Some(Query::Cover),
+            "shown" => Some(Query::Shown),
             _ => None,
         }
     }
@@ -28,6 +31,7 @@ impl Query {
     {
         match self {
             Query::Cover => "cover",
+            Query::Shown => "shown",
         }
     }
 
@@ -35,6 +39,7 @@ impl Query {
     pub fn full_name<'a>(self) -> &'a str {
         match self {
             Query::Cover => "site cover",
+            Query::Shown => "site shown",
         }
     }
 
@@ -42,6 +47,8 @@ impl Query {
     pub fn about<'a>(self) -> &'a str {
         match self {
             Query::Cover => "Prints the summary of the files' events: the numbers of each source",
+            Query::Shown =>
+                "Prints the files' events, of each source and id the one with the least text",
         }
     }
 }

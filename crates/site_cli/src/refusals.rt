@@ -54,3 +54,14 @@ impl From<AllocError> for Refused {
         }
     }
 }
+
+impl<T: Drop> From<AllocFailed<T>> for Refused {
+    ghost from_gives = { λ _ refused. refused.fault ≡ OutOfMemory };
+
+    fn from(_error: AllocFailed<T>) -> Refused {
+        Refused {
+            file: 0,
+            fault: ReportFault::OutOfMemory,
+        }
+    }
+}

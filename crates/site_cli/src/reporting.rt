@@ -1,11 +1,12 @@
 //! The answer to a question about the events of files.
-ghost use Rattle.std.specs.Prelude.{◌≡◌, ◌||◌, ℕ, List, true, IfErr, IfOk, OnOk, codes, string_bytes};
+ghost use Rattle.std.specs.Prelude.{◌≡◌, ◌||◌, ℕ, List, true, IfErr, IfOk, OnOk};
 ghost use Rattle.attributes.specs.Characters.{is_filled};
 ghost use Rattle.attributes.specs.Events.{source_of};
 ghost use Rattle.coverage.specs.Summary.{holds_at};
 ghost use Rattle.site_cli.specs.Reports.{CountsFiles, IsReport, IsRefusal, has_number, is_numbered, line};
 
 use crate::gathering::{events_of_file, number_of_event};
+use crate::listing::shown_lines;
 use crate::queries::Query;
 use crate::refusals::Refused;
 use attributes::{Event, Events, Octets, Text};
@@ -22,6 +23,7 @@ pub fn report(alloc: Global, query: Query, files: &[Octets]) -> Result<Text, Ref
 {
     match query {
         Query::Cover => cover(alloc, files),
+        Query::Shown => shown_lines(alloc, files),
     }
 }
 

@@ -1,6 +1,7 @@
 //! The whole program, over any runtime and writers.
 ghost use Rattle.std.specs.Prelude.{◌≡◌, ◌⊎◌, ◌≤◌, IfOk, length};
 ghost use Rattle.std.specs.Io.KnownBytes.{Appends};
+ghost use Rattle.site_cli.specs.Plans.{AreFaulty};
 ghost use Rattle.site_cli.specs.Runs.{Answers, PrintsAnswer};
 
 use crate::asked::Faulty;
@@ -40,6 +41,7 @@ pub fn perform<R: AllocGlobal + Files, O: Write, E: Write>(
 ) -> u8
     ensures status { result ≤ 2 }
     ensures answer { result ≡ 0 → Answers words.now (O.contents out.old) (O.contents out.new) }
+    ensures faulty { result ≡ 2 → AreFaulty words.now }
 {
     match plan(rt.alloc(), words) {
         Ok(plan) => answer(rt, plan.query, &plan.files, out, err),

@@ -1,5 +1,7 @@
 //! Runs of the program on files in a folder of the test's own.
 use crate::inputs::{Unread, read_all};
+use crate::planning::plan;
+use crate::queries::Query;
 use crate::running::perform;
 use attributes::Text;
 use std::alloc::Global;
@@ -55,15 +57,17 @@ fn leave_folder(rt: &HostRuntime, folder: &str) -> Result<(), Fail> {
 
 // A batch of events of the source /orders that have these numbers and ids of their own.
 fn batch(alloc: Global, numbers: &[u64]) -> Result<String, Fail> {
-    let mut text = String::new(alloc);
-    for number in numbers {
-        text.push_str(if text.is_empty() { "[" } else { "," })?;
+    let mut text = String::from_str(alloc, "[")?;
+    for (index, number) in numbers.iter().enumerate() {
+        if index > 0 {
+            text.push_str(",")?;
+        }
         let event = format!(in alloc;
             "{{\"id\":\"a{number}\",\"sequence\":\"{number:020}\",\"source\":\"/orders\",\"specversion\":\"1.0\",\"subject\":\"x\",\"type\":\"t.a\"}}"
         )?;
         text.push_str(event.as_str())?;
     }
-    text.push_str(if text.is_empty() { "[]" } else { "]" })?;
+    text.push_str("]")?;
     Ok(text)
 }
 
@@ -99,6 +103,64 @@ fn cover_unites_the_numbers_of_all_files(rt: HostRuntime) -> Result<(), Fail> {
         fs::write(&rt, "g.json", batch(rt.alloc(), second)?.as_str())?;
         let got = run(&rt, &["cover", "f.json", "g.json"])?;
         assert_eq!(rt; got.out.as_str(), want);
+        assert_eq!(rt; got.err.as_str(), "");
+        assert_eq!(rt; got.status, 0);
+    }
+    leave_folder(&rt, folder.as_str())
+}
+
+const SPELLED: &str =
+    "{\"type\":\"t.a\",\"subject\":\"x\",\"specversion\":\"1.0\",\"source\":\"/orders\",\"sequence\":\"00000000000000000001\",\"id\":\"\\u0061\\u0031\"}";
+
+const FIRST: &str =
+    "{\"id\":\"a1\",\"sequence\":\"00000000000000000001\",\"source\":\"/orders\",\"specversion\":\"1.0\",\"subject\":\"x\",\"type\":\"t.a\"}";
+
+const GREATER: &str =
+    "{\"id\":\"a1\",\"sequence\":\"00000000000000000001\",\"source\":\"/orders\",\"specversion\":\"1.0\",\"subject\":\"x\",\"type\":\"t.b\"}";
+
+const OTHER: &str =
+    "{\"id\":\"a0\",\"sequence\":\"00000000000000000002\",\"source\":\"/orders\",\"specversion\":\"1.0\",\"type\":\"t.a\"}";
+
+const EARLIER: &str =
+    "{\"id\":\"b\",\"sequence\":\"00000000000000000001\",\"source\":\"/\",\"specversion\":\"1.0\",\"type\":\"t.a\"}";
+
+#[test]
+fn shown_prints_the_least_text_of_each_key(rt: HostRuntime) -> Result<(), Fail> {
+    let folder = enter_folder(&rt, "shown")?;
+    assert_eq!(rt; FIRST.len(), 111);
+    let alloc = rt.alloc();
+    let rows = [
+        (
+            format!(in alloc; "[]")?,
+            format!(in alloc; "[]")?,
+            format!(in alloc; "")?,
+        ),
+        (
+            format!(in alloc; "{SPELLED}")?,
+            format!(in alloc; "[]")?,
+            format!(in alloc; "{FIRST}\n")?,
+        ),
+        (
+            format!(in alloc; "{GREATER}")?,
+            format!(in alloc; "{FIRST}")?,
+            format!(in alloc; "{FIRST}\n")?,
+        ),
+        (
+            format!(in alloc; "{FIRST}")?,
+            format!(in alloc; "{GREATER}")?,
+            format!(in alloc; "{FIRST}\n")?,
+        ),
+        (
+            format!(in alloc; "[{GREATER},{OTHER}]")?,
+            format!(in alloc; "[{FIRST},{EARLIER},{FIRST}]")?,
+            format!(in alloc; "{EARLIER}\n{OTHER}\n{FIRST}\n")?,
+        ),
+    ];
+    for (one, two, want) in &rows {
+        fs::write(&rt, "f.json", one.as_str())?;
+        fs::write(&rt, "g.json", two.as_str())?;
+        let got = run(&rt, &["shown", "f.json", "g.json"])?;
+        assert_eq!(rt; got.out.as_str(), want.as_str());
         assert_eq!(rt; got.err.as_str(), "");
         assert_eq!(rt; got.status, 0);
     }
@@ -196,9 +258,15 @@ fn all_files_are_read_before_one_is_judged(rt: HostRuntime) -> Result<(), Fail> 
 #[test]
 fn faulty_words_and_help_end_with_two(rt: HostRuntime) -> Result<(), Fail> {
     // The words, the stream that is written, and a part of what it says.
-    let rows: [(&[&str], bool, &str); 8] = [
+    let rows: [(&[&str], bool, &str); 10] = [
         (&["cover"], false, "<FILE>..."),
         (&[], false, "cover"),
+        (&["shown"], false, "<FILE>..."),
+        (
+            &["shown", "--help"],
+            true,
+            "<FILE>...  Files of CloudEvents",
+        ),
         (&["covers", "f.json"], false, "covers"),
         (&["cover", "--from", "f.json"], false, "--from"),
         (
@@ -221,6 +289,17 @@ fn faulty_words_and_help_end_with_two(rt: HostRuntime) -> Result<(), Fail> {
         assert_eq!(rt; silent.as_str(), "");
         assert!(rt; said.as_str().find(part).is_some(), "{}", said.as_str());
     }
+    Ok(())
+}
+
+#[test]
+fn a_plan_holds_the_question_and_the_files(rt: HostRuntime) -> Result<(), Fail> {
+    let words = words_of(rt.alloc(), &["shown", "f.json", "--", "-g"])?;
+    let plan = plan(rt.alloc(), words.as_slice()).ok().ok_or("no plan")?;
+    assert_eq!(rt; plan.query, Query::Shown);
+    assert_eq!(rt; plan.files.len(), 2);
+    assert_eq!(rt; plan.files.at(0).as_str(), "f.json");
+    assert_eq!(rt; plan.files.at(1).as_str(), "-g");
     Ok(())
 }
 

@@ -1,6 +1,5 @@
 //! Lists of texts.
-ghost use Rattle.std.specs.Prelude.{◌≡◌, ◌+◌, List, ℕ, [], ◌∷◌, ◌++◌, length, OnOk, IfErr, IfSome, slice_get, option_copied};
-ghost use Rattle.std.specs.Prelude.{IsSome, ◌↔◌, ◌<◌};
+ghost use Rattle.std.specs.Prelude.{◌≡◌, ◌<◌, List, ℕ, [], ◌∷◌, ◌++◌, length, OnOk, IfErr, Some, slice_get};
 
 use attributes::Text;
 use std::alloc::{AllocFailed, Global};
@@ -35,11 +34,12 @@ impl Texts {
         self.items.len() as u64
     }
 
-    /// The text at `index`, from 0; takes no memory.
-    pub fn at(&self, index: u64) -> Option<&Text>
-        ensures { option_copied result ≡ slice_get self.now index }
+    /// The text at a place, from 0.
+    pub fn at(&self, index: u64) -> &Text
+        requires { index < length self.now }
+        ensures { slice_get self.now index ≡ Some result.now }
     {
-        self.items.get(index as usize)
+        &self.items[index as usize]
     }
 
     /// Adds a text at the end; a refusal hands it back.

@@ -2,7 +2,8 @@ use Rattle.std.proofs.Common.{◌≡◌, ◌∙◌, string_bytes, ap, ap₂, sym
 use Rattle.std.specs.Ordering.{nat_cmp}
 use Rattle.std.specs.Cmp.Lexicographic.{slice_cmp}
 use Rattle.attributes.specs.Events.{text, view_of}
-use Rattle.attributes.proofs.Law.{same_kept, text_equal, equal_text}
+use Rattle.attributes.proofs.Law.{same_kept}
+use Rattle.attributes.proofs.Ordered.{text_equal, equal_text}
 use Rattle.attributes.proofs.events.Event.compare.Goals as goal
 
 pub returns-clause-same : goal.returns-clause-same

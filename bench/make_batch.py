@@ -1,0 +1,72 @@
+#!/usr/bin/env python3
+"""Writes a batch of CloudEvents to standard output, the same one for the same arguments.
+
+usage: bench/make_batch.py [--events N] [--seed N] [--data BYTES] > FILE
+
+With no argument: 120,000 events in 30 MB, of five services in four regions, each with a sequence of its own. Numbers
+come in a shuffled order, one in fifty is left out and one event in a hundred stands twice.
+"""
+import argparse
+import json
+import random
+import sys
+
+KINDS = {
+    "orders": ["order.placed", "order.shipped", "order.cancelled"],
+    "payments": ["payment.authorised", "payment.captured", "payment.refunded"],
+    "stock": ["stock.received", "stock.reserved", "stock.released"],
+    "returns": ["return.requested", "return.received"],
+    "invoices": ["invoice.issued", "invoice.paid"],
+}
+REGIONS = ["eu-north", "eu-south", "us-east", "ap-west"]
+
+
+def event(dice, service, region, number, data):
+    made = {
+        "specversion": "1.0",
+        "id": f"{service}-{region}-{number:012d}-{dice.getrandbits(40):010x}",
+        "source": f"/{region}/{service}",
+        "type": "com.example." + dice.choice(KINDS[service]),
+        "subject": f"customer/{dice.randrange(40_000):06d}",
+        "sequence": f"{number:020d}",
+        "traceid": f"{dice.getrandbits(64):016x}",
+        "attempt": dice.randrange(1, 4),
+        "replayed": dice.random() < 0.02,
+    }
+    if data:
+        made["datacontenttype"] = "application/json"
+        lines = []
+        while len(json.dumps(lines, separators=(",", ":"))) < data - 30:
+            lines.append({"sku": f"{dice.getrandbits(32):08x}", "count": dice.randrange(1, 20), "gift": dice.random() < 0.1})
+        made["data"] = {"lines": lines, "note": "é" * dice.randrange(3)}
+    return made
+
+
+def main():
+    parser = argparse.ArgumentParser()
+    parser.add_argument("--events", type=int, default=120_000)
+    parser.add_argument("--seed", type=int, default=1)
+    parser.add_argument("--data", type=int, default=0, help="bytes of data an event, about")
+    options = parser.parse_args()
+    dice = random.Random(options.seed)
+    streams = [(service, region) for service in KINDS for region in REGIONS]
+    events = []
+    numbers = {stream: 0 for stream in streams}
+    while len(events) < options.events:
+        stream = dice.choice(streams)
+        numbers[stream] += 1
+        if dice.random() < 0.02:
+            continue
+        events.append(event(dice, *stream, numbers[stream], options.data))
+    for place in range(0, len(events), 100):
+        events[place] = events[dice.randrange(len(events))]
+    dice.shuffle(events)
+    out = sys.stdout
+    out.write("[")
+    for place, made in enumerate(events):
+        out.write(",\n" if place else "\n")
+        out.write(json.dumps(made, separators=(",", ":"), ensure_ascii=False))
+    out.write("\n]\n")
+
+
+main()

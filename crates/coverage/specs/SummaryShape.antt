@@ -1,0 +1,61 @@
+-- What a JSON value must be so that it may stand for a summary.
+use Rattle.std.specs.Prelude.{ℕ, Bool, true, false, ◌&&◌, ◌==◌, Option, Some, None, option_and_then, is_some, codes}
+use Rattle.serde_json.specs.Data.{Data, array, object, Items, no_items, item, Members, no_members, member}
+use Rattle.serde_json.specs.Find.{get, as_number, as_u64}
+use Rattle.serde_json.specs.Events.{members_len}
+use Rattle.coverage.specs.Intervals.{Interval}
+
+-- a whole number in 64 bits
+abbrev pub whole_of : Data → Option ℕ
+whole_of d = option_and_then as_u64 (as_number d)
+
+-- the member `version`, where it is such a number
+abbrev pub version_of : Data → Option ℕ
+version_of d = option_and_then whole_of (get (codes "version") d)
+
+abbrev pub pair_from : Option ℕ → Option ℕ → Option Interval
+pair_from (Some a) (Some b) = Some (a, b)
+pair_from (Some a) None = None
+pair_from None b = None
+
+-- the two numbers, where there are just two items and both are whole numbers
+abbrev pub pair_in : Items → Option Interval
+pair_in no_items = None
+pair_in (item a no_items) = None
+pair_in (item a (item b no_items)) = pair_from (whole_of a) (whole_of b)
+pair_in (item a (item b (item c ds))) = None
+
+-- an array of two whole numbers
+abbrev pub interval_in : Data → Option Interval
+interval_in (array ds) = pair_in ds
+interval_in _ = None
+
+abbrev pub are_pairs : Items → Bool
+are_pairs no_items = true
+are_pairs (item d ds) = is_some (interval_in d) && are_pairs ds
+
+-- an array of such arrays
+abbrev pub is_list_of_pairs : Data → Bool
+is_list_of_pairs (array ds) = are_pairs ds
+is_list_of_pairs _ = false
+
+abbrev pub are_lists : Members → Bool
+are_lists no_members = true
+are_lists (member k d ms) = is_list_of_pairs d && are_lists ms
+
+-- an object whose members are such lists
+abbrev pub is_object_of_lists : Data → Bool
+is_object_of_lists (object ms) = are_lists ms
+is_object_of_lists _ = false
+
+abbrev pub is_sources : Option Data → Bool
+is_sources None = false
+is_sources (Some d) = is_object_of_lists d
+
+abbrev pub member_count : Data → ℕ
+member_count (object ms) = members_len ms
+member_count _ = 0
+
+-- beside the version there is just one member, `sources`, and it is such an object
+abbrev pub is_shaped : Data → Bool
+is_shaped d = (member_count d == 2) && is_sources (get (codes "sources") d)
