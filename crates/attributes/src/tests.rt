@@ -127,8 +127,15 @@ fn carrying(alloc: Global, offered: Offered) -> Result<Event, Fault> {
     Event::build(parts)
 }
 
+fn refusal_of(alloc: Global, offered: Offered) -> Option<Fault> {
+    match carrying(alloc, offered) {
+        Ok(_) => None,
+        Err(fault) => Some(fault),
+    }
+}
+
 #[test]
-fn data_is_carried_or_refused(rt: HostRuntime) -> Result<(), Fault> {
+fn data_is_carried(rt: HostRuntime) -> Result<(), Fault> {
     let alloc = rt.alloc();
     let event = carrying(
         alloc,
@@ -140,76 +147,87 @@ fn data_is_carried_or_refused(rt: HostRuntime) -> Result<(), Fault> {
     );
     assert!(rt; matches!(event.content(), Content::Tree(_)));
     assert!(rt; event.compare(&event.copy()?) == Ordering::Equal);
-    let event = carrying(
-        alloc,
-        Offered::Bytes(Octets::of(alloc, [1u8, 2].as_slice())?),
-    )?;
+    let event = carrying(alloc, json(alloc, "null")?)?;
+    assert!(rt; matches!(event.content(), Content::Nothing));
+    Ok(())
+}
+
+#[test]
+fn bytes_are_carried(rt: HostRuntime) -> Result<(), Fault> {
+    let alloc = rt.alloc();
+    let event = carrying(alloc, Offered::Bytes(Octets::of(alloc, &[1, 2])?))?;
     assert_eq!(rt;
         event.text(),
         "{\"answer\":42,\"data_base64\":\"AQI=\",\"id\":\"a1\",\"source\":\"/orders\",\"specversion\":\"1.0\",\"subject\":\"x\",\"type\":\"t.a\"}"
     );
     assert!(rt; matches!(event.copy()?.content(), Content::Bytes(_)));
-    let event = carrying(alloc, json(alloc, "null")?)?;
-    assert!(rt; matches!(event.content(), Content::Nothing));
-    assert!(rt; carrying(alloc, nested(alloc, 120, "0")?).is_ok());
-    let refused = [
-        (Offered::Both, Fault::TwoData),
-        (Offered::Undecodable, Fault::Base64),
-        (json(alloc, "{\"p\":1.5}")?, Fault::DataNumber),
-        (json(alloc, "18446744073709551616")?, Fault::DataNumber),
-        (nested(alloc, 121, "1e2")?, Fault::DataNumber),
-        (nested(alloc, 121, "0")?, Fault::TooDeep),
-    ];
-    for (offered, fault) in refused {
-        match carrying(alloc, offered) {
-            Ok(_) => assert!(rt; false, "{fault} is taken"),
-            Err(found) => assert!(rt; found == fault, "{fault}"),
-        }
-    }
     Ok(())
+}
+
+#[test]
+fn data_at_fault_is_refused(rt: HostRuntime) -> Result<(), Fault> {
+    let alloc = rt.alloc();
+    assert!(rt; refusal_of(alloc, Offered::Both) == Some(Fault::TwoData));
+    assert!(rt; refusal_of(alloc, Offered::Undecodable) == Some(Fault::Base64));
+    assert!(rt; refusal_of(alloc, json(alloc, "{\"p\":1.5}")?) == Some(Fault::DataNumber));
+    assert!(rt; refusal_of(alloc, json(alloc, "18446744073709551616")?) == Some(Fault::DataNumber));
+    assert!(rt; refusal_of(alloc, nested(alloc, 121, "1e2")?) == Some(Fault::DataNumber));
+    assert!(rt; refusal_of(alloc, nested(alloc, 121, "0")?) == Some(Fault::TooDeep));
+    assert!(rt; refusal_of(alloc, nested(alloc, 120, "0")?).is_none());
+    Ok(())
+}
+
+const DAYS: [(&str, i32); 7] = [
+    ("2024-02-29T23:59:60+00:00", 19_782),
+    ("2024-03-01T00:30:00+01:00", 19_782),
+    ("9999-12-31T23:59:59Z", 2_932_896),
+    ("0000-01-01T00:00:00Z", -719_528),
+    ("1970-01-01t00:00:00.123456789z", 0),
+    ("1969-12-31T23:59:59-00:00", -1),
+    ("1970-01-01T00:00:00+23:59", -1),
+];
+
+const NO_TIMES: [&str; 16] = [
+    "2023-02-29T00:00:00Z",
+    "0000-01-01T00:00:00+01:00",
+    "9999-12-31T23:59:59-00:01",
+    "",
+    "2024-02-29",
+    "2024-02-29T10:00:00",
+    "2024-02-29 10:00:00Z",
+    "2024-02-29T24:00:00Z",
+    "2024-02-29T10:60:00Z",
+    "2024-02-29T10:00:61Z",
+    "2024-02-29T10:00:00.Z",
+    "2024-02-29T10:00:00+24:00",
+    "2024-02-29T10:00:00+01:60",
+    "2024-02-29T10:00:00Zx",
+    "2024-13-01T10:00:00Z",
+    "2024-00-01T10:00:00Z",
+];
+
+/// The day of a text, by itself and as the time of an event; they have to agree.
+fn day_of(alloc: Global, text: &str) -> Result<Option<i32>, Fault> {
+    let day = match Moment::of_text(alloc, text) {
+        Ok(moment) => Some(moment.day()),
+        Err(Fault::Time) => None,
+        Err(fault) => return Err(fault),
+    };
+    match Event::build(parts(alloc, "a1", "time", given(alloc, text)?)?) {
+        Ok(event) if event.day() == day && event.time().is_some() => Ok(day),
+        Err(Fault::Time) if day.is_none() => Ok(None),
+        _ => Err(Fault::BadSequence),
+    }
 }
 
 #[test]
 fn times_have_days(rt: HostRuntime) -> Result<(), Fault> {
     let alloc = rt.alloc();
-    for (text, day) in [
-        ("2024-02-29T23:59:60+00:00", 19_782),
-        ("2024-03-01T00:30:00+01:00", 19_782),
-        ("9999-12-31T23:59:59Z", 2_932_896),
-        ("0000-01-01T00:00:00Z", -719_528),
-        ("1970-01-01t00:00:00.123456789z", 0),
-        ("1969-12-31T23:59:59-00:00", -1),
-        ("1970-01-01T00:00:00+23:59", -1),
-    ] {
-        let moment = Moment::of_text(alloc, text)?;
-        assert_eq!(rt; moment.day(), day, "{text}");
-        assert_eq!(rt; moment.as_str(), text);
-        let event = Event::build(parts(alloc, "a1", "time", given(alloc, text)?)?)?;
-        assert!(rt; event.time() == Some(moment.as_str()), "{text}");
-        assert_eq!(rt; event.day(), Some(day), "{text}");
+    for (text, day) in DAYS {
+        assert!(rt; day_of(alloc, text)? == Some(day));
     }
-    for text in [
-        "2023-02-29T00:00:00Z",
-        "0000-01-01T00:00:00+01:00",
-        "9999-12-31T23:59:59-00:01",
-        "",
-        "2024-02-29",
-        "2024-02-29T10:00:00",
-        "2024-02-29 10:00:00Z",
-        "2024-02-29T24:00:00Z",
-        "2024-02-29T10:60:00Z",
-        "2024-02-29T10:00:61Z",
-        "2024-02-29T10:00:00.Z",
-        "2024-02-29T10:00:00+24:00",
-        "2024-02-29T10:00:00+01:60",
-        "2024-02-29T10:00:00Zx",
-        "2024-13-01T10:00:00Z",
-        "2024-00-01T10:00:00Z",
-    ] {
-        match Moment::of_text(alloc, text) {
-            Ok(_) => assert!(rt; false, "{text} is taken"),
-            Err(fault) => assert!(rt; fault == Fault::Time, "{text}"),
-        }
+    for text in NO_TIMES {
+        assert!(rt; day_of(alloc, text)?.is_none());
     }
     Ok(())
 }
@@ -229,67 +247,82 @@ fn a_text_of_262_144_bytes_is_the_longest(rt: HostRuntime) -> Result<(), Fault> 
     Ok(())
 }
 
+const NO_SEQUENCES: [&str; 8] = [
+    "1",
+    "",
+    "00000000000000000000",
+    "09223372036854775808",
+    "99999999999999999999",
+    "+0000000000000000001",
+    "0000000000000000000a",
+    "000000000000000000001",
+];
+
+fn number_of(text: &str) -> u64 {
+    match Sequence::of_text(text) {
+        Some(sequence) => sequence.number(),
+        None => 0,
+    }
+}
+
 #[test]
 fn sequences_have_twenty_digits_in_range(rt: HostRuntime) -> Result<(), Fault> {
     let alloc = rt.alloc();
+    assert_eq!(rt; number_of("00000000000000000001"), 1);
     assert_eq!(rt;
-        Sequence::of_text("00000000000000000001").map(|s| s.number()),
-        Some(1)
+        number_of("09223372036854775807"),
+        9_223_372_036_854_775_807
     );
-    assert_eq!(rt;
-        Sequence::of_text("09223372036854775807").map(|s| s.number()),
-        Some(9_223_372_036_854_775_807)
-    );
-    for text in [
-        "1",
-        "",
-        "00000000000000000000",
-        "09223372036854775808",
-        "99999999999999999999",
-        "+0000000000000000001",
-        "0000000000000000000a",
-        "000000000000000000001",
-    ] {
-        assert!(rt; Sequence::of_text(text).is_none(), "{text}");
+    for text in NO_SEQUENCES {
+        assert_eq!(rt; number_of(text), 0);
     }
     assert!(rt; Sequence::of_u64(0).is_none());
     match Sequence::of_u64(1) {
         Some(one) => assert_eq!(rt; one.digits(alloc)?.as_str(), "00000000000000000001"),
         None => assert!(rt; false, "1 is a sequence"),
     }
-    let mut batch = Batch::empty(alloc);
+    Ok(())
+}
+
+/// Why an event has no number, where it has none.
+fn unsequenced(event: Event) -> Option<Fault> {
+    match Sequenced::of(event) {
+        Ok(_) => None,
+        Err(back) => Some(back.fault),
+    }
+}
+
+#[test]
+fn events_have_numbers_or_come_back(rt: HostRuntime) -> Result<(), Fault> {
+    let alloc = rt.alloc();
+    let bad = Some(Fault::BadSequence);
+    assert!(rt; unsequenced(numbered(alloc, "a1", "7")?) == bad);
+    assert!(rt; unsequenced(numbered(alloc, "a1", "00000000000000000000")?) == bad);
+    assert!(rt; unsequenced(numbered(alloc, "a1", "00000000000000000007")?).is_none());
+    let event = Event::build(parts(alloc, "a1", "sequence", Given::Whole(1))?)?;
+    assert!(rt; unsequenced(event) == bad);
+    let event = Event::build(parts(alloc, "a1", "comment", Given::Flag(false))?)?;
+    assert!(rt; unsequenced(event) == Some(Fault::NoSequence));
+    Ok(())
+}
+
+#[test]
+fn lists_keep_what_they_take(rt: HostRuntime) -> Result<(), Fault> {
+    let alloc = rt.alloc();
     let mut events = Events::empty(alloc);
+    events.push(numbered(alloc, "a1", "00000000000000000007")?)?;
+    assert_eq!(rt; events.len(), 1);
+    let mut batch = Batch::empty(alloc);
     match Sequenced::of(numbered(alloc, "a1", "00000000000000000007")?) {
         Ok(event) => {
             assert_eq!(rt; event.number().number(), 7);
-            events.push(event.event().copy()?)?;
-            let copy = event.copy()?;
-            assert_eq!(rt; copy.event().id(), "a1");
-            batch.push(copy)?;
+            batch.push(event.copy()?)?;
         }
         Err(_) => assert!(rt; false, "it has a number"),
     }
-    for (number, fault) in [
-        ("7", Fault::BadSequence),
-        ("00000000000000000000", Fault::BadSequence),
-    ] {
-        match Sequenced::of(numbered(alloc, "a1", number)?) {
-            Ok(_) => assert!(rt; false, "{number} is taken"),
-            Err(back) => {
-                assert!(rt; back.fault == fault, "{number}");
-                assert_eq!(rt; back.event.id(), "a1");
-            }
-        }
-    }
-    match Sequenced::of(Event::build(parts(alloc, "a1", "comment", Given::Flag(false))?)?) {
-        Ok(_) => assert!(rt; false, "it has no number"),
-        Err(back) => assert!(rt; back.fault == Fault::NoSequence),
-    }
-    assert_eq!(rt; events.len(), 1);
     assert_eq!(rt; batch.len(), 1);
     assert!(rt; batch.take_front().is_some());
     assert!(rt; batch.take_front().is_none());
-    assert!(rt; batch.is_empty());
     Ok(())
 }
 

@@ -1,5 +1,5 @@
 -- What is held by lists of intervals, and what a canonical list says of its places.
-use Rattle.std.proofs.Common.{◌≡◌, ℕ, zero, suc, ◌+◌, ◌<◌, ◌≤◌, Bool, true, false, ◌&&◌, ◌||◌, ◌⊎◌, List, [], ◌∷◌, ◌++◌, length, take, refl, sym, ap, ap₂, true≢false, ◌∙◌, arith, le_of_suc-le-suc, not-suc-le-zero, inl, inr}
+use Rattle.std.proofs.Common.{◌≡◌, ℕ, zero, suc, ◌+◌, ◌<◌, ◌≤◌, Bool, true, false, ◌&&◌, ◌||◌, ◌⊎◌, List, [], ◌∷◌, ◌++◌, length, take, refl, sym, ap, ap₂, subst, true≢false, ◌∙◌, arith, le_of_suc-le-suc, not-suc-le-zero, inl, inr}
 use Rattle.std.proofs.lemmas.Bool.{and_parts, both_ways, cases_lt}
 use Rattle.std.proofs.lemmas.Bool.Decides.{nat_tests}
 use Rattle.std.proofs.lemmas.List.{take_more}
@@ -62,6 +62,12 @@ holds-at ps k n h t = or_at (λ l. holds l n) (λ p. in_interval p n) refl (λ _
 pub holds-nowhere : (ps : List Interval) (n : ℕ) → ((k : ℕ) → k < length ps → in_interval (interval_at ps k) n ≡ false) → holds ps n ≡ false
 unfolding holds
 holds-nowhere ps n h = or_from_places (λ l. holds l n) (λ p. in_interval p n) refl (λ _ _. refl) ps (0, 0) h
+
+outside : (p : Interval) (n : ℕ) → (n < p.0) ⊎ (p.1 < n) → in_interval p n ≡ false
+outside p n h = grind (arith, in_interval_tells p n, h)
+
+both_false : (a b : Bool) → a ≡ false → b ≡ false → (a || b) ≡ false
+both_false a b h k = ap (λ x. x || b) h ∙ k
 
 -- no interval holds a number that lies below the start or above the end of each
 pub holds-outside : (ps : List Interval) (n : ℕ) → ((k : ℕ) → k < length ps → (n < (interval_at ps k).0) ⊎ ((interval_at ps k).1 < n)) → holds ps n ≡ false
@@ -148,51 +154,82 @@ holds_first [] some h = absurd (some refl)
 holds_first (p ∷ ps) some h = (p.0, first_is_held 1 p ps h)
 
 -- ---- two canonical lists that hold the same numbers are one list
--- where two lists from the same number on hold the same, the first interval of one doesn't start before that of the other, nor ends after it
-first_within : (n : ℕ) (x y : Interval) (xs ys : List Interval) → rises_from n (x ∷ xs) ≡ true → rises_from n (y ∷ ys) ≡ true →
-    ((c : ℕ) → holds (x ∷ xs) c ≡ holds (y ∷ ys) c) → (y.0 ≤ x.0) × (x.0 ≡ y.0 → y.1 ≤ x.1)
-first_within n x y xs ys hx hy same =
-    let px = rises_from-parts n x xs hx in
-    let py = rises_from-parts n y ys hy in
-    let fx = fits_from-true n x px.0 in
-    let fy = fits_from-true n y py.0 in
-    let at : (c : ℕ) → (in_interval x c || holds xs c) ≡ (in_interval y c || holds ys c) =
-    λ c. sym (holds-cons x xs c) ∙ same c ∙ holds-cons y ys c in (
-      elim (cases_lt x.0 y.0) [
-        | inl lt ↦
-            let here : in_interval x x.0 ≡ true = in_interval-true x x.0 (omega arith) fx.1 in
-            let not_there : in_interval y x.0 ≡ false = grind (arith, in_interval_tells y x.0) in
-            absurd (true≢false (rw (here, not_there, holds-below (y.1 + 2) ys x.0 py.1 (omega arith)) at (at x.0)))
-        | inr ge ↦ ge
-      ],
-      λ starts. elim (cases_lt x.1 y.1) [
-        | inl lt ↦
-            let not_here : in_interval x (x.1 + 1) ≡ false = grind (arith, in_interval_tells x (x.1 + 1)) in
-            let there : in_interval y (x.1 + 1) ≡ true = in_interval-true y (x.1 + 1) (omega arith) (omega arith) in
-            absurd (true≢false (sym (rw (not_here, there, holds-below (x.1 + 2) xs (x.1 + 1) px.1 (omega arith)) at (at (x.1 + 1)))))
-        | inr ge ↦ ge
-      ],
-    )
 
-same_from : (n : ℕ) (xs ys : List Interval) → rises_from n xs ≡ true → rises_from n ys ≡ true → ((c : ℕ) → holds xs c ≡ holds ys c) → xs ≡ ys
-same_from n [] [] hx hy same = refl
-same_from n [] (y ∷ ys) hx hy same = absurd (true≢false (sym (first_is_held n y ys hy) ∙ sym (same y.0) ∙ holds-nil y.0))
-same_from n (x ∷ xs) [] hx hy same = absurd (true≢false (sym (first_is_held n x xs hx) ∙ same x.0 ∙ holds-nil x.0))
-same_from n (x ∷ xs) (y ∷ ys) hx hy same =
-    let one = first_within n x y xs ys hx hy same in
-    let other = first_within n y x ys xs hy hx (λ c. sym (same c)) in
-    let starts : x.0 ≡ y.0 = omega (arith, one.0, other.0) in
-    let ends : x.1 ≡ y.1 = omega (arith, one.1 starts, other.1 (sym starts)) in
-    let tail_x = (rises_from-parts n x xs hx).1 in
-    let tail_y : rises_from (x.1 + 2) ys ≡ true = rw ends (rises_from-parts n y ys hy).1 in
-    let rest : (c : ℕ) → holds xs c ≡ holds ys c = λ c. elim (cases_lt c (x.1 + 2)) [
-      | inl lt ↦ holds-below _ xs c tail_x lt ∙ sym (holds-below _ ys c tail_y lt)
-      | inr ge ↦
-          let not_x : in_interval x c ≡ false = grind (arith, in_interval_tells x c) in
-          let not_y : in_interval y c ≡ false = grind (arith, in_interval_tells y c) in
-          rw (not_x, not_y) at (sym (holds-cons x xs c) ∙ same c ∙ holds-cons y ys c)
-    ] in
-    ap₂ ◌∷◌ (ap₂ (λ a b. (a, b)) starts ends) (same_from (x.1 + 2) xs ys tail_x tail_y rest)
+-- a run: the least number of which the test is true, and the last one before the next that fails it
+record IsFirstRun (test : ℕ → Bool) (a b : ℕ) : Type 0 where
+  none_before : (c : ℕ) → c < a → test c ≡ false
+  all_within : (c : ℕ) → a ≤ c → c ≤ b → test c ≡ true
+  not_after : test (b + 1) ≡ false
+  not_empty : a ≤ b
+
+clash : (b : Bool) → b ≡ true → b ≡ false → ⊥
+clash b h k = true≢false (sym h ∙ k)
+
+no_later : (test : ℕ → Bool) (a b c d : ℕ) → IsFirstRun test a b → IsFirstRun test c d → a ≤ c
+no_later test a b c d one other = elim (cases_lt c a) [
+  | inl lt ↦ absurd (clash (test c) (other.all_within c (omega arith) other.not_empty) (one.none_before c lt))
+  | inr ge ↦ ge
+]
+
+no_longer : (test : ℕ → Bool) (a b d : ℕ) → IsFirstRun test a b → IsFirstRun test a d → d ≤ b
+no_longer test a b d one other = elim (cases_lt b d) [
+  | inl lt ↦ absurd (clash (test (b + 1)) (other.all_within (b + 1) (le_more a b one.not_empty) (omega arith)) one.not_after)
+  | inr ge ↦ ge
+]
+  where
+    le_more : (a b : ℕ) → a ≤ b → a ≤ b + 1
+    le_more a b h = omega arith
+
+-- the first interval is the first run
+first_run : (n : ℕ) (p : Interval) (ps : List Interval) → rises_from n (p ∷ ps) ≡ true → IsFirstRun (holds (p ∷ ps)) p.0 p.1
+first_run n p ps h =
+    let parts = rises_from-parts n p ps h in
+    let fits = fits_from-true n p parts.0 in record {
+      none_before = λ c lt. holds-cons p ps c ∙ both_false _ _ (outside p c (inl lt)) (holds-below (p.1 + 2) ps c parts.1 (omega (arith, fits.1)));
+      all_within = λ c low high. holds-cons p ps c ∙ ap (λ b. b || holds ps c) (in_interval-true p c low high);
+      not_after = holds-cons p ps (p.1 + 1) ∙ both_false _ _ (outside p (p.1 + 1) (inr (omega arith))) (holds-below (p.1 + 2) ps (p.1 + 1) parts.1 (omega arith));
+      not_empty = fits.1;
+    }
+
+-- the rest holds what comes behind the first interval
+behind : (p : Interval) (ps : List Interval) (c : ℕ) → p.1 < c → holds ps c ≡ holds (p ∷ ps) c
+behind p ps c lt = sym (holds-cons p ps c ∙ ap (λ b. b || holds ps c) (outside p c (inr lt)))
+
+same_rest : (p : Interval) (xs ys : List Interval) → rises_from (p.1 + 2) xs ≡ true → rises_from (p.1 + 2) ys ≡ true → ((c : ℕ) → holds (p ∷ xs) c ≡ holds (p ∷ ys) c) → (c : ℕ) → holds xs c ≡ holds ys c
+same_rest p xs ys hx hy same c = elim (cases_lt p.1 c) [
+  | inl lt ↦ behind p xs c lt ∙ (same c ∙ sym (behind p ys c lt))
+  | inr ge ↦ holds-below (p.1 + 2) xs c hx (omega arith) ∙ sym (holds-below (p.1 + 2) ys c hy (omega arith))
+]
+
+same_tests : (s t : ℕ → Bool) (a b : ℕ) → ((c : ℕ) → s c ≡ t c) → IsFirstRun s a b → IsFirstRun t a b
+same_tests s t a b same run = record {
+  none_before = λ c lt. sym (same c) ∙ run.none_before c lt;
+  all_within = λ c low high. sym (same c) ∙ run.all_within c low high;
+  not_after = sym (same (b + 1)) ∙ run.not_after;
+  not_empty = run.not_empty;
+}
+
+one_run : (t : ℕ → Bool) (p q : Interval) → IsFirstRun t p.0 p.1 → IsFirstRun t q.0 q.1 → p ≡ q
+one_run t p q one other =
+    let low = no_later t p.0 p.1 q.0 q.1 one other in
+    let high = no_later t q.0 q.1 p.0 p.1 other one in
+    let starts : p.0 ≡ q.0 = omega (arith, low, high) in
+    let moved : IsFirstRun t q.0 p.1 = subst (λ (a : ℕ). IsFirstRun t a p.1) starts one in
+    let short = no_longer t q.0 p.1 q.1 moved other in
+    let long = no_longer t q.0 q.1 p.1 other moved in
+    let ends : p.1 ≡ q.1 = omega (arith, short, long) in
+    ap₂ (λ (a b : ℕ). (a, b)) starts ends
+
+alike : (n : ℕ) (xs ys : List Interval) → rises_from n xs ≡ true → rises_from n ys ≡ true → ((c : ℕ) → holds xs c ≡ holds ys c) → xs ≡ ys
+alike n [] [] hx hy same = refl
+alike n [] (y ∷ ys) hx hy same = absurd (clash (holds (y ∷ ys) y.0) (first_is_held n y ys hy) (sym (same y.0) ∙ holds-nil y.0))
+alike n (x ∷ xs) [] hx hy same = absurd (clash (holds (x ∷ xs) x.0) (first_is_held n x xs hx) (same x.0 ∙ holds-nil x.0))
+alike n (x ∷ xs) (y ∷ ys) hx hy same =
+    let heads : x ≡ y = one_run (holds (y ∷ ys)) x y (same_tests (holds (x ∷ xs)) (holds (y ∷ ys)) x.0 x.1 same (first_run n x xs hx)) (first_run n y ys hy) in
+    let tail_x : rises_from (x.1 + 2) xs ≡ true = (rises_from-parts n x xs hx).1 in
+    let tail_y : rises_from (x.1 + 2) ys ≡ true = subst (λ (p : Interval). rises_from (p.1 + 2) ys ≡ true) (sym heads) (rises_from-parts n y ys hy).1 in
+    let joint : (c : ℕ) → holds (x ∷ xs) c ≡ holds (x ∷ ys) c = λ c. same c ∙ ap (λ (p : Interval). holds (p ∷ ys) c) (sym heads) in
+    ap (λ (p : Interval). p ∷ xs) heads ∙ ap (λ (r : List Interval). y ∷ r) (alike (x.1 + 2) xs ys tail_x tail_y (same_rest x xs ys tail_x tail_y joint))
 
 pub same_numbers-same : (xs ys : List Interval) → IsCanonical xs → IsCanonical ys → ((n : ℕ) → holds xs n ≡ holds ys n) → xs ≡ ys
-same_numbers-same xs ys hx hy same = same_from 1 xs ys hx hy same
+same_numbers-same xs ys hx hy same = alike 1 xs ys hx hy same

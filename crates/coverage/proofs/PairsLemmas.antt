@@ -1,38 +1,63 @@
 -- Passes over lists of intervals.
-use Rattle.std.proofs.Common.{◌≡◌, ℕ, ◌+◌, ◌-◌, ◌<◌, ◌≤◌, Bool, true, false, ◌||◌, max, List, [], ◌∷◌, ◌++◌, length, take, set, get_or, take_all, refl, sym, ap, ap₂, ◌∙◌, arith}
+use Rattle.std.proofs.Common.{◌≡◌, ℕ, ◌+◌, ◌<◌, ◌≤◌, Bool, true, false, ◌||◌, max, List, [], ◌∷◌, ◌++◌, length, take, refl, sym, ap, ap₂, ◌∙◌, arith}
 use Rattle.std.proofs.lemmas.Bool.{and_parts, and_from}
-use Rattle.std.proofs.lemmas.List.{take_more, take_more_set, length-set}
-use Rattle.coverage.specs.Intervals.{Interval, max_number, in_interval, holds, interval_at, rises_from, IsCanonical}
+use Rattle.coverage.specs.Intervals.{Interval, max_number, in_interval, holds, interval_at, fits_from, rises_from, IsCanonical}
 use Rattle.coverage.specs.Starts.{last_start_or, StartsAtMost}
-use Rattle.coverage.proofs.HoldsLemmas.{in_interval_tells, holds-nil, holds-more, or_assoc, next_free, last_start_or-nil, rises_from-nil, rises_from-push, rises_from-at, rises_from-gap, fits_from-true, le-fits_from}
+use Rattle.coverage.proofs.HoldsLemmas.{in_interval_tells, holds-nil, holds-more, holds-push, or_assoc, next_free, next_free-nil, next_free-push, last_start_or-nil, last_start_or-push, rises_from-nil, rises_from-push, rises_from-at, rises_from-gap, fits_from-true, le-fits_from}
 
--- what is known of a canonical list with a last interval
-pub last_fits : (whole xs : List Interval) (p : Interval) → whole ≡ xs ++ p ∷ [] → IsCanonical whole → IsCanonical xs × (next_free 1 xs ≤ p.0) × (p.0 ≤ p.1) × (p.1 ≤ max_number)
-last_fits whole xs p e h =
-    let parts = and_parts _ _ (sym (rises_from-push 1 xs p) ∙ ap (rises_from 1) (sym e) ∙ h) in
-    let fits = fits_from-true _ p parts.1 in
-    (parts.0, fits.0, fits.1, fits.2)
+-- the list with an interval more that starts no earlier than those that are there
+pub record IsExtended (old : List Interval) (p : Interval) (new : List Interval) : Type 0 where
+  pub canonical : IsCanonical new
+  pub members : (n : ℕ) → holds new n ≡ (holds old n || in_interval p n)
+  pub starts : StartsAtMost new p.0
 
-pub pushed_fits : (whole xs : List Interval) (p : Interval) → whole ≡ xs ++ p ∷ [] → IsCanonical xs → next_free 1 xs ≤ p.0 → p.0 ≤ p.1 → p.1 ≤ max_number → IsCanonical whole
-pushed_fits whole xs p e h from ordered bounded =
-    ap (rises_from 1) e ∙ rises_from-push 1 xs p ∙ and_from _ _ h (le-fits_from _ p from ordered bounded)
+-- what a canonical list that ends with an interval says of the front and of that interval
+pub record EndsWith (xs : List Interval) (last : Interval) : Type 0 where
+  pub front : IsCanonical xs
+  pub free : next_free 1 xs ≤ last.0
+  pub ordered : last.0 ≤ last.1
+  pub bounded : last.1 ≤ max_number
 
--- two intervals that touch hold what one from the first's start to the greater end holds
-pub hull : (b : Bool) (last p : Interval) (m n : ℕ) → last.0 ≤ p.0 → p.0 ≤ last.1 + 1 → last.0 ≤ last.1 → m ≡ max last.1 p.1 → (b || in_interval (last.0, m) n) ≡ ((b || in_interval last n) || in_interval p n)
-hull true last p m n from touches ordered e = refl
-hull false last p m n from touches ordered e = grind (arith, in_interval_tells (last.0, m) n, in_interval_tells last n, in_interval_tells p n)
+pub ends_with : (xs : List Interval) (last : Interval) → IsCanonical (xs ++ last ∷ []) → EndsWith xs last
+ends_with xs last h =
+    let both = and_parts (rises_from 1 xs) (fits_from (next_free 1 xs) last) (sym (rises_from-push 1 xs last) ∙ h) in
+    let fits = fits_from-true (next_free 1 xs) last both.1 in
+    record { front = both.0; free = fits.0; ordered = fits.1; bounded = fits.2 }
 
--- a list is its front and its last item, also after that item is replaced
-pub front_last : (xs : List Interval) (n : ℕ) (last : Interval) → n ≡ length xs → 0 < n → last ≡ get_or xs (n - 1) last →
-    xs ≡ take (n - 1) xs ++ last ∷ []
-front_last xs n last len some is =
-    sym (take_all (n - 1 + 1) xs (omega arith)) ∙ take_more xs (n - 1) last (omega arith)
-    ∙ ap (λ (p : Interval). take (n - 1) xs ++ p ∷ []) (sym is)
+canonical-push : (xs : List Interval) (p : Interval) → EndsWith xs p → IsCanonical (xs ++ p ∷ [])
+canonical-push xs p e = rises_from-push 1 xs p ∙ and_from (rises_from 1 xs) (fits_from (next_free 1 xs) p) e.front (le-fits_from (next_free 1 xs) p e.free e.ordered e.bounded)
 
-pub front_new : (xs : List Interval) (n : ℕ) (new : Interval) → n ≡ length xs → 0 < n → set xs (n - 1) new ≡ take (n - 1) xs ++ new ∷ []
-front_new xs n new len some =
-    sym (take_all (n - 1 + 1) (set xs (n - 1) new) (omega (arith, length-set xs (n - 1) new)))
-    ∙ take_more_set xs (n - 1) new (omega arith)
+last_start : (xs : List Interval) (p : Interval) (n : ℕ) → p.0 ≤ n → StartsAtMost (xs ++ p ∷ []) n
+last_start xs p n low = omega (arith, last_start_or-push 0 xs p, low)
+
+pub extended_first : (p : Interval) → 1 ≤ p.0 → p.0 ≤ p.1 → p.1 ≤ max_number → IsExtended [] p (p ∷ [])
+extended_first p from ordered bounded = record {
+  canonical = canonical-push [] p (record { front = rises_from-nil 1; free = omega (arith, next_free-nil 1, from); ordered = ordered; bounded = bounded });
+  members = λ n. holds-push [] p n;
+  starts = last_start [] p p.0 (omega arith);
+}
+
+pub extended_apart : (xs : List Interval) (last p : Interval) → IsCanonical (xs ++ last ∷ []) → last.1 + 1 < p.0 → p.0 ≤ p.1 → p.1 ≤ max_number → IsExtended (xs ++ last ∷ []) p ((xs ++ last ∷ []) ++ p ∷ [])
+extended_apart xs last p h gap ordered bounded = record {
+  canonical = canonical-push (xs ++ last ∷ []) p (record { front = h; free = omega (arith, next_free-push 1 xs last, gap); ordered = ordered; bounded = bounded });
+  members = λ n. holds-push (xs ++ last ∷ []) p n;
+  starts = last_start (xs ++ last ∷ []) p p.0 (omega arith);
+}
+
+-- two intervals that touch hold together what the one does from the earlier start to the later end
+joined_holds : (last p : Interval) (m n : ℕ) → last.0 ≤ p.0 → p.0 ≤ last.1 + 1 → last.0 ≤ last.1 → p.0 ≤ p.1 → m ≡ max last.1 p.1 → in_interval (last.0, m) n ≡ (in_interval last n || in_interval p n)
+joined_holds last p m n later touches some other e = grind (arith, in_interval_tells (last.0, m) n, in_interval_tells last n, in_interval_tells p n)
+
+pub extended_joined : (xs : List Interval) (last p : Interval) (m : ℕ) → IsCanonical (xs ++ last ∷ []) → last.0 ≤ p.0 → p.0 ≤ last.1 + 1 → p.0 ≤ p.1 → p.1 ≤ max_number → m ≡ max last.1 p.1 → IsExtended (xs ++ last ∷ []) p (xs ++ (last.0, m) ∷ [])
+extended_joined xs last p m h later touches ordered bounded e =
+    let end = ends_with xs last h in record {
+      canonical = canonical-push xs (last.0, m) (record { front = end.front; free = end.free; ordered = omega (arith, e, end.ordered); bounded = omega (arith, e, end.bounded) });
+      members = λ n. holds-push xs (last.0, m) n
+          ∙ (ap (λ b. holds xs n || b) (joined_holds last p m n later touches end.ordered ordered e)
+          ∙ (or_assoc (holds xs n) (in_interval last n) (in_interval p n)
+          ∙ ap (λ b. b || in_interval p n) (sym (holds-push xs last n))));
+      starts = last_start xs (last.0, m) p.0 later;
+    }
 
 -- the numbers of the first i intervals of one list and the first j of the other, of which none that is left starts earlier
 pub record IsMergedUpTo (xs ys : List Interval) (i j : ℕ) (both : List Interval) : Type 0 where

@@ -59,7 +59,8 @@ impl Intervals {
         join(&mut self.starts, number.number())
     }
 
-    /// The numbers of either set. Time and memory linear in the intervals of both.
+    /// The numbers of either set. Memory linear in the intervals of both, time the same times the
+    /// logarithm of their count.
     pub fn union(&self, other: &Intervals) -> Result<Intervals, AllocError>
         ensures canonical { IfOk result (λ r. IsCanonical r) }
         ensures members { IfOk result (λ r. (n : ℕ) → holds r n ≡ (holds self.now n || holds other.now n)) }
@@ -73,7 +74,7 @@ impl Intervals {
         })
     }
 
-    /// The set's numbers that the other doesn't hold. Time and memory linear in the intervals of both.
+    /// The set's numbers that the other doesn't hold. Time and memory as for `union`.
     pub fn minus(&self, other: &Intervals) -> Result<Intervals, AllocError>
         ensures canonical { IfOk result (λ r. IsCanonical r) }
         ensures members { IfOk result (λ r. (n : ℕ) → holds r n ≡ (holds self.now n && not (holds other.now n))) }
@@ -87,8 +88,8 @@ impl Intervals {
         })
     }
 
-    /// The numbers from 1 on that aren't held, up to the greatest that is. Time and memory linear in
-    /// the intervals.
+    /// The numbers from 1 on that aren't held, up to the greatest that is. Time and memory as for
+    /// `union`.
     pub fn missing(&self) -> Result<Intervals, AllocError>
         ensures { IfOk result (λ r. Forms r (IsMissing self.now)) }
     {

@@ -22,15 +22,17 @@ fn append(pairs: &mut Vec<Interval>, interval: Interval) -> Result<(), AllocErro
     ensures members { OnOk result ((n : ℕ) → holds pairs.new.items n ≡ (holds pairs.old.items n || in_interval interval n)) }
     ensures starts { OnOk result (StartsAtMost pairs.new.items interval.0) }
 {
-    let len = pairs.len();
-    if len > 0 {
-        let last = pairs[len - 1];
-        if interval.0 <= last.1 + 1 {
-            pairs[len - 1] = (last.0, last.1.max(interval.1));
-            return Ok(());
+    match pairs.pop() {
+        None => pairs.push(interval)?,
+        Some(last) => {
+            if interval.0 <= last.1 + 1 {
+                pairs.push((last.0, last.1.max(interval.1)))?;
+            } else {
+                pairs.push(last)?;
+                pairs.push(interval)?;
+            }
         }
     }
-    pairs.push(interval)?;
     Ok(())
 }
 

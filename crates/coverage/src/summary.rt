@@ -115,8 +115,8 @@ impl Summary {
         Ok(Summary { entries })
     }
 
-    /// The numbers of either summary, for each source. Time and memory linear in the sources and
-    /// the intervals of both.
+    /// The numbers of either summary, for each source. Memory linear in the sources and the intervals
+    /// of both, time the same times the logarithm of the count of a source's intervals.
     pub fn union(&self, other: &Summary) -> Result<Summary, AllocError>
         ensures summary { IfOk result (λ r. IsSummary r) }
         ensures members { IfOk result (λ r. (s : List ℕ) (m : ℕ) → holds_at r s m ≡ (holds_at self.now s m || holds_at other.now s m)) }
@@ -139,7 +139,7 @@ impl Summary {
     /// order: `NotJson`; `Shape`, where there is no version; `Version`; `Shape`, where the members are
     /// others; `NotCanonical`, where a space, another order or spelling, an interval that doesn't
     /// ascend or touches the one before, an empty list or a source that isn't allowed makes the bytes
-    /// no summary's text. Time and memory linear in the bytes.
+    /// no summary's text. Memory linear in the bytes, time the same times a logarithm.
     pub fn of_text(alloc: Global, bytes: &[u8]) -> Result<Summary, SummaryFault>
         ensures text { IfOk result (λ s. bytes.now ≡ summary_text s) }
         ensures summary { IfOk result (λ s. IsSummary s) }

@@ -14,7 +14,7 @@ returns-in-Err-clause-err c =
     let files = c.args.files.now in
     let there : slice_get files c.loop-file.file ≡ Some c.as_bytes.result.now =
     slice_get_read files (length files) c.loop-file.file c.index-files-file.result refl (omega arith) c.index-files-file.is
-    ∙ ap (λ (x : List ℕ). Some x) (sym c.as_bytes.ensures) in
+    ∙ ap (λ (x : List ℕ). Some x) (sym c.as_bytes.ensures.value) in
     refusal_by files c.loop-file.file c.as_bytes.result.now c.in-Err.fault c.loop-file.invariant.0 there c.in-Err.ensures.fault c.loop-file.invariant.1
 
 pub loop-file-preserved : goal.loop-file-preserved
@@ -22,7 +22,7 @@ loop-file-preserved c =
     let files = c.args.files.now in
     let there : slice_get files c.loop-file.file ≡ Some c.as_bytes.result.now =
     slice_get_read files (length files) c.loop-file.file c.index-files-file.result refl (omega arith) c.index-files-file.is
-    ∙ ap (λ (x : List ℕ). Some x) (sym c.as_bytes.ensures) in
+    ∙ ap (λ (x : List ℕ). Some x) (sym c.as_bytes.ensures.value) in
     subst (λ (fs : List (List ℕ)). CountsFiles fs c.add_numbers.new.summary) (sym (take_next files c.loop-file.file c.as_bytes.result.now there))
     (CountsFiles-more (take c.loop-file.file files) c.as_bytes.result.now c.in-Ok.events c.loop-file.summary c.add_numbers.new.summary
     c.loop-file.invariant c.in-Ok.ensures.reads c.in-Ok.ensures.numbered c.in_ok-add_numbers-in-Ok.ensures)
