@@ -17,9 +17,9 @@ mod tests;
 mod texts;
 
 use attributes::Text;
-use running::perform;
+use running::{NO_MEMORY, perform};
 use std::env;
-use std::io::Write;
+use std::io::{ErrorKind, Write};
 use std::process::ExitCode;
 
 fn main(rt: HostRuntime) -> ExitCode {
@@ -27,10 +27,19 @@ fn main(rt: HostRuntime) -> ExitCode {
     let mut err = rt.stderr();
     match words(&rt) {
         Ok(words) => ExitCode::from(perform(&rt, words.as_slice(), &mut out, &mut err)),
-        Err(_) => {
-            let _ = err.write_all(b"site: the arguments aren't text\n");
-            ExitCode::from(2)
-        }
+        Err(error) => ExitCode::from(refuse_words(&mut err, error.kind())),
+    }
+}
+
+// Words that couldn't be had: memory was refused, or one isn't UTF-8.
+fn refuse_words<E: Write>(err: &mut E, kind: ErrorKind) -> u8 {
+    let (line, status) = match kind {
+        ErrorKind::OutOfMemory => (NO_MEMORY, 1),
+        _ => ("site: the arguments aren't text\n", 2),
+    };
+    match err.write_all(line.as_bytes()) {
+        Ok(()) => status,
+        Err(_) => 1,
     }
 }
 

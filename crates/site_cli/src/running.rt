@@ -25,7 +25,7 @@ const REFUSED: u8 = 1;
 /// The status of words that are at fault, or ask for help or the version.
 const FAULTY: u8 = 2;
 
-const NO_MEMORY: &str = "site: out of memory\n";
+pub const NO_MEMORY: &str = "site: out of memory\n";
 
 /// Runs the program on the words after its name, and answers its exit status: 0 for a result, 1 for a
 /// refusal and for output that can't be written, 2 for faulty words and for help.

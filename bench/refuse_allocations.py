@@ -1,0 +1,70 @@
+#!/usr/bin/env python3
+"""Runs the built program with the first, second, .. allocation refused, until a run meets no refusal.
+
+usage: bench/refuse_allocations.py PROGRAM WORD..
+
+Each run has to end with the answer of the whole run, or with status 1, `site: out of memory` and nothing on standard
+output. The C compiler `cc` builds the shim that refuses.
+"""
+import os
+import subprocess
+import sys
+import tempfile
+
+SHIM = r"""
+#define _GNU_SOURCE
+#include <dlfcn.h>
+#include <errno.h>
+#include <stdlib.h>
+#include <fcntl.h>
+#include <unistd.h>
+
+static long count, refused_at = -1;
+
+static int refuses(void) {
+    if (refused_at < 0) {
+        const char *at = getenv("REFUSE_AT");
+        refused_at = at ? atol(at) : 0;
+    }
+    if (++count != refused_at) return 0;
+    if (getenv("REFUSE_MARK")) close(creat(getenv("REFUSE_MARK"), 0600));
+    errno = ENOMEM;
+    return 1;
+}
+
+#define NEXT(name) ((__typeof__(&name))dlsym(RTLD_NEXT, #name))
+void *malloc(size_t n) { return refuses() ? NULL : NEXT(malloc)(n); }
+void *realloc(void *p, size_t n) { return refuses() ? NULL : NEXT(realloc)(p, n); }
+void *aligned_alloc(size_t a, size_t n) { return refuses() ? NULL : NEXT(aligned_alloc)(a, n); }
+int posix_memalign(void **p, size_t a, size_t n) { return refuses() ? ENOMEM : NEXT(posix_memalign)(p, a, n); }
+"""
+
+
+def main():
+    program, words = os.path.abspath(sys.argv[1]), sys.argv[2:]
+    whole = subprocess.run([program, *words], capture_output=True)
+    with tempfile.TemporaryDirectory() as room:
+        with open(f"{room}/shim.c", "w") as out:
+            out.write(SHIM)
+        subprocess.run(["cc", "-O1", "-shared", "-fPIC", "-o", f"{room}/shim.so", f"{room}/shim.c", "-ldl"], check=True)
+        bad, refused, at = 0, 0, 0
+        while True:
+            at += 1
+            mark = f"{room}/mark"
+            if os.path.exists(mark):
+                os.remove(mark)
+            env = {**os.environ, "LD_PRELOAD": f"{room}/shim.so", "REFUSE_AT": str(at), "REFUSE_MARK": mark}
+            ran = subprocess.run([program, *words], capture_output=True, env=env, timeout=60)
+            said = (ran.returncode, ran.stdout, ran.stderr)
+            if not os.path.exists(mark):
+                break
+            out_of_memory = said == (1, b"", b"site: out of memory\n")
+            refused += out_of_memory
+            if not out_of_memory and said != (whole.returncode, whole.stdout, whole.stderr):
+                bad += 1
+                print(f"allocation {at}: status {said[0]}, {said[1][:80]!r}, {said[2][:80]!r}")
+        print(f"{at - 1} allocations refused in turn: {refused} ended with out of memory, {bad} with another answer")
+    return 1 if bad else 0
+
+
+sys.exit(main())
