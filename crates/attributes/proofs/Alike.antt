@@ -1,7 +1,7 @@
 -- The object of an event gives the event back.
-use Rattle.std.proofs.Common.{◌≡◌, ◌∙◌, ℕ, pos, negsuc, Bool, true, false, ◌&&◌, List, [], ◌∷◌, refl, ap, ap₂, sym, subst}
-use Rattle.std.specs.Prelude.{if◌then◌else◌, bytes_eq, codes, Option, Some, None, Result, Ok, Err}
-use Rattle.std.specs.Ordering.{nat_cmp, match_ordering, is_eq}
+use Rattle.std.proofs.Common.{◌≡◌, ◌∙◌, ℕ, pos, negsuc, Bool, true, false, ◌&&◌, List, [], ◌∷◌, refl, ap, ap₂, sym}
+use Rattle.std.specs.Prelude.{if◌then◌else◌, codes, Option, Some, None, Result, Ok, Err}
+use Rattle.std.specs.Ordering.{nat_cmp, match_ordering}
 use Rattle.std.specs.Cmp.Lexicographic.{slice_cmp}
 use Rattle.std.specs.List.{list_all}
 use Rattle.std.specs.List.Sorted.{IsStrictlySortedBy}
@@ -11,8 +11,8 @@ use Rattle.base64.specs.Engines.{standard}
 use Rattle.base64.specs.GeneralPurpose.{IsBytes, IsConsistent, encode_of, decode_of}
 use Rattle.base64.specs.declared.DecodeError.{DecodeError}
 use Rattle.base64.proofs.EngineFacts.{decode_of-encode_of}
-use Rattle.serde_json.specs.Data.{Data, boolean, number, string, Members, no_members, member, put}
-use Rattle.serde_json.specs.Find.{of_integer, get_member}
+use Rattle.serde_json.specs.Data.{Data, string, Members, no_members, member, put}
+use Rattle.serde_json.specs.Find.{get_member}
 use Rattle.serde_json.proofs.Views.{get_member-put, get_member-put_other}
 use Rattle.attributes.specs.Characters.{is_name}
 use Rattle.attributes.specs.Members.{names_of, InOrder}

@@ -1,6 +1,6 @@
 -- What is built of parts without a fault keeps its text.
-use Rattle.std.proofs.Common.{◌≡◌, ◌≢◌, ◌∙◌, ◌≤◌, ℕ, Bool, false, List, Option, None, Some, length, String, refl, ap, ap₂, sym, subst}
-use Rattle.std.specs.Prelude.{⊤, codes}
+use Rattle.std.proofs.Common.{◌≡◌, ◌≢◌, ◌∙◌, ◌≤◌, ℕ, Bool, false, List, None, Some, length, String, ap, ap₂, sym, subst}
+use Rattle.std.specs.Prelude.{codes}
 use Rattle.std.specs.declared.alloc.Global.{Global}
 use Rattle.std.specs.Ordering.{nat_cmp}
 use Rattle.std.specs.Cmp.Lexicographic.{slice_cmp}
@@ -10,8 +10,8 @@ use Rattle.serde_json.specs.Read.{read}
 use Rattle.serde_json.specs.Written.{compact_text, has_float}
 use Rattle.attributes.specs.Members.{named, names_of, InOrder}
 use Rattle.attributes.specs.Exact.{IsExact}
-use Rattle.attributes.specs.Events.{EventValue, OfferValue, content_of, tree_content, event_of, scalars_of, text, view_of, with_all, with_content, members_of}
-use Rattle.attributes.specs.Faults.{HoldsBytes, IsCarried, fault, member_fault, payload_fault, max_text, IsEvent, KeepsText}
+use Rattle.attributes.specs.Events.{OfferValue, content_of, event_of, scalars_of, text, view_of, with_all, with_content, members_of}
+use Rattle.attributes.specs.Faults.{HoldsBytes, IsCarried, member_fault, payload_fault, max_text, KeepsText}
 use Rattle.attributes.specs.declared.scalars.Scalar.{Scalar}
 use Rattle.attributes.specs.declared.contents.Content.{Content}
 use Rattle.attributes.specs.declared.contents.Content.TheVariants as content

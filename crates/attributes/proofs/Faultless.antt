@@ -1,16 +1,15 @@
 -- What parts without a fault are.
-use Rattle.std.proofs.Common.{◌≡◌, ◌∙◌, ◌<◌, ◌≤◌, ℕ, Bool, true, false, not, ◌&&◌, List, [], ◌∷◌, map, length, Option, Some, None, refl, ap, ap₂, sym, subst, arith}
-use Rattle.std.specs.Prelude.{if◌then◌else◌, is_some, nat_lt, nat_le, codes}
+use Rattle.std.proofs.Common.{◌≡◌, ◌∙◌, ◌≤◌, ℕ, Bool, true, false, not, ◌&&◌, List, [], ◌∷◌, length, Option, Some, None, refl, ap, ap₂, sym, subst, arith}
+use Rattle.std.specs.Prelude.{if◌then◌else◌, nat_lt, nat_le}
 use Rattle.std.specs.List.{list_all, AllByRecursion}
 use Rattle.std.proofs.lemmas.Bool.Decides.{nat_tests}
 use Rattle.serde_json.specs.Data.{Data, null, boolean, number, string, array, object, depth}
 use Rattle.serde_json.specs.Written.{has_float}
 use Rattle.attributes.specs.Members.{names_of}
 use Rattle.attributes.specs.Characters.{is_name}
-use Rattle.attributes.specs.Events.{EventValue, OfferValue, content_of, event_of, scalars_of, text}
-use Rattle.attributes.specs.Faults.{is_attribute, is_shallow, has_whole_numbers, first_failed, member_tests, member_fault, payload_tests, payload_fault, or_else, max_text, fault, given_all, given_of, offered_of, parts_of}
+use Rattle.attributes.specs.Events.{OfferValue, content_of, event_of, scalars_of, text}
+use Rattle.attributes.specs.Faults.{is_attribute, is_shallow, has_whole_numbers, first_failed, member_tests, member_fault, payload_tests, payload_fault, or_else, max_text, fault, given_all, offered_of, parts_of}
 use Rattle.attributes.specs.declared.faults.Fault.{Fault}
-use Rattle.attributes.specs.declared.faults.Fault.TheVariants.{TooLarge}
 use Rattle.attributes.specs.declared.scalars.Scalar.{Scalar}
 use Rattle.attributes.specs.declared.scalars.Given.{Given}
 use Rattle.attributes.specs.declared.scalars.Given.TheVariants as given

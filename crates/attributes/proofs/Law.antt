@@ -1,5 +1,5 @@
 -- Different events have different texts.
-use Rattle.std.proofs.Common.{◌≡◌, ◌∙◌, ◌≤◌, ℕ, pos, negsuc, Bool, true, List, [], ◌∷◌, Some, refl, ap, sym, subst, arith}
+use Rattle.std.proofs.Common.{◌≡◌, ◌∙◌, ◌≤◌, ℕ, pos, negsuc, true, List, [], ◌∷◌, Some, ap, sym, subst, arith}
 use Rattle.std.specs.Prelude.{codes, int_lt, ltb, not}
 use Rattle.std.specs.List.{list_all}
 use Rattle.std.specs.Ordering.{nat_cmp}
@@ -10,10 +10,9 @@ use Rattle.base64.specs.Engines.{standard}
 use Rattle.base64.specs.GeneralPurpose.{encode_of}
 use Rattle.serde_json.specs.Data.{Data, object, string, Members, no_members, member, put, members_depth}
 use Rattle.serde_json.specs.Read.{read}
-use Rattle.attributes.specs.Members.{names_of, InOrder}
 use Rattle.attributes.specs.Events.{EventValue, json_of, members_of, text, with_all, with_content}
-use Rattle.attributes.specs.Exact.{IsExact, IsWhole, KeysAscend, MembersAreExact}
-use Rattle.attributes.specs.Faults.{IsCarried, IsEvent, KeepsText, is_attribute, is_integer, is_shallow, given_of, given_all, offered_of, parts_of}
+use Rattle.attributes.specs.Exact.{IsExact, KeysAscend, MembersAreExact}
+use Rattle.attributes.specs.Faults.{IsCarried, IsEvent, KeepsText, is_attribute, given_of, given_all, offered_of, parts_of}
 use Rattle.attributes.specs.declared.scalars.Scalar.{Scalar}
 use Rattle.attributes.specs.declared.scalars.Scalar.TheVariants as scalar
 use Rattle.attributes.specs.declared.contents.Content.{Content}

@@ -1,9 +1,7 @@
 -- What the JSON object of attributes is made of: no float, and no depth of its own.
 use Rattle.std.proofs.Common.{◌≡◌, sym, ◌∙◌, ◌≤◌, ℕ, pos, negsuc, Bool, true, false, ◌||◌, List, [], ◌∷◌, refl, ap, arith}
-use Rattle.std.specs.Ordering.{nat_cmp, match_ordering}
+use Rattle.std.specs.Ordering.{nat_cmp}
 use Rattle.std.specs.Cmp.Lexicographic.{slice_cmp}
-use Rattle.std.specs.declared.cmp.Ordering.{Ordering}
-use Rattle.std.specs.declared.cmp.Ordering.TheVariants.{Less, Equal, Greater}
 use Rattle.serde_json.specs.Data.{Data, string, object, Members, no_members, member, put, depth, members_depth}
 use Rattle.serde_json.specs.Written.{has_float, members_have_float, compact_text}
 use Rattle.serde_json.specs.Read.{read, max_depth}

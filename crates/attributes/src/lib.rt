@@ -1,6 +1,7 @@
 //! Events as values: their attributes, their faults, their canonical text and their sequence numbers.
 #![tactic(auto)]
 
+pub mod batches;
 mod canonical;
 mod characters;
 pub mod contents;
@@ -18,10 +19,11 @@ mod tests;
 pub mod times;
 pub mod trees;
 
+pub use batches::Batch;
 pub use contents::{Content, Offered};
 pub use events::Event;
 pub use faults::Fault;
-pub use lists::{Batch, Events};
+pub use lists::Events;
 pub use numbers::{Sequence, Sequenced, Unsequenced};
 pub use parts::Parts;
 pub use scalars::{Given, Scalar};

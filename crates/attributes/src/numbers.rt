@@ -82,7 +82,7 @@ impl Sequence {
 #[derive(Drop)]
 pub struct Sequenced {
     event: Event,
-    number: Sequence,
+    sequence: Sequence,
 }
 
 impl Model for Sequenced {
@@ -97,7 +97,7 @@ impl Model for Sequenced {
 
     ghost view = { λ s. s.event };
 
-    ghost invariant = { λ s. number_of s.event ≡ Some s.number };
+    ghost invariant = { λ s. number_of s.event ≡ Some s.sequence };
 }
 
 /// An event without a number, and why it has none: `NoSequence` or `BadSequence`.
@@ -135,9 +135,9 @@ impl Sequenced {
         ensures handed_back { IfErr result (λ u. u.event ≡ event) }
         ensures fault { IfErr result (λ u. u.fault ≡ sequence_fault event) }
     {
-        let number = number_in(event.attribute("sequence"));
-        match number {
-            Some(number) => Ok(Sequenced { event, number }),
+        let sequence = number_in(event.attribute("sequence"));
+        match sequence {
+            Some(sequence) => Ok(Sequenced { event, sequence }),
             None => {
                 let fault = fault_in(event.attribute("sequence"));
                 Err(Unsequenced { event, fault })
@@ -154,7 +154,7 @@ impl Sequenced {
     pub fn number(&self) -> Sequence
         ensures { number_of self.now ≡ Some result }
     {
-        self.number
+        self.sequence
     }
 
     /// An event that is equal. Time and memory in proportion to its text.
@@ -164,7 +164,7 @@ impl Sequenced {
         let event = self.event.copy()?;
         Ok(Sequenced {
             event,
-            number: self.number,
+            sequence: self.sequence,
         })
     }
 }

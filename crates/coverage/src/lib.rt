@@ -4,6 +4,7 @@
 mod entries;
 mod faults;
 mod intervals;
+pub mod laws;
 mod pairs;
 mod readings;
 mod shape;

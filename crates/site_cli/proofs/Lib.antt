@@ -1,3 +1,4 @@
+mod AlikeLemmas
 mod ClapLemmas
 mod CountLemmas
 mod FileLemmas

@@ -4,8 +4,7 @@ use Rattle.std.specs.Prelude.{All, Contains, None, Some, slice_get}
 use Rattle.std.specs.Cmp.{IsTotalOrder}
 use Rattle.std.specs.List.{AllByRecursion, list_any}
 use Rattle.std.specs.List.Sorted.{IsPermutation, IsSorted}
-use Rattle.std.specs.Ordering.{is_eq, is_lt, ordering_then}
-use Rattle.std.specs.declared.cmp.Ordering.{Ordering}
+use Rattle.std.specs.Ordering.{is_eq, is_lt}
 use Rattle.std.proofs.lemmas.Cmp.{nat_list_cmp_total, on_total, then_total}
 use Rattle.std.proofs.lemmas.List.{map-append}
 use Rattle.std.proofs.lemmas.List.MinMax.{ranks_by}
@@ -14,17 +13,14 @@ use Rattle.attributes.specs.Events.{EventValue}
 use Rattle.site_cli.specs.Reports.{joined}
 use Rattle.site_cli.proofs.CountLemmas.{take_next}
 use Rattle.site_cli.proofs.FileLemmas.{joined-more}
-use Rattle.site_cli.specs.Shown.{AreShown, IsShown, Row, Yields, firsts, key_cmp, row_of, text_cmp}
+use Rattle.site_cli.specs.Shown.{AreShown, IsShown, Row, Yields, firsts, key_cmp, row_cmp, row_of, text_cmp}
 use Rattle.site_cli.proofs.FirstsLemmas.{Ascends, Before, ascends_from, at_places, by_places, each, each_mapped, each_of_both, firsts_among, firsts_complete, firsts_least, firsts_strict}
 
-key_total : IsTotalOrder key_cmp
+pub key_total : IsTotalOrder key_cmp
 key_total = then_total (on_total (λ (r : Row). r.0) nat_list_cmp_total) (on_total (λ (r : Row). r.1) nat_list_cmp_total)
 
-text_total : IsTotalOrder text_cmp
+pub text_total : IsTotalOrder text_cmp
 text_total = on_total (λ (r : Row). r.2) nat_list_cmp_total
-
-abbrev row_cmp : Row → Row → Ordering
-row_cmp r s = ordering_then (key_cmp r s) (text_cmp r s)
 
 row_total : IsTotalOrder row_cmp
 row_total = then_total key_total text_total

@@ -1,5 +1,5 @@
 -- Answers to questions about the events of files.
-use Rattle.std.specs.Prelude.{◌≡◌, ◌==◌, ◌&&◌, ◌⊎◌, ◌++◌, ℕ, List, [], ◌∷◌, Bool, true, false, None, Option, Some, bytes_eq, is_some, slice_get, take}
+use Rattle.std.specs.Prelude.{◌≡◌, ◌==◌, ◌&&◌, ◌⊎◌, ◌↔◌, ◌++◌, Contains, ℕ, List, [], ◌∷◌, Bool, true, false, None, Option, Some, bytes_eq, is_some, slice_get, take}
 use Rattle.std.specs.List.{flat_map, list_all, list_any}
 use Rattle.attributes.specs.Events.{EventValue, source_of}
 use Rattle.attributes.specs.Sequences.{number_of, sequence_fault}
@@ -65,6 +65,14 @@ IsAnswer Shown events text = (rows : List Row) × AreShown events rows × (text 
 -- the text answers the question about the events of the files, which all spell events with numbers
 abbrev pub IsReport : Query → List (List ℕ) → List ℕ → Type 0
 IsReport query files text = (lists : List (List EventValue)) × EachReads files lists × IsAnswer query (joined lists) text
+
+-- the event is one of those that the files spell
+abbrev pub HoldsEvent : List (List ℕ) → EventValue → Type 0
+HoldsEvent files e = (lists : List (List EventValue)) × EachReads files lists × Contains (joined lists) e
+
+-- the files spell the same events as the others, in whatever order, grouping and repetition
+abbrev pub HoldSameEvents : List (List ℕ) → List (List ℕ) → Type 0
+HoldSameEvents files others = (e : EventValue) → HoldsEvent files e ↔ HoldsEvent others e
 
 -- ---- the refusals
 

@@ -42,6 +42,10 @@ pub record AreShown (events : List EventValue) (rows : List Row) : Type 0 where
 
 -- ---- for private clauses
 
+-- by source, then id, then canonical text
+abbrev pub row_cmp : Row → Row → Ordering
+row_cmp r s = ordering_then (key_cmp r s) (text_cmp r s)
+
 -- r has another source or id than the row before it, or is the first
 abbrev pub is_new : {X : Type 0} → (X → X → Ordering) → Option X → X → Bool
 is_new key None r = true

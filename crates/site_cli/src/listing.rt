@@ -1,10 +1,11 @@
 //! The shown events of files, one canonical text a line.
 ghost use Rattle.std.specs.Prelude.{◌≡◌, ◌++◌, [], IfErr, IfOk, None, OnOk, map, string_bytes};
 ghost use Rattle.std.specs.List.{flat_map};
+ghost use Rattle.std.specs.List.Sorted.{IsPermutation, IsSorted};
 ghost use Rattle.std.specs.Option.{option_map};
 ghost use Rattle.std.specs.Ordering.{is_eq};
 ghost use Rattle.site_cli.specs.Reports.{EachReads, IsRefusal, IsReport, joined, text_line};
-ghost use Rattle.site_cli.specs.Shown.{firsts, is_new, kept_if, key_cmp, row_of};
+ghost use Rattle.site_cli.specs.Shown.{firsts, is_new, kept_if, key_cmp, row_cmp, row_of};
 
 use crate::gathering::events_of_file;
 use crate::queries::Query;
@@ -24,7 +25,7 @@ pub fn shown_lines(alloc: Global, files: &[Octets]) -> Result<Text, Refused>
 {
     let lists = lists_of(alloc, files)?;
     let mut rows = rows_of(alloc, lists.as_slice())?;
-    rows.sort_unstable();
+    sort(&mut rows);
     Ok(lines_of(alloc, rows.as_slice())?)
 }
 
@@ -65,6 +66,14 @@ fn push_rows<'a>(rows: &mut Vec<Row<'a>>, events: &'a Events) -> Result<(), Allo
         rows.push((event.source(), event.id(), event.text()))?;
     }
     Ok(())
+}
+
+// Orders the rows by source, then id, then text: of those with one source and id the least text comes first.
+fn sort(rows: &mut Vec<Row<'_>>)
+    ensures same { IsPermutation rows.old.items rows.new.items }
+    ensures sorted { IsSorted (λ r s. row_cmp (r.0.now, r.1.now, r.2.now) (s.0.now, s.1.now, s.2.now)) rows.new.items }
+{
+    rows.sort_unstable();
 }
 
 // The texts of the rows that have another source or id than the row before, each in a line.

@@ -3,7 +3,7 @@ ghost use Rattle.std.specs.Prelude.{◌≡◌, ◌||◌, ℕ, List, true, IfErr,
 ghost use Rattle.attributes.specs.Characters.{is_filled};
 ghost use Rattle.attributes.specs.Events.{source_of};
 ghost use Rattle.coverage.specs.Summary.{holds_at};
-ghost use Rattle.site_cli.specs.Reports.{CountsFiles, IsReport, IsRefusal, has_number, is_numbered, line};
+ghost use Rattle.site_cli.specs.Reports.{CountsFiles, HoldSameEvents, IsReport, IsRefusal, has_number, is_numbered, line};
 
 use crate::gathering::{events_of_file, number_of_event};
 use crate::listing::shown_lines;
@@ -11,6 +11,8 @@ use crate::queries::Query;
 use crate::refusals::Refused;
 use attributes::{Event, Events, Octets, Text};
 use coverage::Summary;
+use coverage::laws::numbers_tell_summaries;
+use event_json::readings_are_one;
 use std::alloc::{AllocError, Global};
 
 /// The answer to a question about the events of all files together, in lines that end with LF.
@@ -20,7 +22,14 @@ use std::alloc::{AllocError, Global};
 pub fn report(alloc: Global, query: Query, files: &[Octets]) -> Result<Text, Refused>
     ensures ok { IfOk result (IsReport query files.now) }
     ensures err { IfErr result (IsRefusal files.now) }
+
+    // Other files with the same events have the same report, byte for byte.
+    ensures alike { IfOk result (λ text. (others : List (List ℕ)) (other : List ℕ)
+        → HoldSameEvents files.now others → IsReport query others other → other ≡ text) }
 {
+    // Two laws that `alike` rests on; they do nothing.
+    readings_are_one();
+    numbers_tell_summaries();
     match query {
         Query::Cover => cover(alloc, files),
         Query::Shown => shown_lines(alloc, files),

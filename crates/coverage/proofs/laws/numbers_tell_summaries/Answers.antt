@@ -1,0 +1,5 @@
+use Rattle.coverage.proofs.SameLemmas.{same_summary}
+use Rattle.coverage.proofs.laws.numbers_tell_summaries.Goals as goal
+
+pub returns : goal.returns
+returns c = same_summary
