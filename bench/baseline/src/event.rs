@@ -13,9 +13,9 @@ pub enum Fault {
     Source,
     Kind,
     Subject,
+    Time,
     ContentType,
     Schema,
-    Time,
     ExtensionName,
     ExtensionValue,
     TwoData,
@@ -172,14 +172,16 @@ impl Event {
                 return Err(fault);
             }
         }
-        let optional = [("subject", Fault::Subject), ("datacontenttype", Fault::ContentType), ("dataschema", Fault::Schema)];
-        for (name, fault) in optional {
-            if !may_be(name, is_filled) {
-                return Err(fault);
-            }
+        if !may_be("subject", is_filled) {
+            return Err(Fault::Subject);
         }
         if !may_be("time", |value| value.as_str().and_then(is_time).is_some()) {
             return Err(Fault::Time);
+        }
+        for (name, fault) in [("datacontenttype", Fault::ContentType), ("dataschema", Fault::Schema)] {
+            if !may_be(name, is_filled) {
+                return Err(fault);
+            }
         }
         if !members.keys().all(|name| is_data(name) || is_name(name)) {
             return Err(Fault::ExtensionName);
@@ -189,7 +191,8 @@ impl Event {
         }
         match (members.get("data"), members.get("data_base64")) {
             (Some(_), Some(_)) => return Err(Fault::TwoData),
-            (None, Some(Value::String(text))) if base64::decode(text).is_ok() => {}
+            // This version of the crate would also take a text without its padding.
+            (None, Some(Value::String(text))) if text.len() % 4 == 0 && base64::decode(text).is_ok() => {}
             (None, Some(_)) => return Err(Fault::Base64),
             (Some(data), None) if has_float(data) => return Err(Fault::DataNumber),
             (Some(data), None) if !is_within(data, MAX_DEPTH) => return Err(Fault::TooDeep),
