@@ -62,7 +62,9 @@ fn printed(
         → read (string_bytes r.0) ≡ Some (object (members_view members.entries))) }
 {
     let object = Value::Object(members);
-    let text = object.to_string(alloc)?;
+    let mut text = object.to_string(alloc)?;
+    // Each event keeps its text, so the room that the writer had to spare would be kept too.
+    text.shrink_to_fit();
     Ok((text, members_in(alloc, object)))
 }
 
