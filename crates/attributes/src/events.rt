@@ -213,45 +213,49 @@ impl Event {
         find(self.attributes.as_slice(), name)
     }
 
+    /// The attribute `id`, which tells the events of one source apart.
     pub fn id(&self) -> &str
         ensures { result.now ≡ id_of self.now }
     {
         words_or_none(self.attribute("id"))
     }
 
+    /// The attribute `source`: where the event comes from.
     pub fn source(&self) -> &str
         ensures { result.now ≡ source_of self.now }
     {
         words_or_none(self.attribute("source"))
     }
 
-    /// The attribute `type`.
+    /// The attribute `type`: what happened.
     pub fn kind(&self) -> &str
         ensures { result.now ≡ kind_of self.now }
     {
         words_or_none(self.attribute("type"))
     }
 
+    /// The attribute `subject`, where it is there: what the event is about.
     pub fn subject(&self) -> Option<&str>
         ensures { option_copied result ≡ subject_of self.now }
     {
         words(self.attribute("subject"))
     }
 
-    /// The attribute `time` (RFC 3339).
+    /// The attribute `time`, where it is there, as it was written (RFC 3339).
     pub fn time(&self) -> Option<&str>
         ensures { option_copied result ≡ time_of self.now }
     {
         words(self.attribute("time"))
     }
 
-    /// The UTC day of `time`, counted from 1970-01-01, in -719,528 to 2,932,896.
+    /// The UTC day of `time`, where that is there: days from 1970-01-01, in -719,528 to 2,932,896.
     pub fn day(&self) -> Option<i32>
         ensures { result ≡ day_of self.now }
     {
         day_where_there(self.time())
     }
 
+    /// What the event carries: nothing, a JSON value or bytes.
     pub fn content(&self) -> &Content
         ensures { result.now ≡ self.now.content }
     {

@@ -69,6 +69,7 @@ impl Sequence {
         Ok(Text::from_string(text))
     }
 
+    /// The number, from 1 on.
     pub fn number(self) -> u64
         ensures value { result ≡ self }
         ensures low { 1 ≤ result }
@@ -145,12 +146,14 @@ impl Sequenced {
         }
     }
 
+    /// The event, lent.
     pub fn event(&self) -> &Event
         ensures { result.now ≡ self.now }
     {
         &self.event
     }
 
+    /// The number of its attribute `sequence`.
     pub fn number(&self) -> Sequence
         ensures { number_of self.now ≡ Some result }
     {
