@@ -17,7 +17,7 @@ use Rattle.site_cli.specs.declared.queries.Query.{Query}
 use Rattle.site_cli.specs.declared.queries.Query.TheVariants.{Cover, Shown}
 use Rattle.site_cli.specs.Reports.{EachReads, HoldsEvent, HoldSameEvents, IsAnswer, IsReport, is_numbered, joined, line, text_line}
 use Rattle.site_cli.specs.Shown.{AreShown, IsShown, Row, Yields, key_cmp, row_of, text_cmp}
-use Rattle.site_cli.proofs.FirstsLemmas.{at_places}
+use Rattle.site_cli.proofs.FirstsLemmas.{at_places, or_true}
 use Rattle.site_cli.proofs.ShownLemmas.{key_total, rows_same, text_total}
 
 -- ---- elements of lists
@@ -43,10 +43,6 @@ first_or_later {X} y ys x c = from c.0 c.1 c.2
     from : (k : ℕ) → k < length (y ∷ ys) → slice_index_or (y ∷ ys) k x ≡ x → (y ≡ x) ⊎ Contains ys x
     from zero lt at = inl at
     from (suc k) lt at = inr (k, omega arith, at)
-
-or_true : (b : Bool) → (b || true) ≡ true
-or_true true = refl
-or_true false = refl
 
 any_of : {X : Type 0} (p : X → Bool) (xs : List X) → list_any p xs ≡ true → (x : X) × Contains xs x × (p x ≡ true)
 any_of {X} p [] t = absurd (true≢false (sym t))

@@ -31,7 +31,7 @@ pub each_mapped : {X Y : Type 0} (P : Y → Type 0) (f : X → Y) (xs : List X) 
 each_mapped P f [] h = tt
 each_mapped P f (x ∷ xs) h = (h.0, each_mapped P f xs h.1)
 
-or_true : (b : Bool) → (b || true) ≡ true
+pub or_true : (b : Bool) → (b || true) ≡ true
 or_true true = refl
 or_true false = refl
 
