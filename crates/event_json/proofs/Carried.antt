@@ -16,7 +16,8 @@ use Rattle.attributes.specs.declared.scalars.Scalar.{Scalar}
 use Rattle.attributes.specs.declared.scalars.Scalar.TheVariants as scalar
 use Rattle.attributes.specs.declared.contents.Content.{Content}
 use Rattle.attributes.specs.declared.contents.Content.TheVariants as content
-use Rattle.attributes.proofs.Alike.{direct, with_all-direct}
+use Rattle.attributes.specs.Plain.{direct}
+use Rattle.attributes.proofs.Alike.{with_all-direct}
 use Rattle.attributes.proofs.Faultless.{and_parts, names_pass, values_pass, no_member_fault}
 use Rattle.event_json.specs.Payload.{tree_name, bytes_name, is_payload, attribute_members, unless_null, decoded, payload, offered_by}
 use Rattle.event_json.specs.Spelling.{given_by, with_given, spelled, offer_by}

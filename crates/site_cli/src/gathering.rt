@@ -5,7 +5,7 @@ ghost use Rattle.event_json.specs.Reading.{Reads};
 ghost use Rattle.site_cli.specs.Reports.{AreSequenced, IsFault, IsUnnumberedAt};
 
 use crate::refusals::ReportFault;
-use attributes::{Event, Events, Fault, Scalar, Sequence};
+use attributes::{Attribute, Event, Events, Fault, Sequence};
 use event_json::{ReadFault, read_events};
 use std::alloc::Global;
 
@@ -17,7 +17,7 @@ pub fn number_of_event(event: &Event) -> Result<Sequence, Fault>
     ensures reason { IfErr result (λ why. why ≡ sequence_fault event.now) }
 {
     match event.attribute("sequence") {
-        Some(Scalar::Words(text)) => match Sequence::of_text(text.as_str()) {
+        Some(Attribute::Words(text)) => match Sequence::of_text(text) {
             Some(number) => Ok(number),
             None => Err(Fault::BadSequence),
         },
