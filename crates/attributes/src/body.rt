@@ -1,0 +1,176 @@
+//! What an event keeps: its canonical text, the places of its attributes in it, and its key.
+
+ghost use Rattle.std.specs.Prelude.{◌≡◌, ◌+◌, ◌-◌, ◌<◌, ◌≤◌, bytes_eq, length, option_map, string_bytes, IfOk};
+ghost use Rattle.attributes.specs.Members.{value_at};
+ghost use Rattle.attributes.specs.Places.{ArePlaces, IsPlace, IsBody, IsSpan, aside_of, attributes_in, id_in, in_span, place_name, place_value, scalar_of, shown, source_in, text_of};
+
+use std::alloc::AllocError;
+
+/// The value of an attribute (CloudEvents 1.0.2, "Type System"), lent by its event.
+#[derive(Clone, Copy, Debug, Drop)]
+pub enum Attribute<'a> {
+    Flag(bool),
+    Whole(i32),
+    Words(&'a str),
+}
+
+/// Where a text stands between quotation marks, in bytes from the beginning: `start..end`.
+#[derive(Clone, Copy)]
+pub(crate) struct Span {
+    pub(crate) start: u32,
+    pub(crate) end: u32,
+}
+
+/// A value, or where it ends. A text begins behind its name and `":"`; `Escaped` ones stand, with their names,
+/// aside of the canonical text and without escapes.
+#[derive(Clone, Copy)]
+pub(crate) enum Kind {
+    Flag(bool),
+    Whole(i32),
+    Words(u32),
+    Escaped(u32),
+}
+
+/// Where an attribute stands.
+#[derive(Clone, Copy)]
+pub(crate) struct Place {
+    pub(crate) name: Span,
+    pub(crate) value: Kind,
+}
+
+/// A canonical text as it is written, what stands aside of it, and the places of the attributes.
+#[derive(Drop)]
+pub(crate) struct Draft {
+    pub(crate) text: String,
+    pub(crate) aside: String,
+    pub(crate) places: Vec<Place>,
+}
+
+/// The canonical text and behind it, in one string, what stands aside of it and the key: `"`, the source, `"`,
+/// the id, `"`. So two events are compared by their keys with one look into memory each.
+#[derive(Drop)]
+pub(crate) struct Body {
+    pub(crate) all: String,
+    pub(crate) places: Vec<Place>,
+    pub(crate) text_end: u32,
+    pub(crate) source: Span,
+}
+
+fn between(text: &str, start: usize, end: usize) -> &str
+    requires { IsSpan text.now (record { start = start; end = end }) }
+    ensures { result.now ≡ in_span text.now (record { start = start; end = end }) }
+{
+    &text[start..end]
+}
+
+fn spanned(text: &str, span: Span) -> &str
+    requires { IsSpan text.now span }
+    ensures { result.now ≡ in_span text.now span }
+{
+    between(text, span.start as usize, span.end as usize)
+}
+
+fn are_same(name: &str, other: &str) -> bool
+    ensures { result ≡ bytes_eq name.now other.now }
+{
+    name == other
+}
+
+/// The name of the attribute of a place.
+fn name_at<'a>(text: &'a str, aside: &'a str, place: Place) -> &'a str
+    requires { IsPlace text.now aside.now place }
+    ensures { result.now ≡ place_name text.now aside.now place }
+{
+    match place.value {
+        Kind::Escaped(_) => spanned(aside, place.name),
+        _ => spanned(text, place.name),
+    }
+}
+
+/// The value of the attribute of a place.
+fn value_of<'a>(text: &'a str, aside: &'a str, place: Place) -> Attribute<'a>
+    requires { IsPlace text.now aside.now place }
+    ensures { scalar_of result ≡ place_value text.now aside.now place }
+{
+    let start = place.name.end as usize + 3;
+    match place.value {
+        Kind::Flag(flag) => Attribute::Flag(flag),
+        Kind::Whole(number) => Attribute::Whole(number),
+        Kind::Words(end) => Attribute::Words(between(text, start, end as usize)),
+        Kind::Escaped(end) => Attribute::Words(between(aside, start, end as usize)),
+    }
+}
+
+fn find_in<'a>(text: &'a str, aside: &'a str, places: &[Place], name: &str) -> Option<Attribute<'a>>
+    requires { ArePlaces text.now aside.now places.now }
+    ensures { option_map scalar_of result ≡ value_at name.now (shown text.now aside.now places.now) }
+{
+    for place in places {
+        if are_same(name, name_at(text, aside, *place)) {
+            return Some(value_of(text, aside, *place));
+        }
+    }
+    None
+}
+
+impl Body {
+    /// The canonical text.
+    pub(crate) fn text(&self) -> &str
+        requires { IsBody self.now }
+        ensures { result.now ≡ text_of self.now }
+    {
+        &self.all[..self.text_end as usize]
+    }
+
+    fn aside(&self) -> &str
+        requires { IsBody self.now }
+        ensures { result.now ≡ aside_of self.now }
+    {
+        &self.all[self.text_end as usize..]
+    }
+
+    /// The attribute `source`.
+    pub(crate) fn source(&self) -> &str
+        requires { IsBody self.now }
+        ensures { result.now ≡ source_in self.now }
+    {
+        spanned(self.all.as_str(), self.source)
+    }
+
+    /// The attribute `id`.
+    pub(crate) fn id(&self) -> &str
+        requires { IsBody self.now }
+        ensures { result.now ≡ id_in self.now }
+    {
+        between(
+            self.all.as_str(),
+            self.source.end as usize + 1,
+            self.all.len() - 1,
+        )
+    }
+
+    /// The value of the attribute of this name. Goes over the names.
+    pub(crate) fn find(&self, name: &str) -> Option<Attribute<'_>>
+        requires { IsBody self.now }
+        ensures { option_map scalar_of result ≡ value_at name.now (attributes_in self.now) }
+    {
+        find_in(self.text(), self.aside(), self.places.as_slice(), name)
+    }
+
+    pub(crate) fn copy(&self) -> Result<Body, AllocError>
+        ensures all { IfOk result (λ s. string_bytes s.all ≡ string_bytes self.now.all) }
+        ensures places { IfOk result (λ s. s.places.items ≡ self.now.places.items) }
+        ensures text_end { IfOk result (λ s. s.text_end ≡ self.now.text_end) }
+        ensures source { IfOk result (λ s. s.source ≡ self.now.source) }
+    {
+        let alloc = *self.all.allocator();
+        let all = String::from_str(alloc, self.all.as_str())?;
+        let places = Vec::from_slice(alloc, self.places.as_slice())?;
+        Ok(Body {
+            all,
+            places,
+            text_end: self.text_end,
+            source: self.source,
+        })
+    }
+}
