@@ -1,7 +1,7 @@
 #!/usr/bin/env python3
 """Writes a batch of CloudEvents to standard output, the same one for the same arguments.
 
-usage: bench/make_batch.py [--events N] [--seed N] [--data BYTES] > FILE
+usage: tools/make_batch.py [--events N] [--seed N] [--data BYTES] > FILE
 
 With no argument: 120,000 events in 30 MB, of five services in four regions, each with a sequence of its own. Numbers
 come in a shuffled order, one in fifty is left out and one event in a hundred stands twice.

@@ -1,9 +1,9 @@
 #!/usr/bin/env python3
 """Runs two programs over many small files, many of them at fault, and compares what they print and how they end.
 
-usage: bench/second_opinion.py PROGRAM OTHER [--files N] [--seed N]
+usage: tools/second_opinion.py PROGRAM OTHER [--files N] [--seed N]
 
-The programs are `site` as the gate builds it and the plain Rust program in bench/baseline. The files are made of a
+The programs are `site` as the gate builds it and the plain Rust program in tools/baseline. The files are made of a
 good event by up to three changes: other values, names, times, numbers, encodings, repeated members, cut or garbled
 bytes. Each is given to `cover` and to `shown`. Prints a line for each difference and keeps its file; the exit status
 is 1 where there was one.

@@ -1,7 +1,7 @@
 #!/usr/bin/env python3
 """Runs the built program with the first, second, .. allocation refused, until a run meets no refusal.
 
-usage: bench/refuse_allocations.py PROGRAM WORD..
+usage: tools/refuse_allocations.py PROGRAM WORD..
 
 Each run has to end with the answer of the whole run, or with status 1, `site: out of memory` and nothing on standard
 output. The C compiler `cc` builds the shim that refuses.
