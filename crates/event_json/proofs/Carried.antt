@@ -10,18 +10,17 @@ use Rattle.serde_json.specs.Data.{Data, null, boolean, number, string, array, ob
 use Rattle.serde_json.specs.Find.{get_member}
 use Rattle.serde_json.proofs.Views.{get_member-put, get_member-put_other}
 use Rattle.attributes.specs.Characters.{is_name}
-use Rattle.attributes.specs.Events.{EventValue, json_of, with_content, members_of, scalars_of, tree_content, content_of, event_of}
+use Rattle.attributes.specs.Events.{EventValue, json_of, with_content, members_of}
 use Rattle.attributes.specs.Faults.{IsEvent, IsCarried, is_attribute, given_of, given_all, offered_of, parts_of}
 use Rattle.attributes.specs.declared.scalars.Scalar.{Scalar}
 use Rattle.attributes.specs.declared.scalars.Scalar.TheVariants as scalar
 use Rattle.attributes.specs.declared.contents.Content.{Content}
 use Rattle.attributes.specs.declared.contents.Content.TheVariants as content
 use Rattle.attributes.specs.Plain.{direct}
-use Rattle.attributes.proofs.Alike.{with_all-direct}
-use Rattle.attributes.proofs.Faultless.{and_parts, names_pass, values_pass, no_member_fault}
 use Rattle.event_json.specs.Payload.{tree_name, bytes_name, is_payload, attribute_members, unless_null, decoded, payload, offered_by}
 use Rattle.event_json.specs.Spelling.{given_by, with_given, spelled, offer_by}
 use Rattle.event_json.proofs.Names.{same_name, tree_is_payload, bytes_is_payload, is_payload-same, is_payload-neither, not_tree, not_bytes, is_eq-names, choice_at_other}
+use Rattle.event_json.proofs.Laws.{Laws}
 use Rattle.event_json.proofs.Taken.{offer}
 
 -- ---- attributes
@@ -35,11 +34,9 @@ given_by-json_of (scalar.Whole (pos n)) h = rw (wide n h, h)
 given_by-json_of (scalar.Whole (negsuc n)) h = rw h
 given_by-json_of (scalar.Words t) h = refl
 
-spelled-direct : (attributes : List (List ℕ × Scalar)) → list_all (λ m. is_attribute m.1) (given_all attributes) ≡ true → spelled (direct attributes) ≡ given_all attributes
+spelled-direct : (attributes : List (List ℕ × Scalar)) → AllByRecursion (λ a. is_attribute (given_of a.1) ≡ true) attributes → spelled (direct attributes) ≡ given_all attributes
 spelled-direct [] h = refl
-spelled-direct (a ∷ rest) h =
-    let both = and_parts (is_attribute (given_of a.1)) (list_all (λ m. is_attribute m.1) (given_all rest)) h in
-    ap₂ (with_given a.0) (given_by-json_of a.1 both.0) (spelled-direct rest both.1)
+spelled-direct (a ∷ rest) h = ap₂ (with_given a.0) (given_by-json_of a.1 h.0) (spelled-direct rest h.1)
 
 -- ---- no attribute has the name of a payload member
 
@@ -51,11 +48,9 @@ plain_by false false n t u h = is_payload-neither n t u
 abbrev ArePlain : List (List ℕ × Scalar) → Type 0
 ArePlain attributes = AllByRecursion (λ a. is_payload a.0 ≡ false) attributes
 
-plain_all : (attributes : List (List ℕ × Scalar)) → list_all (λ m. is_name m.0) (given_all attributes) ≡ true → ArePlain attributes
+plain_all : (attributes : List (List ℕ × Scalar)) → AllByRecursion (λ a. is_name a.0 ≡ true) attributes → ArePlain attributes
 plain_all [] h = tt
-plain_all (a ∷ rest) h =
-    let both = and_parts (is_name a.0) (list_all (λ m. is_name m.0) (given_all rest)) h in
-    (plain_by (bytes_eq tree_name a.0) (bytes_eq bytes_name a.0) a.0 refl refl both.0, plain_all rest both.1)
+plain_all (a ∷ rest) h = (plain_by (bytes_eq tree_name a.0) (bytes_eq bytes_name a.0) a.0 refl refl h.0, plain_all rest h.1)
 
 attribute_members-direct : (attributes : List (List ℕ × Scalar)) → ArePlain attributes → attribute_members (direct attributes) ≡ direct attributes
 attribute_members-direct [] h = refl
@@ -123,37 +118,11 @@ attribute_members-with_content content.Nothing ms = refl
 attribute_members-with_content (content.Tree d) ms = attribute_members-put tree_name d ms tree_is_payload
 attribute_members-with_content (content.Bytes b) ms = attribute_members-put bytes_name (string (encode_of standard b)) ms bytes_is_payload
 
-pub offer_by-members_of : (e : EventValue) → IsEvent e → offer_by (members_of e) ≡ parts_of e
-offer_by-members_of e h =
-    let passed = no_member_fault (parts_of e) h.faultless in
-    let plain = plain_all e.attributes (names_pass (given_all e.attributes) passed) in
-    let values = values_pass (given_all e.attributes) passed in
+pub offer_by-members_of : Laws → (e : EventValue) → IsEvent e → offer_by (members_of e) ≡ parts_of e
+offer_by-members_of laws e h =
+    let plain = plain_all e.attributes (laws.names e h) in
     let ms = direct e.attributes in
-    ap (λ members. offer_by (with_content e.content members)) (with_all-direct e.attributes h.in_order)
+    ap offer_by (laws.members e h)
     ∙ ap₂ offer
-    (ap spelled (attribute_members-with_content e.content ms ∙ attribute_members-direct e.attributes plain) ∙ spelled-direct e.attributes values)
+    (ap spelled (attribute_members-with_content e.content ms ∙ attribute_members-direct e.attributes plain) ∙ spelled-direct e.attributes (laws.values e h))
     (offered_by-with_content e.content e.attributes h.carried plain)
-
--- ---- the parts make the event
-
-scalars_of-given_all : (attributes : List (List ℕ × Scalar)) → scalars_of (given_all attributes) ≡ attributes
-scalars_of-given_all [] = refl
-scalars_of-given_all ((name, scalar.Flag b) ∷ rest) = ap (λ r. (name, scalar.Flag b) ∷ r) (scalars_of-given_all rest)
-scalars_of-given_all ((name, scalar.Whole z) ∷ rest) = ap (λ r. (name, scalar.Whole z) ∷ r) (scalars_of-given_all rest)
-scalars_of-given_all ((name, scalar.Words t) ∷ rest) = ap (λ r. (name, scalar.Words t) ∷ r) (scalars_of-given_all rest)
-
-tree_content-other : (d : Data) → (d ≢ null) → tree_content d ≡ content.Tree d
-tree_content-other null h = absurd (h refl)
-tree_content-other (boolean b) h = refl
-tree_content-other (number n) h = refl
-tree_content-other (string s) h = refl
-tree_content-other (array ds) h = refl
-tree_content-other (object ms) h = refl
-
-content_of-offered_of : (c : Content) → IsCarried c → content_of (offered_of c) ≡ c
-content_of-offered_of content.Nothing h = refl
-content_of-offered_of (content.Tree d) h = tree_content-other d h.0
-content_of-offered_of (content.Bytes b) h = refl
-
-pub event_of-parts_of : (e : EventValue) → IsEvent e → event_of (parts_of e) ≡ e
-event_of-parts_of e h = ap₂ (λ a c. record { attributes = a; content = c }) (scalars_of-given_all e.attributes) (content_of-offered_of e.content h.carried)

@@ -1,6 +1,7 @@
 pub mod Gathered
 pub mod Names
 pub mod Taken
+pub mod Laws
 pub mod Carried
 pub mod Firsts
 pub mod Unnamed

@@ -6,13 +6,12 @@ use Rattle.serde_json.specs.Read.{read}
 use Rattle.serde_json.specs.Written.{compact_text, items_text}
 use Rattle.attributes.specs.Events.{EventValue, members_of, text, event_of}
 use Rattle.attributes.specs.Exact.{ItemsAreExact}
-use Rattle.attributes.specs.Faults.{IsEvent, fault}
-use Rattle.attributes.proofs.Law.{exact_event, depth_event, same_text}
-use Rattle.attributes.proofs.RoundTrip.{read-compact_text}
+use Rattle.attributes.specs.Faults.{IsEvent, fault, parts_of}
 use Rattle.event_json.specs.Spelling.{event_in, list_of}
 use Rattle.event_json.specs.Reading.{AreFaultless, Reads, max_input}
 use Rattle.event_json.specs.BatchText.{joined, batch_text}
-use Rattle.event_json.proofs.Carried.{offer_by-members_of, event_of-parts_of}
+use Rattle.event_json.proofs.Carried.{offer_by-members_of}
+use Rattle.event_json.proofs.Laws.{Laws}
 
 -- the members of the array that a batch is
 abbrev objects : List EventValue → Items
@@ -26,40 +25,44 @@ items_text-objects first [] = refl
 items_text-objects true (e ∷ es) = ap (λ r. text e ++ r) (items_text-objects false es) ∙ sym (append_assoc (text e) (joined false es) (93 ∷ []))
 items_text-objects false (e ∷ es) = ap (λ r. 44 ∷ (text e ++ r)) (items_text-objects false es) ∙ ap (λ r. 44 ∷ r) (sym (append_assoc (text e) (joined false es) (93 ∷ [])))
 
-shallow : (es : List EventValue) → AllByRecursion IsEvent es → items_depth (objects es) ≤ 121
-shallow [] h = omega arith
-shallow (e ∷ es) h =
-    let event : members_depth (members_of e) ≤ 120 = depth_event e h.0 in
-    let rest : items_depth (objects es) ≤ 121 = shallow es h.1 in
+shallow : Laws → (es : List EventValue) → AllByRecursion IsEvent es → items_depth (objects es) ≤ 121
+shallow laws [] h = omega arith
+shallow laws (e ∷ es) h =
+    let event : members_depth (members_of e) ≤ 120 = laws.shallow e h.0 in
+    let rest : items_depth (objects es) ≤ 121 = shallow laws es h.1 in
     omega arith
 
-exact_objects : (es : List EventValue) → AllByRecursion IsEvent es → ItemsAreExact (objects es)
-exact_objects [] h = tt
-exact_objects (e ∷ es) h = (exact_event e h.0, exact_objects es h.1)
+exact_objects : Laws → (es : List EventValue) → AllByRecursion IsEvent es → ItemsAreExact (objects es)
+exact_objects laws [] h = tt
+exact_objects laws (e ∷ es) h = (laws.exact e h.0, exact_objects laws es h.1)
 
-pub read-batch_text : (es : List EventValue) → AllByRecursion IsEvent es → read (batch_text es) ≡ Some (array (objects es))
-read-batch_text es h =
-    let deep : items_depth (objects es) ≤ 121 = shallow es h in
-    ap (λ r. read (91 ∷ r)) (sym (items_text-objects true es)) ∙ read-compact_text (array (objects es)) (exact_objects es h) (omega arith)
+pub read-batch_text : Laws → (es : List EventValue) → AllByRecursion IsEvent es → read (batch_text es) ≡ Some (array (objects es))
+read-batch_text laws es h =
+    let deep : items_depth (objects es) ≤ 121 = shallow laws es h in
+    ap (λ r. read (91 ∷ r)) (sym (items_text-objects true es)) ∙ laws.reads (array (objects es)) (exact_objects laws es h) (omega arith)
 
 -- ---- the array spells the events
 
-faultless_objects : (es : List EventValue) → AllByRecursion IsEvent es → AreFaultless (list_of (objects es))
-faultless_objects [] h = tt
-faultless_objects (e ∷ es) h = (ap fault (offer_by-members_of e h.0) ∙ h.0.faultless, faultless_objects es h.1)
+faultless_objects : Laws → (es : List EventValue) → AllByRecursion IsEvent es → AreFaultless (list_of (objects es))
+faultless_objects laws [] h = tt
+faultless_objects laws (e ∷ es) h = (ap fault (offer_by-members_of laws e h.0) ∙ h.0.faultless, faultless_objects laws es h.1)
 
-events_of_objects : (es : List EventValue) → AllByRecursion IsEvent es → es ≡ map event_in (list_of (objects es))
-events_of_objects [] h = refl
-events_of_objects (e ∷ es) h =
-    let event : e ≡ event_in (object (members_of e)) = sym (ap event_of (offer_by-members_of e h.0) ∙ event_of-parts_of e h.0) in
-    ap₂ (λ (x : EventValue) (xs : List EventValue). x ∷ xs) event (events_of_objects es h.1)
+-- an event is the event of its own parts
+abbrev pub PartsMakeEvents : Type 0
+PartsMakeEvents = (e : EventValue) → IsEvent e → event_of (parts_of e) ≡ e
 
-pub Reads-batch_text : (es : List EventValue) → AllByRecursion IsEvent es → IsUtf8 (batch_text es) → length (batch_text es) ≤ max_input → Reads (batch_text es) es
-Reads-batch_text es h utf8 fits =
+events_of_objects : Laws → PartsMakeEvents → (es : List EventValue) → AllByRecursion IsEvent es → es ≡ map event_in (list_of (objects es))
+events_of_objects laws again [] h = refl
+events_of_objects laws again (e ∷ es) h =
+    let event : e ≡ event_in (object (members_of e)) = sym (ap event_of (offer_by-members_of laws e h.0) ∙ again e h.0) in
+    ap₂ (λ (x : EventValue) (xs : List EventValue). x ∷ xs) event (events_of_objects laws again es h.1)
+
+pub Reads-batch_text : Laws → PartsMakeEvents → (es : List EventValue) → AllByRecursion IsEvent es → IsUtf8 (batch_text es) → length (batch_text es) ≤ max_input → Reads (batch_text es) es
+Reads-batch_text laws again es h utf8 fits =
     record {
       value = array (objects es);
-      is_text = record { fits = fits; utf8 = utf8; reads = read-batch_text es h };
-      spells = record { found = list_of (objects es); are_found = refl; faultless = faultless_objects es h; are_events = events_of_objects es h };
+      is_text = record { fits = fits; utf8 = utf8; reads = read-batch_text laws es h };
+      spells = record { found = list_of (objects es); are_found = refl; faultless = faultless_objects laws es h; are_events = events_of_objects laws again es h };
     }
 
 -- ---- different lists have different texts
@@ -73,16 +76,20 @@ same_first c d cs ds h = cc
 same_rest : (c d : Data) (cs ds : Items) → item c cs ≡ item d ds → cs ≡ ds
 same_rest c d cs ds h = cc
 
-same_objects : (l m : List EventValue) → AllByRecursion IsEvent l → AllByRecursion IsEvent m → objects l ≡ objects m → l ≡ m
-same_objects [] [] p q h = refl
-same_objects [] (f ∷ m) p q h = absurd (some_object (object (members_of f)) (objects m) h)
-same_objects (e ∷ l) [] p q h = absurd (some_object (object (members_of e)) (objects l) (sym h))
-same_objects (e ∷ l) (f ∷ m) p q h =
-    let first : e ≡ f = same_text e f p.0 q.0 (ap compact_text (same_first (object (members_of e)) (object (members_of f)) (objects l) (objects m) h)) in
-    ap₂ (λ (x : EventValue) (xs : List EventValue). x ∷ xs) first (same_objects l m p.1 q.1 (same_rest (object (members_of e)) (object (members_of f)) (objects l) (objects m) h))
+-- different events have different texts
+abbrev pub TextTellsEvents : Type 0
+TextTellsEvents = (e f : EventValue) → IsEvent e → IsEvent f → text e ≡ text f → e ≡ f
+
+same_objects : TextTellsEvents → (l m : List EventValue) → AllByRecursion IsEvent l → AllByRecursion IsEvent m → objects l ≡ objects m → l ≡ m
+same_objects tells [] [] p q h = refl
+same_objects tells [] (f ∷ m) p q h = absurd (some_object (object (members_of f)) (objects m) h)
+same_objects tells (e ∷ l) [] p q h = absurd (some_object (object (members_of e)) (objects l) (sym h))
+same_objects tells (e ∷ l) (f ∷ m) p q h =
+    let first : e ≡ f = tells e f p.0 q.0 (ap compact_text (same_first (object (members_of e)) (object (members_of f)) (objects l) (objects m) h)) in
+    ap₂ (λ (x : EventValue) (xs : List EventValue). x ∷ xs) first (same_objects tells l m p.1 q.1 (same_rest (object (members_of e)) (object (members_of f)) (objects l) (objects m) h))
 
 same_array : (cs ds : Items) → Some (array cs) ≡ Some (array ds) → cs ≡ ds
 same_array cs ds h = cc
 
-pub same_batch : (l m : List EventValue) → AllByRecursion IsEvent l → AllByRecursion IsEvent m → batch_text l ≡ batch_text m → l ≡ m
-same_batch l m p q h = same_objects l m p q (same_array (objects l) (objects m) (sym (read-batch_text l p) ∙ (ap read h ∙ read-batch_text m q)))
+pub same_batch : Laws → TextTellsEvents → (l m : List EventValue) → AllByRecursion IsEvent l → AllByRecursion IsEvent m → batch_text l ≡ batch_text m → l ≡ m
+same_batch laws tells l m p q h = same_objects tells l m p q (same_array (objects l) (objects m) (sym (read-batch_text laws l p) ∙ (ap read h ∙ read-batch_text laws m q)))

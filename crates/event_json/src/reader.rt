@@ -1,4 +1,4 @@
-ghost use Rattle.std.specs.Prelude.{◌≡◌, ◌≢◌, ℕ, List, [], ◌∷◌, map, option_map, IfOk, IfErr, IsUtf8};
+ghost use Rattle.std.specs.Prelude.{◌≡◌, ◌≢◌, ◌<◌, ℕ, List, [], ◌∷◌, length, map, option_map, Err, IfOk, IfErr, IsUtf8};
 ghost use Rattle.base64.specs.Engines.{standard};
 ghost use Rattle.base64.specs.GeneralPurpose.{decode_of};
 ghost use Rattle.serde_json.specs.Find.{as_i64};
@@ -7,7 +7,7 @@ ghost use Rattle.serde_json.specs.View.{view, number_view, members_view};
 ghost use Rattle.attributes.specs.Events.{EventValue};
 ghost use Rattle.event_json.specs.Payload.{unless_null, payload, bytes_by, decoded};
 ghost use Rattle.event_json.specs.Spelling.{given_whole, given_by, spelled, offer_by, fault_in, event_in};
-ghost use Rattle.event_json.specs.Reading.{Spells, IsNoSpelling, Reads, IsRefused};
+ghost use Rattle.event_json.specs.Reading.{Spells, IsNoSpelling, Reads, IsRefused, max_input};
 ghost use Rattle.event_json.specs.Walk.{bad, bad_or, first_bad};
 
 use crate::faults::ReadFault;
@@ -30,6 +30,10 @@ pub const MAX_INPUT: u64 = 33_554_432;
 pub fn read_events(alloc: Global, bytes: &[u8]) -> Result<Events, ReadFault>
     ensures ok { IfOk result (λ l. Reads bytes.now l) }
     ensures refused { IfErr result (λ f. f ≢ ReadFault.OutOfMemory → IsRefused bytes.now f) }
+
+    // Too much is refused before any memory is asked for.
+    ensures too_large { max_input < length bytes.now → result ≡ Err ReadFault.InputTooLarge }
+    ensures limit { MAX_INPUT ≡ max_input }
 
     // Want of memory is never the fault of a member.
     ensures named { IfErr result (λ f. (i : ℕ) → f ≢ ReadFault.BadEvent i Fault.OutOfMemory) }

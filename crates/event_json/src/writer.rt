@@ -1,10 +1,11 @@
-ghost use Rattle.std.specs.Prelude.{◌≡◌, ◌≤◌, ◌<◌, Some, List, ◌++◌, length, slice_get, IfOk, IfSome, OnOk, string_bytes};
+ghost use Rattle.std.specs.Prelude.{◌≡◌, ◌≤◌, ◌<◌, Some, List, ◌++◌, length, slice_get, IfOk, IfSome, IsUtf8, OnOk, string_bytes};
 ghost use Rattle.std.specs.List.{AllByRecursion};
 ghost use Rattle.attributes.specs.Events.{EventValue, text};
 ghost use Rattle.attributes.specs.Faults.{IsEvent};
 ghost use Rattle.event_json.specs.Reading.{Reads, max_input};
 ghost use Rattle.event_json.specs.BatchText.{separated, batch_text};
 
+use attributes::laws::{exact_json_reads_back, objects_hold_attributes, parts_make_events, text_tells_events};
 use attributes::{Batch, Event, Events, Text};
 use std::alloc::{AllocError, Global};
 
@@ -41,7 +42,21 @@ pub fn write_sequenced(alloc: Global, batch: &Batch) -> Result<Text, AllocError>
 pub fn batch_texts_tell_lists()
     ensures { (l m : List EventValue) → AllByRecursion IsEvent l → AllByRecursion IsEvent m
         → batch_text l ≡ batch_text m → l ≡ m }
-{}
+{
+    objects_hold_attributes();
+    exact_json_reads_back();
+    text_tells_events();
+}
+
+/// The batch text of events spells them, where it is UTF-8 and within the limit of inputs.
+pub fn batch_texts_read_back()
+    ensures { (l : List EventValue) → AllByRecursion IsEvent l → IsUtf8 (batch_text l)
+        → length (batch_text l) ≤ max_input → Reads (batch_text l) l }
+{
+    objects_hold_attributes();
+    exact_json_reads_back();
+    parts_make_events();
+}
 
 // A list whose members are events.
 trait EventList {
@@ -86,6 +101,7 @@ fn write_list<L: EventList>(alloc: Global, list: &L) -> Result<Text, AllocError>
     ensures text { IfOk result (λ t. t ≡ batch_text (L.list list.now)) }
     ensures reads_back { IfOk result (λ t. length t ≤ max_input → Reads t (L.list list.now)) }
 {
+    batch_texts_read_back();
     let len = text_len(list).ok_or(AllocError)?;
     let mut out = String::with_capacity(alloc, len)?;
     out.push_str("[")?;

@@ -3,7 +3,6 @@ use Rattle.std.proofs.lemmas.Str.{IsUtf8-had}
 use Rattle.event_json.specs.Reading.{max_input}
 use Rattle.event_json.specs.BatchText.{joined, batch_text}
 use Rattle.event_json.proofs.Joined.{write_step, events_step, all_written, all_events}
-use Rattle.event_json.proofs.ReadBack.{Reads-batch_text}
 use Rattle.event_json.proofs.writer.write_list.Goals as goal
 
 pub loop-i-preserved : goal.loop-i-preserved
@@ -25,4 +24,4 @@ returns-clause-reads_back g c = λ fits.
     let utf8 : IsUtf8 (batch_text es) = subst IsUtf8 is (IsUtf8-had (string_bytes c.push_str-2.new.self) c.push_str-2.new.self.ok) in
     let text : c.from_string.result ≡ batch_text es = c.from_string.ensures ∙ is in
     let short : length (batch_text es) ≤ max_input = subst (λ t. length t ≤ max_input) text fits in
-    rw text (Reads-batch_text es (all_events es i past c.loop-i.invariant.1) utf8 short)
+    rw text (c.batch_texts_read_back.ensures es (all_events es i past c.loop-i.invariant.1) utf8 short)

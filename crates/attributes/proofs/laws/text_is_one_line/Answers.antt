@@ -1,0 +1,5 @@
+use Rattle.attributes.proofs.Lined.{text_line}
+use Rattle.attributes.proofs.laws.text_is_one_line.Goals as goal
+
+pub returns : goal.returns
+returns c = text_line

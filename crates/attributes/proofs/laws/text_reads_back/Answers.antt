@@ -1,0 +1,5 @@
+use Rattle.attributes.proofs.Law.{read-text}
+use Rattle.attributes.proofs.laws.text_reads_back.Goals as goal
+
+pub returns : goal.returns
+returns c = read-text
