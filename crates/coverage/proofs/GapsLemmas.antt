@@ -3,7 +3,7 @@ use Rattle.std.proofs.Common.{◌≡◌, ℕ, ◌+◌, ◌-◌, ◌<◌, ◌≤�
 use Rattle.std.proofs.lemmas.Bool.{both_ways, cases_Bool, and_parts}
 use Rattle.std.proofs.lemmas.Bool.Decides.{nat_tests}
 use Rattle.coverage.specs.Intervals.{Interval, max_number, in_interval, holds, interval_at, rises_from, IsCanonical}
-use Rattle.coverage.specs.Starts.{last_start_or, StartsAtMost}
+use Rattle.coverage.specs.steps.Starts.{last_start_or, StartsAtMost}
 use Rattle.coverage.proofs.HoldsLemmas.{in_interval_tells, holds-nil, holds-more, last_start_or-nil, rises_from-nil, rises_from-at, rises_from-gap}
 use Rattle.coverage.proofs.StartsLemmas.{holds-found, found-fits}
 

@@ -5,7 +5,7 @@ use Rattle.std.proofs.lemmas.Bool.Decides.{nat_tests}
 use Rattle.std.proofs.lemmas.List.{take_more}
 use Rattle.std.proofs.lemmas.List.Recursion.{or_at, or_from_places}
 use Rattle.coverage.specs.Intervals.{Interval, max_number, in_interval, holds, interval_at, fits_from, rises_from, IsCanonical}
-use Rattle.coverage.specs.Starts.{last_start_or}
+use Rattle.coverage.specs.steps.Starts.{last_start_or}
 
 -- a number lies in an interval, below it or above it
 pub in_interval_tells : (p : Interval) (n : ℕ) → ((in_interval p n ≡ true) × (p.0 ≤ n) × (n ≤ p.1)) ⊎ ((in_interval p n ≡ false) × ((n < p.0) ⊎ (p.1 < n)))

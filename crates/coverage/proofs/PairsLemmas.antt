@@ -2,7 +2,7 @@
 use Rattle.std.proofs.Common.{◌≡◌, ℕ, ◌+◌, ◌<◌, ◌≤◌, Bool, true, false, ◌||◌, max, List, [], ◌∷◌, ◌++◌, length, take, refl, sym, ap, ap₂, ◌∙◌, arith}
 use Rattle.std.proofs.lemmas.Bool.{and_parts, and_from}
 use Rattle.coverage.specs.Intervals.{Interval, max_number, in_interval, holds, interval_at, fits_from, rises_from, IsCanonical}
-use Rattle.coverage.specs.Starts.{last_start_or, StartsAtMost}
+use Rattle.coverage.specs.steps.Starts.{last_start_or, StartsAtMost}
 use Rattle.coverage.proofs.HoldsLemmas.{in_interval_tells, holds-nil, holds-more, holds-push, or_assoc, next_free, next_free-nil, next_free-push, last_start_or-nil, last_start_or-push, rises_from-nil, rises_from-push, rises_from-at, rises_from-gap, fits_from-true, le-fits_from}
 
 -- the list with an interval more that starts no earlier than those that are there

@@ -25,12 +25,11 @@ use Rattle.serde_json.proofs.Texts.{print-outline}
 use Rattle.coverage.specs.Intervals.{Interval, max_number, rises_from}
 use Rattle.coverage.specs.Summary.{Sources, AreEntries, InOrder, IsSummary}
 use Rattle.coverage.specs.SummaryText.{interval_data, intervals_items, sources_members, summary_data, summary_text}
-use Rattle.coverage.specs.Places.{EndsBefore}
+use Rattle.coverage.specs.steps.Places.{EndsBefore}
 use Rattle.coverage.proofs.HoldsLemmas.{rises_from-parts, fits_from-true}
-use Rattle.coverage.proofs.EntriesLemmas.{greater_from_less}
-use Rattle.coverage.proofs.ReadingLemmas.{before_between}
-use Rattle.coverage.proofs.TokensLemmas.{print-summary, summary_tokens}
-use Rattle.coverage.specs.Tokens.{intervals_tokens, entry_tokens, sources_tokens}
+use Rattle.coverage.proofs.EntriesLemmas.{before_between, greater_from_less}
+use Rattle.coverage.proofs.WriteLemmas.{print-summary, summary_tokens}
+use Rattle.coverage.specs.steps.Tokens.{intervals_tokens, entry_tokens, sources_tokens}
 
 -- ---- numbers
 number_back : (n : ℕ) → n ≤ max_number → of_json (json.number (decimal n)) ≡ Some (json_data.number (unsigned n))

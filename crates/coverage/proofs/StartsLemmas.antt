@@ -13,7 +13,7 @@ use Rattle.std.proofs.lemmas.Map.Entries.{lookup_head, lookup_tail}
 use Rattle.std.proofs.lemmas.Map.Keys.{sorted_head, sorted_tail}
 use Rattle.coverage.specs.Intervals.{Interval, max_number, in_interval, holds, rises_from, IsCanonical, IsGreatest, width, size_of}
 use Rattle.std.proofs.lemmas.List.Sums.{sum_by-cons}
-use Rattle.coverage.specs.Starts.{found}
+use Rattle.coverage.specs.steps.Starts.{found}
 use Rattle.coverage.proofs.HoldsLemmas.{in_interval-true, in_interval-parts, holds-nil, holds-cons, fits_from-true, le-fits_from, rises_from-nil, rises_from-cons, rises_from-parts}
 
 pub is_at-same : (q : ℕ) → is_at (nat_cmp q) q ≡ true

@@ -1,9 +1,7 @@
 pub mod Intervals
-pub mod Starts
 pub mod Summary
-pub mod Places
 pub mod SummaryText
-pub mod Tokens
 pub mod SummaryShape
 pub mod Refusals
 pub mod Faults
+pub mod steps

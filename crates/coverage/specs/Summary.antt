@@ -25,6 +25,10 @@ abbrev pub AreEntries : Sources → Type 0
 AreEntries [] = Unit {0}
 AreEntries (e ∷ es) = IsEntry e × AreEntries es
 
+-- the entries
+abbrev pub entries_of : Sources → List Entry
+entries_of s = s
+
 -- the sources
 abbrev pub sources_of : Sources → List (List ℕ)
 sources_of s = keys_of s

@@ -1,7 +1,7 @@
 //! Sets of sequence numbers.
 ghost use Rattle.std.specs.Prelude.{◌≡◌, ◌≤◌, ◌↔◌, ℕ, ◌||◌, ◌&&◌, ◌==◌, ◌++◌, not, false, [], IsTrue, IfOk, IfSome, OnOk, OnErr, MatchOption};
 ghost use Rattle.coverage.specs.Intervals.{AllStartBefore, Forms, HoldsAll, IsCanonical, IsGreatest, IsMissing, IsNextSpan, holds, max_number, size_of};
-ghost use Rattle.coverage.specs.Tokens.{intervals_tokens};
+ghost use Rattle.coverage.specs.steps.Tokens.{intervals_tokens};
 
 use crate::pairs::{Interval, gaps, merged, without};
 use crate::starts::{covers, greatest, has, join, next_span, pairs_of, size, starts_of, write};

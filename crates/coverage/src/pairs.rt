@@ -1,7 +1,7 @@
 //! Intervals in a list, in passes from its front to its end.
 ghost use Rattle.std.specs.Prelude.{◌≡◌, ℕ, ◌<◌, ◌≤◌, ◌||◌, ◌&&◌, false, not, nat_le, ◌⊎◌, length, IsTrue, IfOk, OnOk};
 ghost use Rattle.coverage.specs.Intervals.{IsCanonical, holds, in_interval, interval_at, max_number};
-ghost use Rattle.coverage.specs.Starts.{StartsAtMost};
+ghost use Rattle.coverage.specs.steps.Starts.{StartsAtMost};
 
 use std::alloc::{AllocError, Global};
 

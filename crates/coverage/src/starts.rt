@@ -3,8 +3,8 @@ ghost use Rattle.std.specs.Prelude.{◌≡◌, ℕ, ◌+◌, ◌≤◌, ◌==◌
 ghost use Rattle.std.specs.Ordering.{nat_cmp};
 ghost use Rattle.std.specs.BTreeMap.{IsOrdered};
 ghost use Rattle.coverage.specs.Intervals.{IsCanonical, IsGreatest, IsNextSpan, AllStartBefore, HoldsAll, holds, size_of, max_number};
-ghost use Rattle.coverage.specs.Starts.{NoneUpTo, IsLastUpTo};
-ghost use Rattle.coverage.specs.Tokens.{intervals_tokens};
+ghost use Rattle.coverage.specs.steps.Starts.{NoneUpTo, IsLastUpTo};
+ghost use Rattle.coverage.specs.steps.Tokens.{intervals_tokens};
 
 use crate::pairs::Interval;
 use json::Writer;

@@ -1,5 +1,5 @@
 use Rattle.std.proofs.Common.{◌≡◌, ◌+◌, not, Some, rules, sym, ap, arith}
-use Rattle.coverage.specs.Starts.{found}
+use Rattle.coverage.specs.steps.Starts.{found}
 use Rattle.coverage.proofs.JoinsLemmas.{StartsAt, EndsAt, Joins, starts_alone, starts_left, starts_apart, ends_alone, ends_right, joins_made, joins-canonical, joins-members, already}
 use Rattle.coverage.proofs.StartsLemmas.{found-holds}
 use Rattle.coverage.proofs.starts.join.Goals.{in-Some+else-n-last+then-last-n, in-Some+else-n-last+else-last-n, in_default, in-Some-get, in-None}

@@ -1,5 +1,5 @@
 use Rattle.std.proofs.Common.{◌≡◌, ◌++◌}
-use Rattle.coverage.specs.Tokens.{intervals_tokens}
+use Rattle.coverage.specs.steps.Tokens.{intervals_tokens}
 use Rattle.coverage.proofs.starts.write.Given as goal
 
 abbrev pub invariant-loop-first : goal.invariant-loop-first
