@@ -49,10 +49,10 @@ impl Summary {
         if let Some(numbers) = self.entries.get_mut(source.as_str()) {
             return numbers.insert(number);
         }
-        let mut numbers = Intervals::empty(self.alloc);
-        numbers.insert(number)?;
+        let mut first = Intervals::empty(self.alloc);
+        first.insert(number)?;
         let key = String::from_str(self.alloc, source.as_str())?;
-        self.entries.insert(key, numbers)?;
+        self.entries.insert(key, first)?;
         Ok(true)
     }
 

@@ -67,7 +67,7 @@ invariant_of-self-2 c =
     let absent = absent_at c.get_mut.result _ _ now c.as_str.result.now source c.self.view_is c.as_str.ensures c.in_default.is c.get_mut.ensures.value c.get_mut.follows.holds-at-none in
     let put = put_new _ c.insert-3.new.self.entries now c.in_ok-key.key source new absent.1 (c.in_ok-key.ensures.ok ∙ c.as_str-2.ensures) c.in_ok-insert-2.ensures.entries in
     let members : (m : ℕ) → holds new m ≡ (holds (numbers_of now source) m || (m == c.args.number)) =
-    λ m. c.in_ok-insert.ensures.members m ∙ ap (λ l. holds l m || (m == c.args.number)) (c.empty-numbers.ensures.list ∙ sym absent.0) in
+    λ m. c.in_ok-insert.ensures.members m ∙ ap (λ l. holds l m || (m == c.args.number)) (c.empty-first.ensures.list ∙ sym absent.0) in
     IsSummary-put now _ source new summary put
     (subst IsUtf8 c.as_str.ensures c.as_str.utf8, c.requires, some_added new (numbers_of now source) c.args.number members, c.insert-2.ensures.canonical)
 
@@ -87,7 +87,7 @@ returns-clause-members c =
     let absent = absent_at c.get_mut.result _ _ now c.as_str.result.now source c.self.view_is c.as_str.ensures c.in_default.is c.get_mut.ensures.value c.get_mut.follows.holds-at-none in
     let put = put_new _ c.insert-3.new.self.entries now c.in_ok-key.key source new absent.1 (c.in_ok-key.ensures.ok ∙ c.as_str-2.ensures) c.in_ok-insert-2.ensures.entries in
     let members : (m : ℕ) → holds new m ≡ (holds (numbers_of now source) m || (m == c.args.number)) =
-    λ m. c.in_ok-insert.ensures.members m ∙ ap (λ l. holds l m || (m == c.args.number)) (c.empty-numbers.ensures.list ∙ sym absent.0) in
+    λ m. c.in_ok-insert.ensures.members m ∙ ap (λ l. holds l m || (m == c.args.number)) (c.empty-first.ensures.list ∙ sym absent.0) in
     holds_at-put now _ source new (λ m. m == c.args.number) put members
 
 pub returns-clause-summary : goal.returns-clause-summary
@@ -99,6 +99,6 @@ returns-clause-summary c =
     let absent = absent_at c.get_mut.result _ _ now c.as_str.result.now source c.self.view_is c.as_str.ensures c.in_default.is c.get_mut.ensures.value c.get_mut.follows.holds-at-none in
     let put = put_new _ c.insert-3.new.self.entries now c.in_ok-key.key source new absent.1 (c.in_ok-key.ensures.ok ∙ c.as_str-2.ensures) c.in_ok-insert-2.ensures.entries in
     let members : (m : ℕ) → holds new m ≡ (holds (numbers_of now source) m || (m == c.args.number)) =
-    λ m. c.in_ok-insert.ensures.members m ∙ ap (λ l. holds l m || (m == c.args.number)) (c.empty-numbers.ensures.list ∙ sym absent.0) in
+    λ m. c.in_ok-insert.ensures.members m ∙ ap (λ l. holds l m || (m == c.args.number)) (c.empty-first.ensures.list ∙ sym absent.0) in
     IsSummary-put now _ source new summary put
     (subst IsUtf8 c.as_str.ensures c.as_str.utf8, c.requires, some_added new (numbers_of now source) c.args.number members, c.insert-2.ensures.canonical)
