@@ -14,7 +14,7 @@ use Rattle.std.specs.Option.{IsSomeAnd}
 use Rattle.std.specs.Prelude.{◌≢◌}
 use Rattle.attributes.specs.Characters.{is_filled}
 use Rattle.serde_json.specs.Data.{Data, array, Items, no_items, item, Members, no_members, member}
-use Rattle.coverage.specs.Intervals.{Interval, max_number, fits_from, rises_from, IsCanonical}
+use Rattle.coverage.specs.Intervals.{Interval, max_sequence, fits_from, rises_from, IsCanonical}
 use Rattle.coverage.specs.Summary.{Entry, Sources, IsEntry, AreEntries, InOrder, IsSummary}
 use Rattle.coverage.specs.SummaryText.{interval_data, intervals_items, sources_members}
 use Rattle.coverage.specs.SummaryShape.{interval_in}
@@ -35,13 +35,15 @@ rises_from-append n (x ∷ xs) ys =
 pub record ReadsUpTo (items : Items) (pairs : List Interval) (from : ℕ) (left : Items) : Type 0 where
   pub canonical : IsCanonical pairs
   pub from_is : from ≡ next_free 1 pairs
-  pub high : from ≤ max_number + 2
+  pub low : 1 ≤ from
+  pub high : from ≤ max_sequence + 2
   pub rest : (ps : List Interval) → IsCanonical ps → items ≡ intervals_items ps → (qs : List Interval) × ((ps ≡ pairs ++ qs) × (left ≡ intervals_items qs))
 
 pub reads_none : (items : Items) (pairs : List Interval) → pairs ≡ [] → ReadsUpTo items pairs 1 items
 reads_none items pairs e = subst (λ l. ReadsUpTo items l 1 items) (sym e) (record {
   canonical = rises_from-nil 1;
   from_is = sym (next_free-nil 1);
+  low = omega arith;
   high = omega arith;
   rest = λ ps h is. (ps, (refl, is));
 })
@@ -80,6 +82,7 @@ reads_more items pairs new from left d ds pair r is found passes made =
     subst (λ l. ReadsUpTo items l (pair.1 + 2) ds) (sym made) (record {
       canonical = rises_from-push 1 pairs pair ∙ and_from _ _ r.canonical (ap (λ k. fits_from k pair) (sym r.from_is) ∙ sym passes);
       from_is = sym (next_free-push 1 pairs pair);
+      low = omega arith;
       high = omega arith;
       rest = λ ps h e.
           let w = next_fits items pairs from left d ds r is ps h e in

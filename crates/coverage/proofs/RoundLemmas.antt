@@ -22,7 +22,7 @@ use Rattle.serde_json.specs.Read.{of_json, of_items, of_members, read}
 use Rattle.serde_json.specs.Written.{outline, items_outline, members_outline, compact_text}
 use Rattle.serde_json.proofs.Numbers.{number_of-decimal}
 use Rattle.serde_json.proofs.Texts.{print-outline}
-use Rattle.coverage.specs.Intervals.{Interval, max_number, rises_from}
+use Rattle.coverage.specs.Intervals.{Interval, max_sequence, rises_from}
 use Rattle.coverage.specs.Summary.{Sources, AreEntries, InOrder, IsSummary}
 use Rattle.coverage.specs.SummaryText.{interval_data, intervals_items, sources_members, summary_data, summary_text}
 use Rattle.coverage.specs.steps.Places.{EndsBefore}
@@ -32,10 +32,10 @@ use Rattle.coverage.proofs.WriteLemmas.{print-summary, summary_tokens}
 use Rattle.coverage.specs.steps.Tokens.{intervals_tokens, entry_tokens, sources_tokens}
 
 -- ---- numbers
-number_back : (n : ℕ) → n ≤ max_number → of_json (json.number (decimal n)) ≡ Some (json_data.number (unsigned n))
+number_back : (n : ℕ) → n ≤ max_sequence → of_json (json.number (decimal n)) ≡ Some (json_data.number (unsigned n))
 number_back n h = ap (option_map json_data.number) (number_of-decimal n (omega arith))
 
-interval_back : (p : Interval) → p.0 ≤ max_number → p.1 ≤ max_number → of_json (outline (interval_data p)) ≡ Some (interval_data p)
+interval_back : (p : Interval) → p.0 ≤ max_sequence → p.1 ≤ max_sequence → of_json (outline (interval_data p)) ≡ Some (interval_data p)
 interval_back p low high =
     ap (λ o. option_map array (option_and_then (λ d. option_map (item d) (option_and_then (λ e. option_map (item e) (Some no_items)) (of_json (json.number (decimal p.1))))) o)) (number_back p.0 low)
     ∙ ap (λ o. option_map array (option_map (item (json_data.number (unsigned p.0))) (option_and_then (λ e. option_map (item e) (Some no_items)) o))) (number_back p.1 high)
@@ -122,7 +122,7 @@ utf8_append : (ts us : List Token) → AreUtf8 ts → AreUtf8 us → AreUtf8 (ts
 utf8_append [] us h g = g
 utf8_append (t ∷ ts) us h g = (h.0, utf8_append ts us h.1 g)
 
-utf8_decimal : (n : ℕ) → n ≤ max_number → IsUtf8 (decimal n)
+utf8_decimal : (n : ℕ) → n ≤ max_sequence → IsUtf8 (decimal n)
 utf8_decimal n h = IsUtf8-from_ascii (decimal n) (IsAscii-decimal n (omega arith))
 
 utf8_intervals : (n : ℕ) (ps : List Interval) → rises_from n ps ≡ true → AreUtf8 (intervals_tokens ps)

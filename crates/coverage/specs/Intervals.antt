@@ -1,9 +1,6 @@
 -- Sets of sequence numbers as ascending, disjoint, not adjacent intervals.
+pub use Rattle.attributes.specs.Sequences.{max_sequence}
 use Rattle.std.specs.Prelude.{◌≡◌, ℕ, ◌+◌, ◌-◌, ◌<◌, ◌≤◌, Bool, true, false, ◌&&◌, ◌||◌, nat_le, List, [], ◌∷◌, length, slice_index_or, sum_by, IsTrue, ◌↔◌}
-
--- the greatest sequence number, 2^63 - 1
-abbrev pub max_number : ℕ
-max_number = 0x7FFF_FFFF_FFFF_FFFF
 
 -- the first and the last number
 abbrev pub Interval : Type 0
@@ -24,7 +21,7 @@ interval_at ps k = slice_index_or ps k (0, 0)
 
 -- the interval starts at the number or later, has a member, and ends at a sequence number
 abbrev pub fits_from : ℕ → Interval → Bool
-fits_from n p = nat_le n p.0 && (nat_le p.0 p.1 && nat_le p.1 max_number)
+fits_from n p = nat_le n p.0 && (nat_le p.0 p.1 && nat_le p.1 max_sequence)
 
 -- each interval fits, the first from the number on and each other after a gap
 unfoldable pub rises_from : ℕ → List Interval → Bool

@@ -3,5 +3,5 @@ pub mod Summary
 pub mod SummaryText
 pub mod SummaryShape
 pub mod Refusals
-pub mod Faults
+pub mod Fault
 pub mod steps

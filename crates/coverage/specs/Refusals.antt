@@ -6,8 +6,8 @@ use Rattle.serde_json.specs.Read.{read}
 use Rattle.coverage.specs.Summary.{Sources, IsSummary}
 use Rattle.coverage.specs.SummaryText.{summary_text}
 use Rattle.coverage.specs.SummaryShape.{version_of, is_shaped}
-use Rattle.coverage.specs.declared.faults.SummaryFault.{SummaryFault}
-use Rattle.coverage.specs.declared.faults.SummaryFault.TheVariants.{OutOfMemory, NotJson, Shape, Version, NotCanonical}
+use Rattle.coverage.specs.declared.fault.SummaryFault.{SummaryFault}
+use Rattle.coverage.specs.declared.fault.SummaryFault.TheVariants.{OutOfMemory, NotJson, Shape, Version, NotCanonical}
 
 -- the bytes are a JSON text with this value
 abbrev pub Parses : List ℕ → Data → Type 0

@@ -12,10 +12,10 @@ ghost use Rattle.coverage.specs.steps.Places.{EndsBefore};
 
 use super::Summary;
 use super::shape::{has_shape, pair_of, version};
-use crate::faults::SummaryFault;
-use crate::intervals::Intervals;
-use crate::pairs::{Interval, MAX_NUMBER};
-use attributes::Text;
+use crate::fault::SummaryFault;
+use crate::intervals::{Interval, Intervals};
+
+use attributes::{Sequence, Text};
 use serde_json::{Map, Value};
 use std::alloc::{AllocError, Global};
 use std::cmp::Ordering;
@@ -60,9 +60,10 @@ fn shaped(alloc: Global, bytes: &[u8]) -> Result<Value, SummaryFault>
 
 /// Whether the pair is an interval of sequence numbers that starts at the number or later.
 fn fits(from: u64, pair: Interval) -> bool
+    requires { 1 ≤ from }
     ensures { result ≡ fits_from from pair }
 {
-    from <= pair.0 && pair.0 <= pair.1 && pair.1 <= MAX_NUMBER
+    from <= pair.0 && pair.0 <= pair.1 && Sequence::of_u64(pair.1).is_some()
 }
 
 /// The intervals of which these are the JSON, where they are that of any.

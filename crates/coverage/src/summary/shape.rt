@@ -3,7 +3,7 @@ ghost use Rattle.std.specs.Prelude.{◌≡◌, Some};
 ghost use Rattle.serde_json.specs.View.{view};
 ghost use Rattle.coverage.specs.SummaryShape.{interval_in, is_list_of_pairs, is_object_of_lists, is_shaped, version_of};
 
-use crate::pairs::Interval;
+use crate::intervals::Interval;
 use serde_json::Value;
 
 /// The two numbers of an array of two whole numbers.

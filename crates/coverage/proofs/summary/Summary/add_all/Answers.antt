@@ -44,7 +44,7 @@ invariant_of-self-2 c =
     let new = c.in_ok-copy.field-0 in
     let absent = absent_at c.get_mut.result _ _ now source source c.self.view_is refl c.in_default.is c.get_mut.ensures.value c.get_mut.follows.holds-at-none in
     let put = put_new _ c.insert.new.self.entries now c.in_ok-key.key source new absent.1 c.in_ok-key.ensures.ok c.in_ok-insert.ensures.entries in
-    IsSummary-put now _ source new summary put (subst (λ l. IsEntry (source, l)) (sym c.in_ok-copy.ensures) c.requires)
+    IsSummary-put now _ source new summary put (subst (λ l. IsEntry (source, l)) (sym c.in_ok-copy.ensures.copied) c.requires)
 
 pub returns-clause-members : goal.returns-clause-members
 returns-clause-members c =
@@ -56,7 +56,7 @@ returns-clause-members c =
     let put = put_new _ c.insert.new.self.entries now c.in_ok-key.key source new absent.1 c.in_ok-key.ensures.ok c.in_ok-insert.ensures.entries in
     let none : (m : ℕ) → holds (numbers_of now source) m ≡ false = λ m. ap (λ l. holds l m) absent.0 ∙ holds-nil m in
     holds_at-put now _ source new (holds c.args.numbers.now) put
-    (λ m. ap (λ l. holds l m) c.in_ok-copy.ensures ∙ sym (ap (λ b. b || holds c.args.numbers.now m) (none m)))
+    (λ m. ap (λ l. holds l m) c.in_ok-copy.ensures.copied ∙ sym (ap (λ b. b || holds c.args.numbers.now m) (none m)))
 
 pub returns-in_err-own-clause-summary : goal.returns-in_err-own-clause-summary
 returns-in_err-own-clause-summary c =
@@ -84,4 +84,4 @@ returns-clause-summary c =
     let new = c.in_ok-copy.field-0 in
     let absent = absent_at c.get_mut.result _ _ now source source c.self.view_is refl c.in_default.is c.get_mut.ensures.value c.get_mut.follows.holds-at-none in
     let put = put_new _ c.insert.new.self.entries now c.in_ok-key.key source new absent.1 c.in_ok-key.ensures.ok c.in_ok-insert.ensures.entries in
-    IsSummary-put now _ source new summary put (subst (λ l. IsEntry (source, l)) (sym c.in_ok-copy.ensures) c.requires)
+    IsSummary-put now _ source new summary put (subst (λ l. IsEntry (source, l)) (sym c.in_ok-copy.ensures.copied) c.requires)

@@ -15,7 +15,7 @@ append-requires-clause-entry c =
     let source = string_bytes c.in-Some.source.now in
     let numbers = c.in-Some.numbers.now in
     let next = is_next c.args.self.now c.loop-source.own _ (source, numbers) _ (subst IsSummary c.self.view_is c.self.invariant) c.loop-source.invariant (ap sources_in c.in-Some.ensures.steps) in
-    IsEntry-along _ source _ numbers c.as_str.ensures.value c.in_ok-copy.ensures next.is_entry
+    IsEntry-along _ source _ numbers c.as_str.ensures.value c.in_ok-copy.ensures.copied next.is_entry
 
 pub append-requires-clause-last : goal.append-requires-clause-last
 append-requires-clause-last c =
@@ -27,7 +27,7 @@ append-requires-clause-last c =
 pub loop-source-preserved : goal.loop-source-preserved
 loop-source-preserved c =
     copied_more c.args.self.now c.loop-source.own _ _ _ (string_bytes c.in-Some.source.now) _ c.in-Some.numbers.now _ c.loop-source.invariant (ap sources_in c.in-Some.ensures.steps)
-    c.as_str.ensures.value c.in_ok-copy.ensures c.in_ok-append.ensures
+    c.as_str.ensures.value c.in_ok-copy.ensures.copied c.in_ok-append.ensures
 
 pub returns-clause-copied : goal.returns-clause-copied
 returns-clause-copied c = split_all c.args.self.now c.loop-source.own _ c.loop-source.invariant (ap sources_in c.in-None.ensures.steps.0)
