@@ -15,6 +15,7 @@ use Rattle.std.proofs.lemmas.Map.Keys.{sorted_tail}
 use Rattle.coverage.specs.Intervals.{Interval, holds, HoldsAll}
 use Rattle.coverage.specs.Summary.{Entry, Sources, IsEntry, InOrder, IsSummary, Covers, numbers_of, holds_at}
 use Rattle.coverage.specs.SummaryText.{summary_text}
+use Rattle.coverage.specs.CoverText.{IsCoverText}
 use Rattle.coverage.specs.steps.Entries.{sources_in}
 use Rattle.coverage.specs.steps.Places.{entry_at}
 use Rattle.coverage.proofs.HoldsLemmas.{holds-nil, holds_first, same_numbers-same}
@@ -179,3 +180,18 @@ same_by_numbers xs ys b hx hy same = (λ t s m. ap (λ l. holds_at l s m) (same.
 
 pub same_by_texts : (xs ys : Sources) (b : Bool) → IsSummary xs → IsSummary ys → IsTrue b ↔ (xs ≡ ys) → IsTrue b ↔ (summary_text xs ≡ summary_text ys)
 same_by_texts xs ys b hx hy same = (λ t. ap summary_text (same.0 t), λ texts. same.1 (same_texts-same xs ys hx hy texts))
+
+-- ---- the text that says which numbers are held
+pub one_cover_text : (has had : List ℕ → ℕ → Bool) (t u : List ℕ) → ((source : List ℕ) (n : ℕ) → has source n ≡ had source n) → IsCoverText has t → IsCoverText had u → t ≡ u
+one_cover_text has had t u same p q =
+    p.written
+    ∙ ap summary_text (same_summary p.summary q.summary p.is_summary q.is_summary (λ s n. p.exact s n ∙ same s n ∙ sym (q.exact s n)))
+    ∙ sym q.written
+
+pub cover_text_along : (has had : List ℕ → ℕ → Bool) (t : List ℕ) → ((source : List ℕ) (n : ℕ) → has source n ≡ had source n) → IsCoverText has t → IsCoverText had t
+cover_text_along has had t same p = record {
+  summary = p.summary;
+  is_summary = p.is_summary;
+  exact = λ s n. p.exact s n ∙ same s n;
+  written = p.written;
+}

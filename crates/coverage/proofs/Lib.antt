@@ -4,6 +4,7 @@ pub mod JoinsLemmas
 pub mod PlacesLemmas
 pub mod PairsLemmas
 pub mod GapsLemmas
+pub mod SizeLemmas
 pub mod CoversLemmas
 pub mod EntriesLemmas
 pub mod UnionLemmas

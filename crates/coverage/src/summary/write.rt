@@ -1,6 +1,7 @@
 //! A summary's text, written.
 ghost use Rattle.std.specs.Prelude.{◌≡◌, ◌++◌, IfOk, OnOk};
-ghost use Rattle.coverage.specs.Summary.{IsSummary};
+ghost use Rattle.coverage.specs.Summary.{IsSummary, holds_at};
+ghost use Rattle.coverage.specs.CoverText.{IsCoverText};
 ghost use Rattle.coverage.specs.SummaryText.{summary_text};
 ghost use Rattle.coverage.specs.steps.Tokens.{entry_tokens};
 
@@ -28,6 +29,7 @@ impl Summary {
     /// memory linear in the sources and the intervals.
     pub fn to_text(&self) -> Result<Text, AllocError>
         ensures text { IfOk result (λ t. t ≡ summary_text self.now) }
+        ensures cover_text { IfOk result (IsCoverText (holds_at self.now)) }
         ensures summary { IsSummary self.now }
     {
         let mut out = Writer::new(Vec::new(self.alloc));
