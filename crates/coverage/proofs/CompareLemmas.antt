@@ -6,14 +6,12 @@ use Rattle.std.specs.Option.{is_some}
 use Rattle.std.specs.Prelude.{IsTrue, ◌↔◌}
 use Rattle.std.specs.declared.string.String.{String}
 use Rattle.std.specs.Str.{bytes_eq}
-use Rattle.std.specs.Ordering.{nat_cmp}
 use Rattle.std.specs.declared.cmp.Ordering.TheVariants.{Less}
-use Rattle.std.specs.Cmp.Lexicographic.{slice_cmp}
 use Rattle.std.proofs.lemmas.Map.Lookups.{exact_bytes}
 use Rattle.std.specs.Map.{keys_of}
 use Rattle.std.proofs.lemmas.Map.Keys.{sorted_tail}
 use Rattle.coverage.specs.Intervals.{Interval, holds, HoldsAll}
-use Rattle.coverage.specs.Summary.{Entry, Sources, IsEntry, InOrder, IsSummary, Covers, numbers_of, holds_at}
+use Rattle.coverage.specs.Summary.{byte_cmp, Entry, Sources, IsEntry, InOrder, IsSummary, Covers, numbers_of, holds_at}
 use Rattle.coverage.specs.SummaryText.{summary_text}
 use Rattle.coverage.specs.CoverText.{IsCoverText}
 use Rattle.coverage.specs.steps.Entries.{sources_in}
@@ -65,16 +63,16 @@ uncovered_source own all left e rest h c is none covers =
 
 -- ---- the law: what holds the same numbers is the same
 -- a source below the first is absent
-absent_below : (e : Entry) (es : Sources) (s : List ℕ) → InOrder (e ∷ es) → slice_cmp nat_cmp s e.0 ≡ Less → numbers_of (e ∷ es) s ≡ []
+absent_below : (e : Entry) (es : Sources) (s : List ℕ) → InOrder (e ∷ es) → byte_cmp s e.0 ≡ Less → numbers_of (e ∷ es) s ≡ []
 absent_below e es s h less = numbers_of-nowhere (e ∷ es) s (go (e ∷ es) h less)
   where
-    go : (l : Sources) → InOrder l → slice_cmp nat_cmp s (entry_at l 0).0 ≡ Less → (k : ℕ) → k < length l → s ≡ (entry_at l k).0 → ⊥
+    go : (l : Sources) → InOrder l → byte_cmp s (entry_at l 0).0 ≡ Less → (k : ℕ) → k < length l → s ≡ (entry_at l k).0 → ⊥
     go l sorted first zero hk = apart_from_less s (entry_at l 0).0 first
     go l sorted first (suc k) hk =
         apart_from_less s (entry_at l (suc k)).0 (cmp-chain s (entry_at l 0).0 (entry_at l (suc k)).0 first (InOrder-at l 0 (suc k) sorted (omega arith) hk))
 
 -- a source that the first list holds, and that is below the second's first
-not_same_first : (d e : Entry) (ds es : Sources) → IsEntry d → InOrder (e ∷ es) → ((s : List ℕ) (n : ℕ) → holds_at (d ∷ ds) s n ≡ holds_at (e ∷ es) s n) → slice_cmp nat_cmp d.0 e.0 ≡ Less → ⊥
+not_same_first : (d e : Entry) (ds es : Sources) → IsEntry d → InOrder (e ∷ es) → ((s : List ℕ) (n : ℕ) → holds_at (d ∷ ds) s n ≡ holds_at (e ∷ es) s n) → byte_cmp d.0 e.0 ≡ Less → ⊥
 not_same_first d e ds es entry h same less =
     let held = holds_first d.1 entry.2 entry.3 in
     let here : holds_at (d ∷ ds) d.0 held.0 ≡ true = ap (λ l. holds l held.0) (numbers_of-head d ds d.0 refl) ∙ held.1 in
@@ -93,7 +91,7 @@ same_summary [] (e ∷ es) hs ht same =
 same_summary (d ∷ ds) [] hs ht same =
     let held = holds_first d.1 hs.0.0.2 hs.0.0.3 in
     absurd (true≢false (sym held.1 ∙ ap (λ l. holds l held.0) (sym (numbers_of-head d ds d.0 refl)) ∙ same d.0 held.0 ∙ holds-nil held.0))
-same_summary (d ∷ ds) (e ∷ es) hs ht same = elim (cases_order (slice_cmp nat_cmp d.0 e.0)) [
+same_summary (d ∷ ds) (e ∷ es) hs ht same = elim (cases_order (byte_cmp d.0 e.0)) [
   | inl less ↦ absurd (not_same_first d e ds es hs.0.0 ht.1 same less)
   | inr (inr greater) ↦ absurd (not_same_first e d es ds ht.0.0 hs.1 (λ x n. sym (same x n)) (less_from_greater d.0 e.0 greater))
   | inr (inl equal) ↦

@@ -7,8 +7,7 @@ use Rattle.std.proofs.lemmas.Map.Lookups.{exact_bytes}
 use Rattle.std.proofs.lemmas.Map.Text.{is_eq-slice_cmp, text_cmp}
 use Rattle.std.specs.Str.{bytes_eq, IsUtf8}
 use Rattle.std.specs.Cmp.{Equal-is}
-use Rattle.std.specs.Cmp.Lexicographic.{slice_cmp}
-use Rattle.std.specs.Ordering.{nat_cmp, match_ordering, ordering_reverse}
+use Rattle.std.specs.Ordering.{match_ordering, ordering_reverse}
 use Rattle.std.specs.declared.cmp.Ordering.{Ordering}
 use Rattle.std.specs.declared.cmp.Ordering.TheVariants.{Less, Equal, Greater}
 use Rattle.std.specs.BTreeMap.{BTreeMap, insert_entry, is_at}
@@ -25,7 +24,7 @@ use Rattle.std.specs.Map.{keys_of, lookup, set_value}
 use Rattle.attributes.specs.Characters.{is_filled}
 use Rattle.std.proofs.lemmas.Map.Keys.{sorted_head, sorted_tail}
 use Rattle.coverage.specs.Intervals.{Interval, holds, IsCanonical}
-use Rattle.coverage.specs.Summary.{Entry, Sources, IsEntry, AreEntries, InOrder, IsSummary, numbers_of, holds_at, sources_of}
+use Rattle.coverage.specs.Summary.{byte_cmp, Entry, Sources, IsEntry, AreEntries, InOrder, IsSummary, numbers_of, holds_at, sources_of}
 use Rattle.coverage.specs.steps.Places.{entry_at, EndsBefore}
 use Rattle.coverage.specs.steps.Entries.{entry_in, sources_in}
 use Rattle.coverage.proofs.HoldsLemmas.{holds-nil, or-false}
@@ -43,13 +42,13 @@ bytes_eq-other s k h = elim (cases_Bool (bytes_eq s k)) [ inl t ↦ absurd (h (b
 pub bytes_eq-apart : (s k : List ℕ) → bytes_eq s k ≡ false → s ≡ k → ⊥
 bytes_eq-apart s k f e = both_ways _ f ((bytes_eq-Decides s k).1 e)
 
-pub cmp-same : (s k : List ℕ) → s ≡ k → slice_cmp nat_cmp s k ≡ Equal
+pub cmp-same : (s k : List ℕ) → s ≡ k → byte_cmp s k ≡ Equal
 cmp-same s k e = (Equal-is _).0 (is_eq-slice_cmp s k ∙ (bytes_eq-Decides s k).1 e)
 
-pub cmp-flip : (x y : List ℕ) → slice_cmp nat_cmp x y ≡ ordering_reverse (slice_cmp nat_cmp y x)
+pub cmp-flip : (x y : List ℕ) → byte_cmp x y ≡ ordering_reverse (byte_cmp y x)
 cmp-flip x y = nat_list_cmp_total.antisymm x y
 
-pub cmp-chain : (x y z : List ℕ) → slice_cmp nat_cmp x y ≡ Less → slice_cmp nat_cmp y z ≡ Less → slice_cmp nat_cmp x z ≡ Less
+pub cmp-chain : (x y z : List ℕ) → byte_cmp x y ≡ Less → byte_cmp y z ≡ Less → byte_cmp x z ≡ Less
 cmp-chain x y z = nat_list_cmp_total.trans x y z
 
 less_not_equal : (o : Ordering) → o ≡ Less → o ≡ Equal → ⊥
@@ -58,16 +57,16 @@ less_not_equal o p q = cc
 greater_not_equal : (o : Ordering) → o ≡ Greater → o ≡ Equal → ⊥
 greater_not_equal o p q = cc
 
-pub apart_from_less : (x y : List ℕ) → slice_cmp nat_cmp x y ≡ Less → x ≡ y → ⊥
+pub apart_from_less : (x y : List ℕ) → byte_cmp x y ≡ Less → x ≡ y → ⊥
 apart_from_less x y h e = less_not_equal _ h (cmp-same x y e)
 
-pub apart_from_greater : (x y : List ℕ) → slice_cmp nat_cmp x y ≡ Greater → x ≡ y → ⊥
+pub apart_from_greater : (x y : List ℕ) → byte_cmp x y ≡ Greater → x ≡ y → ⊥
 apart_from_greater x y h e = greater_not_equal _ h (cmp-same x y e)
 
-pub greater_from_less : (x y : List ℕ) → slice_cmp nat_cmp x y ≡ Less → slice_cmp nat_cmp y x ≡ Greater
+pub greater_from_less : (x y : List ℕ) → byte_cmp x y ≡ Less → byte_cmp y x ≡ Greater
 greater_from_less x y h = cmp-flip y x ∙ ap ordering_reverse h
 
-pub less_from_greater : (x y : List ℕ) → slice_cmp nat_cmp x y ≡ Greater → slice_cmp nat_cmp y x ≡ Less
+pub less_from_greater : (x y : List ℕ) → byte_cmp x y ≡ Greater → byte_cmp y x ≡ Less
 less_from_greater x y h = cmp-flip y x ∙ ap ordering_reverse h
 
 pub cases_order : (o : Ordering) → (o ≡ Less) ⊎ ((o ≡ Equal) ⊎ (o ≡ Greater))
@@ -89,30 +88,30 @@ numbers_of-nowhere (e ∷ es) s h =
 
 -- ---- by places
 -- what is below each source of a list is below the one at a place
-below_at : (q : List ℕ) (es : Sources) (i : ℕ) → AllByRecursion (λ y. slice_cmp nat_cmp q y ≡ Less) (keys_of es) → i < length es → slice_cmp nat_cmp q (entry_at es i).0 ≡ Less
+below_at : (q : List ℕ) (es : Sources) (i : ℕ) → AllByRecursion (λ y. byte_cmp q y ≡ Less) (keys_of es) → i < length es → byte_cmp q (entry_at es i).0 ≡ Less
 below_at q [] i h hi = absurd (not-suc-le-zero hi)
 below_at q (e ∷ es) zero h hi = h.0
 below_at q (e ∷ es) (suc i) h hi = below_at q es i h.1 (le_of_suc-le-suc hi)
 
-pub InOrder-at : (es : Sources) (i j : ℕ) → InOrder es → i < j → j < length es → slice_cmp nat_cmp (entry_at es i).0 (entry_at es j).0 ≡ Less
+pub InOrder-at : (es : Sources) (i j : ℕ) → InOrder es → i < j → j < length es → byte_cmp (entry_at es i).0 (entry_at es j).0 ≡ Less
 InOrder-at [] i j h lt hj = absurd (not-suc-le-zero hj)
 InOrder-at (e ∷ es) i zero h lt hj = absurd (not-suc-le-zero lt)
 InOrder-at (e ∷ es) zero (suc j) h lt hj = below_at e.0 es j (sorted_head _ e.0 (keys_of es) h) (le_of_suc-le-suc hj)
 InOrder-at (e ∷ es) (suc i) (suc j) h lt hj = InOrder-at es i j (sorted_tail _ e.0 (keys_of es) h) (le_of_suc-le-suc lt) (le_of_suc-le-suc hj)
 
 -- ---- one more entry
-entry_less : (e : Entry) (es : Sources) (k : List ℕ) (v : List Interval) → slice_cmp nat_cmp k e.0 ≡ Less → insert_entry (slice_cmp nat_cmp) (e ∷ es) k v ≡ (k, v) ∷ e ∷ es
-entry_less e es k v h = ap (λ o. match_ordering o ((k, v) ∷ e ∷ es) ((e.0, v) ∷ es) (e ∷ insert_entry (slice_cmp nat_cmp) es k v)) h
+entry_less : (e : Entry) (es : Sources) (k : List ℕ) (v : List Interval) → byte_cmp k e.0 ≡ Less → insert_entry byte_cmp (e ∷ es) k v ≡ (k, v) ∷ e ∷ es
+entry_less e es k v h = ap (λ o. match_ordering o ((k, v) ∷ e ∷ es) ((e.0, v) ∷ es) (e ∷ insert_entry byte_cmp es k v)) h
 
-entry_equal : (e : Entry) (es : Sources) (k : List ℕ) (v : List Interval) → slice_cmp nat_cmp k e.0 ≡ Equal → insert_entry (slice_cmp nat_cmp) (e ∷ es) k v ≡ (e.0, v) ∷ es
-entry_equal e es k v h = ap (λ o. match_ordering o ((k, v) ∷ e ∷ es) ((e.0, v) ∷ es) (e ∷ insert_entry (slice_cmp nat_cmp) es k v)) h
+entry_equal : (e : Entry) (es : Sources) (k : List ℕ) (v : List Interval) → byte_cmp k e.0 ≡ Equal → insert_entry byte_cmp (e ∷ es) k v ≡ (e.0, v) ∷ es
+entry_equal e es k v h = ap (λ o. match_ordering o ((k, v) ∷ e ∷ es) ((e.0, v) ∷ es) (e ∷ insert_entry byte_cmp es k v)) h
 
-entry_greater : (e : Entry) (es : Sources) (k : List ℕ) (v : List Interval) → slice_cmp nat_cmp k e.0 ≡ Greater → insert_entry (slice_cmp nat_cmp) (e ∷ es) k v ≡ e ∷ insert_entry (slice_cmp nat_cmp) es k v
-entry_greater e es k v h = ap (λ o. match_ordering o ((k, v) ∷ e ∷ es) ((e.0, v) ∷ es) (e ∷ insert_entry (slice_cmp nat_cmp) es k v)) h
+entry_greater : (e : Entry) (es : Sources) (k : List ℕ) (v : List Interval) → byte_cmp k e.0 ≡ Greater → insert_entry byte_cmp (e ∷ es) k v ≡ e ∷ insert_entry byte_cmp es k v
+entry_greater e es k v h = ap (λ o. match_ordering o ((k, v) ∷ e ∷ es) ((e.0, v) ∷ es) (e ∷ insert_entry byte_cmp es k v)) h
 
-pub numbers_of-insert_entry : (es : Sources) (k : List ℕ) (v : List Interval) (s : List ℕ) → numbers_of (insert_entry (slice_cmp nat_cmp) es k v) s ≡ cond (bytes_eq s k) v (numbers_of es s)
+pub numbers_of-insert_entry : (es : Sources) (k : List ℕ) (v : List Interval) (s : List ℕ) → numbers_of (insert_entry byte_cmp es k v) s ≡ cond (bytes_eq s k) v (numbers_of es s)
 numbers_of-insert_entry [] k v s = refl
-numbers_of-insert_entry (e ∷ es) k v s = elim (cases_order (slice_cmp nat_cmp k e.0)) [
+numbers_of-insert_entry (e ∷ es) k v s = elim (cases_order (byte_cmp k e.0)) [
   | inl less ↦ ap (λ l. numbers_of l s) (entry_less e es k v less)
   | inr (inl equal) ↦
       ap (λ l. numbers_of l s) (entry_equal e es k v equal)
@@ -132,30 +131,30 @@ numbers_of-insert_entry (e ∷ es) k v s = elim (cases_order (slice_cmp nat_cmp 
       ]
 ]
 
-pub AreEntries-insert_entry : (es : Sources) (k : List ℕ) (v : List Interval) → AreEntries es → IsEntry (k, v) → AreEntries (insert_entry (slice_cmp nat_cmp) es k v)
+pub AreEntries-insert_entry : (es : Sources) (k : List ℕ) (v : List Interval) → AreEntries es → IsEntry (k, v) → AreEntries (insert_entry byte_cmp es k v)
 AreEntries-insert_entry [] k v h new = (new, tt)
-AreEntries-insert_entry (e ∷ es) k v h new = elim (cases_order (slice_cmp nat_cmp k e.0)) [
+AreEntries-insert_entry (e ∷ es) k v h new = elim (cases_order (byte_cmp k e.0)) [
   | inl less ↦ subst AreEntries (sym (entry_less e es k v less)) (new, h)
   | inr (inl equal) ↦ subst AreEntries (sym (entry_equal e es k v equal)) ((h.0.0, h.0.1, new.2, new.3), h.1)
   | inr (inr greater) ↦ subst AreEntries (sym (entry_greater e es k v greater)) (h.0, AreEntries-insert_entry es k v h.1 new)
 ]
 
-above_chain : (q k : List ℕ) (ks : List (List ℕ)) → slice_cmp nat_cmp q k ≡ Less → AllByRecursion (λ y. slice_cmp nat_cmp k y ≡ Less) ks → AllByRecursion (λ y. slice_cmp nat_cmp q y ≡ Less) ks
+above_chain : (q k : List ℕ) (ks : List (List ℕ)) → byte_cmp q k ≡ Less → AllByRecursion (λ y. byte_cmp k y ≡ Less) ks → AllByRecursion (λ y. byte_cmp q y ≡ Less) ks
 above_chain q k [] h a = tt
 above_chain q k (x ∷ xs) h a = (cmp-chain q k x h a.0, above_chain q k xs h a.1)
 
-above_entry : (q : List ℕ) (es : Sources) (k : List ℕ) (v : List Interval) → AllByRecursion (λ y. slice_cmp nat_cmp q y ≡ Less) (keys_of es) → slice_cmp nat_cmp q k ≡ Less →
-    AllByRecursion (λ y. slice_cmp nat_cmp q y ≡ Less) (keys_of (insert_entry (slice_cmp nat_cmp) es k v))
+above_entry : (q : List ℕ) (es : Sources) (k : List ℕ) (v : List Interval) → AllByRecursion (λ y. byte_cmp q y ≡ Less) (keys_of es) → byte_cmp q k ≡ Less →
+    AllByRecursion (λ y. byte_cmp q y ≡ Less) (keys_of (insert_entry byte_cmp es k v))
 above_entry q [] k v h new = (new, tt)
 above_entry q (e ∷ es) k v h new =
-    let Above : Sources → Type 0 = λ l. AllByRecursion (λ y. slice_cmp nat_cmp q y ≡ Less) (keys_of l) in
-    elim (cases_order (slice_cmp nat_cmp k e.0)) [
+    let Above : Sources → Type 0 = λ l. AllByRecursion (λ y. byte_cmp q y ≡ Less) (keys_of l) in
+    elim (cases_order (byte_cmp k e.0)) [
       | inl less ↦ subst Above (sym (entry_less e es k v less)) (new, h)
       | inr (inl equal) ↦ subst Above (sym (entry_equal e es k v equal)) h
       | inr (inr greater) ↦ subst Above (sym (entry_greater e es k v greater)) (h.0, above_entry q es k v h.1 new)
     ]
 
-pub InOrder-cons : (e : Entry) (es : Sources) → AllByRecursion (λ y. slice_cmp nat_cmp e.0 y ≡ Less) (keys_of es) → InOrder es → InOrder (e ∷ es)
+pub InOrder-cons : (e : Entry) (es : Sources) → AllByRecursion (λ y. byte_cmp e.0 y ≡ Less) (keys_of es) → InOrder es → InOrder (e ∷ es)
 unfolding IsStrictlySortedBy
 InOrder-cons e es h t = (h, t)
 
@@ -163,23 +162,23 @@ pub InOrder-nil : InOrder []
 unfolding IsStrictlySortedBy
 InOrder-nil = tt
 
-pub InOrder-insert_entry : (es : Sources) (k : List ℕ) (v : List Interval) → InOrder es → InOrder (insert_entry (slice_cmp nat_cmp) es k v)
+pub InOrder-insert_entry : (es : Sources) (k : List ℕ) (v : List Interval) → InOrder es → InOrder (insert_entry byte_cmp es k v)
 InOrder-insert_entry [] k v h = InOrder-cons (k, v) [] tt InOrder-nil
 InOrder-insert_entry (e ∷ es) k v h =
-    let head = sorted_head (slice_cmp nat_cmp) e.0 (keys_of es) h in
-    let tail = sorted_tail (slice_cmp nat_cmp) e.0 (keys_of es) h in
-    elim (cases_order (slice_cmp nat_cmp k e.0)) [
+    let head = sorted_head byte_cmp e.0 (keys_of es) h in
+    let tail = sorted_tail byte_cmp e.0 (keys_of es) h in
+    elim (cases_order (byte_cmp k e.0)) [
       | inl less ↦ subst InOrder (sym (entry_less e es k v less)) (InOrder-cons (k, v) (e ∷ es) (less, above_chain k e.0 (keys_of es) less head) h)
       | inr (inl equal) ↦ subst InOrder (sym (entry_equal e es k v equal)) (InOrder-cons (e.0, v) es head tail)
-      | inr (inr greater) ↦ subst InOrder (sym (entry_greater e es k v greater)) (InOrder-cons e (insert_entry (slice_cmp nat_cmp) es k v) (above_entry e.0 es k v head (less_from_greater k e.0 greater)) (InOrder-insert_entry es k v tail))
+      | inr (inr greater) ↦ subst InOrder (sym (entry_greater e es k v greater)) (InOrder-cons e (insert_entry byte_cmp es k v) (above_entry e.0 es k v head (less_from_greater k e.0 greater)) (InOrder-insert_entry es k v tail))
     ]
 
-pub IsSummary-insert_entry : (es : Sources) (k : List ℕ) (v : List Interval) → IsSummary es → IsEntry (k, v) → IsSummary (insert_entry (slice_cmp nat_cmp) es k v)
+pub IsSummary-insert_entry : (es : Sources) (k : List ℕ) (v : List Interval) → IsSummary es → IsEntry (k, v) → IsSummary (insert_entry byte_cmp es k v)
 IsSummary-insert_entry es k v h new = (AreEntries-insert_entry es k v h.0 new, InOrder-insert_entry es k v h.1)
 
 -- more numbers for the source
 pub holds_at-insert_entry : (es : Sources) (k : List ℕ) (v : List Interval) (f : ℕ → Bool) → ((m : ℕ) → holds v m ≡ (holds (numbers_of es k) m || f m))
-    → (s : List ℕ) (m : ℕ) → holds_at (insert_entry (slice_cmp nat_cmp) es k v) s m ≡ (holds_at es s m || (bytes_eq s k && f m))
+    → (s : List ℕ) (m : ℕ) → holds_at (insert_entry byte_cmp es k v) s m ≡ (holds_at es s m || (bytes_eq s k && f m))
 holds_at-insert_entry es k v f h s m =
     ap (λ l. holds l m) (numbers_of-insert_entry es k v s) ∙ elim (cases_Bool (bytes_eq s k)) [
       | inl t ↦ rw t (h m ∙ ap (λ x. holds_at es x m || f m) (sym (bytes_eq-equal s k t)))
@@ -217,14 +216,14 @@ AreEntries-at (e ∷ es) (suc i) h hi = AreEntries-at es i h.1 (le_of_suc-le-suc
 
 -- ---- a map by source
 -- what is below each source, and is not below the source that is looked up, stands before it
-found_above : {Y : Type 0} (q bs : List ℕ) (es : List (String Y × List Interval)) (v : List Interval) → AllByRecursion (λ y. slice_cmp nat_cmp q y ≡ Less) (keys_of (sources_in es))
-    → lookup (is_at (text_cmp bs)) es ≡ Some v → slice_cmp nat_cmp q bs ≡ Less
+found_above : {Y : Type 0} (q bs : List ℕ) (es : List (String Y × List Interval)) (v : List Interval) → AllByRecursion (λ y. byte_cmp q y ≡ Less) (keys_of (sources_in es))
+    → lookup (is_at (text_cmp bs)) es ≡ Some v → byte_cmp q bs ≡ Less
 found_above q bs [] v h f = absurd (none_is_not_some v f)
   where
     none_is_not_some : (w : List Interval) → None ≡ Some w → ⊥
     none_is_not_some w e = cc
 found_above {Y} q bs (e ∷ es) v h f = elim (cases_Bool (bytes_eq bs (string_bytes e.0))) [
-  | inl t ↦ subst (λ k. slice_cmp nat_cmp q k ≡ Less) (sym (bytes_eq-equal bs (string_bytes e.0) t)) h.0
+  | inl t ↦ subst (λ k. byte_cmp q k ≡ Less) (sym (bytes_eq-equal bs (string_bytes e.0) t)) h.0
   | inr no_match ↦ found_above q bs es v h.1 (sym (ap (λ b. cond b (Some e.1) (lookup (is_at (text_cmp bs)) es)) (is_eq-slice_cmp bs (string_bytes e.0) ∙ no_match)) ∙ f)
 ]
 
@@ -274,9 +273,9 @@ canonical_found None es bs h found = search rules
 canonical_found (Some i) es bs h found = (entry_found es bs i.now h.0 found).1
 
 -- an entry that the map takes
-pub sources_in-insert_entry : {Y : Type 0} (es : List (String Y × List Interval)) (k : String Y) (v : List Interval) → sources_in (insert_entry string_cmp es k v) ≡ insert_entry (slice_cmp nat_cmp) (sources_in es) (string_bytes k) v
+pub sources_in-insert_entry : {Y : Type 0} (es : List (String Y × List Interval)) (k : String Y) (v : List Interval) → sources_in (insert_entry string_cmp es k v) ≡ insert_entry byte_cmp (sources_in es) (string_bytes k) v
 sources_in-insert_entry [] k v = refl
-sources_in-insert_entry (e ∷ es) k v = elim (cases_order (slice_cmp nat_cmp (string_bytes k) (string_bytes e.0))) [
+sources_in-insert_entry (e ∷ es) k v = elim (cases_order (byte_cmp (string_bytes k) (string_bytes e.0))) [
   | inl less ↦ rw less refl
   | inr (inl equal) ↦ rw equal refl
   | inr (inr greater) ↦ rw greater (ap (λ l. entry_in e ∷ l) (sources_in-insert_entry es k v))
@@ -284,12 +283,12 @@ sources_in-insert_entry (e ∷ es) k v = elim (cases_order (slice_cmp nat_cmp (s
 
 -- other numbers at a source that the map has
 pub sources_in-set_value : {Y : Type 0} (es : List (String Y × List Interval)) (bs : List ℕ) (v w : List Interval) → lookup (is_at (text_cmp bs)) es ≡ Some v → InOrder (sources_in es)
-    → sources_in (set_value (is_at (text_cmp bs)) es w) ≡ insert_entry (slice_cmp nat_cmp) (sources_in es) bs w
+    → sources_in (set_value (is_at (text_cmp bs)) es w) ≡ insert_entry byte_cmp (sources_in es) bs w
 sources_in-set_value [] bs v w f h = absurd (none_is_not_some v f)
   where
     none_is_not_some : (w : List Interval) → None ≡ Some w → ⊥
     none_is_not_some w e = cc
-sources_in-set_value (e ∷ es) bs v w f h = elim (cases_order (slice_cmp nat_cmp bs (string_bytes e.0))) [
+sources_in-set_value (e ∷ es) bs v w f h = elim (cases_order (byte_cmp bs (string_bytes e.0))) [
   | inl less ↦
       let later = found_above (string_bytes e.0) bs es v (sorted_head _ (string_bytes e.0) (keys_of (sources_in es)) h) (rw less at f) in
       absurd (less_not_greater _ less (greater_from_less (string_bytes e.0) bs later))
@@ -303,18 +302,18 @@ sources_in-set_value (e ∷ es) bs v w f h = elim (cases_order (slice_cmp nat_cm
 
 -- a summary after a change at a source
 pub put_found : {Y : Type 0} (m n : List (String Y × List Interval)) (now : Sources) (bs source : List ℕ) (v w : List Interval) → sources_in m ≡ now → bs ≡ source → Some v ≡ lookup (is_at (text_cmp bs)) m
-    → IsSummary now → n ≡ set_value (is_at (text_cmp bs)) m w → sources_in n ≡ insert_entry (slice_cmp nat_cmp) now source w
+    → IsSummary now → n ≡ set_value (is_at (text_cmp bs)) m w → sources_in n ≡ insert_entry byte_cmp now source w
 put_found m n now bs source v w seen same found h is =
     ap sources_in is
     ∙ sources_in-set_value m bs v w (sym found) (subst InOrder (sym seen) h.1)
-    ∙ ap₂ (λ (l : Sources) (k : List ℕ). insert_entry (slice_cmp nat_cmp) l k w) seen same
+    ∙ ap₂ (λ (l : Sources) (k : List ℕ). insert_entry byte_cmp l k w) seen same
 
 pub put_new : {Y : Type 0} (m n : List (String Y × List Interval)) (now : Sources) (k : String Y) (source : List ℕ) (w : List Interval) → sources_in m ≡ now → string_bytes k ≡ source → n ≡ insert_entry string_cmp m k w
-    → sources_in n ≡ insert_entry (slice_cmp nat_cmp) now source w
+    → sources_in n ≡ insert_entry byte_cmp now source w
 put_new m n now k source w seen same is =
     ap sources_in is
     ∙ sources_in-insert_entry m k w
-    ∙ ap₂ (λ (l : Sources) (s : List ℕ). insert_entry (slice_cmp nat_cmp) l s w) seen same
+    ∙ ap₂ (λ (l : Sources) (s : List ℕ). insert_entry byte_cmp l s w) seen same
 
 -- where the map has nothing at the source
 pub absent_at : {Y : Type 0} (r : Option (MutBor (List Interval))) (m n : BTreeMap (String Y) (List Interval)) (now : Sources) (bs source : List ℕ) → sources_in m.entries ≡ now → bs ≡ source → r ≡ None
@@ -328,16 +327,16 @@ pub put_back : {Y : Type 0} (m n : List (String Y × List Interval)) (now : Sour
 put_back m n now bs v w seen found is same =
     ap sources_in (is ∙ ap (set_value (is_at (text_cmp bs)) m) same ∙ set_value_same (is_at (text_cmp bs)) m v (sym found)) ∙ seen
 
-pub IsSummary-put : (now new : Sources) (source : List ℕ) (w : List Interval) → IsSummary now → new ≡ insert_entry (slice_cmp nat_cmp) now source w → IsEntry (source, w) → IsSummary new
+pub IsSummary-put : (now new : Sources) (source : List ℕ) (w : List Interval) → IsSummary now → new ≡ insert_entry byte_cmp now source w → IsEntry (source, w) → IsSummary new
 IsSummary-put now new source w h put entry = subst IsSummary (sym put) (IsSummary-insert_entry now source w h entry)
 
-pub holds_at-put : (now new : Sources) (source : List ℕ) (w : List Interval) (f : ℕ → Bool) → new ≡ insert_entry (slice_cmp nat_cmp) now source w → ((m : ℕ) → holds w m ≡ (holds (numbers_of now source) m || f m))
+pub holds_at-put : (now new : Sources) (source : List ℕ) (w : List Interval) (f : ℕ → Bool) → new ≡ insert_entry byte_cmp now source w → ((m : ℕ) → holds w m ≡ (holds (numbers_of now source) m || f m))
     → (s : List ℕ) (m : ℕ) → holds_at new s m ≡ (holds_at now s m || (bytes_eq s source && f m))
 holds_at-put now new source w f put members s m =
     ap (λ l. holds_at l s m) put ∙ holds_at-insert_entry now source w f members s m
 
 -- an entry behind all others
-pub insert_entry-last : (es : Sources) (k : List ℕ) (v : List Interval) → EndsBefore es k → insert_entry (slice_cmp nat_cmp) es k v ≡ es ++ (k, v) ∷ []
+pub insert_entry-last : (es : Sources) (k : List ℕ) (v : List Interval) → EndsBefore es k → insert_entry byte_cmp es k v ≡ es ++ (k, v) ∷ []
 insert_entry-last [] k v h = refl
 insert_entry-last (e ∷ es) k v h =
     entry_greater e es k v (greater_from_less e.0 k (h zero (omega arith)))
@@ -353,7 +352,7 @@ numbers_of-push [] p s h = refl
 numbers_of-push (e ∷ es) p s h =
     ap (λ l. cond (bytes_eq s e.0) e.1 l) (numbers_of-push es p s (ends_before_tail e es p.0 h)) ∙ elim (cases_Bool (bytes_eq s e.0)) [
       | inl t ↦
-          let below : slice_cmp nat_cmp e.0 p.0 ≡ Less = h zero (omega arith) in
+          let below : byte_cmp e.0 p.0 ≡ Less = h zero (omega arith) in
           let other : bytes_eq s p.0 ≡ false = elim (cases_Bool (bytes_eq s p.0)) [
             | inl u ↦ absurd (apart_from_less e.0 p.0 below (sym (bytes_eq-equal s e.0 t) ∙ bytes_eq-equal s p.0 u))
             | inr f ↦ f
@@ -381,15 +380,15 @@ pub AreEntries-push : (es : Sources) (p : Entry) → AreEntries es → IsEntry p
 AreEntries-push [] p h new = (new, tt)
 AreEntries-push (e ∷ es) p h new = (h.0, AreEntries-push es p h.1 new)
 
-above_push : (q : List ℕ) (es : Sources) (p : Entry) → AllByRecursion (λ y. slice_cmp nat_cmp q y ≡ Less) (keys_of es) → slice_cmp nat_cmp q p.0 ≡ Less → AllByRecursion (λ y. slice_cmp nat_cmp q y ≡ Less) (keys_of (es ++ p ∷ []))
+above_push : (q : List ℕ) (es : Sources) (p : Entry) → AllByRecursion (λ y. byte_cmp q y ≡ Less) (keys_of es) → byte_cmp q p.0 ≡ Less → AllByRecursion (λ y. byte_cmp q y ≡ Less) (keys_of (es ++ p ∷ []))
 above_push q [] p h new = (new, tt)
 above_push q (e ∷ es) p h new = (h.0, above_push q es p h.1 new)
 
 pub InOrder-push : (es : Sources) (p : Entry) → InOrder es → EndsBefore es p.0 → InOrder (es ++ p ∷ [])
 InOrder-push [] p h new = InOrder-cons p [] tt InOrder-nil
 InOrder-push (e ∷ es) p h new =
-    let head = sorted_head (slice_cmp nat_cmp) e.0 (keys_of es) h in
-    let tail = sorted_tail (slice_cmp nat_cmp) e.0 (keys_of es) h in
+    let head = sorted_head byte_cmp e.0 (keys_of es) h in
+    let tail = sorted_tail byte_cmp e.0 (keys_of es) h in
     InOrder-cons e (es ++ p ∷ []) (above_push e.0 es p head (new zero (omega arith))) (InOrder-push es p tail (ends_before_tail e es p.0 new))
 
 pub IsSummary-push : (es : Sources) (p : Entry) → IsSummary es → IsEntry p → EndsBefore es p.0 → IsSummary (es ++ p ∷ [])
@@ -405,9 +404,9 @@ pub before_between : (es : Sources) (e : Entry) (rest : Sources) → InOrder (es
 before_between es e rest h k hk =
     let whole : Sources = es ++ e ∷ rest in
     let length_is : length whole ≡ length es + suc (length rest) = length-append es (e ∷ rest) in
-    let at : slice_cmp nat_cmp (entry_at whole k).0 (entry_at whole (length es)).0 ≡ Less = InOrder-at whole k (length es) h hk (omega arith) in
-    subst (λ (x : Entry). slice_cmp nat_cmp x.0 e.0 ≡ Less) (get_or-append-left es (e ∷ rest) k ([], []) hk)
-    (subst (λ (x : Entry). slice_cmp nat_cmp (entry_at whole k).0 x.0 ≡ Less) (get_or-append-mid es (e ∷ rest)) at)
+    let at : byte_cmp (entry_at whole k).0 (entry_at whole (length es)).0 ≡ Less = InOrder-at whole k (length es) h hk (omega arith) in
+    subst (λ (x : Entry). byte_cmp x.0 e.0 ≡ Less) (get_or-append-left es (e ∷ rest) k ([], []) hk)
+    (subst (λ (x : Entry). byte_cmp (entry_at whole k).0 x.0 ≡ Less) (get_or-append-mid es (e ∷ rest)) at)
   where
     get_or-append-left : (xs ys : Sources) (k : ℕ) (d : Entry) → k < length xs → get_or (xs ++ ys) k d ≡ get_or xs k d
     get_or-append-left [] ys k d h = absurd (not-suc-le-zero h)

@@ -1,9 +1,7 @@
 -- A summary out of a JSON value: what has been read, and what is left.
 use Rattle.std.proofs.Common.{◌≡◌, ℕ, zero, suc, ◌+◌, ◌<◌, ◌≤◌, Bool, true, false, ◌&&◌, List, [], ◌∷◌, ◌++◌, Option, Some, None, length, drop, drop-cons, add-one, get_or, inl, inr, ◌-◌, length-append, not-suc-le-zero, le_of_suc-le-suc, refl, sym, ap, ap₂, subst, ◌∙◌, arith, append_assoc, append-nil}
 use Rattle.std.proofs.lemmas.Bool.{and_parts, and_from, both_ways, cases_lt}
-use Rattle.std.specs.Ordering.{nat_cmp}
 use Rattle.std.specs.declared.cmp.Ordering.TheVariants.{Less}
-use Rattle.std.specs.Cmp.Lexicographic.{slice_cmp}
 use Rattle.coverage.specs.steps.Places.{entry_at, EndsBefore}
 use Rattle.coverage.specs.steps.Entries.{entry_in, sources_in}
 use Rattle.coverage.proofs.EntriesLemmas.{cmp-chain, InOrder-at, InOrder-nil, IsSummary-push, entry_between, before_between}
@@ -15,7 +13,7 @@ use Rattle.std.specs.Prelude.{◌≢◌}
 use Rattle.attributes.specs.Characters.{is_filled}
 use Rattle.serde_json.specs.Data.{Data, array, Items, no_items, item, Members, no_members, member}
 use Rattle.coverage.specs.Intervals.{Interval, max_sequence, fits_from, rises_from, IsCanonical}
-use Rattle.coverage.specs.Summary.{Entry, Sources, IsEntry, AreEntries, InOrder, IsSummary}
+use Rattle.coverage.specs.Summary.{byte_cmp, Entry, Sources, IsEntry, AreEntries, InOrder, IsSummary}
 use Rattle.coverage.specs.SummaryText.{interval_data, intervals_items, sources_members}
 use Rattle.coverage.specs.SummaryShape.{interval_in}
 use Rattle.coverage.proofs.HoldsLemmas.{next_free, next_free-push, next_free-nil, rises_from-nil, rises_from-cons, rises_from-push, fits_from-true}
@@ -132,24 +130,24 @@ length-sources_in [] = refl
 length-sources_in (e ∷ es) = ap suc (length-sources_in es)
 
 pub ends_before_last : {Y : Type 0} (es : List (String Y × List Interval)) (now : Sources) (e : String Y × List Interval) (key : List ℕ) → sources_in es ≡ now → IsSummary now → slice_get es (length es - 1) ≡ Some e
-    → slice_cmp nat_cmp (string_bytes e.0) key ≡ Less → EndsBefore now key
+    → byte_cmp (string_bytes e.0) key ≡ Less → EndsBefore now key
 ends_before_last es now e key seen h last less k hk =
     let at = at_place es (length es - 1) e last in
     let inside = at.0 in
     let n : length (sources_in es) ≡ length es = length-sources_in es in
-    let here : slice_cmp nat_cmp (entry_at now (length es - 1)).0 key ≡ Less = subst (λ (x : Entry). slice_cmp nat_cmp x.0 key ≡ Less) (sym at.1 ∙ ap (λ l. entry_at l (length es - 1)) seen) less in
+    let here : byte_cmp (entry_at now (length es - 1)).0 key ≡ Less = subst (λ (x : Entry). byte_cmp x.0 key ≡ Less) (sym at.1 ∙ ap (λ l. entry_at l (length es - 1)) seen) less in
     let m : length now ≡ length es = ap length (sym seen) ∙ n in
     elim (cases_lt k (length es - 1)) [
       | inl lt ↦ cmp-chain (entry_at now k).0 (entry_at now (length es - 1)).0 key (InOrder-at now k (length es - 1) h.1 lt (omega arith)) here
-      | inr ge ↦ let same : length es - 1 ≡ k = omega arith in subst (λ j. slice_cmp nat_cmp (entry_at now j).0 key ≡ Less) same here
+      | inr ge ↦ let same : length es - 1 ≡ k = omega arith in subst (λ j. byte_cmp (entry_at now j).0 key ≡ Less) same here
     ]
 
 pub last_before : {Y : Type 0} (es : List (String Y × List Interval)) (now : Sources) (e : String Y × List Interval) (key : List ℕ) → sources_in es ≡ now → slice_get es (length es - 1) ≡ Some e → EndsBefore now key
-    → slice_cmp nat_cmp (string_bytes e.0) key ≡ Less
+    → byte_cmp (string_bytes e.0) key ≡ Less
 last_before es now e key seen last before =
     let at = at_place es (length es - 1) e last in
     let inside : length es - 1 < length now = subst (λ n. length es - 1 < n) (ap length seen) at.0 in
-    subst (λ (x : Entry). slice_cmp nat_cmp x.0 key ≡ Less) (ap (λ l. entry_at l (length es - 1)) (sym seen) ∙ at.1) (before (length es - 1) inside)
+    subst (λ (x : Entry). byte_cmp x.0 key ≡ Less) (ap (λ l. entry_at l (length es - 1)) (sym seen) ∙ at.1) (before (length es - 1) inside)
 
 pub ends_before_none : {Y : Type 0} (es : List (String Y × List Interval)) (now : Sources) (key : List ℕ) → sources_in es ≡ now → (0 < length es → ⊥) → EndsBefore now key
 ends_before_none es now key seen none k hk =

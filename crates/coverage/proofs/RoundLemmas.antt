@@ -4,9 +4,8 @@ use Rattle.std.specs.Prelude.{codes, decimal}
 use Rattle.std.specs.Str.{IsUtf8}
 use Rattle.std.proofs.lemmas.Str.{IsUtf8-append, IsUtf8-nil, IsUtf8-from_ascii}
 use Rattle.std.proofs.lemmas.Fmt.{IsAscii-decimal}
-use Rattle.std.specs.Ordering.{nat_cmp, match_ordering}
+use Rattle.std.specs.Ordering.{match_ordering}
 use Rattle.std.specs.declared.cmp.Ordering.TheVariants.{Greater}
-use Rattle.std.specs.Cmp.Lexicographic.{slice_cmp}
 use Rattle.json.specs.Token.{Token, end_array}
 use Rattle.json.specs.Lex.{tokens}
 use Rattle.json.specs.Json as json
@@ -23,7 +22,7 @@ use Rattle.serde_json.specs.Written.{outline, items_outline, members_outline, co
 use Rattle.serde_json.proofs.Numbers.{number_of-decimal}
 use Rattle.serde_json.proofs.Texts.{print-outline}
 use Rattle.coverage.specs.Intervals.{Interval, max_sequence, rises_from}
-use Rattle.coverage.specs.Summary.{Sources, AreEntries, InOrder, IsSummary}
+use Rattle.coverage.specs.Summary.{byte_cmp, Sources, AreEntries, InOrder, IsSummary}
 use Rattle.coverage.specs.SummaryText.{interval_data, intervals_items, sources_members, summary_data, summary_text}
 use Rattle.coverage.specs.steps.Places.{EndsBefore}
 use Rattle.coverage.proofs.HoldsLemmas.{rises_from-parts, fits_from-true}
@@ -55,7 +54,7 @@ put_last (e ∷ es) k d v is h =
     put_greater k d e.0 (array (intervals_items e.1)) (sources_members es) (greater_from_less e.0 k (h 0 (omega arith)))
     ∙ ap (member e.0 (array (intervals_items e.1))) (put_last es k d v is (λ i hi. h (suc i) (omega arith)))
   where
-    put_greater : (k : List ℕ) (d : Data) (l : List ℕ) (e : Data) (ms : Members) → slice_cmp nat_cmp k l ≡ Greater → put k d (member l e ms) ≡ member l e (put k d ms)
+    put_greater : (k : List ℕ) (d : Data) (l : List ℕ) (e : Data) (ms : Members) → byte_cmp k l ≡ Greater → put k d (member l e ms) ≡ member l e (put k d ms)
     put_greater k d l e ms h = ap (λ o. match_ordering o (member k d (member l e ms)) (member l d ms) (member l e (put k d ms))) h
 
 sources_back : (done es : Sources) → AreEntries es → InOrder (done ++ es) → of_members (members_outline (sources_members es)) (sources_members done) ≡ Some (sources_members (done ++ es))

@@ -231,7 +231,7 @@ fn summaries(rt: HostRuntime) -> Result<(), Fail> {
     assert!(rt; later.of_source("/orders").is_some());
     assert!(rt; later.of_source("/").is_none());
     assert_eq!(rt; later.len(), 2);
-    assert_eq!(rt; later.source_at(1).as_str(), "/orders");
+    assert_eq!(rt; later.source_at(1), "/orders");
     Ok(())
 }
 
@@ -314,6 +314,53 @@ fn faults_have_numbers_and_names(rt: HostRuntime) -> Result<(), Fail> {
     ] {
         assert_eq!(rt; fault.number(), number);
         assert_eq!(rt; format!(in rt.alloc(); "{fault}")?.as_str(), name);
+    }
+    Ok(())
+}
+
+/// The name of the source at a place of the byte order.
+fn name_at(alloc: Global, place: u64) -> Result<Text, Fail> {
+    let name = format!(in alloc; "/source/{place:04}")?;
+    Ok(Text::of(alloc, name.as_str())?)
+}
+
+/// A summary of 500 sources, each with the number of its place. The step is coprime to 500: 1 makes
+/// them ascend, 499 descend, and 137 scatters them.
+fn stepped(alloc: Global, step: u64) -> Result<Summary, Fail> {
+    let mut seen = Summary::empty(alloc);
+    for k in 1..=500u64 {
+        let place = k * step % 500;
+        let source = name_at(alloc, place)?;
+        if source.is_source() {
+            seen.insert(&source, sequence(alloc, place + 1)?)?;
+        }
+    }
+    Ok(seen)
+}
+
+/// How many of its sources stand at their place, with just the number of it.
+fn in_place(alloc: Global, seen: &Summary) -> Result<usize, Fail> {
+    let mut found = 0;
+    for (place, entry) in seen.entries()?.iter().enumerate() {
+        let name = name_at(alloc, place as u64)?;
+        if entry.0 == name.as_str() && entry.1.next_span(1) == Some((place as u64 + 1, place as u64 + 1)) {
+            found += 1;
+        }
+    }
+    Ok(found)
+}
+
+#[test]
+fn sources_in_any_order(rt: HostRuntime) -> Result<(), Fail> {
+    let alloc = rt.alloc();
+    let ascending = stepped(alloc, 1)?;
+    assert_eq!(rt; in_place(alloc, &ascending)?, 500);
+    assert_eq!(rt; ascending.source_at(499), "/source/0499");
+    for step in [499, 137] {
+        let seen = stepped(alloc, step)?;
+        assert!(rt; seen.same(&ascending));
+        assert!(rt; seen.union(&ascending)?.same(&seen));
+        assert!(rt; Summary::of_text(alloc, seen.to_text()?.as_str().as_bytes())?.same(&seen));
     }
     Ok(())
 }

@@ -1,7 +1,5 @@
 use Rattle.std.proofs.Common.{true≢false, refl, sym, subst, ap, ◌∙◌, string_bytes}
-use Rattle.std.specs.Ordering.{nat_cmp}
-use Rattle.std.specs.Cmp.Lexicographic.{slice_cmp}
-use Rattle.coverage.specs.Summary.{IsSummary}
+use Rattle.coverage.specs.Summary.{byte_cmp, IsSummary}
 use Rattle.coverage.proofs.ReadLemmas.{ends_before_last, last_before, ends_before_none}
 use Rattle.coverage.proofs.summary.Summary.ends_before.Goals as goal
 
@@ -9,7 +7,7 @@ pub returns-in-Less : goal.returns-in-Less
 returns-in-Less c =
     let es = c.self.inside.entries.entries in
     let source = c.args.source.now in
-    let less = ap (λ k. slice_cmp nat_cmp k source) (sym c.as_str.ensures.value) ∙ sym c.in-Less.ensures in (
+    let less = ap (λ k. byte_cmp k source) (sym c.as_str.ensures.value) ∙ sym c.in-Less.ensures in (
       λ _. ends_before_last es c.args.self.now (c.in-Some.last.now, c.in-Some.field-0-1.now) source c.self.view_is (subst IsSummary c.self.view_is c.self.invariant) c.in-Some.ensures.last less,
       λ _. refl,
     )
@@ -19,7 +17,7 @@ returns-in_default c =
     let es = c.self.inside.entries.entries in
     let source = c.args.source.now in (
       λ t. absurd (true≢false (sym t)),
-      λ before. absurd (c.in_default.not-Less (c.cmp.ensures ∙ ap (λ k. slice_cmp nat_cmp k source) c.as_str.ensures.value
+      λ before. absurd (c.in_default.not-Less (c.cmp.ensures ∙ ap (λ k. byte_cmp k source) c.as_str.ensures.value
           ∙ last_before es c.args.self.now (c.in-Some.last.now, c.in-Some.field-0-1.now) source c.self.view_is c.in-Some.ensures.last before)),
     )
 
