@@ -1,4 +1,4 @@
--- The text that says which numbers of which sources have been seen, whatever else a summary may hold.
+-- The text that says which numbers of which sources have been seen, whatever else is summarized.
 use Rattle.std.specs.Prelude.{◌≡◌, ℕ, Bool, List}
 use Rattle.coverage.specs.Summary.{Sources, IsSummary, holds_at}
 use Rattle.coverage.specs.SummaryText.{summary_text}

@@ -52,10 +52,12 @@ IsGreatest ps g = (holds ps g ≡ true) × ((n : ℕ) → holds ps n ≡ true �
 abbrev pub IsMissing : List Interval → ℕ → Type 0
 IsMissing ps n = (1 ≤ n) × (holds ps n ≡ false) × ((m : ℕ) × ((n < m) × (holds ps m ≡ true)))
 
--- the interval stands in the list, starts at the number or later, and each interval before it starts earlier
+-- the interval stands in the list, starts at the number or later, and each interval before it
+-- starts earlier
 abbrev pub IsNextSpan : List Interval → ℕ → Interval → Type 0
 IsNextSpan ps from p =
-    (from ≤ p.0) × ((k : ℕ) × ((k < length ps) × (interval_at ps k ≡ p) × ((i : ℕ) → i < k → (interval_at ps i).0 < from)))
+    (from ≤ p.0) × ((k : ℕ) × ((k < length ps) × (interval_at ps k ≡ p)
+        × ((i : ℕ) → i < k → (interval_at ps i).0 < from)))
 
 -- every interval starts before the number
 abbrev pub AllStartBefore : List Interval → ℕ → Type 0

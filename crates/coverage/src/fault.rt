@@ -1,5 +1,4 @@
 //! Why bytes are no summary's text.
-
 ghost use Rattle.std.specs.Prelude.{◌≡◌};
 ghost use Rattle.coverage.specs.Fault.{number_of};
 ghost use Rattle.coverage.specs.declared.fault.SummaryFault.TheVariants.{OutOfMemory};

@@ -1,3 +1,4 @@
+//! Tests of what no clause says.
 use super::*;
 use attributes::{Sequence, Text};
 use std::alloc::{AllocError, Global};
@@ -343,7 +344,8 @@ fn in_place(alloc: Global, seen: &Summary) -> Result<usize, Fail> {
     let mut found = 0;
     for (place, entry) in seen.entries()?.iter().enumerate() {
         let name = name_at(alloc, place as u64)?;
-        if entry.0 == name.as_str() && entry.1.next_span(1) == Some((place as u64 + 1, place as u64 + 1)) {
+        let number = place as u64 + 1;
+        if entry.0 == name.as_str() && entry.1.next_span(1) == Some((number, number)) {
             found += 1;
         }
     }

@@ -1,4 +1,4 @@
--- Words for the steps below a set of intervals: what stands at a start, and where a list ends.
+-- What stands at a start among intervals, and where a list of them ends.
 use Rattle.std.specs.Prelude.{◌≡◌, ℕ, ◌≤◌, List, [], ◌∷◌, Option, Some, None}
 use Rattle.std.specs.Ordering.{nat_cmp}
 use Rattle.std.specs.Map.{lookup}
@@ -15,7 +15,8 @@ NoneUpTo ps n = (a : ℕ) → a ≤ n → found a ps ≡ None
 
 -- the interval is in the list and starts at the number or before, and no other starts between
 abbrev pub IsLastUpTo : List Interval → ℕ → Interval → Type 0
-IsLastUpTo ps n p = (found p.0 ps ≡ Some p.1) × (p.0 ≤ n) × ((a b : ℕ) → a ≤ n → found a ps ≡ Some b → a ≤ p.0)
+IsLastUpTo ps n p = (found p.0 ps ≡ Some p.1) × (p.0 ≤ n)
+    × ((a b : ℕ) → a ≤ n → found a ps ≡ Some b → a ≤ p.0)
 
 -- the start of the last interval, or the number where there is none
 unfoldable pub last_start_or : ℕ → List Interval → ℕ

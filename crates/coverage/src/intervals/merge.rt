@@ -14,7 +14,8 @@ fn append(pairs: &mut Vec<Interval>, interval: Interval) -> Result<(), AllocErro
     requires bounded { interval.1 ≤ max_sequence }
     requires last { StartsAtMost pairs.old.items interval.0 }
     ensures canonical { OnOk result (IsCanonical pairs.new.items) }
-    ensures members { OnOk result ((n : ℕ) → holds pairs.new.items n ≡ (holds pairs.old.items n || in_interval interval n)) }
+    ensures members { OnOk result ((n : ℕ) → holds pairs.new.items n
+        ≡ (holds pairs.old.items n || in_interval interval n)) }
     ensures starts { OnOk result (StartsAtMost pairs.new.items interval.0) }
 {
     match pairs.pop() {
@@ -36,8 +37,10 @@ fn first_is_next(xs: &[Interval], i: usize, ys: &[Interval], j: usize) -> bool
     requires first_in { i ≤ length xs.now }
     requires second_in { j ≤ length ys.now }
     requires some { (i < length xs.now) ⊎ (j < length ys.now) }
-    ensures first { IsTrue result → (i < length xs.now) × (j < length ys.now → (interval_at xs.now i).0 ≤ (interval_at ys.now j).0) }
-    ensures second { result ≡ false → (j < length ys.now) × (i < length xs.now → (interval_at ys.now j).0 ≤ (interval_at xs.now i).0) }
+    ensures first { IsTrue result → (i < length xs.now)
+        × (j < length ys.now → (interval_at xs.now i).0 ≤ (interval_at ys.now j).0) }
+    ensures second { result ≡ false → (j < length ys.now)
+        × (i < length xs.now → (interval_at ys.now j).0 ≤ (interval_at xs.now i).0) }
 {
     if i == xs.len() {
         return false;
@@ -57,7 +60,8 @@ fn merged(
     requires first { IsCanonical xs.now }
     requires second { IsCanonical ys.now }
     ensures canonical { IfOk result (λ v. IsCanonical v.items) }
-    ensures members { IfOk result (λ v. (n : ℕ) → holds v.items n ≡ (holds xs.now n || holds ys.now n)) }
+    ensures members { IfOk result (λ v. (n : ℕ)
+        → holds v.items n ≡ (holds xs.now n || holds ys.now n)) }
 {
     let mut both = Vec::new(alloc);
     let mut i = 0;
@@ -79,7 +83,8 @@ fn gaps(alloc: Global, pairs: &[Interval], top: u64) -> Result<Vec<Interval>, Al
     requires canonical { IsCanonical pairs.now }
     requires bounded { top ≤ max_sequence }
     ensures canonical { IfOk result (λ v. IsCanonical v.items) }
-    ensures members { IfOk result (λ v. (n : ℕ) → holds v.items n ≡ (nat_le 1 n && (nat_le n top && not (holds pairs.now n)))) }
+    ensures members { IfOk result (λ v. (n : ℕ)
+        → holds v.items n ≡ (nat_le 1 n && (nat_le n top && not (holds pairs.now n)))) }
 {
     let mut found = Vec::new(alloc);
     let mut next = 1;

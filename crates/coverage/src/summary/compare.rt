@@ -26,7 +26,8 @@ impl Summary {
     /// intervals.
     pub fn same(&self, other: &Summary) -> bool
         ensures equal { IsTrue result ↔ (self.now ≡ other.now) }
-        ensures numbers { IsTrue result ↔ ((s : List ℕ) (m : ℕ) → holds_at self.now s m ≡ holds_at other.now s m) }
+        ensures numbers { IsTrue result ↔ ((s : List ℕ) (m : ℕ)
+            → holds_at self.now s m ≡ holds_at other.now s m) }
         ensures texts { IsTrue result ↔ (summary_text self.now ≡ summary_text other.now) }
     {
         let mut others = other.entries.iter();

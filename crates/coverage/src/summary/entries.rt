@@ -42,7 +42,9 @@ impl Summary {
     pub fn insert(&mut self, source: &Text, number: Sequence) -> Result<bool, AllocError>
         requires { is_filled source.now ≡ true }
         ensures new { IfOk result (λ b. b ≡ not (holds_at self.old source.now number)) }
-        ensures members { OnOk result ((s : List ℕ) (m : ℕ) → holds_at self.new s m ≡ (holds_at self.old s m || (bytes_eq s source.now && (m == number)))) }
+        ensures members { OnOk result ((s : List ℕ) (m : ℕ)
+            → holds_at self.new s m
+            ≡ (holds_at self.old s m || (bytes_eq s source.now && (m == number)))) }
         ensures summary { IsSummary self.new }
         ensures err { OnErr result (self.new ≡ self.old) }
     {
@@ -69,7 +71,8 @@ impl Summary {
 
     /// The numbers of the source, where it has any. Time logarithmic in the sources.
     pub fn of_source(&self, source: &str) -> Option<&Intervals>
-        ensures numbers { MatchOption result (numbers_of self.now source.now ≡ []) (λ i. i.now ≡ numbers_of self.now source.now) }
+        ensures numbers { MatchOption result (numbers_of self.now source.now ≡ [])
+            (λ i. i.now ≡ numbers_of self.now source.now) }
         ensures some { IfSome result (λ i. i.now ≢ []) }
         ensures canonical { IfSome result (λ i. IsCanonical i.now) }
     {

@@ -24,7 +24,8 @@ use std::cmp::Ordering;
 fn parsed(alloc: Global, bytes: &[u8]) -> Result<Value, SummaryFault>
     ensures value { IfOk result (λ v. Parses bytes.now (view v)) }
     ensures refused { IfErr result (Refuses bytes.now) }
-    ensures accepted { IsSummaryText bytes.now → OnErr result (result ≡ Err SummaryFault.OutOfMemory) }
+    ensures accepted { IsSummaryText bytes.now
+        → OnErr result (result ≡ Err SummaryFault.OutOfMemory) }
 {
     match Value::from_slice(alloc, bytes) {
         Ok(value) => Ok(value),
@@ -43,7 +44,8 @@ fn shaped(alloc: Global, bytes: &[u8]) -> Result<Value, SummaryFault>
     ensures version { IfOk result (λ v. version_of (view v) ≡ Some 1) }
     ensures shape { IfOk result (λ v. is_shaped (view v) ≡ true) }
     ensures refused { IfErr result (Refuses bytes.now) }
-    ensures accepted { IsSummaryText bytes.now → OnErr result (result ≡ Err SummaryFault.OutOfMemory) }
+    ensures accepted { IsSummaryText bytes.now
+        → OnErr result (result ≡ Err SummaryFault.OutOfMemory) }
 {
     let value = parsed(alloc, bytes)?;
     let Some(found) = version(&value) else {
@@ -69,7 +71,8 @@ fn fits(from: u64, pair: Interval) -> bool
 /// The intervals of which these are the JSON, where they are that of any.
 fn pairs_in(alloc: Global, list: &[Value]) -> Result<Option<Vec<Interval>>, AllocError>
     ensures canonical { IfOk result (λ o. IfSome o (λ v. IsCanonical v.items)) }
-    ensures complete { IfOk result (λ o. (ps : List Interval) → IsCanonical ps → items_view list.now ≡ intervals_items ps → IsSomeAnd o (λ v. v.items ≡ ps)) }
+    ensures complete { IfOk result (λ o. (ps : List Interval) → IsCanonical ps
+        → items_view list.now ≡ intervals_items ps → IsSomeAnd o (λ v. v.items ≡ ps)) }
 {
     let mut pairs = Vec::with_capacity(alloc, list.len())?;
     let mut from = 1;
@@ -89,7 +92,8 @@ fn pairs_in(alloc: Global, list: &[Value]) -> Result<Option<Vec<Interval>>, Allo
 /// The set of which this is the JSON, where it is that of any.
 fn intervals_in(alloc: Global, value: &Value) -> Result<Option<Intervals>, AllocError>
     ensures canonical { IfOk result (λ o. IfSome o (λ i. IsCanonical i)) }
-    ensures complete { IfOk result (λ o. (ps : List Interval) → IsCanonical ps → view value.now ≡ array (intervals_items ps) → IsSomeAnd o (λ i. i ≡ ps)) }
+    ensures complete { IfOk result (λ o. (ps : List Interval) → IsCanonical ps
+        → view value.now ≡ array (intervals_items ps) → IsSomeAnd o (λ i. i ≡ ps)) }
 {
     let Some(list) = value.as_array() else {
         return Ok(None);
@@ -103,7 +107,8 @@ fn intervals_in(alloc: Global, value: &Value) -> Result<Option<Intervals>, Alloc
 /// The summary of which these members are the JSON of the sources, where they are that of any.
 fn summary_of(alloc: Global, sources: &Map<String, Value>) -> Result<Option<Summary>, AllocError>
     ensures summary { IfOk result (λ o. IfSome o (λ s. IsSummary s)) }
-    ensures complete { IfOk result (λ o. (s : Sources) → IsSummary s → members_view sources.now.entries ≡ sources_members s → IsSomeAnd o (λ r. r ≡ s)) }
+    ensures complete { IfOk result (λ o. (s : Sources) → IsSummary s
+        → members_view sources.now.entries ≡ sources_members s → IsSomeAnd o (λ r. r ≡ s)) }
 {
     let mut summary = Summary::empty(alloc);
     for (name, list) in sources {
@@ -122,7 +127,8 @@ fn summary_of(alloc: Global, sources: &Map<String, Value>) -> Result<Option<Summ
 /// The summary of which this is the JSON, where it is that of any.
 fn summary_in(alloc: Global, value: &Value) -> Result<Option<Summary>, AllocError>
     ensures summary { IfOk result (λ o. IfSome o (λ s. IsSummary s)) }
-    ensures complete { IfOk result (λ o. (s : Sources) → IsSummary s → view value.now ≡ summary_data s → IsSomeAnd o (λ r. r ≡ s)) }
+    ensures complete { IfOk result (λ o. (s : Sources) → IsSummary s
+        → view value.now ≡ summary_data s → IsSomeAnd o (λ r. r ≡ s)) }
 {
     let Some(sources) = value.get("sources").and_then(Value::as_object) else {
         return Ok(None);
@@ -130,6 +136,7 @@ fn summary_in(alloc: Global, value: &Value) -> Result<Option<Summary>, AllocErro
     summary_of(alloc, sources)
 }
 
+/// Whether the bytes are the text's.
 fn is_text(text: &Text, bytes: &[u8]) -> bool
     ensures { IsTrue result ↔ (text.now ≡ bytes.now) }
 {
@@ -137,16 +144,18 @@ fn is_text(text: &Text, bytes: &[u8]) -> bool
 }
 
 impl Summary {
-    /// The summary of which these are the text, byte for byte as `to_text` writes it. Tested in this
-    /// order: `NotJson`; `Shape`, where there is no version; `Version`; `Shape`, where the members are
-    /// others; `NotCanonical`, where a space, another order or spelling, an interval that doesn't
-    /// ascend or touches the one before, an empty list or a source that isn't allowed makes the bytes
-    /// no summary's text. Memory linear in the bytes, time the same times a logarithm.
+    /// The summary of which these are the text, byte for byte as `to_text` writes it. Tested in
+    /// this order: `NotJson`; `Shape`, where there is no version; `Version`; `Shape`, where the
+    /// members are others; `NotCanonical`, where a space, another order or spelling, an interval
+    /// that doesn't ascend or touches the one before, an empty list or a source that isn't allowed
+    /// makes the bytes no summary's text. Memory linear in the bytes, time the same times a
+    /// logarithm.
     pub fn of_text(alloc: Global, bytes: &[u8]) -> Result<Summary, SummaryFault>
         ensures text { IfOk result (λ s. bytes.now ≡ summary_text s) }
         ensures summary { IfOk result (λ s. IsSummary s) }
         ensures refused { IfErr result (Refuses bytes.now) }
-        ensures accepted { (s : Sources) → IsSummary s → bytes.now ≡ summary_text s → MatchResult result (λ r. r ≡ s) (λ e. e ≡ SummaryFault.OutOfMemory) }
+        ensures accepted { (s : Sources) → IsSummary s → bytes.now ≡ summary_text s
+            → MatchResult result (λ r. r ≡ s) (λ e. e ≡ SummaryFault.OutOfMemory) }
     {
         let value = shaped(alloc, bytes)?;
         let Some(summary) = summary_in(alloc, &value)? else {
@@ -174,7 +183,8 @@ impl Summary {
 
     /// Whether these may be the last entry: an allowed source after all others, with some number.
     fn may_end_with(&self, source: &Text, numbers: &Intervals) -> bool
-        ensures { IsTrue result ↔ ((is_filled source.now ≡ true) × (numbers.now ≢ []) × EndsBefore self.now source.now) }
+        ensures { IsTrue result ↔ ((is_filled source.now ≡ true) × (numbers.now ≢ [])
+            × EndsBefore self.now source.now) }
     {
         if !source.is_source() || numbers.is_empty() {
             return false;

@@ -22,6 +22,7 @@ pub(crate) fn pair_of(value: &Value) -> Option<Interval>
     }
 }
 
+/// Whether the value is an array of pairs of numbers.
 fn is_list(value: &Value) -> bool
     ensures { result ≡ is_list_of_pairs (view value.now) }
 {
@@ -36,6 +37,7 @@ fn is_list(value: &Value) -> bool
     true
 }
 
+/// Whether the value is an object of such arrays.
 fn are_sources(value: &Value) -> bool
     ensures { result ≡ is_object_of_lists (view value.now) }
 {
@@ -57,7 +59,8 @@ pub(crate) fn version(value: &Value) -> Option<u64>
     value.get("version").and_then(Value::as_u64)
 }
 
-/// Whether the members are just `version` and `sources`, and `sources` has lists of pairs of numbers.
+/// Whether the members are just `version` and `sources`, and `sources` has lists of pairs of
+/// numbers.
 pub(crate) fn has_shape(value: &Value) -> bool
     ensures { result ≡ is_shaped (view value.now) }
 {

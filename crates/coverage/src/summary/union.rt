@@ -12,7 +12,8 @@ impl Summary {
     /// the intervals of both, but for a logarithm in the time.
     pub fn union(&self, other: &Summary) -> Result<Summary, AllocError>
         ensures summary { IfOk result (λ r. IsSummary r) }
-        ensures members { IfOk result (λ r. (s : List ℕ) (m : ℕ) → holds_at r s m ≡ (holds_at self.now s m || holds_at other.now s m)) }
+        ensures members { IfOk result (λ r. (s : List ℕ) (m : ℕ)
+            → holds_at r s m ≡ (holds_at self.now s m || holds_at other.now s m)) }
     {
         let mut both = self.copy()?;
         for (source, numbers) in &other.entries {
@@ -25,7 +26,9 @@ impl Summary {
     fn add_all(&mut self, source: &str, numbers: &Intervals) -> Result<(), AllocError>
         requires { IsEntry (source.now, numbers.now) }
         ensures summary { IsSummary self.new }
-        ensures members { OnOk result ((s : List ℕ) (m : ℕ) → holds_at self.new s m ≡ (holds_at self.old s m || (bytes_eq s source.now && holds numbers.now m))) }
+        ensures members { OnOk result ((s : List ℕ) (m : ℕ)
+            → holds_at self.new s m
+            ≡ (holds_at self.old s m || (bytes_eq s source.now && holds numbers.now m))) }
     {
         if let Some(own) = self.entries.get_mut(source) {
             *own = own.union(numbers)?;

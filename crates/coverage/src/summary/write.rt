@@ -14,7 +14,8 @@ use std::alloc::AllocError;
 /// Writes a source, and then its intervals.
 fn write_entry(out: &mut Writer, source: &str, numbers: &Intervals) -> Result<(), AllocError>
     ensures before { OnOk result (out.new.before ≡ out.old.before) }
-    ensures tokens { OnOk result (out.new.tokens ≡ out.old.tokens ++ entry_tokens (source.now, numbers.now)) }
+    ensures tokens { OnOk result
+        (out.new.tokens ≡ out.old.tokens ++ entry_tokens (source.now, numbers.now)) }
 {
     out.key(source)?;
     out.begin_array()?;
