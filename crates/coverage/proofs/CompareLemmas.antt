@@ -1,5 +1,5 @@
 -- Summaries compared: what one covers of another, and that two which hold the same are the same.
-use Rattle.std.proofs.Common.{◌≡◌, ℕ, Bool, not, Bor, Option, Some, None, zero, suc, ◌+◌, ◌<◌, true, false, true≢false, List, [], ◌∷◌, length, ◌++◌, refl, sym, ap, ap₂, subst, ◌∙◌, arith, inl, inr}
+use Rattle.std.proofs.Common.{◌≡◌, ℕ, Bool, not, Bor, Option, Some, None, zero, suc, ◌<◌, true, false, true≢false, List, [], ◌∷◌, length, ◌++◌, refl, sym, ap, ap₂, subst, ◌∙◌, arith, inl, inr}
 use Rattle.std.proofs.lemmas.Bool.{both_ways, cases_Bool, or_cases, and_parts}
 use Rattle.std.specs.Map.Iter.{TakesFirst, deref_pair}
 use Rattle.std.specs.Option.{is_some}

@@ -1,11 +1,11 @@
 -- Entries in byte order of their sources: look-ups, and what one more entry changes.
-use Rattle.std.proofs.Common.{◌≡◌, ℕ, zero, suc, ◌+◌, ◌<◌, ◌≤◌, ◌==◌, Bool, true, false, cond, ◌||◌, ◌&&◌, ◌⊎◌, List, [], ◌∷◌, length, length-append, get_or, ◌++◌, append_assoc, append-nil, Option, Some, None, Result, Ok, Err, Bor, MutBor, rules, refl, sym, ap, ap₂, subst, ◌∙◌, arith, inl, inr, le_of_suc-le-suc, not-suc-le-zero, eq-eqb}
-use Rattle.std.proofs.lemmas.Bool.{cases_Bool, cases_lt, both_ways}
+use Rattle.std.proofs.Common.{◌≡◌, ℕ, zero, suc, ◌+◌, ◌<◌, ◌==◌, Bool, true, false, cond, ◌||◌, ◌&&◌, ◌⊎◌, List, [], ◌∷◌, length, length-append, get_or, ◌++◌, append_assoc, append-nil, Option, Some, None, Result, Ok, Err, Bor, MutBor, rules, refl, sym, ap, ap₂, subst, ◌∙◌, arith, inl, inr, le_of_suc-le-suc, not-suc-le-zero, eq-eqb}
+use Rattle.std.proofs.lemmas.Bool.{cases_Bool, both_ways}
 use Rattle.std.proofs.lemmas.Slice.Eq.{bytes_eq-Decides}
 use Rattle.std.proofs.lemmas.Cmp.{nat_list_cmp_total}
 use Rattle.std.proofs.lemmas.Map.Lookups.{exact_bytes}
 use Rattle.std.proofs.lemmas.Map.Text.{is_eq-slice_cmp, text_cmp}
-use Rattle.std.specs.Str.{bytes_eq, IsUtf8}
+use Rattle.std.specs.Str.{bytes_eq}
 use Rattle.std.specs.Cmp.{Equal-is}
 use Rattle.std.specs.Ordering.{match_ordering, ordering_reverse}
 use Rattle.std.specs.declared.cmp.Ordering.{Ordering}
@@ -21,7 +21,6 @@ use Rattle.std.specs.String.{string_bytes, string_cmp}
 use Rattle.std.specs.declared.string.String.{String}
 use Rattle.std.specs.List.Sorted.{IsStrictlySortedBy}
 use Rattle.std.specs.Map.{keys_of, lookup, set_value}
-use Rattle.attributes.specs.Characters.{is_filled}
 use Rattle.std.proofs.lemmas.Map.Keys.{sorted_head, sorted_tail}
 use Rattle.coverage.specs.Intervals.{Interval, holds, IsCanonical}
 use Rattle.coverage.specs.Summary.{byte_cmp, Entry, Sources, IsEntry, AreEntries, InOrder, IsSummary, numbers_of, holds_at, sources_of}

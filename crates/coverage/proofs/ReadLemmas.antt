@@ -1,5 +1,5 @@
 -- A summary out of a JSON value: what has been read, and what is left.
-use Rattle.std.proofs.Common.{◌≡◌, ℕ, zero, suc, ◌+◌, ◌<◌, ◌≤◌, Bool, true, false, ◌&&◌, List, [], ◌∷◌, ◌++◌, Option, Some, None, length, drop, drop-cons, add-one, get_or, inl, inr, ◌-◌, length-append, not-suc-le-zero, le_of_suc-le-suc, refl, sym, ap, ap₂, subst, ◌∙◌, arith, append_assoc, append-nil}
+use Rattle.std.proofs.Common.{◌≡◌, ℕ, zero, suc, ◌+◌, ◌<◌, ◌≤◌, Bool, true, false, ◌&&◌, List, [], ◌∷◌, ◌++◌, Option, Some, None, length, drop, drop-cons, add-one, get_or, inl, inr, ◌-◌, refl, sym, ap, ap₂, subst, ◌∙◌, arith, append_assoc, append-nil}
 use Rattle.std.proofs.lemmas.Bool.{and_parts, and_from, both_ways, cases_lt}
 use Rattle.std.specs.declared.cmp.Ordering.TheVariants.{Less}
 use Rattle.coverage.specs.steps.Places.{entry_at, EndsBefore}
@@ -13,7 +13,7 @@ use Rattle.std.specs.Prelude.{◌≢◌}
 use Rattle.attributes.specs.Characters.{is_filled}
 use Rattle.serde_json.specs.Data.{Data, array, Items, no_items, item, Members, no_members, member}
 use Rattle.coverage.specs.Intervals.{Interval, max_sequence, fits_from, rises_from, IsCanonical}
-use Rattle.coverage.specs.Summary.{byte_cmp, Entry, Sources, IsEntry, AreEntries, InOrder, IsSummary}
+use Rattle.coverage.specs.Summary.{byte_cmp, Entry, Sources, IsEntry, IsSummary}
 use Rattle.coverage.specs.SummaryText.{interval_data, intervals_items, sources_members}
 use Rattle.coverage.specs.SummaryShape.{interval_in}
 use Rattle.coverage.proofs.HoldsLemmas.{next_free, next_free-push, next_free-nil, rises_from-nil, rises_from-cons, rises_from-push, fits_from-true}

@@ -1,10 +1,10 @@
 -- The size of a set, counted number by number.
 use Rattle.std.proofs.Common.{◌≡◌, ℕ, zero, suc, ◌+◌, ◌-◌, ◌<◌, ◌≤◌, Bool, true, false, cond, ◌||◌, ◌⊎◌, List, [], ◌∷◌, refl, sym, ap, ap₂, ◌∙◌, arith, inl, inr}
-use Rattle.std.proofs.lemmas.Bool.{both_ways, cases_Bool, cases_eq, cases_lt, and_from}
+use Rattle.std.proofs.lemmas.Bool.{both_ways, cases_lt, and_from}
 use Rattle.std.proofs.lemmas.List.Sums.{sum_by-cons}
 use Rattle.std.specs.List.{count_by, range_with_len}
-use Rattle.coverage.specs.Intervals.{Interval, max_sequence, in_interval, holds, fits_from, rises_from, IsCanonical, width, size_of}
-use Rattle.coverage.proofs.HoldsLemmas.{first_is_held, fits_from-true, le-fits_from, holds-below, holds-cons, holds-nil, in_interval-parts, in_interval-true, in_interval_tells, rises_from-cons, rises_from-nil, rises_from-parts}
+use Rattle.coverage.specs.Intervals.{Interval, in_interval, holds, rises_from, IsCanonical, width, size_of}
+use Rattle.coverage.proofs.HoldsLemmas.{first_is_held, fits_from-true, le-fits_from, holds-below, holds-cons, holds-nil, in_interval_tells, rises_from-cons, rises_from-nil, rises_from-parts}
 
 count-cons : (p : ℕ → Bool) (a n : ℕ) → count_by p (range_with_len a (suc n)) ≡ cond (p a) 1 0 + count_by p (range_with_len (a + 1) n)
 count-cons p a n = sum_by-cons (λ x. cond (p x) 1 0) a (range_with_len (a + 1) n)

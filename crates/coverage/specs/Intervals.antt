@@ -57,7 +57,7 @@ IsMissing ps n = (1 ≤ n) × (holds ps n ≡ false) × ((m : ℕ) × ((n < m) �
 abbrev pub IsNextSpan : List Interval → ℕ → Interval → Type 0
 IsNextSpan ps from p =
     (from ≤ p.0) × ((k : ℕ) × ((k < length ps) × (interval_at ps k ≡ p)
-        × ((i : ℕ) → i < k → (interval_at ps i).0 < from)))
+    × ((i : ℕ) → i < k → (interval_at ps i).0 < from)))
 
 -- every interval starts before the number
 abbrev pub AllStartBefore : List Interval → ℕ → Type 0

@@ -21,7 +21,7 @@ IsNoJson bytes = (d : Data) → Parses bytes d → ⊥
 abbrev pub IsMisshapen : List ℕ → Type 0
 IsMisshapen bytes =
     (d : Data) × (Parses bytes d
-        × ((version_of d ≡ None) ⊎ ((version_of d ≡ Some 1) × (is_shaped d ≡ false))))
+    × ((version_of d ≡ None) ⊎ ((version_of d ≡ Some 1) × (is_shaped d ≡ false))))
 
 -- a value that has another version
 abbrev pub IsOtherVersion : List ℕ → Type 0
@@ -32,7 +32,7 @@ IsOtherVersion bytes =
 abbrev pub IsNotCanonical : List ℕ → Type 0
 IsNotCanonical bytes =
     (d : Data) × (Parses bytes d × (version_of d ≡ Some 1) × (is_shaped d ≡ true)
-        × ((s : Sources) → IsSummary s → bytes ≢ summary_text s))
+    × ((s : Sources) → IsSummary s → bytes ≢ summary_text s))
 
 -- what is true of bytes that are refused with the fault
 abbrev pub Refuses : List ℕ → SummaryFault → Type 0

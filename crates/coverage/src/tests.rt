@@ -330,7 +330,7 @@ fn name_at(alloc: Global, place: u64) -> Result<Text, Fail> {
 fn stepped(alloc: Global, step: u64) -> Result<Summary, Fail> {
     let mut seen = Summary::empty(alloc);
     for k in 1..=500u64 {
-        let place = k * step % 500;
+        let place = k.wrapping_mul(step) % 500;
         let source = name_at(alloc, place)?;
         if source.is_source() {
             seen.insert(&source, sequence(alloc, place + 1)?)?;
@@ -339,24 +339,24 @@ fn stepped(alloc: Global, step: u64) -> Result<Summary, Fail> {
     Ok(seen)
 }
 
-/// How many of its sources stand at their place, with just the number of it.
-fn in_place(alloc: Global, seen: &Summary) -> Result<usize, Fail> {
-    let mut found = 0;
+/// Whether each source stands at its place, with just the number of it.
+fn is_in_place(alloc: Global, seen: &Summary) -> Result<bool, Fail> {
     for (place, entry) in seen.entries()?.iter().enumerate() {
         let name = name_at(alloc, place as u64)?;
         let number = place as u64 + 1;
-        if entry.0 == name.as_str() && entry.1.next_span(1) == Some((number, number)) {
-            found += 1;
+        if entry.0 != name.as_str() || entry.1.next_span(1) != Some((number, number)) {
+            return Ok(false);
         }
     }
-    Ok(found)
+    Ok(true)
 }
 
 #[test]
 fn sources_in_any_order(rt: HostRuntime) -> Result<(), Fail> {
     let alloc = rt.alloc();
     let ascending = stepped(alloc, 1)?;
-    assert_eq!(rt; in_place(alloc, &ascending)?, 500);
+    assert!(rt; is_in_place(alloc, &ascending)?);
+    assert_eq!(rt; ascending.len(), 500);
     assert_eq!(rt; ascending.source_at(499), "/source/0499");
     for step in [499, 137] {
         let seen = stepped(alloc, step)?;

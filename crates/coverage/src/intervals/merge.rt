@@ -52,11 +52,7 @@ fn first_is_next(xs: &[Interval], i: usize, ys: &[Interval], j: usize) -> bool
 }
 
 /// The numbers of two lists.
-fn merged(
-    alloc: Global,
-    xs: &[Interval],
-    ys: &[Interval],
-) -> Result<Vec<Interval>, AllocError>
+fn merged(alloc: Global, xs: &[Interval], ys: &[Interval]) -> Result<Vec<Interval>, AllocError>
     requires first { IsCanonical xs.now }
     requires second { IsCanonical ys.now }
     ensures canonical { IfOk result (λ v. IsCanonical v.items) }

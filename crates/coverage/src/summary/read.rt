@@ -14,7 +14,6 @@ use super::Summary;
 use super::shape::{has_shape, pair_of, version};
 use crate::fault::SummaryFault;
 use crate::intervals::{Interval, Intervals};
-
 use attributes::{Sequence, Text};
 use serde_json::{Map, Value};
 use std::alloc::{AllocError, Global};

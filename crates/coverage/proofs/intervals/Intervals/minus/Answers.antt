@@ -18,8 +18,8 @@ returns-clause-members c =
     let left = c.in_ok-left.left.items in
     IfOk-weaker c.of_pairs.result _ _
     (λ r same n. ap (λ l. holds l n) (same ∙ c.deref-5.ensures.value)
-        ∙ without_members own c.args.other.now top n (holds outside n) (holds taken n) (holds left n) c.pairs.ensures.canonical c.in-Some.ensures.value
-        (c.in_ok-outside.ensures.members n ∙ ap (λ l. nat_le 1 n && (nat_le n top && not (holds l n))) (c.deref.ensures.value ∙ c.in_ok-own.ensures.pairs))
-        (c.in_ok-taken.ensures.members n ∙ ap₂ (λ a b. holds a n || holds b n) c.deref-2.ensures.value (c.deref-3.ensures.value ∙ c.in_ok-others.ensures.pairs))
-        (c.in_ok-left.ensures.members n ∙ ap (λ l. nat_le 1 n && (nat_le n top && not (holds l n))) c.deref-4.ensures.value))
+    ∙ without_members own c.args.other.now top n (holds outside n) (holds taken n) (holds left n) c.pairs.ensures.canonical c.in-Some.ensures.value
+    (c.in_ok-outside.ensures.members n ∙ ap (λ l. nat_le 1 n && (nat_le n top && not (holds l n))) (c.deref.ensures.value ∙ c.in_ok-own.ensures.pairs))
+    (c.in_ok-taken.ensures.members n ∙ ap₂ (λ a b. holds a n || holds b n) c.deref-2.ensures.value (c.deref-3.ensures.value ∙ c.in_ok-others.ensures.pairs))
+    (c.in_ok-left.ensures.members n ∙ ap (λ l. nat_le 1 n && (nat_le n top && not (holds l n))) c.deref-4.ensures.value))
     c.of_pairs.ensures

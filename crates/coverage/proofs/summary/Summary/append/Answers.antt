@@ -1,4 +1,4 @@
-use Rattle.std.proofs.Common.{sym, subst, ◌∙◌}
+use Rattle.std.proofs.Common.{subst, ◌∙◌}
 use Rattle.coverage.specs.Summary.{IsSummary}
 use Rattle.coverage.proofs.EntriesLemmas.{IsSummary-put, insert_entry-last, put_new}
 use Rattle.coverage.proofs.summary.Summary.append.Goals as goal

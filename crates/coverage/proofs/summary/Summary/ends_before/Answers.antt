@@ -1,4 +1,4 @@
-use Rattle.std.proofs.Common.{true≢false, refl, sym, subst, ap, ◌∙◌, string_bytes}
+use Rattle.std.proofs.Common.{true≢false, refl, sym, subst, ap, ◌∙◌}
 use Rattle.coverage.specs.Summary.{byte_cmp, IsSummary}
 use Rattle.coverage.proofs.ReadLemmas.{ends_before_last, last_before, ends_before_none}
 use Rattle.coverage.proofs.summary.Summary.ends_before.Goals as goal

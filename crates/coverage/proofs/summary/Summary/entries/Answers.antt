@@ -1,4 +1,4 @@
-use Rattle.std.proofs.Common.{ap, ap₂, refl, subst, sym, map, [], ◌++◌, ◌∙◌, string_bytes}
+use Rattle.std.proofs.Common.{ap, map, ◌++◌, ◌∙◌}
 use Rattle.std.specs.Map.Iter.{deref_pair}
 use Rattle.coverage.specs.steps.Entries.{sources_in}
 use Rattle.coverage.proofs.EntriesLemmas.{split_all, listed_more}

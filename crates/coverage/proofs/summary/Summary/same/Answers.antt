@@ -1,4 +1,4 @@
-use Rattle.std.proofs.Common.{◌≡◌, true, false, true≢false, not, refl, ap, subst, sym, ◌∙◌, string_bytes}
+use Rattle.std.proofs.Common.{◌≡◌, false, true≢false, refl, ap, subst, sym, ◌∙◌, string_bytes}
 use Rattle.std.specs.Prelude.{IsTrue, ◌↔◌}
 use Rattle.coverage.specs.Summary.{Entry, IsSummary}
 use Rattle.coverage.specs.steps.Entries.{sources_in}

@@ -1,8 +1,6 @@
-use Rattle.std.proofs.Common.{ap, sym, ◌∙◌, string_bytes}
-use Rattle.std.specs.List.{slice_get}
+use Rattle.std.proofs.Common.{ap, sym, ◌∙◌}
 use Rattle.std.specs.Option.{option_map}
 use Rattle.std.proofs.lemmas.Iterator.Consumers.{nth_from_yields_List, YieldsList-from_rest}
-use Rattle.coverage.specs.Summary.{sources_of}
 use Rattle.coverage.proofs.EntriesLemmas.{source_at_key}
 use Rattle.coverage.proofs.summary.Summary.source_at.Goals as goal
 
