@@ -2,7 +2,7 @@
 use Rattle.std.proofs.Common.{◌≡◌, ℕ, ◌+◌, ◌<◌, ◌≤◌, true, false, ◌||◌, ◌⊎◌, Some, List, [], ◌∷◌, sym, ap, ◌∙◌, arith, inl, inr}
 use Rattle.std.proofs.lemmas.Bool.{both_ways, cases_Bool, cases_eq, cases_lt, or_cases}
 use Rattle.coverage.specs.Intervals.{Interval, in_interval, holds, rises_from, IsCanonical, HoldsAll}
-use Rattle.coverage.specs.Starts.{found, NoneUpTo, IsLastUpTo}
+use Rattle.coverage.specs.steps.Starts.{found, NoneUpTo, IsLastUpTo}
 use Rattle.coverage.proofs.HoldsLemmas.{in_interval-true, in_interval-parts, holds-nil, holds-cons, rises_from-parts, fits_from-true}
 use Rattle.coverage.proofs.StartsLemmas.{rises_from-any, found-apart, found-holds, holds-found}
 use Rattle.coverage.proofs.JoinsLemmas.{absent_with_none, absent_after}

@@ -1,28 +1,31 @@
 -- Entries in byte order of their sources: look-ups, and what one more entry changes.
-use Rattle.std.proofs.Common.{◌≡◌, ℕ, zero, suc, ◌+◌, ◌<◌, ◌≤◌, ◌==◌, true, false, cond, ◌||◌, ◌&&◌, ◌⊎◌, List, [], ◌∷◌, length, set, get_or, Result, Ok, Err, refl, sym, ap, subst, ◌∙◌, arith, inl, inr, le_of_suc-le-suc, not-suc-le-zero, eq-eqb}
-use Rattle.std.proofs.lemmas.Bool.{cases_Bool, cases_lt, both_ways}
+use Rattle.std.proofs.Common.{◌≡◌, ℕ, zero, suc, ◌+◌, ◌<◌, ◌==◌, Bool, true, false, cond, ◌||◌, ◌&&◌, ◌⊎◌, List, [], ◌∷◌, length, length-append, get_or, ◌++◌, append_assoc, append-nil, Option, Some, None, Result, Ok, Err, Bor, MutBor, rules, refl, sym, ap, ap₂, subst, ◌∙◌, arith, inl, inr, le_of_suc-le-suc, not-suc-le-zero, eq-eqb}
+use Rattle.std.proofs.lemmas.Bool.{cases_Bool, both_ways}
 use Rattle.std.proofs.lemmas.Slice.Eq.{bytes_eq-Decides}
 use Rattle.std.proofs.lemmas.Cmp.{nat_list_cmp_total}
 use Rattle.std.proofs.lemmas.Map.Lookups.{exact_bytes}
-use Rattle.std.proofs.lemmas.Map.Text.{is_eq-slice_cmp}
+use Rattle.std.proofs.lemmas.Map.Text.{is_eq-slice_cmp, text_cmp}
 use Rattle.std.specs.Str.{bytes_eq}
 use Rattle.std.specs.Cmp.{Equal-is}
-use Rattle.std.specs.Cmp.Lexicographic.{slice_cmp}
-use Rattle.std.specs.Ordering.{nat_cmp, match_ordering, ordering_reverse}
+use Rattle.std.specs.Ordering.{match_ordering, ordering_reverse}
 use Rattle.std.specs.declared.cmp.Ordering.{Ordering}
 use Rattle.std.specs.declared.cmp.Ordering.TheVariants.{Less, Equal, Greater}
-use Rattle.std.specs.BTreeMap.{insert_entry}
-use Rattle.std.specs.List.{AllByRecursion, insert}
-use Rattle.std.specs.List.Sorted.{IsStrictlySortedBy}
-use Rattle.std.specs.Map.{keys_of}
+use Rattle.std.specs.BTreeMap.{BTreeMap, insert_entry, is_at}
+use Rattle.std.specs.List.{AllByRecursion, slice_get}
+use Rattle.std.specs.Option.{unwrap_or, option_copied, option_copied_mut, MatchOption, IfSome}
 use Rattle.std.specs.Result.{OnOk, OnErr}
-use Rattle.std.proofs.lemmas.List.{get_or_default}
-use Rattle.std.specs.Str.{IsUtf8}
-use Rattle.attributes.specs.Characters.{is_filled}
+use Rattle.std.specs.Prelude.{◌≢◌, map}
+use Rattle.std.specs.Map.Iter.{deref_pair}
+use Rattle.std.proofs.lemmas.Map.Steps.{set_value_same}
+use Rattle.std.specs.String.{string_bytes, string_cmp}
+use Rattle.std.specs.declared.string.String.{String}
+use Rattle.std.specs.List.Sorted.{IsStrictlySortedBy}
+use Rattle.std.specs.Map.{keys_of, lookup, set_value}
 use Rattle.std.proofs.lemmas.Map.Keys.{sorted_head, sorted_tail}
 use Rattle.coverage.specs.Intervals.{Interval, holds, IsCanonical}
-use Rattle.coverage.specs.Summary.{Entry, Sources, IsEntry, AreEntries, InOrder, IsSummary, numbers_of, holds_at}
-use Rattle.coverage.specs.Places.{entry_at, IsPlaceOf, IsGapFor}
+use Rattle.coverage.specs.Summary.{byte_cmp, Entry, Sources, IsEntry, AreEntries, InOrder, IsSummary, numbers_of, holds_at, sources_of}
+use Rattle.coverage.specs.steps.Places.{entry_at, EndsBefore}
+use Rattle.coverage.specs.steps.Entries.{entry_in, sources_in}
 use Rattle.coverage.proofs.HoldsLemmas.{holds-nil, or-false}
 
 -- ---- texts
@@ -38,13 +41,13 @@ bytes_eq-other s k h = elim (cases_Bool (bytes_eq s k)) [ inl t ↦ absurd (h (b
 pub bytes_eq-apart : (s k : List ℕ) → bytes_eq s k ≡ false → s ≡ k → ⊥
 bytes_eq-apart s k f e = both_ways _ f ((bytes_eq-Decides s k).1 e)
 
-pub cmp-same : (s k : List ℕ) → s ≡ k → slice_cmp nat_cmp s k ≡ Equal
+pub cmp-same : (s k : List ℕ) → s ≡ k → byte_cmp s k ≡ Equal
 cmp-same s k e = (Equal-is _).0 (is_eq-slice_cmp s k ∙ (bytes_eq-Decides s k).1 e)
 
-pub cmp-flip : (x y : List ℕ) → slice_cmp nat_cmp x y ≡ ordering_reverse (slice_cmp nat_cmp y x)
+pub cmp-flip : (x y : List ℕ) → byte_cmp x y ≡ ordering_reverse (byte_cmp y x)
 cmp-flip x y = nat_list_cmp_total.antisymm x y
 
-pub cmp-chain : (x y z : List ℕ) → slice_cmp nat_cmp x y ≡ Less → slice_cmp nat_cmp y z ≡ Less → slice_cmp nat_cmp x z ≡ Less
+pub cmp-chain : (x y z : List ℕ) → byte_cmp x y ≡ Less → byte_cmp y z ≡ Less → byte_cmp x z ≡ Less
 cmp-chain x y z = nat_list_cmp_total.trans x y z
 
 less_not_equal : (o : Ordering) → o ≡ Less → o ≡ Equal → ⊥
@@ -53,16 +56,16 @@ less_not_equal o p q = cc
 greater_not_equal : (o : Ordering) → o ≡ Greater → o ≡ Equal → ⊥
 greater_not_equal o p q = cc
 
-pub apart_from_less : (x y : List ℕ) → slice_cmp nat_cmp x y ≡ Less → x ≡ y → ⊥
+pub apart_from_less : (x y : List ℕ) → byte_cmp x y ≡ Less → x ≡ y → ⊥
 apart_from_less x y h e = less_not_equal _ h (cmp-same x y e)
 
-pub apart_from_greater : (x y : List ℕ) → slice_cmp nat_cmp x y ≡ Greater → x ≡ y → ⊥
+pub apart_from_greater : (x y : List ℕ) → byte_cmp x y ≡ Greater → x ≡ y → ⊥
 apart_from_greater x y h e = greater_not_equal _ h (cmp-same x y e)
 
-pub greater_from_less : (x y : List ℕ) → slice_cmp nat_cmp x y ≡ Less → slice_cmp nat_cmp y x ≡ Greater
+pub greater_from_less : (x y : List ℕ) → byte_cmp x y ≡ Less → byte_cmp y x ≡ Greater
 greater_from_less x y h = cmp-flip y x ∙ ap ordering_reverse h
 
-pub less_from_greater : (x y : List ℕ) → slice_cmp nat_cmp x y ≡ Greater → slice_cmp nat_cmp y x ≡ Less
+pub less_from_greater : (x y : List ℕ) → byte_cmp x y ≡ Greater → byte_cmp y x ≡ Less
 less_from_greater x y h = cmp-flip y x ∙ ap ordering_reverse h
 
 pub cases_order : (o : Ordering) → (o ≡ Less) ⊎ ((o ≡ Equal) ⊎ (o ≡ Greater))
@@ -84,62 +87,30 @@ numbers_of-nowhere (e ∷ es) s h =
 
 -- ---- by places
 -- what is below each source of a list is below the one at a place
-below_at : (q : List ℕ) (es : Sources) (i : ℕ) → AllByRecursion (λ y. slice_cmp nat_cmp q y ≡ Less) (keys_of es) → i < length es → slice_cmp nat_cmp q (entry_at es i).0 ≡ Less
+below_at : (q : List ℕ) (es : Sources) (i : ℕ) → AllByRecursion (λ y. byte_cmp q y ≡ Less) (keys_of es) → i < length es → byte_cmp q (entry_at es i).0 ≡ Less
 below_at q [] i h hi = absurd (not-suc-le-zero hi)
 below_at q (e ∷ es) zero h hi = h.0
 below_at q (e ∷ es) (suc i) h hi = below_at q es i h.1 (le_of_suc-le-suc hi)
 
-pub InOrder-at : (es : Sources) (i j : ℕ) → InOrder es → i < j → j < length es → slice_cmp nat_cmp (entry_at es i).0 (entry_at es j).0 ≡ Less
+pub InOrder-at : (es : Sources) (i j : ℕ) → InOrder es → i < j → j < length es → byte_cmp (entry_at es i).0 (entry_at es j).0 ≡ Less
 InOrder-at [] i j h lt hj = absurd (not-suc-le-zero hj)
 InOrder-at (e ∷ es) i zero h lt hj = absurd (not-suc-le-zero lt)
 InOrder-at (e ∷ es) zero (suc j) h lt hj = below_at e.0 es j (sorted_head _ e.0 (keys_of es) h) (le_of_suc-le-suc hj)
 InOrder-at (e ∷ es) (suc i) (suc j) h lt hj = InOrder-at es i j (sorted_tail _ e.0 (keys_of es) h) (le_of_suc-le-suc lt) (le_of_suc-le-suc hj)
 
-pub numbers_of-place : (es : Sources) (s : List ℕ) (i : ℕ) → InOrder es → IsPlaceOf es s i → numbers_of es s ≡ (entry_at es i).1
-numbers_of-place [] s i h p = absurd (not-suc-le-zero p.0)
-numbers_of-place (e ∷ es) s zero h p = numbers_of-head e es s (sym p.1)
-numbers_of-place (e ∷ es) s (suc i) h p =
-    let below = InOrder-at (e ∷ es) zero (suc i) h (omega arith) p.0 in
-    numbers_of-tail e es s (λ same. apart_from_less _ _ below (sym same ∙ sym p.1))
-    ∙ numbers_of-place es s i (sorted_tail _ e.0 (keys_of es) h) (le_of_suc-le-suc p.0, p.1)
-
-pub numbers_of-gap : (es : Sources) (s : List ℕ) (i : ℕ) → IsGapFor es s i → numbers_of es s ≡ []
-numbers_of-gap es s i gap = numbers_of-nowhere es s (λ k hk. elim (cases_lt k i) [
-  | inl lt ↦ apart_from_greater _ _ (gap.1 k lt)
-  | inr ge ↦ apart_from_less _ _ (gap.2 k ge hk)
-])
-
 -- ---- one more entry
-entry_less : (e : Entry) (es : Sources) (k : List ℕ) (v : List Interval) → slice_cmp nat_cmp k e.0 ≡ Less → insert_entry (slice_cmp nat_cmp) (e ∷ es) k v ≡ (k, v) ∷ e ∷ es
-entry_less e es k v h = ap (λ o. match_ordering o ((k, v) ∷ e ∷ es) ((e.0, v) ∷ es) (e ∷ insert_entry (slice_cmp nat_cmp) es k v)) h
+entry_less : (e : Entry) (es : Sources) (k : List ℕ) (v : List Interval) → byte_cmp k e.0 ≡ Less → insert_entry byte_cmp (e ∷ es) k v ≡ (k, v) ∷ e ∷ es
+entry_less e es k v h = ap (λ o. match_ordering o ((k, v) ∷ e ∷ es) ((e.0, v) ∷ es) (e ∷ insert_entry byte_cmp es k v)) h
 
-entry_equal : (e : Entry) (es : Sources) (k : List ℕ) (v : List Interval) → slice_cmp nat_cmp k e.0 ≡ Equal → insert_entry (slice_cmp nat_cmp) (e ∷ es) k v ≡ (e.0, v) ∷ es
-entry_equal e es k v h = ap (λ o. match_ordering o ((k, v) ∷ e ∷ es) ((e.0, v) ∷ es) (e ∷ insert_entry (slice_cmp nat_cmp) es k v)) h
+entry_equal : (e : Entry) (es : Sources) (k : List ℕ) (v : List Interval) → byte_cmp k e.0 ≡ Equal → insert_entry byte_cmp (e ∷ es) k v ≡ (e.0, v) ∷ es
+entry_equal e es k v h = ap (λ o. match_ordering o ((k, v) ∷ e ∷ es) ((e.0, v) ∷ es) (e ∷ insert_entry byte_cmp es k v)) h
 
-entry_greater : (e : Entry) (es : Sources) (k : List ℕ) (v : List Interval) → slice_cmp nat_cmp k e.0 ≡ Greater → insert_entry (slice_cmp nat_cmp) (e ∷ es) k v ≡ e ∷ insert_entry (slice_cmp nat_cmp) es k v
-entry_greater e es k v h = ap (λ o. match_ordering o ((k, v) ∷ e ∷ es) ((e.0, v) ∷ es) (e ∷ insert_entry (slice_cmp nat_cmp) es k v)) h
+entry_greater : (e : Entry) (es : Sources) (k : List ℕ) (v : List Interval) → byte_cmp k e.0 ≡ Greater → insert_entry byte_cmp (e ∷ es) k v ≡ e ∷ insert_entry byte_cmp es k v
+entry_greater e es k v h = ap (λ o. match_ordering o ((k, v) ∷ e ∷ es) ((e.0, v) ∷ es) (e ∷ insert_entry byte_cmp es k v)) h
 
--- an entry that is written over
-pub set-entry : (es : Sources) (i : ℕ) (k : List ℕ) (v : List Interval) → InOrder es → IsPlaceOf es k i → set es i (k, v) ≡ insert_entry (slice_cmp nat_cmp) es k v
-set-entry [] i k v h p = absurd (not-suc-le-zero p.0)
-set-entry (e ∷ es) zero k v h p = sym (entry_equal e es k v (cmp-same k e.0 (sym p.1)) ∙ ap (λ (x : List ℕ). (x, v) ∷ es) p.1)
-set-entry (e ∷ es) (suc i) k v h p =
-    let below = InOrder-at (e ∷ es) zero (suc i) h (omega arith) p.0 in
-    let greater : slice_cmp nat_cmp k e.0 ≡ Greater = subst (λ x. slice_cmp nat_cmp x e.0 ≡ Greater) p.1 (greater_from_less e.0 (entry_at (e ∷ es) (suc i)).0 below) in
-    ap (λ l. e ∷ l) (set-entry es i k v (sorted_tail _ e.0 (keys_of es) h) (le_of_suc-le-suc p.0, p.1)) ∙ sym (entry_greater e es k v greater)
-
--- an entry that is put between
-pub insert-entry : (es : Sources) (i : ℕ) (k : List ℕ) (v : List Interval) → IsGapFor es k i → insert es i (k, v) ≡ insert_entry (slice_cmp nat_cmp) es k v
-insert-entry [] zero k v gap = refl
-insert-entry [] (suc i) k v gap = absurd (not-suc-le-zero gap.0)
-insert-entry (e ∷ es) zero k v gap = sym (entry_less e es k v (gap.2 zero (omega arith) (omega arith)))
-insert-entry (e ∷ es) (suc i) k v gap =
-    ap (λ l. e ∷ l) (insert-entry es i k v (le_of_suc-le-suc gap.0, λ j hj. gap.1 (suc j) (omega arith), λ j low hj. gap.2 (suc j) (omega arith) (omega arith)))
-    ∙ sym (entry_greater e es k v (gap.1 zero (omega arith)))
-
-pub numbers_of-insert_entry : (es : Sources) (k : List ℕ) (v : List Interval) (s : List ℕ) → numbers_of (insert_entry (slice_cmp nat_cmp) es k v) s ≡ cond (bytes_eq s k) v (numbers_of es s)
+pub numbers_of-insert_entry : (es : Sources) (k : List ℕ) (v : List Interval) (s : List ℕ) → numbers_of (insert_entry byte_cmp es k v) s ≡ cond (bytes_eq s k) v (numbers_of es s)
 numbers_of-insert_entry [] k v s = refl
-numbers_of-insert_entry (e ∷ es) k v s = elim (cases_order (slice_cmp nat_cmp k e.0)) [
+numbers_of-insert_entry (e ∷ es) k v s = elim (cases_order (byte_cmp k e.0)) [
   | inl less ↦ ap (λ l. numbers_of l s) (entry_less e es k v less)
   | inr (inl equal) ↦
       ap (λ l. numbers_of l s) (entry_equal e es k v equal)
@@ -159,30 +130,30 @@ numbers_of-insert_entry (e ∷ es) k v s = elim (cases_order (slice_cmp nat_cmp 
       ]
 ]
 
-pub AreEntries-insert_entry : (es : Sources) (k : List ℕ) (v : List Interval) → AreEntries es → IsEntry (k, v) → AreEntries (insert_entry (slice_cmp nat_cmp) es k v)
+pub AreEntries-insert_entry : (es : Sources) (k : List ℕ) (v : List Interval) → AreEntries es → IsEntry (k, v) → AreEntries (insert_entry byte_cmp es k v)
 AreEntries-insert_entry [] k v h new = (new, tt)
-AreEntries-insert_entry (e ∷ es) k v h new = elim (cases_order (slice_cmp nat_cmp k e.0)) [
+AreEntries-insert_entry (e ∷ es) k v h new = elim (cases_order (byte_cmp k e.0)) [
   | inl less ↦ subst AreEntries (sym (entry_less e es k v less)) (new, h)
   | inr (inl equal) ↦ subst AreEntries (sym (entry_equal e es k v equal)) ((h.0.0, h.0.1, new.2, new.3), h.1)
   | inr (inr greater) ↦ subst AreEntries (sym (entry_greater e es k v greater)) (h.0, AreEntries-insert_entry es k v h.1 new)
 ]
 
-above_chain : (q k : List ℕ) (ks : List (List ℕ)) → slice_cmp nat_cmp q k ≡ Less → AllByRecursion (λ y. slice_cmp nat_cmp k y ≡ Less) ks → AllByRecursion (λ y. slice_cmp nat_cmp q y ≡ Less) ks
+above_chain : (q k : List ℕ) (ks : List (List ℕ)) → byte_cmp q k ≡ Less → AllByRecursion (λ y. byte_cmp k y ≡ Less) ks → AllByRecursion (λ y. byte_cmp q y ≡ Less) ks
 above_chain q k [] h a = tt
 above_chain q k (x ∷ xs) h a = (cmp-chain q k x h a.0, above_chain q k xs h a.1)
 
-above_entry : (q : List ℕ) (es : Sources) (k : List ℕ) (v : List Interval) → AllByRecursion (λ y. slice_cmp nat_cmp q y ≡ Less) (keys_of es) → slice_cmp nat_cmp q k ≡ Less →
-    AllByRecursion (λ y. slice_cmp nat_cmp q y ≡ Less) (keys_of (insert_entry (slice_cmp nat_cmp) es k v))
+above_entry : (q : List ℕ) (es : Sources) (k : List ℕ) (v : List Interval) → AllByRecursion (λ y. byte_cmp q y ≡ Less) (keys_of es) → byte_cmp q k ≡ Less →
+    AllByRecursion (λ y. byte_cmp q y ≡ Less) (keys_of (insert_entry byte_cmp es k v))
 above_entry q [] k v h new = (new, tt)
 above_entry q (e ∷ es) k v h new =
-    let Above : Sources → Type 0 = λ l. AllByRecursion (λ y. slice_cmp nat_cmp q y ≡ Less) (keys_of l) in
-    elim (cases_order (slice_cmp nat_cmp k e.0)) [
+    let Above : Sources → Type 0 = λ l. AllByRecursion (λ y. byte_cmp q y ≡ Less) (keys_of l) in
+    elim (cases_order (byte_cmp k e.0)) [
       | inl less ↦ subst Above (sym (entry_less e es k v less)) (new, h)
       | inr (inl equal) ↦ subst Above (sym (entry_equal e es k v equal)) h
       | inr (inr greater) ↦ subst Above (sym (entry_greater e es k v greater)) (h.0, above_entry q es k v h.1 new)
     ]
 
-pub InOrder-cons : (e : Entry) (es : Sources) → AllByRecursion (λ y. slice_cmp nat_cmp e.0 y ≡ Less) (keys_of es) → InOrder es → InOrder (e ∷ es)
+pub InOrder-cons : (e : Entry) (es : Sources) → AllByRecursion (λ y. byte_cmp e.0 y ≡ Less) (keys_of es) → InOrder es → InOrder (e ∷ es)
 unfolding IsStrictlySortedBy
 InOrder-cons e es h t = (h, t)
 
@@ -190,27 +161,27 @@ pub InOrder-nil : InOrder []
 unfolding IsStrictlySortedBy
 InOrder-nil = tt
 
-pub InOrder-insert_entry : (es : Sources) (k : List ℕ) (v : List Interval) → InOrder es → InOrder (insert_entry (slice_cmp nat_cmp) es k v)
+pub InOrder-insert_entry : (es : Sources) (k : List ℕ) (v : List Interval) → InOrder es → InOrder (insert_entry byte_cmp es k v)
 InOrder-insert_entry [] k v h = InOrder-cons (k, v) [] tt InOrder-nil
 InOrder-insert_entry (e ∷ es) k v h =
-    let head = sorted_head (slice_cmp nat_cmp) e.0 (keys_of es) h in
-    let tail = sorted_tail (slice_cmp nat_cmp) e.0 (keys_of es) h in
-    elim (cases_order (slice_cmp nat_cmp k e.0)) [
+    let head = sorted_head byte_cmp e.0 (keys_of es) h in
+    let tail = sorted_tail byte_cmp e.0 (keys_of es) h in
+    elim (cases_order (byte_cmp k e.0)) [
       | inl less ↦ subst InOrder (sym (entry_less e es k v less)) (InOrder-cons (k, v) (e ∷ es) (less, above_chain k e.0 (keys_of es) less head) h)
       | inr (inl equal) ↦ subst InOrder (sym (entry_equal e es k v equal)) (InOrder-cons (e.0, v) es head tail)
-      | inr (inr greater) ↦ subst InOrder (sym (entry_greater e es k v greater)) (InOrder-cons e (insert_entry (slice_cmp nat_cmp) es k v) (above_entry e.0 es k v head (less_from_greater k e.0 greater)) (InOrder-insert_entry es k v tail))
+      | inr (inr greater) ↦ subst InOrder (sym (entry_greater e es k v greater)) (InOrder-cons e (insert_entry byte_cmp es k v) (above_entry e.0 es k v head (less_from_greater k e.0 greater)) (InOrder-insert_entry es k v tail))
     ]
 
-pub IsSummary-insert_entry : (es : Sources) (k : List ℕ) (v : List Interval) → IsSummary es → IsEntry (k, v) → IsSummary (insert_entry (slice_cmp nat_cmp) es k v)
+pub IsSummary-insert_entry : (es : Sources) (k : List ℕ) (v : List Interval) → IsSummary es → IsEntry (k, v) → IsSummary (insert_entry byte_cmp es k v)
 IsSummary-insert_entry es k v h new = (AreEntries-insert_entry es k v h.0 new, InOrder-insert_entry es k v h.1)
 
--- a number more for the source
-pub holds_at-insert_entry : (es : Sources) (k : List ℕ) (v : List Interval) (n : ℕ) → ((m : ℕ) → holds v m ≡ (holds (numbers_of es k) m || (m == n)))
-    → (s : List ℕ) (m : ℕ) → holds_at (insert_entry (slice_cmp nat_cmp) es k v) s m ≡ (holds_at es s m || (bytes_eq s k && (m == n)))
-holds_at-insert_entry es k v n h s m =
+-- more numbers for the source
+pub holds_at-insert_entry : (es : Sources) (k : List ℕ) (v : List Interval) (f : ℕ → Bool) → ((m : ℕ) → holds v m ≡ (holds (numbers_of es k) m || f m))
+    → (s : List ℕ) (m : ℕ) → holds_at (insert_entry byte_cmp es k v) s m ≡ (holds_at es s m || (bytes_eq s k && f m))
+holds_at-insert_entry es k v f h s m =
     ap (λ l. holds l m) (numbers_of-insert_entry es k v s) ∙ elim (cases_Bool (bytes_eq s k)) [
-      | inl t ↦ rw t (h m ∙ ap (λ x. holds_at es x m || (m == n)) (sym (bytes_eq-equal s k t)))
-      | inr f ↦ rw f (sym (or-false _))
+      | inl t ↦ rw t (h m ∙ ap (λ x. holds_at es x m || f m) (sym (bytes_eq-equal s k t)))
+      | inr no_match ↦ rw no_match (sym (or-false _))
     ]
 
 pub holds_some : (ps : List Interval) (n : ℕ) → holds ps n ≡ true → ps ≡ [] → ⊥
@@ -223,46 +194,6 @@ some_added new old n h = holds_some new n (h n ∙ (elim (cases_Bool (holds old 
   | inr f ↦ rw f (eq-eqb n n refl)
 ]))
 
--- an entry of the list
-pub AreEntries-at : (es : Sources) (i : ℕ) → AreEntries es → i < length es → IsEntry (entry_at es i)
-AreEntries-at [] i h hi = absurd (not-suc-le-zero hi)
-AreEntries-at (e ∷ es) zero h hi = h.0
-AreEntries-at (e ∷ es) (suc i) h hi = AreEntries-at es i h.1 (le_of_suc-le-suc hi)
-
--- ---- one number more
-place_along : (ds es : Sources) (t s : List ℕ) (i : ℕ) → ds ≡ es → t ≡ s → IsPlaceOf ds t i → IsPlaceOf es s i
-place_along ds es t s i p q h = subst (λ l. IsPlaceOf l s i) p (subst (λ x. IsPlaceOf ds x i) q h)
-
--- what is known of the entry at the place of a source
-pub record StandsAt (es : Sources) (source : List ℕ) (i : ℕ) (entry : Entry) : Type 0 where
-  pub place : IsPlaceOf es source i
-  pub key : entry.0 ≡ source
-  pub numbers : entry.1 ≡ numbers_of es source
-  pub is : IsEntry entry
-
-pub stands_at : (ds es : Sources) (t source : List ℕ) (i : ℕ) (entry : Entry) → ds ≡ es → t ≡ source → IsSummary es → IsPlaceOf ds t i → entry ≡ get_or es i entry → StandsAt es source i entry
-stands_at ds es t source i entry p q h found is =
-    let place = place_along ds es t source i p q found in
-    let same : entry ≡ entry_at es i = is ∙ get_or_default es i entry ([], []) place.0 in record {
-      place = place;
-      key = ap (λ (e : Entry). e.0) same ∙ place.1;
-      numbers = ap (λ (e : Entry). e.1) same ∙ sym (numbers_of-place es source i h.1 place);
-      is = subst IsEntry (sym same) (AreEntries-at es i h.0 place.0);
-    }
-
--- the entry with other numbers
-pub IsSummary-set : (es : Sources) (source : List ℕ) (i : ℕ) (entry : Entry) (new : List Interval) → IsSummary es → StandsAt es source i entry → (new ≡ [] → ⊥) → IsCanonical new → IsSummary (set es i (entry.0, new))
-IsSummary-set es source i entry new h at some canonical =
-    let place : IsPlaceOf es entry.0 i = (at.place.0, at.place.1 ∙ sym at.key) in
-    subst IsSummary (sym (set-entry es i entry.0 new h.1 place))
-    (IsSummary-insert_entry es entry.0 new h (at.is.0, at.is.1, some, canonical))
-
-pub holds_at-set : (es : Sources) (source : List ℕ) (i : ℕ) (entry : Entry) (new : List Interval) (n : ℕ) → IsSummary es → StandsAt es source i entry → ((m : ℕ) → holds new m ≡ (holds entry.1 m || (m == n)))
-    → (s : List ℕ) (m : ℕ) → holds_at (set es i (entry.0, new)) s m ≡ (holds_at es s m || (bytes_eq s source && (m == n)))
-holds_at-set es source i entry new n h at members s m =
-    ap (λ l. holds_at l s m) (ap (λ (x : List ℕ). set es i (x, new)) at.key ∙ set-entry es i source new h.1 at.place)
-    ∙ holds_at-insert_entry es source new n (λ k. members k ∙ ap (λ l. holds l k || (k == n)) at.numbers) s m
-
 -- where the call failed the numbers are those of before
 pub some_after : {T E : Type 0} (r : Result T E) (old new : List Interval) (n : ℕ) → OnOk r ((m : ℕ) → holds new m ≡ (holds old m || (m == n))) → OnErr r (new ≡ old) → (old ≡ [] → ⊥) → new ≡ [] → ⊥
 some_after (Ok b) old new n ok err some = some_added new old n ok
@@ -272,56 +203,282 @@ pub OnOk-along : {T E : Type 0} (r : Result T E) (P Q : Type 0) → (P → Q) �
 OnOk-along (Ok b) P Q f h = f h
 OnOk-along (Err e) P Q f h = h
 
-gap_along : (ds es : Sources) (t s : List ℕ) (i : ℕ) → ds ≡ es → t ≡ s → IsGapFor ds t i → IsGapFor es s i
-gap_along ds es t s i p q h = subst (λ l. IsGapFor l s i) p (subst (λ x. IsGapFor ds x i) q h)
+pub OnErr-along : {T E : Type 0} (r : Result T E) (P Q : Type 0) → (P → Q) → OnErr r P → OnErr r Q
+OnErr-along (Ok b) P Q f h = h
+OnErr-along (Err e) P Q f h = f h
 
--- a new entry, with one number, in its gap
-pub record PutsBetween (es new : Sources) (source : List ℕ) (numbers : List Interval) (n : ℕ) : Type 0 where
-  pub entries : new ≡ insert_entry (slice_cmp nat_cmp) es source numbers
-  pub absent : numbers_of es source ≡ []
-  pub members : (m : ℕ) → holds numbers m ≡ (holds (numbers_of es source) m || (m == n))
+-- an entry of the list
+pub AreEntries-at : (es : Sources) (i : ℕ) → AreEntries es → i < length es → IsEntry (entry_at es i)
+AreEntries-at [] i h hi = absurd (not-suc-le-zero hi)
+AreEntries-at (e ∷ es) zero h hi = h.0
+AreEntries-at (e ∷ es) (suc i) h hi = AreEntries-at es i h.1 (le_of_suc-le-suc hi)
 
-pub puts_between : (ds es new : Sources) (t copy source : List ℕ) (i : ℕ) (empty numbers : List Interval) (n : ℕ) → ds ≡ es → t ≡ source → IsGapFor ds t i
-    → copy ≡ source → new ≡ insert es i (copy, numbers) → empty ≡ [] → ((m : ℕ) → holds numbers m ≡ (holds empty m || (m == n))) → PutsBetween es new source numbers n
-puts_between ds es new t copy source i empty numbers n p q found same is none members =
-    let gap = gap_along ds es t source i p q found in
-    let absent = numbers_of-gap es source i gap in record {
-      entries = is ∙ ap (λ (x : List ℕ). insert es i (x, numbers)) same ∙ insert-entry es i source numbers gap;
-      absent = absent;
-      members = λ m. members m ∙ ap (λ l. holds l m || (m == n)) (none ∙ sym absent);
+-- ---- a map by source
+-- what is below each source, and is not below the source that is looked up, stands before it
+found_above : {Y : Type 0} (q bs : List ℕ) (es : List (String Y × List Interval)) (v : List Interval) → AllByRecursion (λ y. byte_cmp q y ≡ Less) (keys_of (sources_in es))
+    → lookup (is_at (text_cmp bs)) es ≡ Some v → byte_cmp q bs ≡ Less
+found_above q bs [] v h f = absurd (none_is_not_some v f)
+  where
+    none_is_not_some : (w : List Interval) → None ≡ Some w → ⊥
+    none_is_not_some w e = cc
+found_above {Y} q bs (e ∷ es) v h f = elim (cases_Bool (bytes_eq bs (string_bytes e.0))) [
+  | inl t ↦ subst (λ k. byte_cmp q k ≡ Less) (sym (bytes_eq-equal bs (string_bytes e.0) t)) h.0
+  | inr no_match ↦ found_above q bs es v h.1 (sym (ap (λ b. cond b (Some e.1) (lookup (is_at (text_cmp bs)) es)) (is_eq-slice_cmp bs (string_bytes e.0) ∙ no_match)) ∙ f)
+]
+
+-- the numbers of a source are those that the map has at it
+pub numbers_of-lookup : {Y : Type 0} (es : List (String Y × List Interval)) (bs : List ℕ) → numbers_of (sources_in es) bs ≡ unwrap_or (lookup (is_at (text_cmp bs)) es) []
+numbers_of-lookup [] bs = refl
+numbers_of-lookup (e ∷ es) bs =
+    rw (is_eq-slice_cmp bs (string_bytes e.0)) (elim (cases_Bool (bytes_eq bs (string_bytes e.0))) [
+      | inl t ↦ rw t refl
+      | inr f ↦ rw f (numbers_of-lookup es bs)
+    ])
+
+pub numbers_at : {Y : Type 0} (es : List (String Y × List Interval)) (now : Sources) (bs source : List ℕ) (o : Option (List Interval)) → sources_in es ≡ now → bs ≡ source
+    → o ≡ lookup (is_at (text_cmp bs)) es → numbers_of now source ≡ unwrap_or o []
+numbers_at es now bs source o seen same found =
+    ap₂ numbers_of (sym seen) (sym same) ∙ numbers_of-lookup es bs ∙ ap (λ p. unwrap_or p []) (sym found)
+
+pub entry_found : {Y : Type 0} (es : List (String Y × List Interval)) (bs : List ℕ) (v : List Interval) → AreEntries (sources_in es) → Some v ≡ lookup (is_at (text_cmp bs)) es → (v ≢ []) × IsCanonical v
+entry_found [] bs v h f = absurd (some_is_not_none v f)
+  where
+    some_is_not_none : (w : List Interval) → Some w ≡ None → ⊥
+    some_is_not_none w e = cc
+entry_found (e ∷ es) bs v h f = elim (cases_Bool (is_at (text_cmp bs) e.0)) [
+  | inl t ↦
+      let same : v ≡ e.1 = same_some v e.1 (rw t at f) in
+      subst (λ w. (w ≢ []) × IsCanonical w) (sym same) (h.0.2, h.0.3)
+  | inr no_match ↦ entry_found es bs v h.1 (rw no_match at f)
+]
+  where
+    same_some : (a b : List Interval) → Some a ≡ Some b → a ≡ b
+    same_some a b p = cc
+
+-- what a look-up in the map answers
+pub numbers_found : {Y : Type 0} (r : Option (Bor (List Interval))) (es : List (String Y × List Interval)) (now : Sources) (bs : List ℕ) → sources_in es ≡ now → option_copied r ≡ lookup (is_at (text_cmp bs)) es
+    → MatchOption r (numbers_of now bs ≡ []) (λ i. i.now ≡ numbers_of now bs)
+numbers_found None es now bs seen found = numbers_at es now bs bs None seen refl found
+numbers_found (Some i) es now bs seen found = sym (numbers_at es now bs bs (Some i.now) seen refl found)
+
+pub some_found : {Y : Type 0} (r : Option (Bor (List Interval))) (es : List (String Y × List Interval)) (bs : List ℕ) → IsSummary (sources_in es) → option_copied r ≡ lookup (is_at (text_cmp bs)) es
+    → IfSome r (λ i. i.now ≢ [])
+some_found None es bs h found = search rules
+some_found (Some i) es bs h found = (entry_found es bs i.now h.0 found).0
+
+pub canonical_found : {Y : Type 0} (r : Option (Bor (List Interval))) (es : List (String Y × List Interval)) (bs : List ℕ) → IsSummary (sources_in es) → option_copied r ≡ lookup (is_at (text_cmp bs)) es
+    → IfSome r (λ i. IsCanonical i.now)
+canonical_found None es bs h found = search rules
+canonical_found (Some i) es bs h found = (entry_found es bs i.now h.0 found).1
+
+-- an entry that the map takes
+pub sources_in-insert_entry : {Y : Type 0} (es : List (String Y × List Interval)) (k : String Y) (v : List Interval) → sources_in (insert_entry string_cmp es k v) ≡ insert_entry byte_cmp (sources_in es) (string_bytes k) v
+sources_in-insert_entry [] k v = refl
+sources_in-insert_entry (e ∷ es) k v = elim (cases_order (byte_cmp (string_bytes k) (string_bytes e.0))) [
+  | inl less ↦ rw less refl
+  | inr (inl equal) ↦ rw equal refl
+  | inr (inr greater) ↦ rw greater (ap (λ l. entry_in e ∷ l) (sources_in-insert_entry es k v))
+]
+
+-- other numbers at a source that the map has
+pub sources_in-set_value : {Y : Type 0} (es : List (String Y × List Interval)) (bs : List ℕ) (v w : List Interval) → lookup (is_at (text_cmp bs)) es ≡ Some v → InOrder (sources_in es)
+    → sources_in (set_value (is_at (text_cmp bs)) es w) ≡ insert_entry byte_cmp (sources_in es) bs w
+sources_in-set_value [] bs v w f h = absurd (none_is_not_some v f)
+  where
+    none_is_not_some : (w : List Interval) → None ≡ Some w → ⊥
+    none_is_not_some w e = cc
+sources_in-set_value (e ∷ es) bs v w f h = elim (cases_order (byte_cmp bs (string_bytes e.0))) [
+  | inl less ↦
+      let later = found_above (string_bytes e.0) bs es v (sorted_head _ (string_bytes e.0) (keys_of (sources_in es)) h) (rw less at f) in
+      absurd (less_not_greater _ less (greater_from_less (string_bytes e.0) bs later))
+  | inr (inl equal) ↦ rw equal refl
+  | inr (inr greater) ↦
+      rw greater (ap (λ l. entry_in e ∷ l) (sources_in-set_value es bs v w (rw greater at f) (sorted_tail _ (string_bytes e.0) (keys_of (sources_in es)) h)))
+]
+  where
+    less_not_greater : (o : Ordering) → o ≡ Less → o ≡ Greater → ⊥
+    less_not_greater o p q = cc
+
+-- a summary after a change at a source
+pub put_found : {Y : Type 0} (m n : List (String Y × List Interval)) (now : Sources) (bs source : List ℕ) (v w : List Interval) → sources_in m ≡ now → bs ≡ source → Some v ≡ lookup (is_at (text_cmp bs)) m
+    → IsSummary now → n ≡ set_value (is_at (text_cmp bs)) m w → sources_in n ≡ insert_entry byte_cmp now source w
+put_found m n now bs source v w seen same found h is =
+    ap sources_in is
+    ∙ sources_in-set_value m bs v w (sym found) (subst InOrder (sym seen) h.1)
+    ∙ ap₂ (λ (l : Sources) (k : List ℕ). insert_entry byte_cmp l k w) seen same
+
+pub put_new : {Y : Type 0} (m n : List (String Y × List Interval)) (now : Sources) (k : String Y) (source : List ℕ) (w : List Interval) → sources_in m ≡ now → string_bytes k ≡ source → n ≡ insert_entry string_cmp m k w
+    → sources_in n ≡ insert_entry byte_cmp now source w
+put_new m n now k source w seen same is =
+    ap sources_in is
+    ∙ sources_in-insert_entry m k w
+    ∙ ap₂ (λ (l : Sources) (s : List ℕ). insert_entry byte_cmp l s w) seen same
+
+-- where the map has nothing at the source
+pub absent_at : {Y : Type 0} (r : Option (MutBor (List Interval))) (m n : BTreeMap (String Y) (List Interval)) (now : Sources) (bs source : List ℕ) → sources_in m.entries ≡ now → bs ≡ source → r ≡ None
+    → option_copied_mut r ≡ lookup (is_at (text_cmp bs)) m.entries → n ≡ m → (numbers_of now source ≡ []) × (sources_in n.entries ≡ now)
+absent_at r m n now bs source seen same none found kept =
+    (numbers_at m.entries now bs source None seen same (sym (ap option_copied_mut none) ∙ found), ap (λ l. sources_in l.entries) kept ∙ seen)
+
+-- what was read, put back
+pub put_back : {Y : Type 0} (m n : List (String Y × List Interval)) (now : Sources) (bs : List ℕ) (v w : List Interval) → sources_in m ≡ now → Some v ≡ lookup (is_at (text_cmp bs)) m
+    → n ≡ set_value (is_at (text_cmp bs)) m w → w ≡ v → sources_in n ≡ now
+put_back m n now bs v w seen found is same =
+    ap sources_in (is ∙ ap (set_value (is_at (text_cmp bs)) m) same ∙ set_value_same (is_at (text_cmp bs)) m v (sym found)) ∙ seen
+
+pub IsSummary-put : (now new : Sources) (source : List ℕ) (w : List Interval) → IsSummary now → new ≡ insert_entry byte_cmp now source w → IsEntry (source, w) → IsSummary new
+IsSummary-put now new source w h put entry = subst IsSummary (sym put) (IsSummary-insert_entry now source w h entry)
+
+pub holds_at-put : (now new : Sources) (source : List ℕ) (w : List Interval) (f : ℕ → Bool) → new ≡ insert_entry byte_cmp now source w → ((m : ℕ) → holds w m ≡ (holds (numbers_of now source) m || f m))
+    → (s : List ℕ) (m : ℕ) → holds_at new s m ≡ (holds_at now s m || (bytes_eq s source && f m))
+holds_at-put now new source w f put members s m =
+    ap (λ l. holds_at l s m) put ∙ holds_at-insert_entry now source w f members s m
+
+-- an entry behind all others
+pub insert_entry-last : (es : Sources) (k : List ℕ) (v : List Interval) → EndsBefore es k → insert_entry byte_cmp es k v ≡ es ++ (k, v) ∷ []
+insert_entry-last [] k v h = refl
+insert_entry-last (e ∷ es) k v h =
+    entry_greater e es k v (greater_from_less e.0 k (h zero (omega arith)))
+    ∙ ap (λ l. e ∷ l) (insert_entry-last es k v (λ i hi. h (suc i) (omega arith)))
+
+-- ---- an entry behind all others
+ends_before_tail : (e : Entry) (es : Sources) (key : List ℕ) → EndsBefore (e ∷ es) key → EndsBefore es key
+ends_before_tail e es key h k hk = h (suc k) (omega arith)
+
+-- an entry at the end, above all others
+pub numbers_of-push : (es : Sources) (p : Entry) (s : List ℕ) → EndsBefore es p.0 → numbers_of (es ++ p ∷ []) s ≡ cond (bytes_eq s p.0) p.1 (numbers_of es s)
+numbers_of-push [] p s h = refl
+numbers_of-push (e ∷ es) p s h =
+    ap (λ l. cond (bytes_eq s e.0) e.1 l) (numbers_of-push es p s (ends_before_tail e es p.0 h)) ∙ elim (cases_Bool (bytes_eq s e.0)) [
+      | inl t ↦
+          let below : byte_cmp e.0 p.0 ≡ Less = h zero (omega arith) in
+          let other : bytes_eq s p.0 ≡ false = elim (cases_Bool (bytes_eq s p.0)) [
+            | inl u ↦ absurd (apart_from_less e.0 p.0 below (sym (bytes_eq-equal s e.0 t) ∙ bytes_eq-equal s p.0 u))
+            | inr f ↦ f
+          ] in
+          rw (t, other) refl
+      | inr f ↦ rw f refl
+    ]
+
+-- a source that is below none is absent
+numbers_of-before : (es : Sources) (s : List ℕ) → EndsBefore es s → numbers_of es s ≡ []
+numbers_of-before [] s h = refl
+numbers_of-before (e ∷ es) s h =
+    numbers_of-tail e es s (λ same. apart_from_less e.0 s (h zero (omega arith)) (sym same)) ∙ numbers_of-before es s (ends_before_tail e es s h)
+
+pub holds_at-push : (es : Sources) (p : Entry) (s : List ℕ) (n : ℕ) → EndsBefore es p.0 → holds_at (es ++ p ∷ []) s n ≡ (holds_at es s n || (bytes_eq s p.0 && holds p.1 n))
+holds_at-push es p s n h =
+    ap (λ l. holds l n) (numbers_of-push es p s h) ∙ elim (cases_Bool (bytes_eq s p.0)) [
+      | inl t ↦
+          let absent : holds_at es s n ≡ false = ap (holds_at es s) refl ∙ ap (λ x. holds_at es x n) (bytes_eq-equal s p.0 t) ∙ ap (λ l. holds l n) (numbers_of-before es p.0 h) ∙ holds-nil n in
+          rw (t, absent) refl
+      | inr f ↦ rw f (sym (or-false _))
+    ]
+
+pub AreEntries-push : (es : Sources) (p : Entry) → AreEntries es → IsEntry p → AreEntries (es ++ p ∷ [])
+AreEntries-push [] p h new = (new, tt)
+AreEntries-push (e ∷ es) p h new = (h.0, AreEntries-push es p h.1 new)
+
+above_push : (q : List ℕ) (es : Sources) (p : Entry) → AllByRecursion (λ y. byte_cmp q y ≡ Less) (keys_of es) → byte_cmp q p.0 ≡ Less → AllByRecursion (λ y. byte_cmp q y ≡ Less) (keys_of (es ++ p ∷ []))
+above_push q [] p h new = (new, tt)
+above_push q (e ∷ es) p h new = (h.0, above_push q es p h.1 new)
+
+pub InOrder-push : (es : Sources) (p : Entry) → InOrder es → EndsBefore es p.0 → InOrder (es ++ p ∷ [])
+InOrder-push [] p h new = InOrder-cons p [] tt InOrder-nil
+InOrder-push (e ∷ es) p h new =
+    let head = sorted_head byte_cmp e.0 (keys_of es) h in
+    let tail = sorted_tail byte_cmp e.0 (keys_of es) h in
+    InOrder-cons e (es ++ p ∷ []) (above_push e.0 es p head (new zero (omega arith))) (InOrder-push es p tail (ends_before_tail e es p.0 new))
+
+pub IsSummary-push : (es : Sources) (p : Entry) → IsSummary es → IsEntry p → EndsBefore es p.0 → IsSummary (es ++ p ∷ [])
+IsSummary-push es p h new before = (AreEntries-push es p h.0 new, InOrder-push es p h.1 before)
+
+-- ---- a pass over a summary
+-- an entry between a front and a rest
+pub entry_between : (es : Sources) (e : Entry) (rest : Sources) → AreEntries (es ++ e ∷ rest) → IsEntry e
+entry_between [] e rest h = h.0
+entry_between (x ∷ es) e rest h = entry_between es e rest h.1
+
+pub before_between : (es : Sources) (e : Entry) (rest : Sources) → InOrder (es ++ e ∷ rest) → EndsBefore es e.0
+before_between es e rest h k hk =
+    let whole : Sources = es ++ e ∷ rest in
+    let length_is : length whole ≡ length es + suc (length rest) = length-append es (e ∷ rest) in
+    let at : byte_cmp (entry_at whole k).0 (entry_at whole (length es)).0 ≡ Less = InOrder-at whole k (length es) h hk (omega arith) in
+    subst (λ (x : Entry). byte_cmp x.0 e.0 ≡ Less) (get_or-append-left es (e ∷ rest) k ([], []) hk)
+    (subst (λ (x : Entry). byte_cmp (entry_at whole k).0 x.0 ≡ Less) (get_or-append-mid es (e ∷ rest)) at)
+  where
+    get_or-append-left : (xs ys : Sources) (k : ℕ) (d : Entry) → k < length xs → get_or (xs ++ ys) k d ≡ get_or xs k d
+    get_or-append-left [] ys k d h = absurd (not-suc-le-zero h)
+    get_or-append-left (x ∷ xs) ys zero d h = refl
+    get_or-append-left (x ∷ xs) ys (suc k) d h = get_or-append-left xs ys k d (le_of_suc-le-suc h)
+
+    get_or-append-mid : (xs ys : Sources) → get_or (xs ++ ys) (length xs) ([], []) ≡ get_or ys 0 ([], [])
+    get_or-append-mid [] ys = refl
+    get_or-append-mid (x ∷ xs) ys = get_or-append-mid xs ys
+
+numbers_of-between : (done : Sources) (e : Entry) (rest : Sources) → EndsBefore done e.0 → numbers_of (done ++ e ∷ rest) e.0 ≡ e.1
+numbers_of-between [] e rest h = numbers_of-head e rest e.0 refl
+numbers_of-between (d ∷ done) e rest h =
+    numbers_of-tail d (done ++ e ∷ rest) e.0 (λ same. apart_from_less d.0 e.0 (h zero (omega arith)) (sym same))
+    ∙ numbers_of-between done e rest (ends_before_tail d done e.0 h)
+
+-- the next entry of a pass that has done some entries and has others left
+pub record IsNext (all done : Sources) (e : Entry) : Type 0 where
+  pub is_entry : IsEntry e
+  pub before : EndsBefore done e.0
+  pub numbers : numbers_of all e.0 ≡ e.1
+
+pub is_next : (all done left : Sources) (e : Entry) (rest : Sources) → IsSummary all → done ++ left ≡ all → left ≡ e ∷ rest → IsNext all done e
+is_next all done left e rest h split is =
+    let whole : done ++ e ∷ rest ≡ all = ap (λ l. done ++ l) (sym is) ∙ split in
+    let summary : IsSummary (done ++ e ∷ rest) = subst IsSummary (sym whole) h in
+    let before : EndsBefore done e.0 = before_between done e rest summary.1 in record {
+      is_entry = entry_between done e rest summary.0;
+      before = before;
+      numbers = ap (λ l. numbers_of l e.0) (sym whole) ∙ numbers_of-between done e rest before;
     }
 
-pub IsSummary-between : (es new : Sources) (source : List ℕ) (numbers : List Interval) (n : ℕ) → IsSummary es → PutsBetween es new source numbers n → IsUtf8 source → is_filled source ≡ true → IsCanonical numbers → IsSummary new
-IsSummary-between es new source numbers n h put utf8 filled canonical =
-    subst IsSummary (sym put.entries)
-    (IsSummary-insert_entry es source numbers h (utf8, filled, some_added numbers (numbers_of es source) n put.members, canonical))
+-- one entry more is done
+pub split_more : (all done left : Sources) (e : Entry) (rest : Sources) → done ++ left ≡ all → left ≡ e ∷ rest → (done ++ e ∷ []) ++ rest ≡ all
+split_more all done left e rest split is = append_assoc done (e ∷ []) rest ∙ ap (λ l. done ++ l) (sym is) ∙ split
 
-pub holds_at-between : (es new : Sources) (source : List ℕ) (numbers : List Interval) (n : ℕ) → PutsBetween es new source numbers n
-    → (s : List ℕ) (m : ℕ) → holds_at new s m ≡ (holds_at es s m || (bytes_eq s source && (m == n)))
-holds_at-between es new source numbers n put s m =
-    ap (λ l. holds_at l s m) put.entries ∙ holds_at-insert_entry es source numbers n put.members s m
+-- all entries are done
+pub split_all : (all done left : Sources) → done ++ left ≡ all → left ≡ [] → done ≡ all
+split_all all done left split none = sym (append-nil done) ∙ ap (λ l. done ++ l) (sym none) ∙ split
 
--- ---- a search by halves
-pub mid_key : (es : Sources) (mid : ℕ) (read : Entry) (text : List ℕ) → mid < length es → text ≡ (get_or es mid read).0 → text ≡ (entry_at es mid).0
-mid_key es mid read text hm is = is ∙ ap (λ (e : Entry). e.0) (get_or_default es mid read ([], []) hm)
+pub IsEntry-along : (s t : List ℕ) (v w : List Interval) → s ≡ t → v ≡ w → IsEntry (t, w) → IsEntry (s, v)
+IsEntry-along s t v w p q h = subst IsEntry (sym (ap₂ (λ (a : List ℕ) (b : List Interval). (a, b)) p q)) h
 
-pub above_from : (es : Sources) (s : List ℕ) (mid : ℕ) (read : Entry) (text : List ℕ) → InOrder es → mid < length es → text ≡ (get_or es mid read).0 → slice_cmp nat_cmp s text ≡ Less
-    → (k : ℕ) → mid ≤ k → k < length es → slice_cmp nat_cmp s (entry_at es k).0 ≡ Less
-above_from es s mid read text h hm is less k le hk =
-    let here : slice_cmp nat_cmp s (entry_at es mid).0 ≡ Less = subst (λ x. slice_cmp nat_cmp s x ≡ Less) (mid_key es mid read text hm is) less in
-    elim (cases_lt mid k) [
-      | inl lt ↦ cmp-chain s (entry_at es mid).0 (entry_at es k).0 here (InOrder-at es mid k h lt hk)
-      | inr ge ↦ let e : mid ≡ k = omega arith in subst (λ j. slice_cmp nat_cmp s (entry_at es j).0 ≡ Less) e here
-    ]
+-- an entry more in a copy
+pub copied_more : (all own new left : Sources) (s t : List ℕ) (v w : List Interval) (rest : Sources) → own ++ left ≡ all → left ≡ (t, w) ∷ rest → s ≡ t → v ≡ w → new ≡ own ++ (s, v) ∷ [] → new ++ rest ≡ all
+copied_more all own new left s t v w rest split is p q made =
+    ap (λ l. l ++ rest) (made ∙ ap₂ (λ (a : List ℕ) (b : List Interval). own ++ (a, b) ∷ []) p q) ∙ split_more all own left (t, w) rest split is
 
-pub below_upto : (es : Sources) (s : List ℕ) (mid : ℕ) (read : Entry) (text : List ℕ) → InOrder es → mid < length es → text ≡ (get_or es mid read).0 → slice_cmp nat_cmp s text ≡ Greater
-    → (k : ℕ) → k < mid + 1 → slice_cmp nat_cmp s (entry_at es k).0 ≡ Greater
-below_upto es s mid read text h hm is greater k lt =
-    let here : slice_cmp nat_cmp s (entry_at es mid).0 ≡ Greater = subst (λ x. slice_cmp nat_cmp s x ≡ Greater) (mid_key es mid read text hm is) greater in
-    elim (cases_lt k mid) [
-      | inl before ↦ greater_from_less (entry_at es k).0 s (cmp-chain (entry_at es k).0 (entry_at es mid).0 s (InOrder-at es k mid h before hm) (less_from_greater s (entry_at es mid).0 here))
-      | inr ge ↦ let e : mid ≡ k = omega arith in subst (λ j. slice_cmp nat_cmp s (entry_at es j).0 ≡ Greater) e here
-    ]
+-- an entry more in a list of references
+pub listed_more : {Y : Type 0} (all : Sources) (items new : List (Bor (List ℕ) × Bor (List Interval))) (left : Sources) (x : Bor (List ℕ) × Bor (List Interval)) (k : String Y) (rest : Sources)
+    → map deref_pair items ++ left ≡ all → left ≡ (string_bytes k, x.1.now) ∷ rest → x.0.now ≡ string_bytes k → new ≡ items ++ x ∷ [] → map deref_pair new ++ rest ≡ all
+listed_more all items new left x k rest split is same made =
+    ap (λ l. map deref_pair l ++ rest) made
+    ∙ ap (λ l. l ++ rest) (map-push items)
+    ∙ copied_more all (map deref_pair items) (map deref_pair items ++ deref_pair x ∷ []) left x.0.now (string_bytes k) x.1.now x.1.now rest split is same refl refl
+  where
+    map-push : (xs : List (Bor (List ℕ) × Bor (List Interval))) → map deref_pair (xs ++ x ∷ []) ≡ map deref_pair xs ++ deref_pair x ∷ []
+    map-push [] = refl
+    map-push (y ∷ ys) = ap (λ l. deref_pair y ∷ l) (map-push ys)
 
-pub place_equal : (es : Sources) (s : List ℕ) (mid : ℕ) (read : Entry) (text : List ℕ) → mid < length es → text ≡ (get_or es mid read).0 → slice_cmp nat_cmp s text ≡ Equal → IsPlaceOf es s mid
-place_equal es s mid read text hm is equal = (hm, sym (mid_key es mid read text hm is) ∙ sym (exact_bytes s text equal))
+-- the key at a place is the source there
+pub source_at_key : {Y : Type 0} (es : List (String Y × List Interval)) (now : Sources) (i : ℕ) (key : Bor (String Y)) (text : List ℕ) → sources_in es ≡ now → Some key.now ≡ slice_get (keys_of es) i → text ≡ string_bytes key.now
+    → slice_get (sources_of now) i ≡ Some text
+source_at_key es now i key text seen at same =
+    ap (λ l. slice_get (sources_of l) i) (sym seen) ∙ go es i key.now (sym at) ∙ ap (λ t. Some t) (sym same)
+  where
+    same_key : {Z : Type 0} (x y : String Z) → Some x ≡ Some y → x ≡ y
+    same_key x y p = cc
+
+    none_is_some : {Z : Type 0} (x : String Z) → None ≡ Some x → ⊥
+    none_is_some x p = cc
+
+    go : {Z : Type 0} (ds : List (String Z × List Interval)) (k : ℕ) (x : String Z) → slice_get (keys_of ds) k ≡ Some x → slice_get (sources_of (sources_in ds)) k ≡ Some (string_bytes x)
+    go [] k x h = absurd (none_is_some x h)
+    go (d ∷ ds) zero x h = ap (λ y. Some (string_bytes y)) (same_key d.0 x h)
+    go (d ∷ ds) (suc k) x h = go ds k x h

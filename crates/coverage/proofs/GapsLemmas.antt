@@ -2,8 +2,8 @@
 use Rattle.std.proofs.Common.{◌≡◌, ℕ, ◌+◌, ◌-◌, ◌<◌, ◌≤◌, Bool, true, false, not, ◌||◌, ◌&&◌, ◌⊎◌, nat_le, min, List, [], length, take, take_all, refl, sym, ap, ◌∙◌, arith, inl, inr}
 use Rattle.std.proofs.lemmas.Bool.{both_ways, cases_Bool, and_parts}
 use Rattle.std.proofs.lemmas.Bool.Decides.{nat_tests}
-use Rattle.coverage.specs.Intervals.{Interval, max_number, in_interval, holds, interval_at, rises_from, IsCanonical}
-use Rattle.coverage.specs.Starts.{last_start_or, StartsAtMost}
+use Rattle.coverage.specs.Intervals.{Interval, max_sequence, in_interval, holds, interval_at, rises_from, IsCanonical, IsGreatest}
+use Rattle.coverage.specs.steps.Starts.{last_start_or, StartsAtMost}
 use Rattle.coverage.proofs.HoldsLemmas.{in_interval_tells, holds-nil, holds-more, last_start_or-nil, rises_from-nil, rises_from-at, rises_from-gap}
 use Rattle.coverage.proofs.StartsLemmas.{holds-found, found-fits}
 
@@ -101,29 +101,31 @@ gaps_all pairs top i next old g all lt n =
     ∙ ap (λ l. nat_le 1 n && (nat_le n top && not (holds l n))) (take_all i pairs all)
 
 -- what is held is a sequence number
-pub held_in_range : (ps : List Interval) (n : ℕ) → IsCanonical ps → holds ps n ≡ true → (1 ≤ n) × (n ≤ max_number)
+pub held_in_range : (ps : List Interval) (n : ℕ) → IsCanonical ps → holds ps n ≡ true → (1 ≤ n) × (n ≤ max_sequence)
 held_in_range ps n h t =
     let w = holds-found 1 ps n h t in
     let fits = found-fits 1 ps w.0 w.1.0 h w.1.1.0 in
     (omega arith, omega arith)
 
--- the gaps of the gaps, without what is taken
-pub without_members : (xs ys : List Interval) (n : ℕ) (outside taken left : Bool) → IsCanonical xs
-    → outside ≡ (nat_le 1 n && (nat_le n max_number && not (holds xs n))) → taken ≡ (outside || holds ys n)
-    → left ≡ (nat_le 1 n && (nat_le n max_number && not taken)) → left ≡ (holds xs n && not (holds ys n))
-without_members xs ys n outside taken left h o t l = elim (cases_Bool (holds xs n)) [
+-- the gaps of the gaps up to the greatest number, without what is taken
+pub without_members : (xs ys : List Interval) (top n : ℕ) (outside taken left : Bool) → IsCanonical xs → IsGreatest xs top
+    → outside ≡ (nat_le 1 n && (nat_le n top && not (holds xs n))) → taken ≡ (outside || holds ys n)
+    → left ≡ (nat_le 1 n && (nat_le n top && not taken)) → left ≡ (holds xs n && not (holds ys n))
+without_members xs ys top n outside taken left h greatest o t l = elim (cases_Bool (holds xs n)) [
   | inl held ↦
       let range = held_in_range xs n h held in
+      let from = range.0 in
+      let upto = greatest.1 n held in
       let low : nat_le 1 n ≡ true = grind (arith, nat_tests) in
-      let high : nat_le n max_number ≡ true = grind (arith, nat_tests) in
+      let high : nat_le n top ≡ true = grind (arith, nat_tests) in
       let e : outside ≡ false = o ∙ rw (low, high, held) refl in
       l ∙ rw (low, high, t, e, held) refl
-  | inr free ↦ elim (cases_Bool (nat_le 1 n && nat_le n max_number)) [
+  | inr free ↦ elim (cases_Bool (nat_le 1 n && nat_le n top)) [
     | inl within ↦
-        let parts = and_parts (nat_le 1 n) (nat_le n max_number) within in
+        let parts = and_parts (nat_le 1 n) (nat_le n top) within in
         let e : outside ≡ true = o ∙ rw (parts.0, parts.1, free) refl in
         l ∙ rw (parts.0, parts.1, t, e, free) refl
-    | inr out ↦ l ∙ and_never (nat_le 1 n) (nat_le n max_number) (not taken) out ∙ sym (ap (λ b. b && not (holds ys n)) free)
+    | inr out ↦ l ∙ and_never (nat_le 1 n) (nat_le n top) (not taken) out ∙ sym (ap (λ b. b && not (holds ys n)) free)
   ]
 ]
   where

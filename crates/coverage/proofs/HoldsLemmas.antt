@@ -4,8 +4,8 @@ use Rattle.std.proofs.lemmas.Bool.{and_parts, both_ways, cases_lt}
 use Rattle.std.proofs.lemmas.Bool.Decides.{nat_tests}
 use Rattle.std.proofs.lemmas.List.{take_more}
 use Rattle.std.proofs.lemmas.List.Recursion.{or_at, or_from_places}
-use Rattle.coverage.specs.Intervals.{Interval, max_number, in_interval, holds, interval_at, fits_from, rises_from, IsCanonical}
-use Rattle.coverage.specs.Starts.{last_start_or}
+use Rattle.coverage.specs.Intervals.{Interval, max_sequence, in_interval, holds, interval_at, fits_from, rises_from, IsCanonical}
+use Rattle.coverage.specs.steps.Starts.{last_start_or}
 
 -- a number lies in an interval, below it or above it
 pub in_interval_tells : (p : Interval) (n : ℕ) → ((in_interval p n ≡ true) × (p.0 ≤ n) × (n ≤ p.1)) ⊎ ((in_interval p n ≡ false) × ((n < p.0) ⊎ (p.1 < n)))
@@ -111,17 +111,17 @@ rises_from-push n (x ∷ xs) p =
     ap (λ b. fits_from n x && b) (rises_from-push (x.1 + 2) xs p)
     ∙ and_assoc (fits_from n x) (rises_from (x.1 + 2) xs) (fits_from (next_free (x.1 + 2) xs) p)
 
-pub fits_from-true : (n : ℕ) (p : Interval) → fits_from n p ≡ true → (n ≤ p.0) × (p.0 ≤ p.1) × (p.1 ≤ max_number)
+pub fits_from-true : (n : ℕ) (p : Interval) → fits_from n p ≡ true → (n ≤ p.0) × (p.0 ≤ p.1) × (p.1 ≤ max_sequence)
 fits_from-true n p h = grind (arith, nat_tests)
 
-pub le-fits_from : (n : ℕ) (p : Interval) → n ≤ p.0 → p.0 ≤ p.1 → p.1 ≤ max_number → fits_from n p ≡ true
+pub le-fits_from : (n : ℕ) (p : Interval) → n ≤ p.0 → p.0 ≤ p.1 → p.1 ≤ max_sequence → fits_from n p ≡ true
 le-fits_from n p a b c = grind (arith, nat_tests)
 
 pub rises_from-parts : (n : ℕ) (p : Interval) (ps : List Interval) → rises_from n (p ∷ ps) ≡ true → (fits_from n p ≡ true) × (rises_from (p.1 + 2) ps ≡ true)
 unfolding rises_from
 rises_from-parts n p ps h = and_parts _ _ h
 
-pub rises_from-at : (n : ℕ) (ps : List Interval) (k : ℕ) → rises_from n ps ≡ true → k < length ps → (n ≤ (interval_at ps k).0) × ((interval_at ps k).0 ≤ (interval_at ps k).1) × ((interval_at ps k).1 ≤ max_number)
+pub rises_from-at : (n : ℕ) (ps : List Interval) (k : ℕ) → rises_from n ps ≡ true → k < length ps → (n ≤ (interval_at ps k).0) × ((interval_at ps k).0 ≤ (interval_at ps k).1) × ((interval_at ps k).1 ≤ max_sequence)
 rises_from-at n [] k h hk = absurd (not-suc-le-zero hk)
 rises_from-at n (p ∷ ps) zero h hk = fits_from-true n p (rises_from-parts n p ps h).0
 rises_from-at n (p ∷ ps) (suc k) h hk =

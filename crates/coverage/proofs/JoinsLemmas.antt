@@ -2,12 +2,13 @@
 use Rattle.std.proofs.Common.{◌≡◌, ℕ, ◌+◌, ◌<◌, ◌≤◌, ◌==◌, Bool, true, false, cond, nat_le, ◌||◌, ◌⊎◌, List, Option, Some, None, refl, sym, ap, ◌∙◌, arith, inl, inr, eq-eqb}
 use Rattle.std.proofs.lemmas.Bool.{cases_lt, cases_eq, cases_Bool}
 use Rattle.std.proofs.lemmas.Bool.Decides.{nat_tests}
+use Rattle.std.specs.Option.{unwrap_or}
 use Rattle.std.specs.Ordering.{nat_cmp}
 use Rattle.std.specs.Map.{keys_of}
 use Rattle.std.specs.BTreeMap.{is_at}
 use Rattle.std.specs.List.Sorted.{IsStrictlySortedBy}
-use Rattle.coverage.specs.Intervals.{Interval, max_number, holds, IsCanonical}
-use Rattle.coverage.specs.Starts.{found, NoneUpTo, IsLastUpTo}
+use Rattle.coverage.specs.Intervals.{Interval, max_sequence, holds, IsCanonical}
+use Rattle.coverage.specs.steps.Starts.{found, NoneUpTo, IsLastUpTo}
 use Rattle.coverage.proofs.StartsLemmas.{is_at-same, is_at-other, found-fits, found-apart, rises_from-found, holds-found, found-holds}
 
 -- n isn't held, and start is where its interval begins: at n, or at that of an interval that ends right before
@@ -21,7 +22,7 @@ pub record StartsAt (old : List Interval) (n start : ℕ) : Type 0 where
 -- end is where the interval of n ends: at n, or at that of an interval that starts right after
 pub record EndsAt (old : List Interval) (n end : ℕ) : Type 0 where
   pub from : n ≤ end
-  pub upto : end ≤ max_number
+  pub upto : end ≤ max_sequence
   pub right : ((end ≡ n) × (found (n + 1) old ≡ None)) ⊎ (found (n + 1) old ≡ Some end)
   pub above : (a b : ℕ) → n + 1 < a → found a old ≡ Some b → end + 1 < a
 
@@ -230,7 +231,7 @@ starts_apart ps n p h low last lt apart_from =
       below = λ a b le apart f. below a b le f;
     }
 
-pub ends_alone : (ps : List Interval) (n : ℕ) → n ≤ max_number → found (n + 1) ps ≡ None → EndsAt ps n n
+ends_alone : (ps : List Interval) (n : ℕ) → n ≤ max_sequence → found (n + 1) ps ≡ None → EndsAt ps n n
 ends_alone ps n high none = record {
   from = omega arith;
   upto = high;
@@ -238,7 +239,7 @@ ends_alone ps n high none = record {
   above = λ a b lt f. omega arith;
 }
 
-pub ends_right : (ps : List Interval) (n end : ℕ) → IsCanonical ps → found (n + 1) ps ≡ Some end → EndsAt ps n end
+ends_right : (ps : List Interval) (n end : ℕ) → IsCanonical ps → found (n + 1) ps ≡ Some end → EndsAt ps n end
 ends_right ps n end h f =
     let fits = found-fits 1 ps (n + 1) end h f in record {
       from = omega arith;
@@ -246,6 +247,10 @@ ends_right ps n end h f =
       right = inr f;
       above = λ a b lt g. found-apart 1 ps (n + 1) end a b h f g lt;
     }
+
+pub ends_at : (ps : List Interval) (n : ℕ) (o : Option ℕ) → IsCanonical ps → n ≤ max_sequence → o ≡ found (n + 1) ps → EndsAt ps n (unwrap_or o n)
+ends_at ps n None h high f = ends_alone ps n high (sym f)
+ends_at ps n (Some end) h high f = ends_right ps n end h (sym f)
 
 -- what an insert and a remove leave
 pub joins_made : (old put new : List Interval) (n start end : ℕ)

@@ -1,8 +1,8 @@
 -- Passes over lists of intervals.
 use Rattle.std.proofs.Common.{◌≡◌, ℕ, ◌+◌, ◌<◌, ◌≤◌, Bool, true, false, ◌||◌, max, List, [], ◌∷◌, ◌++◌, length, take, refl, sym, ap, ap₂, ◌∙◌, arith}
 use Rattle.std.proofs.lemmas.Bool.{and_parts, and_from}
-use Rattle.coverage.specs.Intervals.{Interval, max_number, in_interval, holds, interval_at, fits_from, rises_from, IsCanonical}
-use Rattle.coverage.specs.Starts.{last_start_or, StartsAtMost}
+use Rattle.coverage.specs.Intervals.{Interval, max_sequence, in_interval, holds, interval_at, fits_from, rises_from, IsCanonical}
+use Rattle.coverage.specs.steps.Starts.{last_start_or, StartsAtMost}
 use Rattle.coverage.proofs.HoldsLemmas.{in_interval_tells, holds-nil, holds-more, holds-push, or_assoc, next_free, next_free-nil, next_free-push, last_start_or-nil, last_start_or-push, rises_from-nil, rises_from-push, rises_from-at, rises_from-gap, fits_from-true, le-fits_from}
 
 -- the list with an interval more that starts no earlier than those that are there
@@ -16,7 +16,7 @@ pub record EndsWith (xs : List Interval) (last : Interval) : Type 0 where
   pub front : IsCanonical xs
   pub free : next_free 1 xs ≤ last.0
   pub ordered : last.0 ≤ last.1
-  pub bounded : last.1 ≤ max_number
+  pub bounded : last.1 ≤ max_sequence
 
 pub ends_with : (xs : List Interval) (last : Interval) → IsCanonical (xs ++ last ∷ []) → EndsWith xs last
 ends_with xs last h =
@@ -30,14 +30,14 @@ canonical-push xs p e = rises_from-push 1 xs p ∙ and_from (rises_from 1 xs) (f
 last_start : (xs : List Interval) (p : Interval) (n : ℕ) → p.0 ≤ n → StartsAtMost (xs ++ p ∷ []) n
 last_start xs p n low = omega (arith, last_start_or-push 0 xs p, low)
 
-pub extended_first : (p : Interval) → 1 ≤ p.0 → p.0 ≤ p.1 → p.1 ≤ max_number → IsExtended [] p (p ∷ [])
+pub extended_first : (p : Interval) → 1 ≤ p.0 → p.0 ≤ p.1 → p.1 ≤ max_sequence → IsExtended [] p (p ∷ [])
 extended_first p from ordered bounded = record {
   canonical = canonical-push [] p (record { front = rises_from-nil 1; free = omega (arith, next_free-nil 1, from); ordered = ordered; bounded = bounded });
   members = λ n. holds-push [] p n;
   starts = last_start [] p p.0 (omega arith);
 }
 
-pub extended_apart : (xs : List Interval) (last p : Interval) → IsCanonical (xs ++ last ∷ []) → last.1 + 1 < p.0 → p.0 ≤ p.1 → p.1 ≤ max_number → IsExtended (xs ++ last ∷ []) p ((xs ++ last ∷ []) ++ p ∷ [])
+pub extended_apart : (xs : List Interval) (last p : Interval) → IsCanonical (xs ++ last ∷ []) → last.1 + 1 < p.0 → p.0 ≤ p.1 → p.1 ≤ max_sequence → IsExtended (xs ++ last ∷ []) p ((xs ++ last ∷ []) ++ p ∷ [])
 extended_apart xs last p h gap ordered bounded = record {
   canonical = canonical-push (xs ++ last ∷ []) p (record { front = h; free = omega (arith, next_free-push 1 xs last, gap); ordered = ordered; bounded = bounded });
   members = λ n. holds-push (xs ++ last ∷ []) p n;
@@ -48,7 +48,7 @@ extended_apart xs last p h gap ordered bounded = record {
 joined_holds : (last p : Interval) (m n : ℕ) → last.0 ≤ p.0 → p.0 ≤ last.1 + 1 → last.0 ≤ last.1 → p.0 ≤ p.1 → m ≡ max last.1 p.1 → in_interval (last.0, m) n ≡ (in_interval last n || in_interval p n)
 joined_holds last p m n later touches some other e = grind (arith, in_interval_tells (last.0, m) n, in_interval_tells last n, in_interval_tells p n)
 
-pub extended_joined : (xs : List Interval) (last p : Interval) (m : ℕ) → IsCanonical (xs ++ last ∷ []) → last.0 ≤ p.0 → p.0 ≤ last.1 + 1 → p.0 ≤ p.1 → p.1 ≤ max_number → m ≡ max last.1 p.1 → IsExtended (xs ++ last ∷ []) p (xs ++ (last.0, m) ∷ [])
+pub extended_joined : (xs : List Interval) (last p : Interval) (m : ℕ) → IsCanonical (xs ++ last ∷ []) → last.0 ≤ p.0 → p.0 ≤ last.1 + 1 → p.0 ≤ p.1 → p.1 ≤ max_sequence → m ≡ max last.1 p.1 → IsExtended (xs ++ last ∷ []) p (xs ++ (last.0, m) ∷ [])
 extended_joined xs last p m h later touches ordered bounded e =
     let end = ends_with xs last h in record {
       canonical = canonical-push xs (last.0, m) (record { front = end.front; free = end.free; ordered = omega (arith, e, end.ordered); bounded = omega (arith, e, end.bounded) });

@@ -5,7 +5,7 @@ use Rattle.std.proofs.lemmas.List.{take_more}
 use Rattle.std.specs.Ordering.{nat_cmp}
 use Rattle.std.specs.BTreeMap.{insert_entry}
 use Rattle.coverage.specs.Intervals.{Interval, interval_at, rises_from, IsCanonical, IsNextSpan, AllStartBefore}
-use Rattle.coverage.specs.Starts.{found}
+use Rattle.coverage.specs.steps.Starts.{found}
 use Rattle.coverage.proofs.HoldsLemmas.{rises_from-gap, rises_from-at, rises_from-parts}
 use Rattle.coverage.proofs.StartsLemmas.{found-nil, found-head, found-tail, found-cases, insert_entry-last}
 

@@ -4,9 +4,8 @@ use Rattle.std.specs.Prelude.{codes, decimal}
 use Rattle.std.specs.Str.{IsUtf8}
 use Rattle.std.proofs.lemmas.Str.{IsUtf8-append, IsUtf8-nil, IsUtf8-from_ascii}
 use Rattle.std.proofs.lemmas.Fmt.{IsAscii-decimal}
-use Rattle.std.specs.Ordering.{nat_cmp, match_ordering}
+use Rattle.std.specs.Ordering.{match_ordering}
 use Rattle.std.specs.declared.cmp.Ordering.TheVariants.{Greater}
-use Rattle.std.specs.Cmp.Lexicographic.{slice_cmp}
 use Rattle.json.specs.Token.{Token, end_array}
 use Rattle.json.specs.Lex.{tokens}
 use Rattle.json.specs.Json as json
@@ -22,21 +21,20 @@ use Rattle.serde_json.specs.Read.{of_json, of_items, of_members, read}
 use Rattle.serde_json.specs.Written.{outline, items_outline, members_outline, compact_text}
 use Rattle.serde_json.proofs.Numbers.{number_of-decimal}
 use Rattle.serde_json.proofs.Texts.{print-outline}
-use Rattle.coverage.specs.Intervals.{Interval, max_number, rises_from}
-use Rattle.coverage.specs.Summary.{Sources, AreEntries, InOrder, IsSummary}
+use Rattle.coverage.specs.Intervals.{Interval, max_sequence, rises_from}
+use Rattle.coverage.specs.Summary.{byte_cmp, Sources, AreEntries, InOrder, IsSummary}
 use Rattle.coverage.specs.SummaryText.{interval_data, intervals_items, sources_members, summary_data, summary_text}
-use Rattle.coverage.specs.Places.{EndsBefore}
+use Rattle.coverage.specs.steps.Places.{EndsBefore}
 use Rattle.coverage.proofs.HoldsLemmas.{rises_from-parts, fits_from-true}
-use Rattle.coverage.proofs.EntriesLemmas.{greater_from_less}
-use Rattle.coverage.proofs.ReadingLemmas.{before_between}
-use Rattle.coverage.proofs.TokensLemmas.{print-summary, summary_tokens}
-use Rattle.coverage.specs.Tokens.{intervals_tokens, entry_tokens, sources_tokens}
+use Rattle.coverage.proofs.EntriesLemmas.{before_between, greater_from_less}
+use Rattle.coverage.proofs.WriteLemmas.{print-summary, summary_tokens}
+use Rattle.coverage.specs.steps.Tokens.{intervals_tokens, entry_tokens, sources_tokens}
 
 -- ---- numbers
-number_back : (n : ℕ) → n ≤ max_number → of_json (json.number (decimal n)) ≡ Some (json_data.number (unsigned n))
+number_back : (n : ℕ) → n ≤ max_sequence → of_json (json.number (decimal n)) ≡ Some (json_data.number (unsigned n))
 number_back n h = ap (option_map json_data.number) (number_of-decimal n (omega arith))
 
-interval_back : (p : Interval) → p.0 ≤ max_number → p.1 ≤ max_number → of_json (outline (interval_data p)) ≡ Some (interval_data p)
+interval_back : (p : Interval) → p.0 ≤ max_sequence → p.1 ≤ max_sequence → of_json (outline (interval_data p)) ≡ Some (interval_data p)
 interval_back p low high =
     ap (λ o. option_map array (option_and_then (λ d. option_map (item d) (option_and_then (λ e. option_map (item e) (Some no_items)) (of_json (json.number (decimal p.1))))) o)) (number_back p.0 low)
     ∙ ap (λ o. option_map array (option_map (item (json_data.number (unsigned p.0))) (option_and_then (λ e. option_map (item e) (Some no_items)) o))) (number_back p.1 high)
@@ -56,7 +54,7 @@ put_last (e ∷ es) k d v is h =
     put_greater k d e.0 (array (intervals_items e.1)) (sources_members es) (greater_from_less e.0 k (h 0 (omega arith)))
     ∙ ap (member e.0 (array (intervals_items e.1))) (put_last es k d v is (λ i hi. h (suc i) (omega arith)))
   where
-    put_greater : (k : List ℕ) (d : Data) (l : List ℕ) (e : Data) (ms : Members) → slice_cmp nat_cmp k l ≡ Greater → put k d (member l e ms) ≡ member l e (put k d ms)
+    put_greater : (k : List ℕ) (d : Data) (l : List ℕ) (e : Data) (ms : Members) → byte_cmp k l ≡ Greater → put k d (member l e ms) ≡ member l e (put k d ms)
     put_greater k d l e ms h = ap (λ o. match_ordering o (member k d (member l e ms)) (member l d ms) (member l e (put k d ms))) h
 
 sources_back : (done es : Sources) → AreEntries es → InOrder (done ++ es) → of_members (members_outline (sources_members es)) (sources_members done) ≡ Some (sources_members (done ++ es))
@@ -123,7 +121,7 @@ utf8_append : (ts us : List Token) → AreUtf8 ts → AreUtf8 us → AreUtf8 (ts
 utf8_append [] us h g = g
 utf8_append (t ∷ ts) us h g = (h.0, utf8_append ts us h.1 g)
 
-utf8_decimal : (n : ℕ) → n ≤ max_number → IsUtf8 (decimal n)
+utf8_decimal : (n : ℕ) → n ≤ max_sequence → IsUtf8 (decimal n)
 utf8_decimal n h = IsUtf8-from_ascii (decimal n) (IsAscii-decimal n (omega arith))
 
 utf8_intervals : (n : ℕ) (ps : List Interval) → rises_from n ps ≡ true → AreUtf8 (intervals_tokens ps)

@@ -11,9 +11,9 @@ use Rattle.std.specs.List.{AllByRecursion}
 use Rattle.std.specs.List.Sorted.{IsStrictlySortedBy}
 use Rattle.std.proofs.lemmas.Map.Entries.{lookup_head, lookup_tail}
 use Rattle.std.proofs.lemmas.Map.Keys.{sorted_head, sorted_tail}
-use Rattle.coverage.specs.Intervals.{Interval, max_number, in_interval, holds, rises_from, IsCanonical, IsGreatest, width, size_of}
+use Rattle.coverage.specs.Intervals.{Interval, max_sequence, in_interval, holds, rises_from, IsCanonical, IsGreatest, width, size_of}
 use Rattle.std.proofs.lemmas.List.Sums.{sum_by-cons}
-use Rattle.coverage.specs.Starts.{found}
+use Rattle.coverage.specs.steps.Starts.{found}
 use Rattle.coverage.proofs.HoldsLemmas.{in_interval-true, in_interval-parts, holds-nil, holds-cons, fits_from-true, le-fits_from, rises_from-nil, rises_from-cons, rises_from-parts}
 
 pub is_at-same : (q : ℕ) → is_at (nat_cmp q) q ≡ true
@@ -47,7 +47,7 @@ found-cases q b p ps h = elim (cases_Bool (is_at (nat_cmp q) p.0)) [
   | inr f ↦ inr (is_at-apart q p.0 f, sym (lookup_tail (is_at (nat_cmp q)) p ps f) ∙ h)
 ]
 
-pub found-fits : (n : ℕ) (ps : List Interval) (q b : ℕ) → rises_from n ps ≡ true → found q ps ≡ Some b → (n ≤ q) × (q ≤ b) × (b ≤ max_number)
+pub found-fits : (n : ℕ) (ps : List Interval) (q b : ℕ) → rises_from n ps ≡ true → found q ps ≡ Some b → (n ≤ q) × (q ≤ b) × (b ≤ max_sequence)
 found-fits n [] q b h f = absurd (found-nil q b f)
 found-fits n (p ∷ ps) q b h f =
     let parts = rises_from-parts n p ps h in
@@ -83,7 +83,7 @@ found-above k (p ∷ ps) a b h f = elim (found-cases a b p ps f) [
 
 -- the way back, for a list whose starts ascend
 pub rises_from-found : (n : ℕ) (ps : List Interval) → IsStrictlySortedBy nat_cmp (keys_of ps)
-    → ((a b : ℕ) → found a ps ≡ Some b → (n ≤ a) × (a ≤ b) × (b ≤ max_number))
+    → ((a b : ℕ) → found a ps ≡ Some b → (n ≤ a) × (a ≤ b) × (b ≤ max_sequence))
     → ((a b c d : ℕ) → found a ps ≡ Some b → found c ps ≡ Some d → a < c → b + 1 < c) → rises_from n ps ≡ true
 rises_from-found n [] sorted fits apart = rises_from-nil n
 rises_from-found n (p ∷ ps) sorted fits apart =
@@ -144,7 +144,7 @@ rises_from-any n (p ∷ ps) h =
     let fits = fits_from-true n p parts.0 in
     rises_from-cons 0 p ps ∙ and_from _ _ (le-fits_from 0 p (omega arith) fits.1 fits.2) parts.1
 
-size_bound : (n : ℕ) (ps : List Interval) → rises_from n ps ≡ true → n ≤ max_number + 2 → size_of ps + n ≤ max_number + 2
+size_bound : (n : ℕ) (ps : List Interval) → rises_from n ps ≡ true → n ≤ max_sequence + 2 → size_of ps + n ≤ max_sequence + 2
 size_bound n [] h le = omega arith
 size_bound n (p ∷ ps) h le =
     let parts = rises_from-parts n p ps h in

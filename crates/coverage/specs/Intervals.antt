@@ -1,9 +1,6 @@
 -- Sets of sequence numbers as ascending, disjoint, not adjacent intervals.
+pub use Rattle.attributes.specs.Sequences.{max_sequence}
 use Rattle.std.specs.Prelude.{◌≡◌, ℕ, ◌+◌, ◌-◌, ◌<◌, ◌≤◌, Bool, true, false, ◌&&◌, ◌||◌, nat_le, List, [], ◌∷◌, length, slice_index_or, sum_by, IsTrue, ◌↔◌}
-
--- the greatest sequence number, 2^63 - 1
-abbrev pub max_number : ℕ
-max_number = 0x7FFF_FFFF_FFFF_FFFF
 
 -- the first and the last number
 abbrev pub Interval : Type 0
@@ -24,7 +21,7 @@ interval_at ps k = slice_index_or ps k (0, 0)
 
 -- the interval starts at the number or later, has a member, and ends at a sequence number
 abbrev pub fits_from : ℕ → Interval → Bool
-fits_from n p = nat_le n p.0 && (nat_le p.0 p.1 && nat_le p.1 max_number)
+fits_from n p = nat_le n p.0 && (nat_le p.0 p.1 && nat_le p.1 max_sequence)
 
 -- each interval fits, the first from the number on and each other after a gap
 unfoldable pub rises_from : ℕ → List Interval → Bool
@@ -55,10 +52,12 @@ IsGreatest ps g = (holds ps g ≡ true) × ((n : ℕ) → holds ps n ≡ true �
 abbrev pub IsMissing : List Interval → ℕ → Type 0
 IsMissing ps n = (1 ≤ n) × (holds ps n ≡ false) × ((m : ℕ) × ((n < m) × (holds ps m ≡ true)))
 
--- the interval stands in the list, starts at the number or later, and each interval before it starts earlier
+-- the interval stands in the list, starts at the number or later, and each interval before it
+-- starts earlier
 abbrev pub IsNextSpan : List Interval → ℕ → Interval → Type 0
 IsNextSpan ps from p =
-    (from ≤ p.0) × ((k : ℕ) × ((k < length ps) × (interval_at ps k ≡ p) × ((i : ℕ) → i < k → (interval_at ps i).0 < from)))
+    (from ≤ p.0) × ((k : ℕ) × ((k < length ps) × (interval_at ps k ≡ p)
+    × ((i : ℕ) → i < k → (interval_at ps i).0 < from)))
 
 -- every interval starts before the number
 abbrev pub AllStartBefore : List Interval → ℕ → Type 0

@@ -1,9 +1,8 @@
 pub mod Intervals
-pub mod Starts
 pub mod Summary
-pub mod Places
 pub mod SummaryText
-pub mod Tokens
+pub mod CoverText
 pub mod SummaryShape
 pub mod Refusals
-pub mod Faults
+pub mod Fault
+pub mod steps

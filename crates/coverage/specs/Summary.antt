@@ -1,12 +1,17 @@
 -- Which numbers of each source have been seen.
 use Rattle.std.specs.Prelude.{◌≡◌, ◌≢◌, ℕ, Bool, true, List, [], ◌∷◌, bytes_eq, if◌then◌else◌}
 use Rattle.std.specs.Ordering.{nat_cmp}
+use Rattle.std.specs.declared.cmp.Ordering.{Ordering}
 use Rattle.std.specs.Cmp.Lexicographic.{slice_cmp}
 use Rattle.std.specs.Str.{IsUtf8}
 use Rattle.std.specs.Map.{keys_of}
 use Rattle.std.specs.List.Sorted.{IsStrictlySortedBy}
 use Rattle.attributes.specs.Characters.{is_filled}
 use Rattle.coverage.specs.Intervals.{Interval, IsCanonical, holds}
+
+-- the order of texts by their bytes
+abbrev pub byte_cmp : List ℕ → List ℕ → Ordering
+byte_cmp = slice_cmp nat_cmp
 
 -- a source with the intervals of its numbers
 abbrev pub Entry : Type 0
@@ -25,13 +30,17 @@ abbrev pub AreEntries : Sources → Type 0
 AreEntries [] = Unit {0}
 AreEntries (e ∷ es) = IsEntry e × AreEntries es
 
+-- the entries
+abbrev pub entries_of : Sources → List Entry
+entries_of s = s
+
 -- the sources
 abbrev pub sources_of : Sources → List (List ℕ)
 sources_of s = keys_of s
 
 -- the sources ascend by bytes
 abbrev pub InOrder : Sources → Type 0
-InOrder s = IsStrictlySortedBy (slice_cmp nat_cmp) (sources_of s)
+InOrder s = IsStrictlySortedBy byte_cmp (sources_of s)
 
 -- allowed sources in byte order, each with its intervals, of which there is at least one
 abbrev pub IsSummary : Sources → Type 0

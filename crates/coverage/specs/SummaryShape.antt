@@ -1,4 +1,5 @@
 -- What a JSON value must be so that it may stand for a summary.
+use Rattle.std.specs.Option.{option_zip}
 use Rattle.std.specs.Prelude.{ℕ, Bool, true, false, ◌&&◌, ◌==◌, Option, Some, None, option_and_then, is_some, codes}
 use Rattle.serde_json.specs.Data.{Data, array, object, Items, no_items, item, Members, no_members, member}
 use Rattle.serde_json.specs.Find.{get, as_number, as_u64}
@@ -13,23 +14,17 @@ whole_of d = option_and_then as_u64 (as_number d)
 abbrev pub version_of : Data → Option ℕ
 version_of d = option_and_then whole_of (get (codes "version") d)
 
-abbrev pub pair_from : Option ℕ → Option ℕ → Option Interval
-pair_from (Some a) (Some b) = Some (a, b)
-pair_from (Some a) None = None
-pair_from None b = None
-
 -- the two numbers, where there are just two items and both are whole numbers
 abbrev pub pair_in : Items → Option Interval
-pair_in no_items = None
-pair_in (item a no_items) = None
-pair_in (item a (item b no_items)) = pair_from (whole_of a) (whole_of b)
-pair_in (item a (item b (item c ds))) = None
+pair_in (item a (item b no_items)) = option_zip (whole_of a) (whole_of b)
+pair_in _ = None
 
 -- an array of two whole numbers
 abbrev pub interval_in : Data → Option Interval
 interval_in (array ds) = pair_in ds
 interval_in _ = None
 
+-- each item is such an array
 abbrev pub are_pairs : Items → Bool
 are_pairs no_items = true
 are_pairs (item d ds) = is_some (interval_in d) && are_pairs ds
@@ -39,6 +34,7 @@ abbrev pub is_list_of_pairs : Data → Bool
 is_list_of_pairs (array ds) = are_pairs ds
 is_list_of_pairs _ = false
 
+-- the value of each member is such a list
 abbrev pub are_lists : Members → Bool
 are_lists no_members = true
 are_lists (member k d ms) = is_list_of_pairs d && are_lists ms
@@ -48,10 +44,12 @@ abbrev pub is_object_of_lists : Data → Bool
 is_object_of_lists (object ms) = are_lists ms
 is_object_of_lists _ = false
 
+-- there is a value, and it is such an object
 abbrev pub is_sources : Option Data → Bool
-is_sources None = false
 is_sources (Some d) = is_object_of_lists d
+is_sources None = false
 
+-- how many members an object has
 abbrev pub member_count : Data → ℕ
 member_count (object ms) = members_len ms
 member_count _ = 0

@@ -1,4 +1,4 @@
--- The text of a summary, version 1: a JSON object without white space (RFC 8259), this project's own.
+-- The text of a summary, version 1: our own, a JSON object without white space (RFC 8259).
 use Rattle.std.specs.Prelude.{ℕ, List, [], ◌∷◌, codes}
 use Rattle.serde_json.specs.Data.{unsigned, Data, number, array, object, Items, no_items, item, Members, no_members, member}
 use Rattle.serde_json.specs.Written.{compact_text}
@@ -9,6 +9,7 @@ use Rattle.coverage.specs.Summary.{Sources}
 abbrev pub interval_data : Interval → Data
 interval_data p = array (item (number (unsigned p.0)) (item (number (unsigned p.1)) no_items))
 
+-- each interval as such an array
 abbrev pub intervals_items : List Interval → Items
 intervals_items [] = no_items
 intervals_items (p ∷ ps) = item (interval_data p) (intervals_items ps)
@@ -20,7 +21,8 @@ sources_members (e ∷ es) = member e.0 (array (intervals_items e.1)) (sources_m
 
 -- the summary as JSON: its sources and the version
 abbrev pub summary_data : Sources → Data
-summary_data s = object (member (codes "sources") (object (sources_members s)) (member (codes "version") (number (unsigned 1)) no_members))
+summary_data s = object (member (codes "sources") (object (sources_members s))
+    (member (codes "version") (number (unsigned 1)) no_members))
 
 -- the text of a summary
 unfoldable pub summary_text : Sources → List ℕ

@@ -1,8 +1,9 @@
 //! Laws of sets of numbers, each as the contract of a function that does nothing.
-
-ghost use Rattle.std.specs.Prelude.{◌≡◌, ℕ, List};
-ghost use Rattle.coverage.specs.Intervals.{Interval, IsCanonical, holds};
+ghost use Rattle.std.specs.Prelude.{◌≡◌, ◌<◌, ℕ, Bool, true, List};
+ghost use Rattle.std.specs.List.{count_by, range_with_len};
+ghost use Rattle.coverage.specs.Intervals.{Interval, IsCanonical, holds, size_of};
 ghost use Rattle.coverage.specs.Summary.{IsSummary, Sources, holds_at};
+ghost use Rattle.coverage.specs.CoverText.{IsCoverText};
 
 /// Each set of numbers has one canonical list of intervals.
 pub fn numbers_tell_intervals()
@@ -10,8 +11,25 @@ pub fn numbers_tell_intervals()
         → ((n : ℕ) → holds s n ≡ holds t n) → s ≡ t }
 {}
 
+/// The size of a set is how many of the numbers below any limit of the set it holds.
+pub fn size_counts_numbers()
+    ensures { (s : List Interval) (limit : ℕ) → IsCanonical s
+        → ((n : ℕ) → holds s n ≡ true → n < limit)
+        → size_of s ≡ count_by (holds s) (range_with_len 0 limit) }
+{}
+
 /// Summaries that hold the same numbers of the same sources are the same.
 pub fn numbers_tell_summaries()
     ensures { (s t : Sources) → IsSummary s → IsSummary t
         → ((source : List ℕ) (n : ℕ) → holds_at s source n ≡ holds_at t source n) → s ≡ t }
+{}
+
+/// The numbers of the sources determine the text that says which they are.
+pub fn numbers_tell_cover_texts()
+    ensures one { (has had : List ℕ → ℕ → Bool) (t u : List ℕ)
+        → ((source : List ℕ) (n : ℕ) → has source n ≡ had source n)
+        → IsCoverText has t → IsCoverText had u → t ≡ u }
+    ensures alike { (has had : List ℕ → ℕ → Bool) (t : List ℕ)
+        → ((source : List ℕ) (n : ℕ) → has source n ≡ had source n)
+        → IsCoverText has t → IsCoverText had t }
 {}

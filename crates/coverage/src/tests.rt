@@ -1,3 +1,4 @@
+//! Tests of what no clause says.
 use super::*;
 use attributes::{Sequence, Text};
 use std::alloc::{AllocError, Global};
@@ -231,7 +232,7 @@ fn summaries(rt: HostRuntime) -> Result<(), Fail> {
     assert!(rt; later.of_source("/orders").is_some());
     assert!(rt; later.of_source("/").is_none());
     assert_eq!(rt; later.len(), 2);
-    assert_eq!(rt; later.source_at(1).as_str(), "/orders");
+    assert_eq!(rt; later.source_at(1), "/orders");
     Ok(())
 }
 
@@ -314,6 +315,54 @@ fn faults_have_numbers_and_names(rt: HostRuntime) -> Result<(), Fail> {
     ] {
         assert_eq!(rt; fault.number(), number);
         assert_eq!(rt; format!(in rt.alloc(); "{fault}")?.as_str(), name);
+    }
+    Ok(())
+}
+
+/// The name of the source at a place of the byte order.
+fn name_at(alloc: Global, place: u64) -> Result<Text, Fail> {
+    let name = format!(in alloc; "/source/{place:04}")?;
+    Ok(Text::of(alloc, name.as_str())?)
+}
+
+/// A summary of 500 sources, each with the number of its place. The step is coprime to 500: 1 makes
+/// them ascend, 499 descend, and 137 scatters them.
+fn stepped(alloc: Global, step: u64) -> Result<Summary, Fail> {
+    let mut seen = Summary::empty(alloc);
+    for k in 1..=500u64 {
+        let place = k.wrapping_mul(step) % 500;
+        let source = name_at(alloc, place)?;
+        if source.is_source() {
+            seen.insert(&source, sequence(alloc, place + 1)?)?;
+        }
+    }
+    Ok(seen)
+}
+
+/// Whether each source stands at its place, with just the number of it.
+fn is_in_place(alloc: Global, seen: &Summary) -> Result<bool, Fail> {
+    for (place, entry) in seen.entries()?.iter().enumerate() {
+        let name = name_at(alloc, place as u64)?;
+        let number = place as u64 + 1;
+        if entry.0 != name.as_str() || entry.1.next_span(1) != Some((number, number)) {
+            return Ok(false);
+        }
+    }
+    Ok(true)
+}
+
+#[test]
+fn sources_in_any_order(rt: HostRuntime) -> Result<(), Fail> {
+    let alloc = rt.alloc();
+    let ascending = stepped(alloc, 1)?;
+    assert!(rt; is_in_place(alloc, &ascending)?);
+    assert_eq!(rt; ascending.len(), 500);
+    assert_eq!(rt; ascending.source_at(499), "/source/0499");
+    for step in [499, 137] {
+        let seen = stepped(alloc, step)?;
+        assert!(rt; seen.same(&ascending));
+        assert!(rt; seen.union(&ascending)?.same(&seen));
+        assert!(rt; Summary::of_text(alloc, seen.to_text()?.as_str().as_bytes())?.same(&seen));
     }
     Ok(())
 }

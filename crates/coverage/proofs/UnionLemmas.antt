@@ -1,0 +1,50 @@
+-- The union of two summaries, an entry of the second at a time.
+use Rattle.std.proofs.Common.{◌≡◌, ℕ, Bool, true, false, ◌||◌, ◌&&◌, List, [], ◌∷◌, ◌++◌, refl, sym, ap, subst, ◌∙◌}
+use Rattle.std.specs.Str.{bytes_eq}
+use Rattle.coverage.specs.Intervals.{Interval, IsCanonical, holds}
+use Rattle.coverage.specs.Summary.{Entry, Sources, IsSummary, holds_at}
+use Rattle.coverage.proofs.HoldsLemmas.{holds-nil, holds_first, or-false, or_assoc}
+use Rattle.coverage.proofs.EntriesLemmas.{holds_at-push, holds_some, is_next, split_more, split_all}
+
+-- the numbers of the one summary, and of those entries of the other that are done
+pub record IsUnitedUpTo (own all left both : Sources) : Type 0 where
+  pub done : Sources
+  pub split : done ++ left ≡ all
+  pub summary : IsSummary both
+  pub members : (s : List ℕ) (n : ℕ) → holds_at both s n ≡ (holds_at own s n || holds_at done s n)
+
+pub united_none : (own all left both : Sources) → left ≡ all → both ≡ own → IsSummary own → IsUnitedUpTo own all left both
+united_none own all left both whole copied summary = record {
+  done = [];
+  split = whole;
+  summary = subst IsSummary (sym copied) summary;
+  members = λ s n. ap (λ l. holds_at l s n) copied ∙ sym (ap (λ b. holds_at own s n || b) (holds-nil n) ∙ or-false (holds_at own s n));
+}
+
+pub united_more : (own all left old new : Sources) (e : Entry) (rest : Sources) → IsSummary all → IsUnitedUpTo own all left old → left ≡ e ∷ rest → IsSummary new
+    → ((s : List ℕ) (n : ℕ) → holds_at new s n ≡ (holds_at old s n || (bytes_eq s e.0 && holds e.1 n))) → IsUnitedUpTo own all rest new
+united_more own all left old new e rest h u is summary added =
+    let next = is_next all u.done left e rest h u.split is in record {
+      done = u.done ++ e ∷ [];
+      split = split_more all u.done left e rest u.split is;
+      summary = summary;
+      members = λ s n. added s n
+          ∙ ap (λ b. b || (bytes_eq s e.0 && holds e.1 n)) (u.members s n)
+          ∙ sym (or_assoc (holds_at own s n) (holds_at u.done s n) (bytes_eq s e.0 && holds e.1 n))
+          ∙ ap (λ b. holds_at own s n || b) (sym (holds_at-push u.done e s n next.before));
+    }
+
+pub united_all : (own all left both : Sources) → IsUnitedUpTo own all left both → left ≡ []
+    → (s : List ℕ) (n : ℕ) → holds_at both s n ≡ (holds_at own s n || holds_at all s n)
+united_all own all left both u none s n =
+    u.members s n ∙ ap (λ l. holds_at own s n || holds_at l s n) (split_all all u.done left u.split none)
+
+-- where one of two joined sets has a number, the union has one
+pub some_joined : (old more new : List Interval) → (more ≡ [] → ⊥) → IsCanonical more → ((n : ℕ) → holds new n ≡ (holds old n || holds more n)) → new ≡ [] → ⊥
+some_joined old more new some canonical members =
+    let held = holds_first more some canonical in
+    holds_some new held.0 (members held.0 ∙ ap (λ b. holds old held.0 || b) held.1 ∙ or_true (holds old held.0))
+  where
+    or_true : (b : Bool) → (b || true) ≡ true
+    or_true true = refl
+    or_true false = refl

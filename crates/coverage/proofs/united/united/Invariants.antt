@@ -1,9 +1,0 @@
-use Rattle.std.proofs.Common.{◌+◌, ◌-◌, length}
-use Rattle.coverage.proofs.UnionsLemmas.{IsUnitedUpTo}
-use Rattle.coverage.proofs.united.united.Given as goal
-
-abbrev pub invariant-loop-i : goal.invariant-loop-i
-invariant-loop-i l = IsUnitedUpTo l.xs l.ys l.i l.j l.both.items
-
-abbrev pub decreases-loop-i : goal.decreases-loop-i
-decreases-loop-i l = (length l.xs - l.i) + (length l.ys - l.j)

@@ -1,0 +1,5 @@
+-- Words of private clauses alone: whoever reads what is promised needs none of them.
+pub mod Entries
+pub mod Places
+pub mod Starts
+pub mod Tokens

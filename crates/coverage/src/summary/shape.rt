@@ -1,0 +1,77 @@
+//! Tests of a JSON value's shape.
+ghost use Rattle.std.specs.Prelude.{◌≡◌, Some};
+ghost use Rattle.serde_json.specs.View.{view};
+ghost use Rattle.coverage.specs.SummaryShape.{interval_in, is_list_of_pairs, is_object_of_lists, is_shaped, version_of};
+
+use crate::intervals::Interval;
+use serde_json::Value;
+
+/// The two numbers of an array of two whole numbers.
+pub(crate) fn pair_of(value: &Value) -> Option<Interval>
+    ensures { result ≡ interval_in (view value.now) }
+{
+    let Some(pair) = value.as_array() else {
+        return None;
+    };
+    if pair.len() != 2 {
+        return None;
+    }
+    match (pair[0].as_u64(), pair[1].as_u64()) {
+        (Some(first), Some(last)) => Some((first, last)),
+        _ => None,
+    }
+}
+
+/// Whether the value is an array of pairs of numbers.
+fn is_list(value: &Value) -> bool
+    ensures { result ≡ is_list_of_pairs (view value.now) }
+{
+    let Some(list) = value.as_array() else {
+        return false;
+    };
+    for item in list {
+        if pair_of(item).is_none() {
+            return false;
+        }
+    }
+    true
+}
+
+/// Whether the value is an object of such arrays.
+fn are_sources(value: &Value) -> bool
+    ensures { result ≡ is_object_of_lists (view value.now) }
+{
+    let Some(sources) = value.as_object() else {
+        return false;
+    };
+    for (_, list) in sources {
+        if !is_list(list) {
+            return false;
+        }
+    }
+    true
+}
+
+/// The member `version`, where it is a whole number.
+pub(crate) fn version(value: &Value) -> Option<u64>
+    ensures { result ≡ version_of (view value.now) }
+{
+    value.get("version").and_then(Value::as_u64)
+}
+
+/// Whether the members are just `version` and `sources`, and `sources` has lists of pairs of
+/// numbers.
+pub(crate) fn has_shape(value: &Value) -> bool
+    ensures { result ≡ is_shaped (view value.now) }
+{
+    let Some(members) = value.as_object() else {
+        return false;
+    };
+    if members.len() != 2 {
+        return false;
+    }
+    match value.get("sources") {
+        Some(sources) => are_sources(sources),
+        None => false,
+    }
+}
