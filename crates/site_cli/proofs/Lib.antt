@@ -1,8 +1,2 @@
-mod AlikeLemmas
-mod ClapLemmas
-mod CountLemmas
-mod FileLemmas
-mod FirstsLemmas
-mod ShownLemmas
-mod SourceLemmas
-mod StatusLemmas
+mod LineLemmas
+mod RunLemmas
