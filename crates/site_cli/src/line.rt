@@ -58,8 +58,9 @@ fn fault_line(alloc: Global, name: &str, fault: ReportFault) -> Result<Text, All
         ReportFault::Read(ReadFault::NotJson) => file_line(alloc, name, "not JSON"),
         ReportFault::Read(ReadFault::NotEvent) => file_line(alloc, name, "not an event or a batch"),
         ReportFault::Read(ReadFault::InputTooLarge) => file_line(alloc, name, "too large"),
-        ReportFault::Read(ReadFault::BadEvent { index, fault }) =>
-            event_line(alloc, name, index, fault),
+        ReportFault::Read(ReadFault::BadEvent { index, fault }) => event_line(
+            alloc, name, index, fault,
+        ),
         ReportFault::Event { index, fault } => event_line(alloc, name, index, fault),
     }
 }

@@ -6,6 +6,8 @@ mod line;
 mod question;
 mod run;
 mod system;
+#[cfg(test)]
+mod tests;
 
 use run::exit;
 use std::process::ExitCode;
