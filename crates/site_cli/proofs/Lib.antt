@@ -1,2 +1,3 @@
+mod EndingLemmas
 mod LineLemmas
 mod RunLemmas

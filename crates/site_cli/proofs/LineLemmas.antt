@@ -1,8 +1,7 @@
 -- A name in a line, one character after another.
-use Rattle.std.proofs.Common.{◌≡◌, ◌<◌, ◌+◌, ◌++◌, ◌∷◌, ℕ, List, [], Bool, true, false, cond, length, IsUtf8, ap, sym, ◌∙◌, append_assoc, append-nil, arith}
+use Rattle.std.proofs.Common.{◌≡◌, ◌<◌, ◌+◌, ◌++◌, ◌∷◌, ℕ, List, [], Bool, true, false, cond, IsUtf8, ap, sym, ◌∙◌, append_assoc, append-nil, arith}
 use Rattle.std.specs.Char.{digit_char, encode_utf8}
 use Rattle.std.specs.Prelude.{nat_lt}
-use Rattle.std.specs.Str.{chars}
 use Rattle.std.proofs.lemmas.Str.{chars_past_char, chars-nil, encode_ascii}
 use Rattle.std.specs.List.{flat_map}
 use Rattle.site_cli.specs.Lines.{name_char, printed_name}

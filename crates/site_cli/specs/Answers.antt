@@ -1,5 +1,5 @@
 -- What the plans of the program are answered with, and why they are refused. C says what a name is read as, U why a name isn't read.
-use Rattle.std.specs.Prelude.{◌≡◌, List, ℕ}
+use Rattle.std.specs.Prelude.{List, ℕ}
 use Rattle.command_words.specs.declared.request.Plan.{Plan}
 use Rattle.command_words.specs.declared.request.Plan.TheVariants as plan
 use Rattle.command_words.specs.declared.command.Question.{Question}

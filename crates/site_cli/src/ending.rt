@@ -1,7 +1,7 @@
 //! How a run ends, as a value, and the one place that writes it.
-ghost use Rattle.std.specs.Prelude.{◌≡◌, codes};
-ghost use Rattle.site_cli.specs.Endings.{Ends, WritesOrFails};
-ghost use Rattle.site_cli.specs.Lines.{memory_line};
+ghost use Rattle.std.specs.Prelude.{List, ℕ, OnErr, OnOk};
+ghost use Rattle.std.specs.Io.KnownBytes.{Appends};
+ghost use Rattle.site_cli.specs.Endings.{Ends, Writes, Wrote};
 
 use attributes::Text;
 use std::io::Write;
@@ -28,6 +28,10 @@ pub enum Ending {
     NoMemory,
 }
 
+/// The writing of a text failed.
+#[derive(Clone, Copy)]
+struct Unwritten;
+
 /// Writes the ending to the one stream that it is for, and answers the status. A write that fails
 /// ends with 1, and nothing more is written.
 pub fn finish<O: Write, E: Write>(ending: Ending, out: &mut O, err: &mut E) -> u8
@@ -43,15 +47,34 @@ pub fn finish<O: Write, E: Write>(ending: Ending, out: &mut O, err: &mut E) -> u
     }
 }
 
-/// Writes a text whole. The answer is the status, or that of a refusal where the write fails.
+/// Writes a text. The answer is the status, or that of a refusal where the writing fails.
 fn print<W: Write>(to: &mut W, text: &str, status: u8) -> u8
-    ensures { WritesOrFails result status (W.contents to.old) (W.contents to.new) text.now }
+    ensures { Writes result status (W.contents to.old) (W.contents to.new) text.now }
 {
-    match to.write_all(text.as_bytes()) {
-        Ok(()) => match to.flush() {
-            Ok(()) => status,
-            Err(_) => REFUSED,
-        },
+    match put(to, text.as_bytes()) {
+        Ok(()) => status,
         Err(_) => REFUSED,
     }
+}
+
+/// Writes the bytes whole, or a front of them where the writing fails; no write is tried again.
+fn put<W: Write>(to: &mut W, bytes: &[u8]) -> Result<(), Unwritten>
+    ensures ok { OnOk result (Appends (W.contents to.old) (W.contents to.new) bytes.now) }
+    ensures err { OnErr result ((rest : List ℕ)
+        × Wrote (W.contents to.old) (W.contents to.new) bytes.now rest) }
+{
+    let mut rest = bytes;
+    for _ in 0..bytes.len() {
+        if rest.is_empty() {
+            break;
+        }
+        match to.write(rest) {
+            Ok(count) => rest = &rest[count..],
+            Err(_) => return Err(Unwritten),
+        }
+    }
+    if !rest.is_empty() || to.flush().is_err() {
+        return Err(Unwritten);
+    }
+    Ok(())
 }
