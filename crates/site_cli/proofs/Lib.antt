@@ -1,8 +1,3 @@
-mod AlikeLemmas
-mod ClapLemmas
-mod CountLemmas
-mod FileLemmas
-mod FirstsLemmas
-mod ShownLemmas
-mod SourceLemmas
-mod StatusLemmas
+mod EndingLemmas
+mod LineLemmas
+mod RunLemmas

@@ -1,6 +1,4 @@
-pub mod Queries
-pub mod Commands
-pub mod Plans
-pub mod Shown
-pub mod Reports
+pub mod Lines
+pub mod Answers
+pub mod Endings
 pub mod Runs

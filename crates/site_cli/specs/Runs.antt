@@ -1,21 +1,64 @@
--- What a run of the program prints.
-use Rattle.std.specs.Prelude.{◌≡◌, ℕ, List, Option, length}
+-- What the words after the program's name come to.
+use Rattle.std.specs.Prelude.{◌≡◌, ℕ, List, Option}
 use Rattle.std.specs.Io.KnownBytes.{Appends}
-use Rattle.site_cli.specs.declared.queries.Query.{Query}
-use Rattle.site_cli.specs.declared.asked.Plan.{Plan}
-use Rattle.site_cli.specs.Plans.{IsPlan}
-use Rattle.site_cli.specs.Reports.{IsReport}
+use Rattle.command_words.specs.Plans.{AreFaulty, IsPlan}
+use Rattle.command_words.specs.declared.request.Plan.{Plan}
+use Rattle.file_reports.specs.declared.input.Unread.{Unread}
+use Rattle.site_cli.specs.Answers.{AnswersPlan, RefusesPlan, files_of}
+use Rattle.site_cli.specs.Endings.{Ends}
+use Rattle.site_cli.specs.Lines.{arguments_line, line_of}
+use Rattle.site_cli.specs.declared.ending.Ending.{Ending}
+use Rattle.site_cli.specs.declared.ending.Ending.TheVariants as ending
+use Rattle.site_cli.specs.declared.line.Refusal.{Refusal}
 
--- the output grew by the answer for some contents of as many files
-pub record PrintsAnswer (query : Query) (count : ℕ) (before after : Option (List ℕ)) : Type 0 where
-  pub contents : List (List ℕ)
-  pub one_each : length contents ≡ count
-  pub answer : List ℕ
-  pub is_report : IsReport query contents answer
-  pub printed : Appends before after answer
-
--- the words are a plan, and the output grew by its answer for some contents of its files
-pub record Answers (words : List (List ℕ)) (before after : Option (List ℕ)) : Type 0 where
+-- the words are a plan, and the text is its answer
+pub record AnswersWords (C : List ℕ → List ℕ → Type 0) (words : List (List ℕ)) (text : List ℕ) : Type 0 where
   pub plan : Plan
   pub planned : IsPlan words plan
-  pub prints : PrintsAnswer plan.query (length plan.files) before after
+  pub answered : AnswersPlan C plan text
+
+-- the words are a plan that has no answer, and the text is the line that says why
+pub record RefusesWords (C : List ℕ → List ℕ → Type 0) (U : List ℕ → Unread → Type 0) (words : List (List ℕ)) (text : List ℕ) : Type 0 where
+  pub plan : Plan
+  pub planned : IsPlan words plan
+  pub refusal : Refusal
+  pub refused : RefusesPlan C U plan refusal
+  pub is_line : text ≡ line_of (files_of plan) refusal
+
+-- the line of a refusal, or want of memory for it
+abbrev pub IsLine : List (List ℕ) → Refusal → Ending → Type 0
+IsLine names refusal (ending.Answer text) = ⊥
+IsLine names refusal (ending.Help text) = ⊥
+IsLine names refusal (ending.Faulty text) = ⊥
+IsLine names refusal (ending.Refused text) = text ≡ line_of names refusal
+IsLine names refusal ending.NoMemory = Unit {0}
+
+-- what the words come to
+abbrev pub IsEnding : (List ℕ → List ℕ → Type 0) → (List ℕ → Unread → Type 0) → List (List ℕ) → Ending → Type 0
+IsEnding C U words (ending.Answer text) = AnswersWords C words text
+IsEnding C U words (ending.Help text) = AreFaulty words
+IsEnding C U words (ending.Faulty text) = AreFaulty words
+IsEnding C U words (ending.Refused text) = RefusesWords C U words text
+IsEnding C U words ending.NoMemory = Unit {0}
+
+-- the run ended as the words come to; the streams are standard output, then standard error, before and after
+pub record RunsWords (C : List ℕ → List ℕ → Type 0) (U : List ℕ → Unread → Type 0) (words : List (List ℕ)) (status : ℕ) (out out' err err' : Option (List ℕ)) : Type 0 where
+  pub ending : Ending
+  pub is_ending : IsEnding C U words ending
+  pub ends : Ends ending status out out' err err'
+
+-- what is said where the words couldn't be had
+abbrev pub IsUnheard : Ending → Type 0
+IsUnheard (ending.Answer text) = ⊥
+IsUnheard (ending.Help text) = ⊥
+IsUnheard (ending.Faulty text) = text ≡ arguments_line
+IsUnheard (ending.Refused text) = ⊥
+IsUnheard ending.NoMemory = Unit {0}
+
+-- the run ended without words
+abbrev pub EndsUnheard : ℕ → Option (List ℕ) → Option (List ℕ) → Option (List ℕ) → Option (List ℕ) → Type 0
+EndsUnheard status out out' err err' = (ending : Ending) × IsUnheard ending × Ends ending status out out' err err'
+
+-- the words are a plan, and the output grew by its answer
+abbrev pub PrintsAnswer : (List ℕ → List ℕ → Type 0) → List (List ℕ) → Option (List ℕ) → Option (List ℕ) → Type 0
+PrintsAnswer C words out out' = (text : List ℕ) × AnswersWords C words text × Appends out out' text

@@ -1,15 +1,14 @@
 //! Runs of the program on files in a folder of the test's own.
-use crate::inputs::{Unread, read_all};
-use crate::planning::plan;
-use crate::queries::Query;
-use crate::running::perform;
+use crate::run::perform;
 use attributes::Text;
+use command_words::{Command, Plan, Question, plan};
+use file_reports::{Unread, read_all};
 use std::alloc::Global;
 use std::io::{Read, Write};
 use std::test::Fail;
 use std::{env, fs, io, process};
 
-// How a run ended, and what it printed.
+/// How a run ended, and what it printed.
 #[derive(Drop)]
 struct Ended {
     status: u8,
@@ -37,7 +36,29 @@ fn run(rt: &HostRuntime, words: &[&str]) -> Result<Ended, Fail> {
     Ok(Ended { status, out, err })
 }
 
-// Makes a new folder the current one.
+/// Whether the words end with the status and just these texts on both streams.
+fn says(rt: &HostRuntime, words: &[&str], status: u8, out: &str, err: &str) -> Result<bool, Fail> {
+    let ended = run(rt, words)?;
+    Ok(ended.status == status && ended.out.as_str() == out && ended.err.as_str() == err)
+}
+
+/// Whether the words end with 2, and with the part on the stream that help, or a fault, is for.
+fn says_of_words(
+    rt: &HostRuntime,
+    words: &[&str],
+    is_asked: bool,
+    part: &str,
+) -> Result<bool, Fail> {
+    let ended = run(rt, words)?;
+    let (said, silent) = if is_asked {
+        (ended.out, ended.err)
+    } else {
+        (ended.err, ended.out)
+    };
+    Ok(ended.status == 2 && silent.is_empty() && said.as_str().find(part).is_some())
+}
+
+/// Makes a new folder the current one.
 fn enter_folder(rt: &HostRuntime, test: &str) -> Result<String, Fail> {
     let id = process::id(rt.process());
     let folder = format!(in rt.alloc(); "/tmp/site_cli-{test}-{id}")?;
@@ -55,169 +76,131 @@ fn leave_folder(rt: &HostRuntime, folder: &str) -> Result<(), Fail> {
     Ok(())
 }
 
-// A batch of events of the source /orders that have these numbers and ids of their own.
-fn batch(alloc: Global, numbers: &[u64]) -> Result<String, Fail> {
-    let mut text = String::from_str(alloc, "[")?;
-    for (index, number) in numbers.iter().enumerate() {
-        if index > 0 {
-            text.push_str(",")?;
-        }
-        let event = format!(in alloc;
-            "{{\"id\":\"a{number}\",\"sequence\":\"{number:020}\",\"source\":\"/orders\",\"specversion\":\"1.0\",\"subject\":\"x\",\"type\":\"t.a\"}}"
-        )?;
-        text.push_str(event.as_str())?;
+fn write_files(rt: &HostRuntime, files: &[(&str, &str)]) -> Result<(), Fail> {
+    for (name, text) in files {
+        fs::write(rt, *name, *text)?;
     }
-    text.push_str("]")?;
-    Ok(text)
+    Ok(())
 }
 
-#[test]
-fn cover_unites_the_numbers_of_all_files(rt: HostRuntime) -> Result<(), Fail> {
-    let folder = enter_folder(&rt, "cover")?;
-    let most = 9_223_372_036_854_775_807;
-    let rows: [(&[u64], &[u64], &str); 5] = [
-        (&[], &[], "{\"sources\":{},\"version\":1}\n"),
-        (
-            &[1, 2, 5],
-            &[],
-            "{\"sources\":{\"/orders\":[[1,2],[5,5]]},\"version\":1}\n",
-        ),
-        (
-            &[1, 2, 5],
-            &[4, 3],
-            "{\"sources\":{\"/orders\":[[1,5]]},\"version\":1}\n",
-        ),
-        (
-            &[1, 3],
-            &[],
-            "{\"sources\":{\"/orders\":[[1,1],[3,3]]},\"version\":1}\n",
-        ),
-        (
-            &[most],
-            &[],
-            "{\"sources\":{\"/orders\":[[9223372036854775807,9223372036854775807]]},\"version\":1}\n",
-        ),
-    ];
-    for (first, second, want) in rows {
-        fs::write(&rt, "f.json", batch(rt.alloc(), first)?.as_str())?;
-        fs::write(&rt, "g.json", batch(rt.alloc(), second)?.as_str())?;
-        let got = run(&rt, &["cover", "f.json", "g.json"])?;
-        assert_eq!(rt; got.out.as_str(), want);
-        assert_eq!(rt; got.err.as_str(), "");
-        assert_eq!(rt; got.status, 0);
-    }
-    leave_folder(&rt, folder.as_str())
-}
+// An event of the worked rows, of 111 bytes, in another spelling, and with another type.
+const FIRST: &str =
+    "{\"id\":\"a1\",\"sequence\":\"00000000000000000001\",\"source\":\"/orders\",\"specversion\":\"1.0\",\"subject\":\"x\",\"type\":\"t.a\"}";
 
 const SPELLED: &str =
     "{\"type\":\"t.a\",\"subject\":\"x\",\"specversion\":\"1.0\",\"source\":\"/orders\",\"sequence\":\"00000000000000000001\",\"id\":\"\\u0061\\u0031\"}";
 
-const FIRST: &str =
-    "{\"id\":\"a1\",\"sequence\":\"00000000000000000001\",\"source\":\"/orders\",\"specversion\":\"1.0\",\"subject\":\"x\",\"type\":\"t.a\"}";
-
 const GREATER: &str =
     "{\"id\":\"a1\",\"sequence\":\"00000000000000000001\",\"source\":\"/orders\",\"specversion\":\"1.0\",\"subject\":\"x\",\"type\":\"t.b\"}";
 
-const OTHER: &str =
-    "{\"id\":\"a0\",\"sequence\":\"00000000000000000002\",\"source\":\"/orders\",\"specversion\":\"1.0\",\"type\":\"t.a\"}";
+const NUMBERS: &str =
+    "[{\"id\":\"a\",\"sequence\":\"00000000000000000001\",\"source\":\"/orders\",\"specversion\":\"1.0\",\"type\":\"t\"},{\"id\":\"b\",\"sequence\":\"00000000000000000002\",\"source\":\"/orders\",\"specversion\":\"1.0\",\"type\":\"t\"},{\"id\":\"c\",\"sequence\":\"00000000000000000005\",\"source\":\"/orders\",\"specversion\":\"1.0\",\"type\":\"t\"}]";
 
-const EARLIER: &str =
-    "{\"id\":\"b\",\"sequence\":\"00000000000000000001\",\"source\":\"/\",\"specversion\":\"1.0\",\"type\":\"t.a\"}";
+const MORE: &str =
+    "[{\"id\":\"d\",\"sequence\":\"00000000000000000004\",\"source\":\"/orders\",\"specversion\":\"1.0\",\"type\":\"t\"},{\"id\":\"e\",\"sequence\":\"00000000000000000003\",\"source\":\"/orders\",\"specversion\":\"1.0\",\"type\":\"t\"}]";
+
+const LAST: &str =
+    "{\"id\":\"z\",\"sequence\":\"09223372036854775807\",\"source\":\"/orders\",\"specversion\":\"1.0\",\"type\":\"t\"}";
+
+// A lesser source, and a lesser id.
+const KEYS: &str =
+    "[{\"id\":\"a1\",\"sequence\":\"00000000000000000001\",\"source\":\"/orders\",\"specversion\":\"1.0\",\"subject\":\"x\",\"type\":\"t.a\"},{\"id\":\"a0\",\"sequence\":\"00000000000000000002\",\"source\":\"/orders\",\"specversion\":\"1.0\",\"type\":\"t.a\"},{\"id\":\"b\",\"sequence\":\"00000000000000000001\",\"source\":\"/\",\"specversion\":\"1.0\",\"type\":\"t.a\"}]";
+
+const KEYS_SHOWN: &str =
+    "{\"id\":\"b\",\"sequence\":\"00000000000000000001\",\"source\":\"/\",\"specversion\":\"1.0\",\"type\":\"t.a\"}\n{\"id\":\"a0\",\"sequence\":\"00000000000000000002\",\"source\":\"/orders\",\"specversion\":\"1.0\",\"type\":\"t.a\"}\n{\"id\":\"a1\",\"sequence\":\"00000000000000000001\",\"source\":\"/orders\",\"specversion\":\"1.0\",\"subject\":\"x\",\"type\":\"t.a\"}\n";
+
+const FIRST_SHOWN: &str =
+    "{\"id\":\"a1\",\"sequence\":\"00000000000000000001\",\"source\":\"/orders\",\"specversion\":\"1.0\",\"subject\":\"x\",\"type\":\"t.a\"}\n";
 
 #[test]
-fn shown_prints_the_least_text_of_each_key(rt: HostRuntime) -> Result<(), Fail> {
-    let folder = enter_folder(&rt, "shown")?;
+fn questions_are_answered(rt: HostRuntime) -> Result<(), Fail> {
+    let folder = enter_folder(&rt, "answers")?;
     assert_eq!(rt; FIRST.len(), 111);
-    let alloc = rt.alloc();
-    let rows = [
+    write_files(
+        &rt,
+        &[
+            ("empty", "[]"),
+            ("numbers", NUMBERS),
+            ("more", MORE),
+            ("last", LAST),
+            ("first", FIRST),
+            ("spelled", SPELLED),
+            ("greater", GREATER),
+            ("keys", KEYS),
+        ],
+    )?;
+    let rows: [(&[&str], &str); 9] = [
+        (&["cover", "empty"], "{\"sources\":{},\"version\":1}\n"),
         (
-            format!(in alloc; "[]")?,
-            format!(in alloc; "[]")?,
-            format!(in alloc; "")?,
+            &["cover", "numbers"],
+            "{\"sources\":{\"/orders\":[[1,2],[5,5]]},\"version\":1}\n",
         ),
         (
-            format!(in alloc; "{SPELLED}")?,
-            format!(in alloc; "[]")?,
-            format!(in alloc; "{FIRST}\n")?,
+            &["cover", "numbers", "more"],
+            "{\"sources\":{\"/orders\":[[1,5]]},\"version\":1}\n",
         ),
         (
-            format!(in alloc; "{GREATER}")?,
-            format!(in alloc; "{FIRST}")?,
-            format!(in alloc; "{FIRST}\n")?,
+            &["cover", "last", "empty"],
+            "{\"sources\":{\"/orders\":[[9223372036854775807,9223372036854775807]]},\"version\":1}\n",
         ),
-        (
-            format!(in alloc; "{FIRST}")?,
-            format!(in alloc; "{GREATER}")?,
-            format!(in alloc; "{FIRST}\n")?,
-        ),
-        (
-            format!(in alloc; "[{GREATER},{OTHER}]")?,
-            format!(in alloc; "[{FIRST},{EARLIER},{FIRST}]")?,
-            format!(in alloc; "{EARLIER}\n{OTHER}\n{FIRST}\n")?,
-        ),
+        (&["shown", "empty"], ""),
+        (&["shown", "spelled", "empty"], FIRST_SHOWN),
+        (&["shown", "greater", "first"], FIRST_SHOWN),
+        (&["shown", "first", "greater"], FIRST_SHOWN),
+        (&["shown", "greater", "keys", "first"], KEYS_SHOWN),
     ];
-    for (one, two, want) in &rows {
-        fs::write(&rt, "f.json", one.as_str())?;
-        fs::write(&rt, "g.json", two.as_str())?;
-        let got = run(&rt, &["shown", "f.json", "g.json"])?;
-        assert_eq!(rt; got.out.as_str(), want.as_str());
-        assert_eq!(rt; got.err.as_str(), "");
-        assert_eq!(rt; got.status, 0);
+    for (words, want) in rows {
+        assert!(rt; says(&rt, words, 0, want, "")?, "{words:?}");
     }
     leave_folder(&rt, folder.as_str())
 }
 
-const REST: &str = "\"source\":\"/orders\",\"specversion\":\"1.0\",\"type\":\"t.a\"}";
+// A file, and the fault that is named.
+const FAULTS: [(&str, &str); 9] = [
+    (
+        "{\"id\":\"a\",\"sequence\":\"09223372036854775808\",\"source\":\"/\",\"specversion\":\"1.0\",\"type\":\"t\"}",
+        "site: f: event 0: BadSequence\n",
+    ),
+    (
+        "{\"id\":\"a\",\"sequence\":\"00000000000000000000\",\"source\":\"/\",\"specversion\":\"1.0\",\"type\":\"t\"}",
+        "site: f: event 0: BadSequence\n",
+    ),
+    (
+        "[{\"id\":\"a\",\"sequence\":\"00000000000000000001\",\"source\":\"/\",\"specversion\":\"1.0\",\"type\":\"t\"},{\"id\":\"a\",\"sequence\":\"1\",\"source\":\"/\",\"specversion\":\"1.0\",\"type\":\"t\"}]",
+        "site: f: event 1: BadSequence\n",
+    ),
+    (
+        "{\"id\":\"a\",\"sequence\":1,\"source\":\"/\",\"specversion\":\"1.0\",\"type\":\"t\"}",
+        "site: f: event 0: BadSequence\n",
+    ),
+    (
+        "{\"id\":\"a\",\"source\":\"/\",\"specversion\":\"1.0\",\"type\":\"t\"}",
+        "site: f: event 0: NoSequence\n",
+    ),
+    (
+        "[{\"id\":\"a\",\"source\":\"/\",\"specversion\":\"1.0\",\"type\":\"t\"},{\"specversion\":\"0.3\"}]",
+        "site: f: event 1: SpecVersion\n",
+    ),
+    ("[{},", "site: f: not JSON\n"),
+    ("", "site: f: not JSON\n"),
+    ("3", "site: f: not an event or a batch\n"),
+];
 
 #[test]
 fn the_first_fault_is_named(rt: HostRuntime) -> Result<(), Fail> {
-    let alloc = rt.alloc();
     let folder = enter_folder(&rt, "faults")?;
-    let good = format!(in alloc; "{{\"id\":\"a\",\"sequence\":\"00000000000000000001\",{REST}")?;
-    let faults = [
-        (
-            format!(in alloc; "{{\"id\":\"a\",\"sequence\":\"09223372036854775808\",{REST}")?,
-            "event 0: BadSequence",
-        ),
-        (
-            format!(in alloc; "{{\"id\":\"a\",\"sequence\":\"00000000000000000000\",{REST}")?,
-            "event 0: BadSequence",
-        ),
-        (
-            format!(in alloc; "[{good},{{\"id\":\"a\",\"sequence\":\"1\",{REST}]")?,
-            "event 1: BadSequence",
-        ),
-        (
-            format!(in alloc; "{{\"id\":\"a\",\"sequence\":1,{REST}")?,
-            "event 0: BadSequence",
-        ),
-        (
-            format!(in alloc; "{{\"id\":\"a\",{REST}")?,
-            "event 0: NoSequence",
-        ),
-        (format!(in alloc; "[{good},{good}")?, "not JSON"),
-        (String::new(alloc), "not JSON"),
-        (format!(in alloc; "3")?, "not an event or a batch"),
-        (
-            format!(in alloc; "[{{\"id\":\"a\",{REST},{{\"specversion\":\"0.3\"}}]")?,
-            "event 1: SpecVersion",
-        ),
-        (format!(in alloc; "[{good},5]")?, "event 1: SpecVersion"),
-    ];
-    fs::write(&rt, "good.json", good.as_str())?;
-    fs::write(&rt, "bad.json", "3")?;
-    for (content, fault) in &faults {
-        fs::write(&rt, "f.json", content.as_str())?;
-        let got = run(&rt, &["cover", "good.json", "f.json", "bad.json"])?;
-        let want = format!(in alloc; "site: f.json: {fault}\n")?;
-        assert_eq!(rt; got.err.as_str(), want.as_str());
-        assert_eq!(rt; got.out.as_str(), "");
-        assert_eq!(rt; got.status, 1);
+    write_files(&rt, &[("good", FIRST), ("bad", "3")])?;
+    for (content, line) in FAULTS {
+        write_files(&rt, &[("f", content)])?;
+        assert!(rt;
+            says(&rt, &["cover", "good", "f", "bad"], 1, "", line)?,
+            "{line}"
+        );
     }
     leave_folder(&rt, folder.as_str())
 }
 
-// Writes that many spaces into a file.
+/// Writes that many spaces into a file.
 fn write_spaces(rt: &HostRuntime, name: &str, count: usize) -> Result<(), Fail> {
     let piece = [b' '; 4096];
     let mut file = fs::create(rt, name)?;
@@ -231,79 +214,61 @@ fn write_spaces(rt: &HostRuntime, name: &str, count: usize) -> Result<(), Fail> 
 #[test]
 fn all_files_are_read_before_one_is_judged(rt: HostRuntime) -> Result<(), Fail> {
     let folder = enter_folder(&rt, "unread")?;
-    fs::write(&rt, "bad.json", "3")?;
-    write_spaces(&rt, "over.json", 33_554_433)?;
-    write_spaces(&rt, "full.json", 33_554_432)?;
-    let rows: [(&[&str], &str); 4] = [
-        (
-            &["cover", "bad.json", "none.json"],
-            "site: none.json: cannot read\n",
-        ),
-        (
-            &["cover", "bad.json", "over.json", "none.json"],
-            "site: over.json: too large\n",
-        ),
-        (&["cover", "full.json"], "site: full.json: not JSON\n"),
+    write_files(&rt, &[("bad", "3"), ("-", "[]")])?;
+    write_spaces(&rt, "over", 33_554_433)?;
+    write_spaces(&rt, "full", 33_554_432)?;
+    let rows: [(&[&str], &str); 5] = [
+        (&["cover", "bad", "none"], "site: none: cannot read\n"),
+        (&["cover", "bad", "over", "none"], "site: over: too large\n"),
+        (&["cover", "full"], "site: full: not JSON\n"),
         (&["cover", "."], "site: .: cannot read\n"),
+        (
+            &["cover", "a\tb\n\u{1b}[1m\u{9b}é\\"],
+            "site: a\\tb\\n\\u001b[1m\\u009bé\\: cannot read\n",
+        ),
     ];
-    for (words, want) in rows {
-        let got = run(&rt, words)?;
-        assert_eq!(rt; got.err.as_str(), want);
-        assert_eq!(rt; got.out.as_str(), "");
-        assert_eq!(rt; got.status, 1);
+    for (words, line) in rows {
+        assert!(rt; says(&rt, words, 1, "", line)?, "{line}");
     }
+    let nothing = "{\"sources\":{},\"version\":1}\n";
+    assert!(rt; says(&rt, &["cover", "./-"], 0, nothing, "")?);
     leave_folder(&rt, folder.as_str())
 }
 
 #[test]
 fn faulty_words_and_help_end_with_two(rt: HostRuntime) -> Result<(), Fail> {
-    // The words, the stream that is written, and a part of what it says.
+    // The words, whether they ask for what is said, and a part of it.
     let rows: [(&[&str], bool, &str); 10] = [
         (&["cover"], false, "<FILE>..."),
         (&[], false, "cover"),
         (&["shown"], false, "<FILE>..."),
-        (
-            &["shown", "--help"],
-            true,
-            "<FILE>...  Files of CloudEvents",
-        ),
-        (&["covers", "f.json"], false, "covers"),
-        (&["cover", "--from", "f.json"], false, "--from"),
-        (
-            &["cover", "--help"],
-            true,
-            "<FILE>...  Files of CloudEvents",
-        ),
+        (&["covers", "f"], false, "covers"),
+        (&["cover", "--from", "f"], false, "--from"),
+        (&["cover", "--help"], true, "Usage: site cover <FILE>..."),
+        (&["help", "cover"], true, "Usage: site cover <FILE>..."),
+        (&["shown", "--help"], true, "Files of CloudEvents"),
         (&["--help"], true, "cover"),
-        (&["help", "cover"], true, "<FILE>..."),
         (&["--version"], true, "site 0.1.0\n"),
     ];
     for (words, is_asked, part) in rows {
-        let got = run(&rt, words)?;
-        assert_eq!(rt; got.status, 2);
-        let (said, silent) = if is_asked {
-            (got.out, got.err)
-        } else {
-            (got.err, got.out)
-        };
-        assert_eq!(rt; silent.as_str(), "");
-        assert!(rt; said.as_str().find(part).is_some(), "{}", said.as_str());
+        assert!(rt; says_of_words(&rt, words, is_asked, part)?, "{words:?}");
     }
     Ok(())
 }
 
 #[test]
 fn a_plan_holds_the_question_and_the_files(rt: HostRuntime) -> Result<(), Fail> {
-    let words = words_of(rt.alloc(), &["shown", "f.json", "--", "-g"])?;
-    let plan = plan(rt.alloc(), words.as_slice()).ok().ok_or("no plan")?;
-    assert_eq!(rt; plan.query, Query::Shown);
-    assert_eq!(rt; plan.files.len(), 2);
-    assert_eq!(rt; plan.files.at(0).as_str(), "f.json");
-    assert_eq!(rt; plan.files.at(1).as_str(), "-g");
+    let words = words_of(rt.alloc(), &["shown", "f", "-", "--", "-g"])?;
+    let Plan::Ask { question, files } = plan(rt.alloc(), words.as_slice()).ok().ok_or("no plan")?;
+    assert_eq!(rt; Command::of_word("shown"), Some(Command::Ask(question)));
+    assert_eq!(rt; question, Question::Shown);
+    assert_eq!(rt; files.len(), 3);
+    assert_eq!(rt; files.at(1).as_str(), "-");
+    assert_eq!(rt; files.at(2).as_str(), "-g");
     Ok(())
 }
 
-// A writer whose first write fails, or its flush.
+/// A writer whose first write fails, or its flush.
 #[derive(Drop)]
 struct Closed {
     takes: bool,
@@ -324,26 +289,28 @@ impl Write for Closed {
     }
 }
 
+/// Whether an answer and a refusal end with 1 where the stream fails, and leave the other empty.
+fn ends_with_one(rt: &HostRuntime, takes: bool) -> Result<bool, Fail> {
+    let mut closed = Closed { takes, written: 0 };
+    let mut other = Vec::new(rt.alloc());
+    let words = words_of(rt.alloc(), &["cover", "f"])?;
+    let answer = perform(rt, words.as_slice(), &mut closed, &mut other);
+    let words = words_of(rt.alloc(), &["cover", "none"])?;
+    let refusal = perform(rt, words.as_slice(), &mut other, &mut closed);
+    let lengths = if takes { 27 + 24 } else { 0 };
+    Ok(answer == 1 && refusal == 1 && other.is_empty() && closed.written == lengths)
+}
+
 #[test]
 fn a_write_that_fails_ends_with_one(rt: HostRuntime) -> Result<(), Fail> {
-    let alloc = rt.alloc();
     let folder = enter_folder(&rt, "writes")?;
-    fs::write(&rt, "f.json", "[]")?;
-    for takes in [false, true] {
-        let mut closed = Closed { takes, written: 0 };
-        let mut other = Vec::new(alloc);
-        let words = words_of(alloc, &["cover", "f.json"])?;
-        assert_eq!(rt; perform(&rt, words.as_slice(), &mut closed, &mut other), 1);
-        assert_eq!(rt; other.len(), 0);
-        assert_eq!(rt; closed.written, if takes { 27 } else { 0 });
-        let words = words_of(alloc, &["cover", "none.json"])?;
-        assert_eq!(rt; perform(&rt, words.as_slice(), &mut other, &mut closed), 1);
-        assert_eq!(rt; other.len(), 0);
-    }
+    write_files(&rt, &[("f", "[]")])?;
+    assert!(rt; ends_with_one(&rt, false)?);
+    assert!(rt; ends_with_one(&rt, true)?);
     leave_folder(&rt, folder.as_str())
 }
 
-// A reader of that many bytes, some at each read, whose read of one number fails.
+/// A reader of that many bytes, some at each read, whose read of one number fails.
 #[derive(Drop)]
 struct Drip {
     left: usize,
@@ -364,34 +331,32 @@ impl Read for Drip {
     }
 }
 
+/// How many bytes are read, or why none.
+fn length_read(alloc: Global, mut drip: Drip) -> Result<usize, Unread> {
+    let bytes = read_all(alloc, &mut drip)?;
+    Ok(bytes.as_bytes().len())
+}
+
 #[test]
 fn an_input_is_read_to_its_end(rt: HostRuntime) -> Result<(), Fail> {
-    let mut slice: &[u8] = b"abc";
-    let bytes = read_all(rt.alloc(), &mut slice).ok().ok_or("unread")?;
-    assert_eq!(rt; bytes.as_bytes(), b"abc".as_slice());
     let limit = 33_554_432;
     let rows = [
-        (3, 1, 0, None),
-        (3, 1, 1, Some(Unread::CannotRead)),
-        (3, 1, 4, Some(Unread::CannotRead)),
-        (limit, 60_000, 0, None),
-        (limit + 1, 60_000, 0, Some(Unread::TooLarge)),
-        (usize::MAX, 1_000, 0, Some(Unread::TooLarge)),
+        (3, 1, 0, Ok(3)),
+        (3, 1, 1, Err(Unread::CannotRead)),
+        (3, 1, 4, Err(Unread::CannotRead)),
+        (limit, 60_000, 0, Ok(limit)),
+        (limit + 1, 60_000, 0, Err(Unread::TooLarge)),
+        (usize::MAX, 1_000, 0, Err(Unread::TooLarge)),
     ];
     for (left, most, fails_at, want) in rows {
-        let mut drip = Drip {
+        let reads = 0;
+        let drip = Drip {
             left,
             most,
-            reads: 0,
+            reads,
             fails_at,
         };
-        match read_all(rt.alloc(), &mut drip) {
-            Ok(bytes) => {
-                assert_eq!(rt; want, None);
-                assert_eq!(rt; bytes.as_bytes().len(), left);
-            }
-            Err(why) => assert_eq!(rt; want, Some(why)),
-        }
+        assert_eq!(rt; length_read(rt.alloc(), drip), want);
     }
     Ok(())
 }

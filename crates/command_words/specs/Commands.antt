@@ -1,0 +1,21 @@
+-- The commands of the program, as clap's rule reads them.
+use Rattle.std.specs.Prelude.{List, ℕ, codes, true, Some}
+use Rattle.clap.specs.Words.{App, Rule, new_app, new_rule, with_rule}
+use Rattle.clap.specs.declared.builder.action.ArgAction.TheVariants.{Append}
+use Rattle.command_words.specs.declared.command.Command.{Command}
+use Rattle.command_words.specs.declared.command.Command.TheVariants.{Ask}
+use Rattle.command_words.specs.declared.command.Question.{Question}
+use Rattle.command_words.specs.declared.command.Question.TheVariants.{Cover, Shown}
+
+-- the word of a command
+abbrev pub word_of : Command → List ℕ
+word_of (Ask Cover) = codes "cover"
+word_of (Ask Shown) = codes "shown"
+
+-- `FILE..`, one or more
+abbrev pub files_rule : Rule
+files_rule = record (new_rule (codes "file")) { value_names = 1; action = Some Append; required = true }
+
+-- a command's word and its arguments
+abbrev pub app_for : Command → App
+app_for (Ask question) = with_rule (new_app (word_of (Ask question))) files_rule

@@ -1,0 +1,16 @@
+//! The words of the command line, and the plan that they are.
+#![tactic(auto)]
+
+mod argument;
+mod command;
+mod fault;
+mod program;
+mod request;
+mod texts;
+mod words;
+
+pub use command::{Command, Question};
+pub use fault::Faulty;
+pub use request::Plan;
+pub use texts::Texts;
+pub use words::plan;

@@ -1,0 +1,68 @@
+//! The program as a whole, for its help, its version and what it says of faulty words.
+ghost use Rattle.std.specs.Prelude.{◌≢◌, ⊤};
+ghost use Rattle.clap.specs.Words.{kind_of};
+ghost use Rattle.clap.specs.declared.error.kind.ErrorKind.{ErrorKind};
+ghost use Rattle.command_words.specs.Plans.{Blames};
+
+use crate::command::{Command, Question};
+use crate::fault::Faulty;
+use attributes::Text;
+use clap::Error;
+use clap::error::ErrorKind;
+use std::alloc::{AllocError, Global};
+
+/// The program with all its commands. It reads words whose first is no command, for its help, its
+/// version, and what it says of a word that it doesn't know.
+fn program<'a>(alloc: Global) -> Result<clap::Command<'a>, AllocError> {
+    clap::Command::new(alloc, "site")
+        .bin_name("site")?
+        .version("0.1.0")
+        .about("Answers questions about the events in files of CloudEvents")
+        .no_binary_name(true)
+        .subcommand_required(true)
+        .arg_required_else_help(true)
+        .subcommand(Command::Ask(Question::Cover).parser(alloc)?)?
+        .subcommand(Command::Ask(Question::Shown).parser(alloc)?)
+}
+
+/// What is said of words whose first is no command: help, the version, or which word is unknown.
+pub fn no_command(alloc: Global, words: &[&str]) -> Faulty
+    ensures { Blames ⊤ result }
+{
+    match program(alloc) {
+        Ok(program) => match program.try_get_matches_from(words) {
+            Ok(_) => unknown_word(alloc),
+            Err(error) => faulty_of(alloc, error),
+        },
+        Err(_) => Faulty::OutOfMemory,
+    }
+}
+
+/// The refusal that an error of clap is.
+pub fn faulty_of(alloc: Global, error: Error) -> Faulty
+    ensures { Blames (kind_of error ≢ ErrorKind.OutOfMemory) result }
+{
+    let kind = error.kind();
+    if matches!(kind, ErrorKind::OutOfMemory) {
+        return Faulty::OutOfMemory;
+    }
+    let is_help = matches!(kind, ErrorKind::DisplayHelp | ErrorKind::DisplayVersion);
+    match format!(in alloc; "{error}") {
+        Ok(text) => Faulty::Words {
+            text: Text::from_string(text),
+            is_help,
+        },
+        Err(_) => Faulty::OutOfMemory,
+    }
+}
+
+/// The refusal where clap finds a command in words whose first is none, which it never does.
+fn unknown_word(alloc: Global) -> Faulty {
+    match Text::of(alloc, "error: the first word is no command\n") {
+        Ok(text) => Faulty::Words {
+            text,
+            is_help: false,
+        },
+        Err(_) => Faulty::OutOfMemory,
+    }
+}

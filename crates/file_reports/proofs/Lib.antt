@@ -1,0 +1,7 @@
+mod AlikeLemmas
+mod CountLemmas
+mod FileLemmas
+mod FirstsLemmas
+mod ShelfLemmas
+mod ShownLemmas
+mod SourceLemmas

@@ -1,0 +1,28 @@
+use Rattle.std.proofs.Common.{◌≡◌, ◌∙◌, ℕ, List, [], ap, sym, subst, take, length, arith, refl}
+use Rattle.std.specs.Prelude.{Some, slice_get}
+use Rattle.std.proofs.lemmas.Option.{slice_get_read}
+use Rattle.file_reports.specs.steps.Counts.{CountsFiles}
+use Rattle.file_reports.proofs.CountLemmas.{take_next}
+use Rattle.file_reports.proofs.FileLemmas.{CountsFiles-more, refusal_by}
+use Rattle.file_reports.proofs.cover.summary_of.Goals as goal
+
+pub loop-file-init : goal.loop-file-init
+loop-file-init c = ([], tt, λ source n. c.empty-summary.ensures.members source n)
+
+pub returns-in-Err-clause-err : goal.returns-in-Err-clause-err
+returns-in-Err-clause-err c =
+    let files = c.args.files.now in
+    let there : slice_get files c.loop-file.file ≡ Some c.as_bytes.result.now =
+    slice_get_read files (length files) c.loop-file.file c.index-files-file.result refl (omega arith) c.index-files-file.is
+    ∙ ap (λ (x : List ℕ). Some x) (sym c.as_bytes.ensures.value) in
+    refusal_by files c.loop-file.file c.as_bytes.result.now c.in-Err.fault c.loop-file.invariant.0 there c.in-Err.ensures.fault c.loop-file.invariant.1
+
+pub loop-file-preserved : goal.loop-file-preserved
+loop-file-preserved c =
+    let files = c.args.files.now in
+    let there : slice_get files c.loop-file.file ≡ Some c.as_bytes.result.now =
+    slice_get_read files (length files) c.loop-file.file c.index-files-file.result refl (omega arith) c.index-files-file.is
+    ∙ ap (λ (x : List ℕ). Some x) (sym c.as_bytes.ensures.value) in
+    subst (λ (fs : List (List ℕ)). CountsFiles fs c.add_numbers.new.summary) (sym (take_next files c.loop-file.file c.as_bytes.result.now there))
+    (CountsFiles-more (take c.loop-file.file files) c.as_bytes.result.now c.in-Ok.batch c.loop-file.summary c.add_numbers.new.summary
+    c.loop-file.invariant c.in-Ok.ensures.reads c.in-Ok.ensures.numbered c.in_ok-add_numbers-in-Ok.ensures)

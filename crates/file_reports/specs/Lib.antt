@@ -1,0 +1,5 @@
+pub mod Inputs
+pub mod Shelves
+pub mod Shown
+pub mod Reports
+pub mod steps

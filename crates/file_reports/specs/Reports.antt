@@ -1,0 +1,108 @@
+-- Answers to questions about the events of files.
+use Rattle.std.specs.Prelude.{◌≡◌, ◌==◌, ◌&&◌, ◌⊎◌, ◌↔◌, ◌++◌, Contains, ℕ, List, [], ◌∷◌, Bool, true, false, None, Option, Some, bytes_eq, is_some, slice_get, take}
+use Rattle.std.specs.List.{flat_map, list_all, list_any}
+use Rattle.attributes.specs.Events.{EventValue, source_of}
+use Rattle.attributes.specs.Sequences.{number_of, sequence_fault}
+use Rattle.attributes.specs.declared.faults.Fault.{Fault}
+use Rattle.event_json.specs.Reading.{IsRefused, Reads}
+use Rattle.coverage.specs.Summary.{IsSummary, Sources, holds_at}
+use Rattle.coverage.specs.SummaryText.{summary_text}
+use Rattle.file_reports.specs.declared.query.Query.{Query}
+use Rattle.file_reports.specs.Shown.{AreShown, Row}
+use Rattle.file_reports.specs.declared.query.Query.TheVariants.{Cover, Shown}
+use Rattle.file_reports.specs.declared.refusal.ReportFault.{ReportFault}
+use Rattle.file_reports.specs.declared.refusal.ReportFault.TheVariants as fault
+use Rattle.file_reports.specs.declared.refusal.Refused.{Refused}
+
+-- ---- the events of files
+
+-- each event has a number
+abbrev pub AreSequenced : List EventValue → Type 0
+AreSequenced events = list_all (λ e. is_some (number_of e)) events ≡ true
+
+-- each file spells its list of events, all of them with numbers
+abbrev pub EachReads : List (List ℕ) → List (List EventValue) → Type 0
+EachReads [] [] = Unit {0}
+EachReads (file ∷ files) (events ∷ lists) = Reads file events × AreSequenced events × EachReads files lists
+EachReads _ _ = ⊥
+
+-- the events of all lists
+abbrev pub joined : List (List EventValue) → List EventValue
+joined lists = flat_map (λ events. events) lists
+
+-- ---- the answers
+
+abbrev pub is_number : Option ℕ → ℕ → Bool
+is_number None n = false
+is_number (Some m) n = n == m
+
+-- whether an event has the source and the number
+abbrev pub is_numbered : EventValue → List ℕ → ℕ → Bool
+is_numbered e source n = bytes_eq source (source_of e) && is_number (number_of e) n
+
+-- whether one of the events has the source and the number
+abbrev pub has_number : List EventValue → List ℕ → ℕ → Bool
+has_number events source n = list_any (λ e. is_numbered e source n) events
+
+-- a summary that holds exactly the numbers of the events
+pub record Summarizes (events : List EventValue) (summary : Sources) : Type 0 where
+  pub canonical : IsSummary summary
+  pub exact : (source : List ℕ) (n : ℕ) → holds_at summary source n ≡ has_number events source n
+
+-- a line ends with LF
+abbrev pub line : List ℕ → List ℕ
+line text = text ++ 10 ∷ []
+
+-- the line of a shown event
+abbrev pub text_line : Row → List ℕ
+text_line row = line row.2
+
+-- the text answers the question about the events
+abbrev pub IsAnswer : Query → List EventValue → List ℕ → Type 0
+IsAnswer Cover events text = (summary : Sources) × Summarizes events summary × (text ≡ line (summary_text summary))
+IsAnswer Shown events text = (rows : List Row) × AreShown events rows × (text ≡ flat_map text_line rows)
+
+-- the text answers the question about the events of the files, which all spell events with numbers
+abbrev pub IsReport : Query → List (List ℕ) → List ℕ → Type 0
+IsReport query files text = (lists : List (List EventValue)) × EachReads files lists × IsAnswer query (joined lists) text
+
+-- the event is one of those that the files spell
+abbrev pub HoldsEvent : List (List ℕ) → EventValue → Type 0
+HoldsEvent files e = (lists : List (List EventValue)) × EachReads files lists × Contains (joined lists) e
+
+-- the files spell the same events as the others, in whatever order, grouping and repetition
+abbrev pub HoldSameEvents : List (List ℕ) → List (List ℕ) → Type 0
+HoldSameEvents files others = (e : EventValue) → HoldsEvent files e ↔ HoldsEvent others e
+
+-- ---- the refusals
+
+-- the event at i is the first without a number, and this is why
+pub record IsUnnumberedAt (events : List EventValue) (i : ℕ) (why : Fault) : Type 0 where
+  pub event : EventValue
+  pub at : slice_get events i ≡ Some event
+  pub without : number_of event ≡ None
+  pub reason : why ≡ sequence_fault event
+  pub first : AreSequenced (take i events)
+
+-- the first of the events without a number, and why it has none
+abbrev pub IsUnnumbered : List EventValue → ReportFault → Type 0
+IsUnnumbered events fault.OutOfMemory = ⊥
+IsUnnumbered events (fault.Read why) = ⊥
+IsUnnumbered events (fault.Event i why) = IsUnnumberedAt events i why
+
+-- the first fault of a file: it spells no events, or one of its events has no number
+abbrev pub IsFault : List ℕ → ReportFault → Type 0
+IsFault file fault.OutOfMemory = ⊥
+IsFault file (fault.Read why) = IsRefused file why
+IsFault file (fault.Event i why) = (events : List EventValue) × Reads file events × IsUnnumberedAt events i why
+
+-- the first file at fault, and its first fault
+pub record IsAtFault (files : List (List ℕ)) (index : ℕ) (why : ReportFault) : Type 0 where
+  pub file : List ℕ
+  pub at : slice_get files index ≡ Some file
+  pub is_fault : IsFault file why
+  pub before : (lists : List (List EventValue)) × EachReads (take index files) lists
+
+-- memory ran out, or this is the first file at fault
+abbrev pub IsRefusal : List (List ℕ) → Refused → Type 0
+IsRefusal files refused = (refused.fault ≡ fault.OutOfMemory) ⊎ IsAtFault files refused.file refused.fault

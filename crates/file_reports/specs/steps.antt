@@ -1,0 +1,3 @@
+-- What private clauses alone use.
+pub mod Counts
+pub mod Rows

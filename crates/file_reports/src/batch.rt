@@ -1,0 +1,45 @@
+//! The events of one file, each with its number.
+ghost use Rattle.std.specs.Prelude.{◌≡◌, ◌≢◌, IfErr, IfOk};
+ghost use Rattle.event_json.specs.Reading.{Reads};
+ghost use Rattle.file_reports.specs.Reports.{AreSequenced, IsFault, IsUnnumbered};
+
+use crate::refusal::ReportFault;
+use attributes::{Batch, Events, Sequenced};
+use event_json::{ReadFault, read_events};
+use std::alloc::Global;
+
+/// The events that a file's bytes spell, each with its number. The first fault of the file is
+/// answered.
+pub fn batch_of_file(alloc: Global, bytes: &[u8]) -> Result<Batch, ReportFault>
+    ensures reads { IfOk result (λ events. Reads bytes.now events) }
+    ensures numbered { IfOk result (λ events. AreSequenced events) }
+    ensures fault { IfErr result (λ why. why ≢ ReportFault.OutOfMemory → IsFault bytes.now why) }
+{
+    match read_events(alloc, bytes) {
+        Ok(events) => sequenced(alloc, &events),
+        Err(ReadFault::OutOfMemory) => Err(ReportFault::OutOfMemory),
+        Err(fault) => Err(ReportFault::Read(fault)),
+    }
+}
+
+/// The events with their numbers, or the first that has none.
+///
+/// Each event is copied once: a list of events lends its events and doesn't give them away.
+fn sequenced(alloc: Global, events: &Events) -> Result<Batch, ReportFault>
+    ensures same { IfOk result (λ batch. batch ≡ events.now) }
+    ensures numbered { IfOk result (λ batch. AreSequenced batch) }
+    ensures fault { IfErr result (λ why. why ≢ ReportFault.OutOfMemory
+        → IsUnnumbered events.now why) }
+{
+    let mut batch = Batch::empty(alloc);
+    for index in 0..events.len() {
+        match Sequenced::of(events.at(index).copy()?) {
+            Ok(event) => batch.push(event)?,
+            Err(unsequenced) => {
+                let fault = unsequenced.fault;
+                return Err(ReportFault::Event { index, fault });
+            }
+        }
+    }
+    Ok(batch)
+}

@@ -1,0 +1,17 @@
+//! Answers to questions about the events in files of CloudEvents: from bytes to the printed text.
+#![tactic(auto)]
+
+mod answer;
+mod batch;
+mod cover;
+mod input;
+mod listing;
+mod query;
+mod refusal;
+mod shelf;
+
+pub use answer::report;
+pub use input::{Unread, read_all};
+pub use query::Query;
+pub use refusal::{Refused, ReportFault};
+pub use shelf::{Shelf, UnreadAt, contents_of};

@@ -1,0 +1,100 @@
+-- The lines on standard error of a run that was refused.
+use Rattle.std.specs.Prelude.{◌==◌, ◌/◌, ◌%◌, ℕ, List, [], ◌∷◌, ◌++◌, codes, slice_get, unwrap_or, if◌then◌else◌}
+use Rattle.std.specs.Char.{digit_char, encode_utf8, is_control}
+use Rattle.std.specs.Fmt.{decimal}
+use Rattle.std.specs.List.{flat_map}
+use Rattle.std.specs.Str.{chars}
+use Rattle.attributes.specs.declared.faults.Fault.{Fault}
+use Rattle.attributes.specs.declared.faults.Fault.TheVariants as fault
+use Rattle.event_json.specs.declared.faults.ReadFault.TheVariants as read
+use Rattle.file_reports.specs.declared.input.Unread.{Unread}
+use Rattle.file_reports.specs.declared.input.Unread.TheVariants as unread
+use Rattle.file_reports.specs.declared.refusal.ReportFault.{ReportFault}
+use Rattle.file_reports.specs.declared.refusal.ReportFault.TheVariants as report
+use Rattle.site_cli.specs.declared.line.Refusal.{Refusal}
+use Rattle.site_cli.specs.declared.line.Refusal.TheVariants as refusal
+
+-- ---- names of files
+
+-- a backslash and a letter
+abbrev pub escape : ℕ → List ℕ
+escape letter = 92 ∷ letter ∷ []
+
+-- a control character as `\u00` with two lower-case hexadecimal digits, any other as it is
+abbrev pub other_char : ℕ → List ℕ
+other_char c = if is_control c then 92 ∷ 117 ∷ 48 ∷ 48 ∷ digit_char (c / 16 % 16) ∷ digit_char (c % 16) ∷ [] else encode_utf8 c
+
+-- a control character as in a JSON string (RFC 8259, section 7), the usual ones as `\b`, `\t`, `\n`, `\f`, `\r`; any other character as it is
+abbrev pub name_char : ℕ → List ℕ
+name_char c =
+    if c == 8 then escape 98 else if c == 9 then escape 116 else if c == 10 then escape 110 else if c == 12 then escape 102
+    else if c == 13 then escape 114 else other_char c
+
+-- a file's name in a line
+abbrev pub printed_name : List ℕ → List ℕ
+printed_name name = flat_map name_char (chars name)
+
+-- the name at a place, from 0
+abbrev pub name_at : List (List ℕ) → ℕ → List ℕ
+name_at names file = unwrap_or (slice_get names file) []
+
+-- ---- the words of faults
+
+abbrev pub fault_name : Fault → List ℕ
+fault_name fault.OutOfMemory = codes "OutOfMemory"
+fault_name fault.SpecVersion = codes "SpecVersion"
+fault_name fault.Id = codes "Id"
+fault_name fault.Source = codes "Source"
+fault_name fault.Kind = codes "Kind"
+fault_name fault.Subject = codes "Subject"
+fault_name fault.Time = codes "Time"
+fault_name fault.ContentType = codes "ContentType"
+fault_name fault.Schema = codes "Schema"
+fault_name fault.ExtensionName = codes "ExtensionName"
+fault_name fault.ExtensionValue = codes "ExtensionValue"
+fault_name fault.TwoData = codes "TwoData"
+fault_name fault.Base64 = codes "Base64"
+fault_name fault.DataNumber = codes "DataNumber"
+fault_name fault.TooDeep = codes "TooDeep"
+fault_name fault.TooLarge = codes "TooLarge"
+fault_name fault.NoSequence = codes "NoSequence"
+fault_name fault.BadSequence = codes "BadSequence"
+
+-- `event I: NAME`
+abbrev pub event_words : ℕ → Fault → List ℕ
+event_words index why = codes "event " ++ decimal index ++ codes ": " ++ fault_name why
+
+-- ---- the lines
+
+-- `site: FILE: WORDS`
+abbrev pub file_line : List ℕ → List ℕ → List ℕ
+file_line name words = codes "site: " ++ printed_name name ++ codes ": " ++ words ++ 10 ∷ []
+
+-- `site: out of memory`
+abbrev pub memory_line : List ℕ
+memory_line = codes "site: out of memory" ++ 10 ∷ []
+
+-- a word of the command line isn't UTF-8
+abbrev pub arguments_line : List ℕ
+arguments_line = codes "site: the arguments aren't text" ++ 10 ∷ []
+
+-- a file of this name was not read
+abbrev pub unread_line : List ℕ → Unread → List ℕ
+unread_line name unread.OutOfMemory = memory_line
+unread_line name unread.CannotRead = file_line name (codes "cannot read")
+unread_line name unread.TooLarge = file_line name (codes "too large")
+
+-- a file of this name is at fault
+abbrev pub fault_line : List ℕ → ReportFault → List ℕ
+fault_line name report.OutOfMemory = memory_line
+fault_line name (report.Read read.OutOfMemory) = memory_line
+fault_line name (report.Read read.NotJson) = file_line name (codes "not JSON")
+fault_line name (report.Read read.NotEvent) = file_line name (codes "not an event or a batch")
+fault_line name (report.Read (read.BadEvent index why)) = file_line name (event_words index why)
+fault_line name (report.Read read.InputTooLarge) = file_line name (codes "too large")
+fault_line name (report.Event index why) = file_line name (event_words index why)
+
+-- the one line of a refusal, where the command named these files
+abbrev pub line_of : List (List ℕ) → Refusal → List ℕ
+line_of names (refusal.Unread at) = unread_line (name_at names at.file) at.why
+line_of names (refusal.File refused) = fault_line (name_at names refused.file) refused.fault

@@ -1,0 +1,125 @@
+//! The whole program, over any runtime and writers.
+ghost use Rattle.std.specs.Prelude.{◌≡◌, ◌≤◌, IfErr, IfOk, MatchResult};
+ghost use Rattle.std.specs.Process.{exit_status};
+ghost use Rattle.command_words.specs.Plans.{AreFaulty};
+ghost use Rattle.site_cli.specs.Answers.{AnswersPlan, RefusesPlan, files_of};
+ghost use Rattle.site_cli.specs.Runs.{EndsUnheard, IsEnding, IsLine, IsUnheard, PrintsAnswer, RunsWords};
+
+use crate::ending::{Ending, finish};
+use crate::line::{Refusal, line_of};
+use crate::question::ask;
+use crate::system::SystemFiles;
+use attributes::Text;
+use command_words::{Faulty, Plan, plan};
+use file_reports::Shelf;
+use std::alloc::Global;
+use std::io;
+use std::io::{ErrorKind, Write};
+use std::process::ExitCode;
+use std::rt::Files;
+
+/// Runs the program on the words after its name, and answers its exit code. Words that couldn't be
+/// had are at fault, or memory was refused.
+pub fn exit<R: AllocGlobal + Files, O: Write, E: Write>(
+    rt: &R,
+    words: io::Result<Vec<Text>>,
+    out: &mut O,
+    err: &mut E,
+) -> ExitCode
+    ensures { MatchResult words
+        (λ words. RunsWords (λ _ _. Unit {0}) (λ _ _. Unit {0}) words.items (exit_status result)
+        (O.contents out.old) (O.contents out.new) (E.contents err.old) (E.contents err.new))
+        (λ _. EndsUnheard (exit_status result)
+        (O.contents out.old) (O.contents out.new) (E.contents err.old) (E.contents err.new)) }
+{
+    match words {
+        Ok(words) => ExitCode::from(perform(rt, words.as_slice(), out, err)),
+        Err(error) => ExitCode::from(finish(unheard(rt.alloc(), error.kind()), out, err)),
+    }
+}
+
+/// Runs the program on the words after its name, and answers its exit status: 0 for a result, 1 for
+/// a refusal and for output that can't be written, 2 for faulty words and for help.
+///
+/// All files are read before any is judged. A result is written to `out` in one piece, a refusal as
+/// one line to `err`. Help that was asked for goes to `out`, what is said of faulty words to `err`.
+/// After a write that fails nothing more is written.
+pub fn perform<R: AllocGlobal + Files, O: Write, E: Write>(
+    rt: &R,
+    words: &[Text],
+    out: &mut O,
+    err: &mut E,
+) -> u8
+    ensures status { result ≤ 2 }
+    ensures answer { result ≡ 0
+        → PrintsAnswer (λ _ _. Unit {0}) words.now (O.contents out.old) (O.contents out.new) }
+    ensures faulty { result ≡ 2 → AreFaulty words.now }
+    ensures runs { RunsWords (λ _ _. Unit {0}) (λ _ _. Unit {0}) words.now result
+        (O.contents out.old) (O.contents out.new) (E.contents err.old) (E.contents err.new) }
+{
+    let shelf = SystemFiles { rt };
+    finish(outcome(rt.alloc(), &shelf, words), out, err)
+}
+
+/// What the words come to over a shelf of files, before anything is written.
+fn outcome<S: Shelf>(alloc: Global, shelf: &S, words: &[Text]) -> Ending
+    ensures { IsEnding (S.is_content shelf.now) (S.is_unread shelf.now) words.now result }
+{
+    match plan(alloc, words) {
+        Ok(plan) => match carried_out(alloc, shelf, &plan) {
+            Ok(text) => Ending::Answer(text),
+            Err(refusal) => refused(alloc, files_of(&plan), refusal),
+        },
+        Err(Faulty::Words { text, is_help }) => {
+            if is_help {
+                Ending::Help(text)
+            } else {
+                Ending::Faulty(text)
+            }
+        }
+        Err(Faulty::OutOfMemory) => Ending::NoMemory,
+    }
+}
+
+/// The answer to a plan.
+fn carried_out<S: Shelf>(alloc: Global, shelf: &S, plan: &Plan) -> Result<Text, Refusal>
+    ensures ok { IfOk result (AnswersPlan (S.is_content shelf.now) plan.now) }
+    ensures err { IfErr result
+        (RefusesPlan (S.is_content shelf.now) (S.is_unread shelf.now) plan.now) }
+{
+    match plan {
+        Plan::Ask { question, files } => ask(alloc, shelf, *question, files.as_slice()),
+    }
+}
+
+/// The files that a plan names, in the order of its words.
+fn files_of(plan: &Plan) -> &[Text]
+    ensures { result.now ≡ files_of plan.now }
+{
+    match plan {
+        Plan::Ask { files, .. } => files.as_slice(),
+    }
+}
+
+/// The ending of a refusal: its line, where memory is left for it.
+fn refused(alloc: Global, names: &[Text], refusal: Refusal) -> Ending
+    ensures { IsLine names.now refusal result }
+{
+    match line_of(alloc, names, refusal) {
+        Ok(line) => Ending::Refused(line),
+        Err(_) => Ending::NoMemory,
+    }
+}
+
+/// The ending where the words couldn't be had: memory was refused, or one isn't UTF-8.
+fn unheard(alloc: Global, kind: ErrorKind) -> Ending
+    ensures { IsUnheard result }
+{
+    match kind {
+        ErrorKind::OutOfMemory => Ending::NoMemory,
+        _ => match Text::of(alloc, "site: the arguments aren't text\n") {
+            Ok(text) => Ending::Faulty(text),
+            Err(_) => Ending::NoMemory,
+        },
+    }
+}

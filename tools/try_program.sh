@@ -1,0 +1,193 @@
+#!/bin/sh
+# Runs the built program as a shell does, with odd words, files and streams, and looks at its status
+# and at both streams. The gate runs it once, on good input; no contract reaches `main`.
+#
+#   tools/try_program.sh [PROGRAM]       by default crates/site_cli/out/site_cli
+#
+# Prints a line for each run that went wrong, and at last how many of how many were right.
+here=$(CDPATH='' cd -- "$(dirname -- "$(readlink -f -- "$0")")/.." && pwd) || exit 1
+program=$(readlink -f -- "${1:-$here/crates/site_cli/out/site_cli}")
+[ -x "$program" ] || { echo "no program at $program" >&2; exit 1; }
+folder=$(mktemp -d) || exit 1
+trap 'rm -rf "$folder"' EXIT
+cd "$folder" || exit 1
+right=0
+all=0
+
+# Compares: what was tried, the status, standard output, standard error. `*` stands for any text that
+# isn't empty.
+is() {
+    all=$((all + 1))
+    printf %s "$3" >want.out
+    printf %s "$4" >want.err
+    wrong=
+    [ "$status" = "$2" ] || wrong="status $status in place of $2"
+    for stream in out err; do
+        if [ "$(cat want.$stream)" = '*' ]; then
+            [ -s "got.$stream" ] || wrong="$wrong; nothing on $stream"
+        else
+            cmp -s want.$stream got.$stream || wrong="$wrong; on $stream: $(head -c 200 got.$stream)"
+        fi
+    done
+    if [ -z "$wrong" ]; then right=$((right + 1)); else echo "wrong: $1: $wrong"; fi
+}
+
+# Runs the program on the words, both streams caught.
+run() {
+    "$program" "$@" >got.out 2>got.err </dev/null
+    status=$?
+}
+
+event='{"id":"a1","sequence":"00000000000000000001","source":"/orders","specversion":"1.0","type":"t.a"}'
+line='{"sources":{"/orders":[[1,1]]},"version":1}
+'
+nothing='{"sources":{},"version":1}
+'
+lf='
+'
+escape=$(printf '\033')
+printf '%s' "$event" >f.json
+printf '[]' >empty.json
+printf '3' >bad.json
+printf '{"id":"a","source":"/","specversion":"1.0","type":"t"}' >none.json
+: >void.json
+mkdir folder
+
+# Status 0.
+run cover f.json
+is 'an answer' 0 "$line" ''
+run shown f.json
+is 'shown' 0 "$event$lf" ''
+run shown empty.json
+is 'no event is shown' 0 '' ''
+run cover -- f.json
+is 'words after --' 0 "$line" ''
+printf '%s' "$event" >-x.json
+run cover -- -x.json
+is 'a name with a dash in front' 0 "$line" ''
+
+# Status 1: one line, and nothing on standard output.
+run cover f.json missing.json
+is 'a file that is not there' 1 '' "site: missing.json: cannot read$lf"
+run cover bad.json missing.json
+is 'all files are read before one is judged' 1 '' "site: missing.json: cannot read$lf"
+run cover f.json bad.json void.json
+is 'the first file at fault is named' 1 '' "site: bad.json: not an event or a batch$lf"
+run cover void.json
+is 'an empty file' 1 '' "site: void.json: not JSON$lf"
+run cover none.json
+is 'an event without a number' 1 '' "site: none.json: event 0: NoSequence$lf"
+run cover folder
+is 'a folder' 1 '' "site: folder: cannot read$lf"
+run cover /dev/zero
+is 'an input without end' 1 '' "site: /dev/zero: too large$lf"
+run cover "a${lf}b"
+is 'a name with a line feed' 1 '' "site: a\\nb: cannot read$lf"
+run cover "a${escape}[31mb"
+is 'a name with an escape' 1 '' "site: a\\u001b[31mb: cannot read$lf"
+run cover "$(printf 'a\177\302\205\t\\b')"
+is 'other control characters, and a backslash' 1 '' "site: a\\u007f\\u0085\\t\\b: cannot read$lf"
+run cover 'größe "x"'
+is 'letters and quotes stay as they are' 1 '' "site: größe \"x\": cannot read$lf"
+run cover ''
+is 'the empty name' 1 '' "site: : cannot read$lf"
+
+# Status 2.
+run
+is 'no word' 2 '' '*'
+run covers f.json
+is 'an unknown word' 2 '' '*'
+run cover
+is 'a missing file' 2 '' '*'
+run cover --from 3 f.json
+is 'an unknown option' 2 '' '*'
+run '' f.json
+is 'an empty word' 2 '' '*'
+run cover "$(printf '\377')"
+is 'a word that is no text' 2 '' "site: the arguments aren't text$lf"
+run --help
+is 'help' 2 '*' ''
+run --version
+is 'the version' 2 "site 0.1.0$lf" ''
+run cover --help
+is 'help of a command' 2 '*' ''
+all=$((all + 1))
+if grep -q '^Usage: site cover ' got.out; then right=$((right + 1)); else echo "wrong: the usage of cover --help"; fi
+cp got.out first.help
+run help cover
+is 'help by its word' 2 '*' ''
+all=$((all + 1))
+if grep '^Usage: ' first.help | cmp -s - "$(grep '^Usage: ' got.out >second.usage; echo second.usage)"; then
+    right=$((right + 1))
+else
+    echo "wrong: the usage of help cover: $(cat second.usage)"
+fi
+
+# Standard input.
+"$program" cover - <f.json >got.out 2>got.err
+status=$?
+is 'standard input by -' 0 "$line" ''
+"$program" cover /dev/stdin <f.json >got.out 2>got.err
+status=$?
+is 'standard input by its device' 0 "$line" ''
+printf '%s' "$event" | "$program" cover - empty.json >got.out 2>got.err
+status=$?
+is 'a pipe by -' 0 "$line" ''
+printf '3' | "$program" cover - >got.out 2>got.err
+status=$?
+is 'standard input at fault' 1 '' "site: -: not an event or a batch$lf"
+printf '[]' >-
+run cover ./-
+is 'a file that is named -' 0 "$nothing" ''
+"$program" cover f.json <&- >got.out 2>got.err
+status=$?
+is 'standard input closed' 0 "$line" ''
+
+# Streams that are closed, full or cut.
+: >got.out
+"$program" cover f.json 2>got.err >&-
+status=$?
+is 'standard output closed' 1 '' ''
+: >got.out
+"$program" cover f.json >/dev/full 2>got.err
+status=$?
+is 'standard output full' 1 '' ''
+: >got.err
+"$program" cover f.json >got.out 2>&-
+status=$?
+is 'standard error closed, an answer' 0 "$line" ''
+: >got.err
+"$program" cover bad.json >got.out 2>&-
+status=$?
+is 'standard error closed, a refusal' 1 '' ''
+: >got.err
+"$program" covers >got.out 2>&-
+status=$?
+is 'standard error closed, faulty words' 1 '' ''
+: >got.err
+"$program" cover bad.json >got.out 2>/dev/full
+status=$?
+is 'standard error full' 1 '' ''
+: >got.out
+: >got.err
+"$program" cover f.json <&- >&- 2>&-
+status=$?
+is 'all streams closed' 1 '' ''
+awk -v n=20000 'BEGIN { printf "["; for (i = 1; i <= n; i++) printf "%s{\"id\":\"%d\",\"sequence\":\"%020d\",\"source\":\"/\",\"specversion\":\"1.0\",\"type\":\"t\"}", (i > 1 ? "," : ""), i, i; printf "]" }' >many.json
+{ "$program" shown many.json 2>got.err; echo $? >got.status; } | head -n 1 >got.out
+status=$(cat got.status)
+is 'a reader that leaves' 1 '*' ''
+
+# The script ./site, where the program that it builds is this one.
+if [ "$program" = "$here/crates/site_cli/out/site_cli" ]; then
+    ln -s "$here/site" link
+    ln -s link link-of-a-link
+    for script in "$here/site" ./link ./link-of-a-link; do
+        "$script" cover f.json >got.out 2>got.err
+        status=$?
+        is "the script by $script" 0 "$line" ''
+    done
+fi
+
+echo "$right of $all runs were right"
+[ "$right" = "$all" ]
