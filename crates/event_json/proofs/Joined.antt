@@ -1,6 +1,10 @@
 -- A step of the loops over the members of a batch.
-use Rattle.std.proofs.Common.{◌≡◌, ℕ, zero, suc, ◌+◌, ◌<◌, ◌≤◌, List, [], ◌∷◌, ◌++◌, length, drop, eqb, true, false, Some, slice_get, sym, ap, ◌∙◌, subst, arith, append_assoc, append-nil, drop_of_length-le, add-one, length-append, ne_eqb, eq-eqb}
+use Rattle.std.proofs.Common.{◌≡◌, ℕ, zero, suc, ◌+◌, ◌<◌, ◌≤◌, List, [], ◌∷◌, ◌++◌, length, drop, eqb, Bool, true, false, Some, slice_get, IsUtf8, sym, ap, ◌∙◌, subst, arith, append_assoc, append-nil, drop_of_length-le, add-one, length-append, ne_eqb, eq-eqb}
 use Rattle.std.specs.List.{AllByRecursion}
+use Rattle.std.specs.Str.{IsAscii}
+use Rattle.std.proofs.lemmas.List.Elements.{All-from_recursion}
+use Rattle.std.proofs.lemmas.Str.{IsUtf8-append, IsUtf8-from_ascii, IsUtf8-nil}
+use Rattle.std.proofs.lemmas.Str.Ascii.{IsAscii-from_all}
 use Rattle.attributes.specs.Events.{EventValue, text}
 use Rattle.attributes.specs.Faults.{IsEvent}
 use Rattle.event_json.specs.BatchText.{separated, joined, batch_text}
@@ -59,3 +63,23 @@ all_written es i out new past h is_new =
 
 pub all_events : (es : List EventValue) (i : ℕ) → length es ≤ i → (AllByRecursion IsEvent (drop i es) → AllByRecursion IsEvent es) → AllByRecursion IsEvent es
 all_events es i past h = h (subst (AllByRecursion IsEvent) (sym (drop_of_length-le es past)) tt)
+
+-- ---- the text is UTF-8
+
+utf8_byte : (b : ℕ) → b < 128 → (t : List ℕ) → IsUtf8 t → IsUtf8 (b ∷ t)
+utf8_byte b h t k =
+    let ascii : IsAscii (b ∷ []) = IsAscii-from_all (b ∷ []) (All-from_recursion (λ x. x < 128) (b ∷ []) (h, tt)) in
+    IsUtf8-append (b ∷ []) t (IsUtf8-from_ascii (b ∷ []) ascii) k
+
+utf8_separated : (first : Bool) (t : List ℕ) → IsUtf8 t → IsUtf8 (separated first t)
+utf8_separated true t h = h
+utf8_separated false t h = utf8_byte 44 (omega arith) t h
+
+utf8_joined : (first : Bool) (es : List EventValue) → AllByRecursion IsEvent es → IsUtf8 (joined first es)
+utf8_joined first [] h = IsUtf8-nil
+utf8_joined first (e ∷ es) h = IsUtf8-append (separated first (text e)) (joined false es) (utf8_separated first (text e) h.0.utf8) (utf8_joined false es h.1)
+
+pub utf8_batch_text : (es : List EventValue) → AllByRecursion IsEvent es → IsUtf8 (batch_text es)
+utf8_batch_text es h =
+    utf8_byte 91 (omega arith) (joined true es ++ 93 ∷ [])
+    (IsUtf8-append (joined true es) (93 ∷ []) (utf8_joined true es h) (utf8_byte 93 (omega arith) [] IsUtf8-nil))

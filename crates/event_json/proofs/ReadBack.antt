@@ -1,5 +1,5 @@
 -- The canonical text of a batch spells the events that it was written of.
-use Rattle.std.proofs.Common.{◌≡◌, ◌≤◌, Bool, true, false, not, List, [], ◌∷◌, ◌++◌, map, length, Some, IsUtf8, refl, sym, ap, ap₂, ◌∙◌, arith, append_assoc}
+use Rattle.std.proofs.Common.{◌≡◌, ◌≤◌, Bool, true, false, not, List, [], ◌∷◌, ◌++◌, map, length, Some, refl, sym, ap, ap₂, ◌∙◌, arith, append_assoc}
 use Rattle.std.specs.List.{AllByRecursion}
 use Rattle.serde_json.specs.Data.{Data, array, object, Items, no_items, item, members_depth, items_depth}
 use Rattle.serde_json.specs.Read.{read}
@@ -11,6 +11,7 @@ use Rattle.event_json.specs.Spelling.{event_in, list_of}
 use Rattle.event_json.specs.Reading.{AreFaultless, Reads, max_input}
 use Rattle.event_json.specs.BatchText.{joined, batch_text}
 use Rattle.event_json.proofs.Carried.{offer_by-members_of}
+use Rattle.event_json.proofs.Joined.{utf8_batch_text}
 use Rattle.event_json.proofs.Laws.{Laws}
 
 -- the members of the array that a batch is
@@ -57,11 +58,11 @@ events_of_objects laws again (e ∷ es) h =
     let event : e ≡ event_in (object (members_of e)) = sym (ap event_of (offer_by-members_of laws e h.0) ∙ again e h.0) in
     ap₂ (λ (x : EventValue) (xs : List EventValue). x ∷ xs) event (events_of_objects laws again es h.1)
 
-pub Reads-batch_text : Laws → PartsMakeEvents → (es : List EventValue) → AllByRecursion IsEvent es → IsUtf8 (batch_text es) → length (batch_text es) ≤ max_input → Reads (batch_text es) es
-Reads-batch_text laws again es h utf8 fits =
+pub Reads-batch_text : Laws → PartsMakeEvents → (es : List EventValue) → AllByRecursion IsEvent es → length (batch_text es) ≤ max_input → Reads (batch_text es) es
+Reads-batch_text laws again es h fits =
     record {
       value = array (objects es);
-      is_text = record { fits = fits; utf8 = utf8; reads = read-batch_text laws es h };
+      is_text = record { fits = fits; utf8 = utf8_batch_text es h; reads = read-batch_text laws es h };
       spells = record { found = list_of (objects es); are_found = refl; faultless = faultless_objects laws es h; are_events = events_of_objects laws again es h };
     }
 

@@ -1,4 +1,4 @@
-ghost use Rattle.std.specs.Prelude.{◌≡◌, ◌≤◌, ◌<◌, Some, List, ◌++◌, length, slice_get, IfOk, IfSome, IsUtf8, OnOk, string_bytes};
+ghost use Rattle.std.specs.Prelude.{◌≡◌, ◌≤◌, ◌<◌, Some, List, ◌++◌, length, slice_get, IfOk, IfSome, OnOk, string_bytes};
 ghost use Rattle.std.specs.List.{AllByRecursion};
 ghost use Rattle.attributes.specs.Events.{EventValue, text};
 ghost use Rattle.attributes.specs.Faults.{IsEvent};
@@ -48,9 +48,9 @@ pub fn batch_texts_tell_lists()
     text_tells_events();
 }
 
-/// The batch text of events spells them, where it is UTF-8 and within the limit of inputs.
+/// The batch text of events, where it is within the limit of inputs, spells those events.
 pub fn batch_texts_read_back()
-    ensures { (l : List EventValue) → AllByRecursion IsEvent l → IsUtf8 (batch_text l)
+    ensures { (l : List EventValue) → AllByRecursion IsEvent l
         → length (batch_text l) ≤ max_input → Reads (batch_text l) l }
 {
     objects_hold_attributes();

@@ -1,5 +1,4 @@
-use Rattle.std.proofs.Common.{◌≡◌, ◌≤◌, ◌∷◌, length, true, string_bytes, IsUtf8, ◌∙◌, subst, arith}
-use Rattle.std.proofs.lemmas.Str.{IsUtf8-had}
+use Rattle.std.proofs.Common.{◌≡◌, ◌≤◌, ◌∷◌, length, true, string_bytes, ◌∙◌, subst, arith}
 use Rattle.event_json.specs.Reading.{max_input}
 use Rattle.event_json.specs.BatchText.{joined, batch_text}
 use Rattle.event_json.proofs.Joined.{write_step, events_step, all_written, all_events}
@@ -21,7 +20,6 @@ returns-clause-reads_back g c = λ fits.
     let past : length es ≤ i = omega (arith, c.count-i-end.ensures, c.loop-i-test.false) in
     let is : string_bytes c.push_str-2.new.self ≡ batch_text es =
     all_written es i (string_bytes c.loop-i.out) (string_bytes c.push_str-2.new.self) past c.loop-i.invariant.0 c.in_ok-push_str-2.ensures.bytes in
-    let utf8 : IsUtf8 (batch_text es) = subst IsUtf8 is (IsUtf8-had (string_bytes c.push_str-2.new.self) c.push_str-2.new.self.ok) in
     let text : c.from_string.result ≡ batch_text es = c.from_string.ensures ∙ is in
     let short : length (batch_text es) ≤ max_input = subst (λ t. length t ≤ max_input) text fits in
-    rw text (c.batch_texts_read_back.ensures es (all_events es i past c.loop-i.invariant.1) utf8 short)
+    rw text (c.batch_texts_read_back.ensures es (all_events es i past c.loop-i.invariant.1) short)
