@@ -4,4 +4,3 @@ mod FileLemmas
 mod FirstsLemmas
 mod ShelfLemmas
 mod ShownLemmas
-mod SourceLemmas

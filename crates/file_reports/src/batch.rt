@@ -16,26 +16,25 @@ pub fn batch_of_file(alloc: Global, bytes: &[u8]) -> Result<Batch, ReportFault>
     ensures fault { IfErr result (λ why. why ≢ ReportFault.OutOfMemory → IsFault bytes.now why) }
 {
     match read_events(alloc, bytes) {
-        Ok(events) => sequenced(alloc, &events),
+        Ok(events) => sequenced(alloc, events),
         Err(ReadFault::OutOfMemory) => Err(ReportFault::OutOfMemory),
         Err(fault) => Err(ReportFault::Read(fault)),
     }
 }
 
 /// The events with their numbers, or the first that has none.
-///
-/// Each event is copied once: a list of events lends its events and doesn't give them away.
-fn sequenced(alloc: Global, events: &Events) -> Result<Batch, ReportFault>
-    ensures same { IfOk result (λ batch. batch ≡ events.now) }
+fn sequenced(alloc: Global, events: Events) -> Result<Batch, ReportFault>
+    ensures same { IfOk result (λ batch. batch ≡ events) }
     ensures numbered { IfOk result (λ batch. AreSequenced batch) }
     ensures fault { IfErr result (λ why. why ≢ ReportFault.OutOfMemory
-        → IsUnnumbered events.now why) }
+        → IsUnnumbered events why) }
 {
     let mut batch = Batch::empty(alloc);
-    for index in 0..events.len() {
-        match Sequenced::of(events.at(index).copy()?) {
+    for event in events.into_vec() {
+        match Sequenced::of(event) {
             Ok(event) => batch.push(event)?,
             Err(unsequenced) => {
+                let index = batch.len();
                 let fault = unsequenced.fault;
                 return Err(ReportFault::Event { index, fault });
             }

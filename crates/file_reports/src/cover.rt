@@ -1,7 +1,6 @@
 //! The answer to the question which numbers of each source there are.
 ghost use Rattle.std.specs.Prelude.{◌≡◌, ◌||◌, ℕ, List, true, IfErr, IfOk, OnOk};
 ghost use Rattle.attributes.specs.Characters.{is_filled};
-ghost use Rattle.attributes.specs.Events.{source_of};
 ghost use Rattle.coverage.specs.Summary.{holds_at};
 ghost use Rattle.file_reports.specs.Reports.{IsReport, IsRefusal, has_number, line};
 ghost use Rattle.file_reports.specs.steps.Counts.{CountsFiles};
@@ -9,7 +8,7 @@ ghost use Rattle.file_reports.specs.steps.Counts.{CountsFiles};
 use crate::batch::batch_of_file;
 use crate::query::Query;
 use crate::refusal::Refused;
-use attributes::{Batch, Event, Octets, Text};
+use attributes::{Batch, Octets, Text};
 use coverage::Summary;
 use std::alloc::{AllocError, Global};
 
@@ -60,20 +59,10 @@ fn add_numbers(alloc: Global, summary: &mut Summary, batch: &Batch) -> Result<()
     let mut source = Text::from_string(String::new(alloc));
     for index in 0..batch.len() {
         let numbered = batch.at(index);
-        source = text_of(alloc, source, allowed_source(numbered.event()))?;
+        source = text_of(alloc, source, numbered.event().source())?;
         summary.insert(&source, numbered.number())?;
     }
     Ok(())
-}
-
-/// The source of an event, which is an allowed one.
-fn allowed_source(event: &Event) -> &str
-    ensures value { result.now ≡ source_of event.now }
-    ensures allowed { is_filled result.now ≡ true }
-{
-    // Its clause says that the event is one without a fault, and so has an allowed source.
-    let _ = event.text();
-    event.source()
 }
 
 /// The words as a text of its own: the one at hand where they are equal, and else a copy.

@@ -1,18 +1,13 @@
-use Rattle.std.proofs.Common.{◌≡◌, ◌∙◌, ap, sym}
-use Rattle.attributes.specs.Sequences.{number_of}
-use Rattle.file_reports.proofs.CountLemmas.{take_next}
-use Rattle.file_reports.proofs.FileLemmas.{AreSequenced-more}
+use Rattle.file_reports.proofs.FileLemmas.{numbered_more, unnumbered_here, whole_more}
 use Rattle.file_reports.proofs.batch.sequenced.Goals as goal
 
-pub loop-index-preserved : goal.loop-index-preserved
-loop-index-preserved c =
-    let next = take_next c.args.events.now c.loop-index.index c.at.result.now c.at.ensures in
-    let before = c.loop-index.invariant.same in
-    let pushed = c.in_ok-push-in-Ok.ensures.ok in
-    let copied = c.in_ok-copy.ensures in
-    let moved = c.in-Ok.ensures.ok in
-    record {
-      same = cc;
-      numbered = AreSequenced-more c.args.events.now c.loop-index.index c.at.result.now _ c.loop-index.invariant.numbered c.at.ensures
-          (ap number_of (sym copied) ∙ c.in-Ok.ensures.numbered.1);
+pub loop-event-preserved : goal.loop-event-preserved
+loop-event-preserved c =
+    let done = c.loop-event.batch in
+    let rest = c.loop-event.event-iterator.rest.items in
+    let left = c.next.new.self.rest.items in
+    let e = c.in-Some.event in
+    let next = c.in-Some.ensures.steps.0 in record {
+      whole = whole_more done rest left c.args.events e next c.loop-event.invariant.whole c.loop-event.invariant.numbered c.push.new.self c.in-Ok.event c.in_ok-push-in-Ok.ensures.ok c.in-Ok.ensures.ok;
+      numbered = numbered_more done rest left c.args.events e next c.loop-event.invariant.whole c.loop-event.invariant.numbered c.push.new.self c.in-Ok.event c.in-Ok.ensures.numbered.0 c.in_ok-push-in-Ok.ensures.ok c.in-Ok.ensures.ok c.in-Ok.ensures.numbered.1;
     }

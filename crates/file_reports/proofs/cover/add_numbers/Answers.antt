@@ -10,7 +10,7 @@ pub loop-index-preserved : goal.loop-index-preserved
 loop-index-preserved c source n =
     let e = c.at-numbered.result.now in
     let held = holds_at c.args.summary.now source n in
-    let named : c.in_ok-source.source ≡ source_of e = c.in_ok-source.ensures ∙ c.allowed_source.ensures.value ∙ ap source_of c.event.ensures in
+    let named : c.in_ok-source.source ≡ source_of e = c.in_ok-source.ensures ∙ c.source.ensures.value ∙ ap source_of c.event.ensures in
     counted_more held _ _ _ e source n (c.loop-index.invariant source n)
     (c.in_ok-insert.ensures.members source n
     ∙ ap (λ b. holds_at c.loop-index.summary source n || b) (is_numbered-Some e c.in_ok-source.source source c.number.result n named c.number.ensures))
