@@ -1,4 +1,4 @@
-use Rattle.std.proofs.Common.{◌≡◌, ◌∙◌, ap, sym}
+use Rattle.std.proofs.Common.{◌∙◌, ap, sym}
 use Rattle.attributes.specs.Sequences.{number_of}
 use Rattle.file_reports.proofs.CountLemmas.{take_next}
 use Rattle.file_reports.proofs.FileLemmas.{AreSequenced-more}
