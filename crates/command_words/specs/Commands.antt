@@ -4,7 +4,6 @@ use Rattle.clap.specs.Words.{App, Rule, new_app, new_rule, with_rule}
 use Rattle.clap.specs.declared.builder.action.ArgAction.TheVariants.{Append}
 use Rattle.command_words.specs.declared.command.Command.{Command}
 use Rattle.command_words.specs.declared.command.Command.TheVariants.{Ask}
-use Rattle.command_words.specs.declared.command.Question.{Question}
 use Rattle.command_words.specs.declared.command.Question.TheVariants.{Cover, Shown}
 
 -- the word of a command
@@ -14,7 +13,8 @@ word_of (Ask Shown) = codes "shown"
 
 -- `FILE..`, one or more
 abbrev pub files_rule : Rule
-files_rule = record (new_rule (codes "file")) { value_names = 1; action = Some Append; required = true }
+files_rule =
+    record (new_rule (codes "file")) { value_names = 1; action = Some Append; required = true }
 
 -- a command's word and its arguments
 abbrev pub app_for : Command → App

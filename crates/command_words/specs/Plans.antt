@@ -19,9 +19,11 @@ texts_in app words id = unwrap_or (all_of id (matches_of app words)) []
 
 -- the plan's texts are those that clap's rule for its command gives for the words
 abbrev pub HasTextsOf : List Text → Plan → Type 0
-HasTextsOf words (plan.Ask question files) = files ≡ texts_in (app_for (command.Ask question)) words (codes "file")
+HasTextsOf words (plan.Ask question files) =
+    files ≡ texts_in (app_for (command.Ask question)) words (codes "file")
 
--- clap's rule for the command finds no fault in the words, and the plan is that command with the texts that the rule gives
+-- clap's rule for the command finds no fault in the words, and the plan is that command with the texts
+-- that the rule gives
 pub record IsPlanFor (words : List Text) (command : Command) (plan : Plan) : Type 0 where
   pub is_command : command_of plan ≡ command
   pub faultless : fault_of (app_for command) words ≡ []
@@ -29,7 +31,8 @@ pub record IsPlanFor (words : List Text) (command : Command) (plan : Plan) : Typ
 
 -- the first word is that of the plan's command, and the words are a plan for it
 abbrev pub IsPlan : List Text → Plan → Type 0
-IsPlan words plan = (slice_get words 0 ≡ Some (word_of (command_of plan))) × IsPlanFor words (command_of plan) plan
+IsPlan words plan = (slice_get words 0 ≡ Some (word_of (command_of plan)))
+    × IsPlanFor words (command_of plan) plan
 
 -- the refusal is want of memory, or there is this fault in the words
 abbrev pub Blames : Type 0 → Faulty → Type 0
@@ -38,7 +41,8 @@ Blames fault (faulty.Words text is_help) = fault
 
 -- the first word is no command, or the words are at fault by clap's rule for the command
 abbrev pub AreFaulty : List Text → Type 0
-AreFaulty words = (command : Command) → slice_get words 0 ≡ Some (word_of command) → fault_of (app_for command) words ≢ []
+AreFaulty words = (command : Command) → slice_get words 0 ≡ Some (word_of command)
+    → fault_of (app_for command) words ≢ []
 
 -- the number of the reason, from 1
 abbrev pub number_of : Faulty → ℕ

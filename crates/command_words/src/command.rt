@@ -60,8 +60,7 @@ impl Command {
             Command::Ask(Question::Shown) => Row {
                 word: "shown",
                 full_name: "site shown",
-                about:
-                    "Prints the files' events, of each source and id the one with the least text",
+                about: "Prints the files' events, of each source and id the one with the least text",
             },
         }
     }

@@ -9,8 +9,8 @@ use std::alloc::{AllocError, AllocFailed};
 #[derive(Drop)]
 pub enum Faulty {
     OutOfMemory,
-    /// The words are at fault, or ask for help or the version: the text to print, and whether it was
-    /// asked for.
+    /// The words are at fault, or ask for help or the version: the text to print, and whether it
+    /// was asked for.
     Words { text: Text, is_help: bool },
 }
 

@@ -23,7 +23,8 @@ AreSequenced events = list_all (λ e. is_some (number_of e)) events ≡ true
 -- each file spells its list of events, all of them with numbers
 abbrev pub EachReads : List (List ℕ) → List (List EventValue) → Type 0
 EachReads [] [] = Unit {0}
-EachReads (file ∷ files) (events ∷ lists) = Reads file events × AreSequenced events × EachReads files lists
+EachReads (file ∷ files) (events ∷ lists) =
+    Reads file events × AreSequenced events × EachReads files lists
 EachReads _ _ = ⊥
 
 -- the events of all lists
@@ -59,16 +60,20 @@ text_line row = line row.2
 
 -- the text answers the question about the events
 abbrev pub IsAnswer : Query → List EventValue → List ℕ → Type 0
-IsAnswer Cover events text = (summary : Sources) × Summarizes events summary × (text ≡ line (summary_text summary))
-IsAnswer Shown events text = (rows : List Row) × AreShown events rows × (text ≡ flat_map text_line rows)
+IsAnswer Cover events text =
+    (summary : Sources) × Summarizes events summary × (text ≡ line (summary_text summary))
+IsAnswer Shown events text =
+    (rows : List Row) × AreShown events rows × (text ≡ flat_map text_line rows)
 
 -- the text answers the question about the events of the files, which all spell events with numbers
 abbrev pub IsReport : Query → List (List ℕ) → List ℕ → Type 0
-IsReport query files text = (lists : List (List EventValue)) × EachReads files lists × IsAnswer query (joined lists) text
+IsReport query files text = (lists : List (List EventValue)) × EachReads files lists
+    × IsAnswer query (joined lists) text
 
 -- the event is one of those that the files spell
 abbrev pub HoldsEvent : List (List ℕ) → EventValue → Type 0
-HoldsEvent files e = (lists : List (List EventValue)) × EachReads files lists × Contains (joined lists) e
+HoldsEvent files e =
+    (lists : List (List EventValue)) × EachReads files lists × Contains (joined lists) e
 
 -- the files spell the same events as the others, in whatever order, grouping and repetition
 abbrev pub HoldSameEvents : List (List ℕ) → List (List ℕ) → Type 0
@@ -94,7 +99,8 @@ IsUnnumbered events (fault.Event i why) = IsUnnumberedAt events i why
 abbrev pub IsFault : List ℕ → ReportFault → Type 0
 IsFault file fault.OutOfMemory = ⊥
 IsFault file (fault.Read why) = IsRefused file why
-IsFault file (fault.Event i why) = (events : List EventValue) × Reads file events × IsUnnumberedAt events i why
+IsFault file (fault.Event i why) =
+    (events : List EventValue) × Reads file events × IsUnnumberedAt events i why
 
 -- the first file at fault, and its first fault
 pub record IsAtFault (files : List (List ℕ)) (index : ℕ) (why : ReportFault) : Type 0 where
@@ -105,4 +111,5 @@ pub record IsAtFault (files : List (List ℕ)) (index : ℕ) (why : ReportFault)
 
 -- memory ran out, or this is the first file at fault
 abbrev pub IsRefusal : List (List ℕ) → Refused → Type 0
-IsRefusal files refused = (refused.fault ≡ fault.OutOfMemory) ⊎ IsAtFault files refused.file refused.fault
+IsRefusal files refused =
+    (refused.fault ≡ fault.OutOfMemory) ⊎ IsAtFault files refused.file refused.fault

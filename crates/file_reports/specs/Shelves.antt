@@ -18,5 +18,6 @@ pub record IsFirstUnread (R : List ℕ → List ℕ → Type 0) (U : List ℕ �
   pub before : (contents : List (List ℕ)) × AreContents R (take at.file names) contents
 
 -- memory ran out, or this is the first name that was not read
-abbrev pub IsUnreadAt : (List ℕ → List ℕ → Type 0) → (List ℕ → Unread → Type 0) → List (List ℕ) → UnreadAt → Type 0
+abbrev pub IsUnreadAt : (List ℕ → List ℕ → Type 0) → (List ℕ → Unread → Type 0)
+    → List (List ℕ) → UnreadAt → Type 0
 IsUnreadAt R U names at = (at.why ≡ unread.OutOfMemory) ⊎ IsFirstUnread R U names at

@@ -1,4 +1,5 @@
--- Which events are shown: of the events of one source and id the one whose canonical text is least (CloudEvents 1.0.2, "source" and "id"; that the least text is shown is this project's own rule).
+-- Which events are shown: of the events of one source and id the one whose canonical text is least
+-- (CloudEvents 1.0.2, "source" and "id"; that the least text is shown is this project's own rule).
 use Rattle.std.specs.Prelude.{◌≡◌, ◌≢◌, ℕ, List, true, All, Contains}
 use Rattle.std.specs.List.{list_any}
 use Rattle.std.specs.List.Sorted.{IsStrictlySortedBy}

@@ -7,8 +7,8 @@ use event_json::ReadFault;
 use std::alloc::{AllocError, AllocFailed};
 use thiserror::Error;
 
-/// Why a file's events gave no answer. In a file that spells no events the reader's fault is told, not
-/// that of an event without a number.
+/// Why a file's events gave no answer. In a file that spells no events the reader's fault is told,
+/// not that of an event without a number.
 #[derive(Clone, Copy, PartialEq, Eq, Debug, Error)]
 pub enum ReportFault {
     #[error("out of memory")]
@@ -37,7 +37,8 @@ impl<T: Drop> From<AllocFailed<T>> for ReportFault {
     }
 }
 
-/// The first file at fault, counted from 0, and its first fault. Where memory ran out the file is 0.
+/// The first file at fault, counted from 0, and its first fault. Where memory ran out the file says
+/// nothing.
 #[derive(Clone, Copy, PartialEq, Eq, Debug)]
 pub struct Refused {
     pub file: u64,

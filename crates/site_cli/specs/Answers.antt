@@ -1,4 +1,5 @@
--- What the plans of the program are answered with, and why they are refused. C says what a name is read as, U why a name isn't read.
+-- What the plans of the program are answered with, and why they are refused. C says what a name is
+-- read as, U why a name isn't read.
 use Rattle.std.specs.Prelude.{List, ℕ}
 use Rattle.command_words.specs.declared.request.Plan.{Plan}
 use Rattle.command_words.specs.declared.request.Plan.TheVariants as plan
@@ -18,19 +19,23 @@ query_of question.Shown = query.Shown
 
 -- the text is the report of the files' contents
 abbrev pub AnswersQuestion : (List ℕ → List ℕ → Type 0) → Question → List (List ℕ) → List ℕ → Type 0
-AnswersQuestion C question files text = (contents : List (List ℕ)) × AreContents C files contents × IsReport (query_of question) contents text
+AnswersQuestion C question files text = (contents : List (List ℕ)) × AreContents C files contents
+    × IsReport (query_of question) contents text
 
 -- the first file that wasn't read, or, where all were, the first at fault
-abbrev pub RefusesQuestion : (List ℕ → List ℕ → Type 0) → (List ℕ → Unread → Type 0) → List (List ℕ) → Refusal → Type 0
+abbrev pub RefusesQuestion : (List ℕ → List ℕ → Type 0) → (List ℕ → Unread → Type 0)
+    → List (List ℕ) → Refusal → Type 0
 RefusesQuestion C U files (refusal.Unread at) = IsUnreadAt C U files at
-RefusesQuestion C U files (refusal.File refused) = (contents : List (List ℕ)) × AreContents C files contents × IsRefusal contents refused
+RefusesQuestion C U files (refusal.File refused) =
+    (contents : List (List ℕ)) × AreContents C files contents × IsRefusal contents refused
 
 -- the text is the answer to the plan
 abbrev pub AnswersPlan : (List ℕ → List ℕ → Type 0) → Plan → List ℕ → Type 0
 AnswersPlan C (plan.Ask question files) text = AnswersQuestion C question files text
 
 -- this is why the plan has no answer
-abbrev pub RefusesPlan : (List ℕ → List ℕ → Type 0) → (List ℕ → Unread → Type 0) → Plan → Refusal → Type 0
+abbrev pub RefusesPlan : (List ℕ → List ℕ → Type 0) → (List ℕ → Unread → Type 0)
+    → Plan → Refusal → Type 0
 RefusesPlan C U (plan.Ask question files) refusal = RefusesQuestion C U files refusal
 
 -- the files that a plan names

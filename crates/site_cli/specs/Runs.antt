@@ -34,14 +34,16 @@ IsLine names refusal (ending.Refused text) = text ≡ line_of names refusal
 IsLine names refusal ending.NoMemory = Unit {0}
 
 -- what the words come to
-abbrev pub IsEnding : (List ℕ → List ℕ → Type 0) → (List ℕ → Unread → Type 0) → List (List ℕ) → Ending → Type 0
+abbrev pub IsEnding : (List ℕ → List ℕ → Type 0) → (List ℕ → Unread → Type 0)
+    → List (List ℕ) → Ending → Type 0
 IsEnding C U words (ending.Answer text) = AnswersWords C words text
 IsEnding C U words (ending.Help text) = AreFaulty words
 IsEnding C U words (ending.Faulty text) = AreFaulty words
 IsEnding C U words (ending.Refused text) = RefusesWords C U words text
 IsEnding C U words ending.NoMemory = Unit {0}
 
--- the run ended as the words come to; the streams are standard output, then standard error, before and after
+-- the run ended as the words come to; the streams are standard output, then standard error, before
+-- and after
 pub record RunsWords (C : List ℕ → List ℕ → Type 0) (U : List ℕ → Unread → Type 0) (words : List (List ℕ)) (status : ℕ) (out out' err err' : Option (List ℕ)) : Type 0 where
   pub ending : Ending
   pub is_ending : IsEnding C U words ending
@@ -56,9 +58,12 @@ IsUnheard (ending.Refused text) = ⊥
 IsUnheard ending.NoMemory = Unit {0}
 
 -- the run ended without words
-abbrev pub EndsUnheard : ℕ → Option (List ℕ) → Option (List ℕ) → Option (List ℕ) → Option (List ℕ) → Type 0
-EndsUnheard status out out' err err' = (ending : Ending) × IsUnheard ending × Ends ending status out out' err err'
+abbrev pub EndsUnheard : ℕ → Option (List ℕ) → Option (List ℕ)
+    → Option (List ℕ) → Option (List ℕ) → Type 0
+EndsUnheard status out out' err err' =
+    (ending : Ending) × IsUnheard ending × Ends ending status out out' err err'
 
 -- the words are a plan, and the output grew by its answer
-abbrev pub PrintsAnswer : (List ℕ → List ℕ → Type 0) → List (List ℕ) → Option (List ℕ) → Option (List ℕ) → Type 0
+abbrev pub PrintsAnswer : (List ℕ → List ℕ → Type 0) → List (List ℕ)
+    → Option (List ℕ) → Option (List ℕ) → Type 0
 PrintsAnswer C words out out' = (text : List ℕ) × AnswersWords C words text × Appends out out' text

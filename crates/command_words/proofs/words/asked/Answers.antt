@@ -1,7 +1,7 @@
 use Rattle.std.proofs.Common.{◌≡◌, ℕ, [], List, refl, ap, ◌∙◌}
 use Rattle.std.specs.Prelude.{codes, map, unwrap_or}
 use Rattle.std.specs.Borrow.{Bor}
-use Rattle.clap.specs.Words.{App, Row, all_of, found_of, matches_of, rows_of}
+use Rattle.clap.specs.Words.{Row, all_of, found_of, matches_of, rows_of}
 use Rattle.command_words.specs.Commands.{app_for}
 use Rattle.command_words.specs.declared.command.Command.TheVariants.{Ask}
 use Rattle.command_words.proofs.ClapLemmas.{Blames-weaker, fault_by, refused_by, rows_by}
