@@ -11,11 +11,10 @@ use Rattle.std.proofs.lemmas.Cmp.{tied_back, tied_itself}
 use Rattle.std.proofs.lemmas.Map.Lookups.{exact_bytes}
 use Rattle.attributes.specs.Events.{EventValue}
 use Rattle.event_json.specs.Reading.{Reads}
-use Rattle.coverage.specs.Summary.{IsSummary, Sources, holds_at}
-use Rattle.coverage.specs.SummaryText.{summary_text}
+use Rattle.coverage.specs.CoverText.{IsCoverText}
 use Rattle.file_reports.specs.declared.query.Query.{Query}
 use Rattle.file_reports.specs.declared.query.Query.TheVariants.{Cover, Shown}
-use Rattle.file_reports.specs.Reports.{EachReads, HoldsEvent, HoldSameEvents, IsAnswer, IsReport, is_numbered, joined, line, text_line}
+use Rattle.file_reports.specs.Reports.{EachReads, HoldsEvent, HoldSameEvents, IsAnswer, IsReport, has_number, is_numbered, joined, line, text_line}
 use Rattle.file_reports.specs.Shown.{AreShown, IsShown, Row, Yields, key_cmp, row_of, text_cmp}
 use Rattle.file_reports.proofs.FirstsLemmas.{at_places, or_true}
 use Rattle.file_reports.proofs.ShownLemmas.{key_total, rows_same, text_total}
@@ -146,9 +145,9 @@ shown_alike es fs rows others a b f g =
 abbrev ReadingsAreOne : Type 0
 ReadingsAreOne = (b : List ℕ) (es fs : List EventValue) → Reads b es → Reads b fs → es ≡ fs
 
--- what is known of summaries
-abbrev NumbersTellSummaries : Type 0
-NumbersTellSummaries = (s t : Sources) → IsSummary s → IsSummary t → ((source : List ℕ) (n : ℕ) → holds_at s source n ≡ holds_at t source n) → s ≡ t
+-- what is known of the texts of summaries
+abbrev NumbersTellTexts : Type 0
+NumbersTellTexts = (has had : List ℕ → ℕ → Bool) (t u : List ℕ) → ((source : List ℕ) (n : ℕ) → has source n ≡ had source n) → IsCoverText has t → IsCoverText had u → t ≡ u
 
 lists_alike : ReadingsAreOne → (files : List (List ℕ)) (ls ms : List (List EventValue)) → EachReads files ls → EachReads files ms → ls ≡ ms
 lists_alike one [] [] [] r s = refl
@@ -158,12 +157,11 @@ lists_alike one (f ∷ fs) [] ms r s = absurd r
 lists_alike one (f ∷ fs) (l ∷ ls) [] r s = absurd s
 lists_alike one (f ∷ fs) (l ∷ ls) (m ∷ ms) r s = ap₂ ◌∷◌ (one f l m r.0 s.0) (lists_alike one fs ls ms r.2 s.2)
 
-answer_alike : NumbersTellSummaries → (query : Query) (es fs : List EventValue) (text other : List ℕ) → Among es fs → Among fs es
+answer_alike : NumbersTellTexts → (query : Query) (es fs : List EventValue) (text other : List ℕ) → Among es fs → Among fs es
     → IsAnswer query es text → IsAnswer query fs other → other ≡ text
 answer_alike tell Cover es fs text other f g a b =
-    let same : b.0 ≡ a.0 = tell b.0 a.0 b.1.canonical a.1.canonical
-    (λ source n. b.1.exact source n ∙ any_alike (λ e. is_numbered e source n) fs es g f ∙ sym (a.1.exact source n)) in
-    b.2 ∙ ap (λ s. line (summary_text s)) same ∙ sym a.2
+    let same : b.0 ≡ a.0 = tell (has_number fs) (has_number es) b.0 a.0 (λ source n. any_alike (λ e. is_numbered e source n) fs es g f) b.1 a.1 in
+    b.2 ∙ ap line same ∙ sym a.2
 answer_alike tell Shown es fs text other f g a b =
     b.2 ∙ ap (λ rows. flat_map text_line rows) (shown_alike fs es b.0 a.0 b.1 a.1 g f) ∙ sym a.2
 
@@ -174,7 +172,7 @@ events_among one files others ls ms r s hold e c =
     let held = hold e (ls, r, c) in
     subst (λ l. Contains (joined l) e) (lists_alike one others held.0 ms held.1 s) held.2
 
-pub report_alike : ReadingsAreOne → NumbersTellSummaries → (query : Query) (files others : List (List ℕ)) (text other : List ℕ)
+pub report_alike : ReadingsAreOne → NumbersTellTexts → (query : Query) (files others : List (List ℕ)) (text other : List ℕ)
     → HoldSameEvents files others → IsReport query files text → IsReport query others other → other ≡ text
 report_alike one tell query files others text other same r s =
     answer_alike tell query (joined r.0) (joined s.0) text other

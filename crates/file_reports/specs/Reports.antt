@@ -5,8 +5,7 @@ use Rattle.attributes.specs.Events.{EventValue, source_of}
 use Rattle.attributes.specs.Sequences.{number_of, sequence_fault}
 use Rattle.attributes.specs.declared.faults.Fault.{Fault}
 use Rattle.event_json.specs.Reading.{IsRefused, Reads}
-use Rattle.coverage.specs.Summary.{IsSummary, Sources, holds_at}
-use Rattle.coverage.specs.SummaryText.{summary_text}
+use Rattle.coverage.specs.CoverText.{IsCoverText}
 use Rattle.file_reports.specs.declared.query.Query.{Query}
 use Rattle.file_reports.specs.Shown.{AreShown, Row}
 use Rattle.file_reports.specs.declared.query.Query.TheVariants.{Cover, Shown}
@@ -45,11 +44,6 @@ is_numbered e source n = bytes_eq source (source_of e) && is_number (number_of e
 abbrev pub has_number : List EventValue → List ℕ → ℕ → Bool
 has_number events source n = list_any (λ e. is_numbered e source n) events
 
--- a summary that holds exactly the numbers of the events
-pub record Summarizes (events : List EventValue) (summary : Sources) : Type 0 where
-  pub canonical : IsSummary summary
-  pub exact : (source : List ℕ) (n : ℕ) → holds_at summary source n ≡ has_number events source n
-
 -- a line ends with LF
 abbrev pub line : List ℕ → List ℕ
 line text = text ++ 10 ∷ []
@@ -61,7 +55,7 @@ text_line row = line row.2
 -- the text answers the question about the events
 abbrev pub IsAnswer : Query → List EventValue → List ℕ → Type 0
 IsAnswer Cover events text =
-    (summary : Sources) × Summarizes events summary × (text ≡ line (summary_text summary))
+    (summary : List ℕ) × IsCoverText (has_number events) summary × (text ≡ line summary)
 IsAnswer Shown events text =
     (rows : List Row) × AreShown events rows × (text ≡ flat_map text_line rows)
 

@@ -7,7 +7,7 @@ use crate::listing::shown_lines;
 use crate::query::Query;
 use crate::refusal::Refused;
 use attributes::{Octets, Text};
-use coverage::laws::numbers_tell_summaries;
+use coverage::laws::numbers_tell_cover_texts;
 use event_json::readings_are_one;
 use std::alloc::Global;
 
@@ -25,7 +25,7 @@ pub fn report(alloc: Global, query: Query, files: &[Octets]) -> Result<Text, Ref
 {
     // Two laws that `alike` rests on; they do nothing.
     readings_are_one();
-    numbers_tell_summaries();
+    numbers_tell_cover_texts();
     match query {
         Query::Cover => cover(alloc, files),
         Query::Shown => shown_lines(alloc, files),

@@ -10,6 +10,7 @@ use crate::query::Query;
 use crate::refusal::Refused;
 use attributes::{Batch, Octets, Text};
 use coverage::Summary;
+use coverage::laws::numbers_tell_cover_texts;
 use std::alloc::{AllocError, Global};
 
 /// The line of the summary of all files' events.
@@ -17,6 +18,8 @@ pub fn cover(alloc: Global, files: &[Octets]) -> Result<Text, Refused>
     ensures ok { IfOk result (IsReport Query.Cover files.now) }
     ensures err { IfErr result (IsRefusal files.now) }
 {
+    // The law that a text which tells the summary's numbers tells those of the events; it does nothing.
+    numbers_tell_cover_texts();
     let summary = summary_of(alloc, files)?;
     let text = summary.to_text()?;
     Ok(lined(alloc, &text)?)

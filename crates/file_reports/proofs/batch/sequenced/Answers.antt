@@ -11,3 +11,8 @@ loop-event-preserved c =
       whole = whole_more done rest left c.args.events e next c.loop-event.invariant.whole c.loop-event.invariant.numbered c.push.new.self c.in-Ok.event c.in_ok-push-in-Ok.ensures.ok c.in-Ok.ensures.ok;
       numbered = numbered_more done rest left c.args.events e next c.loop-event.invariant.whole c.loop-event.invariant.numbered c.push.new.self c.in-Ok.event c.in-Ok.ensures.numbered.0 c.in_ok-push-in-Ok.ensures.ok c.in-Ok.ensures.ok c.in-Ok.ensures.numbered.1;
     }
+
+pub returns-in-Err-clause-fault : goal.returns-in-Err-clause-fault
+returns-in-Err-clause-fault c = λ _.
+    unnumbered_here c.loop-event.batch c.loop-event.event-iterator.rest.items c.next.new.self.rest.items c.args.events c.in-Some.event c.in-Some.ensures.steps.0 c.loop-event.invariant.whole c.loop-event.invariant.numbered
+    c.len-index.result c.in-Err.unsequenced.fault c.len-index.ensures c.in-Err.ensures.refused c.in-Err.ensures.fault
