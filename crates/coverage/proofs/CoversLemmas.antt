@@ -4,8 +4,8 @@ use Rattle.std.proofs.lemmas.Bool.{both_ways, cases_Bool, cases_eq, cases_lt, or
 use Rattle.coverage.specs.Intervals.{Interval, in_interval, holds, rises_from, IsCanonical, HoldsAll}
 use Rattle.coverage.specs.steps.Starts.{found, NoneUpTo, IsLastUpTo}
 use Rattle.coverage.proofs.HoldsLemmas.{in_interval-true, in_interval-parts, holds-nil, holds-cons, rises_from-parts, fits_from-true}
-use Rattle.coverage.proofs.StartsLemmas.{rises_from-any, found-apart, found-holds, holds-found}
-use Rattle.coverage.proofs.JoinsLemmas.{absent_with_none, absent_after}
+use Rattle.coverage.proofs.MapLemmas.{rises_from-any, found-apart, found-holds, holds-found}
+use Rattle.coverage.proofs.InsertLemmas.{absent_with_none, absent_after}
 
 -- what is held by the other list is held, or is held by what is left of it, which is part of it
 pub record CoversUpTo (ps qs left : List Interval) : Type 0 where

@@ -5,7 +5,7 @@ use Rattle.std.proofs.lemmas.Bool.Decides.{nat_tests}
 use Rattle.coverage.specs.Intervals.{Interval, max_sequence, in_interval, holds, interval_at, rises_from, IsCanonical, IsGreatest}
 use Rattle.coverage.specs.steps.Starts.{last_start_or, StartsAtMost}
 use Rattle.coverage.proofs.HoldsLemmas.{in_interval_tells, holds-nil, holds-more, last_start_or-nil, rises_from-nil, rises_from-at, rises_from-gap}
-use Rattle.coverage.proofs.StartsLemmas.{holds-found, found-fits}
+use Rattle.coverage.proofs.MapLemmas.{holds-found, found-fits}
 
 -- the numbers below the next one, up to the top, that none of the first i intervals holds
 pub record AreGapsUpTo (pairs : List Interval) (top i next : ℕ) (found : List Interval) : Type 0 where

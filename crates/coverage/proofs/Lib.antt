@@ -1,8 +1,8 @@
 pub mod HoldsLemmas
-pub mod StartsLemmas
-pub mod JoinsLemmas
-pub mod PlacesLemmas
-pub mod PairsLemmas
+pub mod MapLemmas
+pub mod InsertLemmas
+pub mod LookLemmas
+pub mod MergeLemmas
 pub mod GapsLemmas
 pub mod SizeLemmas
 pub mod CoversLemmas

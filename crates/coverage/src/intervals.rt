@@ -13,7 +13,7 @@ use std::marker::Model;
 pub type Interval = (u64, u64);
 
 /// A set of sequence numbers, kept as its intervals: ascending, disjoint and not adjacent.
-#[derive(Drop)]
+#[derive(Debug, Drop)]
 pub struct Intervals {
     starts: BTreeMap<u64, u64>,
     alloc: Global,

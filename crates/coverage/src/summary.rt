@@ -14,7 +14,7 @@ use std::marker::Model;
 
 /// Sources in byte order, each with the set of its numbers that have been seen, of which there is
 /// at least one.
-#[derive(Drop)]
+#[derive(Debug, Drop)]
 pub struct Summary {
     entries: BTreeMap<String, Intervals>,
     alloc: Global,

@@ -1,6 +1,6 @@
 use Rattle.std.proofs.Common.{sym, ap₂, ◌∙◌}
 use Rattle.coverage.specs.Intervals.{holds}
-use Rattle.coverage.proofs.JoinsLemmas.{held_by_last, absent_with_none}
+use Rattle.coverage.proofs.InsertLemmas.{held_by_last, absent_with_none}
 use Rattle.coverage.proofs.intervals.Intervals.contains.Goals as goal
 
 pub returns-in-Some : goal.returns-in-Some

@@ -1,7 +1,7 @@
 use Rattle.std.proofs.Common.{refl, subst}
 use Rattle.std.proofs.lemmas.Map.Keys.{ge_from_not_lt}
 use Rattle.coverage.specs.Intervals.{IsGreatest}
-use Rattle.coverage.proofs.StartsLemmas.{found-fits, greatest_last}
+use Rattle.coverage.proofs.MapLemmas.{found-fits, greatest_last}
 use Rattle.coverage.proofs.intervals.Intervals.greatest.Goals as goal
 
 pub returns-in-Some-clause-value : goal.returns-in-Some-clause-value

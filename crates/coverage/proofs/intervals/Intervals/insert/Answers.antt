@@ -1,7 +1,7 @@
 use Rattle.std.proofs.Common.{◌==◌, ◌||◌, not, List, ℕ, rules, sym, ap, ap₂, ◌∙◌, arith}
 use Rattle.coverage.specs.Intervals.{Interval, holds}
-use Rattle.coverage.proofs.JoinsLemmas.{StartsAt, EndsAt, Joins, starts_alone, starts_left, starts_apart, ends_at, joins_made, joins-canonical, joins-members, already}
-use Rattle.coverage.proofs.StartsLemmas.{found-holds}
+use Rattle.coverage.proofs.InsertLemmas.{StartsAt, EndsAt, Joins, starts_alone, starts_left, starts_apart, ends_at, joins_made, joins-canonical, joins-members, already}
+use Rattle.coverage.proofs.MapLemmas.{found-holds}
 use Rattle.coverage.proofs.intervals.Intervals.insert.Goals.{in-Some+else-n-last+then-last-n, in-Some+else-n-last+else-last-n, in_default}
 use Rattle.coverage.proofs.intervals.Intervals.insert.Goals as goal
 

@@ -3,7 +3,7 @@ use Rattle.std.specs.Ordering.{nat_cmp, is_gt}
 use Rattle.std.proofs.lemmas.Bool.Decides.{nat_tests}
 use Rattle.std.proofs.lemmas.Map.Keys.{le_from_not_gt}
 use Rattle.coverage.specs.Intervals.{AllStartBefore, IsNextSpan}
-use Rattle.coverage.proofs.PlacesLemmas.{next_span_is, all_start_before}
+use Rattle.coverage.proofs.LookLemmas.{next_span_is, all_start_before}
 use Rattle.coverage.proofs.intervals.Intervals.next_span.Goals as goal
 
 not_gt_from_le : (a n : ℕ) → a ≤ n → is_gt (nat_cmp a n) ≡ false

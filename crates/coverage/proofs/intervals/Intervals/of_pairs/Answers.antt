@@ -1,7 +1,7 @@
 use Rattle.std.proofs.Common.{ap, ◌∙◌}
 use Rattle.std.proofs.lemmas.List.{take_all}
 use Rattle.coverage.specs.Intervals.{rises_from}
-use Rattle.coverage.proofs.PlacesLemmas.{insert_entry-next}
+use Rattle.coverage.proofs.LookLemmas.{insert_entry-next}
 use Rattle.coverage.proofs.intervals.Intervals.of_pairs.Goals as goal
 
 pub loop-interval-preserved : goal.loop-interval-preserved

@@ -1,6 +1,6 @@
 use Rattle.std.proofs.Common.{ap, sym, ◌∙◌, arith}
 use Rattle.coverage.specs.Intervals.{rises_from, size_of}
-use Rattle.coverage.proofs.StartsLemmas.{rises_from-any, size_step}
+use Rattle.coverage.proofs.MapLemmas.{rises_from-any, size_step}
 use Rattle.coverage.proofs.intervals.Intervals.size.Goals as goal
 
 pub loop-first-init : goal.loop-first-init

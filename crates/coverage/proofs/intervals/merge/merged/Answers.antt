@@ -1,5 +1,5 @@
 use Rattle.coverage.proofs.HoldsLemmas.{rises_from-at}
-use Rattle.coverage.proofs.PairsLemmas.{merged_none, merged_first, merged_second}
+use Rattle.coverage.proofs.MergeLemmas.{merged_none, merged_first, merged_second}
 use Rattle.coverage.proofs.intervals.merge.merged.Goals as goal
 
 pub loop-i-init : goal.loop-i-init

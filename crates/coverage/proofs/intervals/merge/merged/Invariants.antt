@@ -1,5 +1,5 @@
 use Rattle.std.proofs.Common.{◌+◌, ◌-◌, length}
-use Rattle.coverage.proofs.PairsLemmas.{IsMergedUpTo}
+use Rattle.coverage.proofs.MergeLemmas.{IsMergedUpTo}
 use Rattle.coverage.proofs.intervals.merge.merged.Given as goal
 
 abbrev pub invariant-loop-i : goal.invariant-loop-i

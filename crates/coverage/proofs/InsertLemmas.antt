@@ -9,7 +9,7 @@ use Rattle.std.specs.BTreeMap.{is_at}
 use Rattle.std.specs.List.Sorted.{IsStrictlySortedBy}
 use Rattle.coverage.specs.Intervals.{Interval, max_sequence, holds, IsCanonical}
 use Rattle.coverage.specs.steps.Starts.{found, NoneUpTo, IsLastUpTo}
-use Rattle.coverage.proofs.StartsLemmas.{is_at-same, is_at-other, found-fits, found-apart, rises_from-found, holds-found, found-holds}
+use Rattle.coverage.proofs.MapLemmas.{is_at-same, is_at-other, found-fits, found-apart, rises_from-found, holds-found, found-holds}
 
 -- n isn't held, and start is where its interval begins: at n, or at that of an interval that ends right before
 pub record StartsAt (old : List Interval) (n start : ℕ) : Type 0 where

@@ -7,7 +7,7 @@ use Rattle.std.specs.BTreeMap.{insert_entry}
 use Rattle.coverage.specs.Intervals.{Interval, interval_at, rises_from, IsCanonical, IsNextSpan, AllStartBefore}
 use Rattle.coverage.specs.steps.Starts.{found}
 use Rattle.coverage.proofs.HoldsLemmas.{rises_from-gap, rises_from-at, rises_from-parts}
-use Rattle.coverage.proofs.StartsLemmas.{found-nil, found-head, found-tail, found-cases, insert_entry-last}
+use Rattle.coverage.proofs.MapLemmas.{found-nil, found-head, found-tail, found-cases, insert_entry-last}
 
 -- what is found stands at some place
 pub found-place : (ps : List Interval) (a b : ℕ) → found a ps ≡ Some b → (k : ℕ) × ((k < length ps) × (interval_at ps k ≡ (a, b)))
