@@ -1,5 +1,5 @@
 -- A compact text has no byte below a space.
-use Rattle.std.proofs.Common.{◌≡◌, ◌≤◌, ◌<◌, ◌+◌, ◌/◌, ◌%◌, ◌^◌, ℕ, suc, pos, negsuc, Bool, true, false, ◌||◌, List, [], ◌∷◌, ◌++◌, decimal, refl, arith, cond}
+use Rattle.std.proofs.Common.{◌≡◌, ◌≤◌, ◌+◌, ◌/◌, ◌%◌, ℕ, suc, pos, negsuc, Bool, true, false, ◌||◌, List, [], ◌∷◌, ◌++◌, decimal, refl, arith, cond}
 use Rattle.std.specs.Prelude.{◌==◌, nat_lt}
 use Rattle.std.specs.Char.{digit_char, is_ascii_digit}
 use Rattle.std.specs.List.{All, AllByRecursion, list_all}

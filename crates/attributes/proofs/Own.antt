@@ -2,7 +2,7 @@
 use Rattle.std.proofs.Common.{◌≡◌, ◌≢◌, ◌∙◌, ℕ, true, false, List, [], ◌∷◌, Option, Some, None, refl, ap, ap₂, sym}
 use Rattle.std.specs.Prelude.{if◌then◌else◌, bytes_eq, codes, option_map}
 use Rattle.std.specs.List.{AllByRecursion, list_all}
-use Rattle.serde_json.specs.Data.{Data, null, boolean, number, string, array, object, no_members}
+use Rattle.serde_json.specs.Data.{Data, null, boolean, number, string, array, object}
 use Rattle.attributes.specs.Characters.{is_filled, is_name}
 use Rattle.attributes.specs.Members.{value_at}
 use Rattle.attributes.specs.Events.{EventValue, content_of, event_of, id_of, kind_of, members_of, scalars_of, source_of, tree_content, with_content, words_or_empty}

@@ -1,6 +1,6 @@
 -- Texts of visible ASCII.
 use Rattle.std.proofs.Common.{◌≡◌, ◌∙◌, ◌<◌, ℕ, zero, suc, List, [], ◌∷◌, Bool, true, ◌&&◌, ap, ap₂, arith}
-use Rattle.std.specs.Prelude.{not, nat_le, nat_lt, chars}
+use Rattle.std.specs.Prelude.{not}
 use Rattle.std.specs.Char.{is_control}
 use Rattle.std.specs.List.{list_all}
 use Rattle.std.specs.Str.{IsAscii}

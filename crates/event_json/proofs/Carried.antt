@@ -1,7 +1,7 @@
 -- An event's object spells the parts that the event is made of.
 use Rattle.std.proofs.Common.{◌≡◌, ◌≢◌, ◌^◌, ℕ, pos, negsuc, Bool, true, false, cond, List, [], ◌∷◌, Some, None, nat_lt, nat_cmp, bytes_eq, is_eq, Ordering, Less, Equal, Greater, refl, sym, ap, ap₂, ◌∙◌, arith, ltb-true, lt-ltb}
 use Rattle.std.specs.Cmp.Lexicographic.{slice_cmp}
-use Rattle.std.specs.List.{list_all, AllByRecursion}
+use Rattle.std.specs.List.{AllByRecursion}
 use Rattle.std.specs.Ordering.{match_ordering}
 use Rattle.base64.specs.Engines.{standard}
 use Rattle.base64.specs.GeneralPurpose.{encode_of}

@@ -10,4 +10,6 @@ mod writer;
 
 pub use faults::ReadFault;
 pub use reader::{MAX_INPUT, read_events, readings_are_one};
-pub use writer::{batch_texts_read_back, batch_texts_tell_lists, write_batch, write_event, write_sequenced};
+pub use writer::{
+    batch_texts_read_back, batch_texts_tell_lists, write_batch, write_event, write_sequenced,
+};

@@ -5,7 +5,9 @@ ghost use Rattle.attributes.specs.Faults.{IsEvent};
 ghost use Rattle.event_json.specs.Reading.{Reads, max_input};
 ghost use Rattle.event_json.specs.BatchText.{separated, batch_text};
 
-use attributes::laws::{exact_json_reads_back, objects_hold_attributes, parts_make_events, text_tells_events};
+use attributes::laws::{
+    exact_json_reads_back, objects_hold_attributes, parts_make_events, text_tells_events,
+};
 use attributes::{Batch, Event, Events, Text};
 use std::alloc::{AllocError, Global};
 

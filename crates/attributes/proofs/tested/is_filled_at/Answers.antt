@@ -1,4 +1,4 @@
-use Rattle.std.proofs.Common.{◌≡◌, ◌∙◌, ap}
+use Rattle.std.proofs.Common.{◌∙◌, ap}
 use Rattle.attributes.specs.Members.{named}
 use Rattle.attributes.specs.Plain.{is_allowed_value}
 use Rattle.attributes.proofs.Faultless.{value_at-passes}
