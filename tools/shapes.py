@@ -1,0 +1,144 @@
+#!/usr/bin/env python3
+"""Looks for shapes of input that are dear: times the built program on files of odd shapes, each beside a friendly
+file of about its size, and prints how much more processor time a byte of it costs.
+
+usage: tools/shapes.py PROGRAM [--size BYTES] [--runs N] [--limit RATIO] [--only WORD]
+
+The exit status is 1 where a shape costs more than RATIO times its friendly file. The shapes are the same for everybody.
+"""
+import argparse
+import os
+import random
+import resource
+import subprocess
+import sys
+import tempfile
+
+NUMBER = '"sequence":"%020d"'
+BASE = '"specversion":"1.0","id":"%s","source":"%s","type":"t",' + NUMBER
+
+
+def event(place, more="", source="/s", number=None, key=None):
+    return "{" + BASE % (key or f"e{place}", source, number or place + 1) + more + "}"
+
+
+def batch(size, make):
+    """A batch of about that size, of the events that are made of their places."""
+    parts, length, place = [], 2, 0
+    while length < size:
+        made = make(place)
+        parts.append(made)
+        length += len(made.encode()) + 2
+        place += 1
+    return "[" + ",\n".join(parts) + "]"
+
+
+def ordered(size, kind, make):
+    """Events in an order of their places; all files of a size have the same events."""
+    count = size // len(make(100_000))
+    places = list(range(count))
+    if kind == "descending":
+        places.reverse()
+    elif kind == "shuffled":
+        random.Random(1).shuffle(places)
+    return "[" + ",\n".join(make(place) for place in places) + "]"
+
+
+def names(kind, count):
+    made = [f"a{place:05d}" for place in range(count)]
+    if kind == "descending":
+        made.reverse()
+    elif kind == "shuffled":
+        random.Random(1).shuffle(made)
+    return made
+
+
+def with_attributes(kind, count):
+    more = "".join(f',"{name}":"v"' for name in names(kind, count))
+    return lambda place: event(place, more)
+
+
+def with_data(text):
+    return lambda place: event(place, ',"data":' + text)
+
+
+def members(kind):
+    return "{" + ",".join(f'"{name}":1' for name in names(kind, 2_000)) + "}"
+
+
+def shapes(size):
+    """Name of the shape, the odd file, the friendly file."""
+    def by_source(place):
+        return event(place, source=f"/s/{place:07d}", number=1)
+
+    def by_number(place):
+        return event(place, number=2 * place + 1, key="k")
+
+    sources = ordered(size, "ascending", by_source)
+    numbers = ordered(size, "ascending", by_number)
+    few = batch(size, with_attributes("ascending", 20))
+    plain = batch(size, lambda place: event(place, ',"x":"' + "a" * 200 + '"'))
+    flat = batch(size, with_data("[" + ",".join(["1"] * 120) + "]"))
+    object_ = batch(size, with_data(members("ascending")))
+    yield "sources descending", ordered(size, "descending", by_source), sources
+    yield "sources shuffled", ordered(size, "shuffled", by_source), sources
+    yield "numbers descending", ordered(size, "descending", by_number), numbers
+    yield "numbers scattered", ordered(size, "shuffled", by_number), numbers
+    yield "15,000 attributes an event", batch(size, with_attributes("ascending", 15_000)), few
+    yield "15,000 attributes, descending", batch(size, with_attributes("descending", 15_000)), few
+    yield "15,000 attributes, shuffled", batch(size, with_attributes("shuffled", 15_000)), few
+    yield "marks escaped", batch(size, lambda place: event(place, ',"x":"' + '\\"' * 100 + '"')), plain
+    yield "letters escaped", batch(size, lambda place: event(place, ',"x":"' + "\\u0061" * 33 + '"')), plain
+    yield "no ASCII", batch(size, lambda place: event(place, ',"x":"' + "é" * 100 + '"')), plain
+    yield "long text", batch(size, lambda place: event(place, ',"x":"' + "a" * 200_000 + '"')), plain
+    yield "data nested 120 deep", batch(size, with_data("[" * 120 + "]" * 120)), flat
+    yield "objects nested 120 deep", batch(size, with_data('{"a":' * 120 + "1" + "}" * 120)), flat
+    yield "members of data descending", batch(size, with_data(members("descending"))), object_
+    yield "members of data shuffled", batch(size, with_data(members("shuffled"))), object_
+    yield "one key, many texts", ordered(size, "shuffled", lambda place: event(place, key="k")), numbers
+    yield "keys that begin alike", batch(size, lambda place: event(place, key="k" * 180 + str(place))), plain
+    yield "a name repeated", batch(size, lambda place: event(place, ',"x":1' * 30)), few
+
+
+def seconds(program, question, path, runs):
+    """The least processor time of the runs."""
+    least = None
+    for _ in range(runs):
+        before = resource.getrusage(resource.RUSAGE_CHILDREN)
+        subprocess.run([program, question, path], stdout=subprocess.DEVNULL, check=True)
+        after = resource.getrusage(resource.RUSAGE_CHILDREN)
+        spent = after.ru_utime + after.ru_stime - before.ru_utime - before.ru_stime
+        least = spent if least is None else min(least, spent)
+    return least
+
+
+def main():
+    parser = argparse.ArgumentParser(description=__doc__, formatter_class=argparse.RawTextHelpFormatter)
+    parser.add_argument("program")
+    parser.add_argument("--size", type=int, default=16_000_000)
+    parser.add_argument("--runs", type=int, default=3)
+    parser.add_argument("--limit", type=float, default=2.0)
+    parser.add_argument("--only", default="")
+    options = parser.parse_args()
+    dear = 0
+    with tempfile.TemporaryDirectory() as folder:
+        odd, friendly = os.path.join(folder, "odd.json"), os.path.join(folder, "friendly.json")
+        for name, text, other in shapes(options.size):
+            if options.only not in name:
+                continue
+            for path, content in ((odd, text), (friendly, other)):
+                with open(path, "w", encoding="utf-8") as file:
+                    file.write(content)
+            scale = os.path.getsize(odd) / os.path.getsize(friendly)
+            for question in ("cover", "shown"):
+                mine = seconds(options.program, question, odd, options.runs)
+                theirs = seconds(options.program, question, friendly, options.runs)
+                ratio = mine / theirs / scale
+                mark = " DEAR" if ratio > options.limit else ""
+                dear += ratio > options.limit
+                print(f"{name:32} {question}  {mine:6.2f} s  friendly {theirs:6.2f} s  ratio a byte {ratio:5.2f}{mark}", flush=True)
+    print(f"{dear} shapes above {options.limit} times their friendly file")
+    return 1 if dear else 0
+
+
+sys.exit(main())
