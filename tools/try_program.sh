@@ -1,6 +1,7 @@
 #!/bin/sh
 # Runs the built program as a shell does, with odd words, files and streams, and looks at its status
-# and at both streams. The gate runs it once, on good input; no contract reaches `main`.
+# and at both streams. `rt ci` runs it once, on good input, and no contract reaches `main`: so the gate
+# runs this too.
 #
 #   tools/try_program.sh [PROGRAM]       by default crates/site_cli/out/site_cli
 #
@@ -178,8 +179,8 @@ awk -v n=20000 'BEGIN { printf "["; for (i = 1; i <= n; i++) printf "%s{\"id\":\
 status=$(cat got.status)
 is 'a reader that leaves' 1 '*' ''
 
-# The script ./site, where the program that it builds is this one.
-if [ "$program" = "$here/crates/site_cli/out/site_cli" ]; then
+# The script ./site, where it has built this program already.
+if [ "$program" = "$here/crates/site_cli/out/site_cli" ] && [ -e "$program.built" ]; then
     ln -s "$here/site" link
     ln -s link link-of-a-link
     for script in "$here/site" ./link ./link-of-a-link; do

@@ -4,7 +4,7 @@ use Rattle.clap.specs.Words.{App, Rule, new_app, new_rule, with_rule}
 use Rattle.clap.specs.declared.builder.action.ArgAction.TheVariants.{Append}
 use Rattle.command_words.specs.declared.command.Command.{Command}
 use Rattle.command_words.specs.declared.command.Command.TheVariants.{Ask}
-use Rattle.command_words.specs.declared.command.Question.TheVariants.{Cover, Shown}
+use Rattle.file_reports.specs.declared.query.Query.TheVariants.{Cover, Shown}
 
 -- the word of a command
 abbrev pub word_of : Command → List ℕ
@@ -18,4 +18,4 @@ files_rule =
 
 -- a command's word and its arguments
 abbrev pub app_for : Command → App
-app_for (Ask question) = with_rule (new_app (word_of (Ask question))) files_rule
+app_for (Ask query) = with_rule (new_app (word_of (Ask query))) files_rule

@@ -1,6 +1,6 @@
 -- What the words after the program's name ask for.
 use Rattle.std.specs.Prelude.{◌≡◌, ◌≢◌, ℕ, List, [], codes, Some, slice_get, unwrap_or}
-use Rattle.clap.specs.Words.{App, Text, all_of, fault_of, matches_of}
+use Rattle.clap.specs.Words.{Row, Text, all_of, fault_of, matches_of}
 use Rattle.command_words.specs.declared.command.Command.{Command}
 use Rattle.command_words.specs.declared.command.Command.TheVariants as command
 use Rattle.command_words.specs.declared.request.Plan.{Plan}
@@ -11,23 +11,22 @@ use Rattle.command_words.specs.Commands.{app_for, word_of}
 
 -- the command of a plan
 abbrev pub command_of : Plan → Command
-command_of (plan.Ask question files) = command.Ask question
+command_of (plan.Ask query files) = command.Ask query
 
--- the texts of an argument, by clap's rule for the command; none where it isn't given
-abbrev pub texts_in : App → List Text → Text → List Text
-texts_in app words id = unwrap_or (all_of id (matches_of app words)) []
+-- the texts that were matched for an argument; none where it isn't given
+abbrev pub texts_in : List Row → Text → List Text
+texts_in rows id = unwrap_or (all_of id rows) []
 
--- the plan's texts are those that clap's rule for its command gives for the words
-abbrev pub HasTextsOf : List Text → Plan → Type 0
-HasTextsOf words (plan.Ask question files) =
-    files ≡ texts_in (app_for (command.Ask question)) words (codes "file")
+-- the plan's texts are those that were matched for its arguments
+abbrev pub HasTextsOf : List Row → Plan → Type 0
+HasTextsOf rows (plan.Ask query files) = files ≡ texts_in rows (codes "file")
 
 -- clap's rule for the command finds no fault in the words, and the plan is that command with the texts
--- that the rule gives
+-- that the rule matches
 pub record IsPlanFor (words : List Text) (command : Command) (plan : Plan) : Type 0 where
   pub is_command : command_of plan ≡ command
   pub faultless : fault_of (app_for command) words ≡ []
-  pub texts : HasTextsOf words plan
+  pub texts : HasTextsOf (matches_of (app_for command) words) plan
 
 -- the first word is that of the plan's command, and the words are a plan for it
 abbrev pub IsPlan : List Text → Plan → Type 0

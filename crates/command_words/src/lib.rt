@@ -9,7 +9,7 @@ mod request;
 mod texts;
 mod words;
 
-pub use command::{Command, Question};
+pub use command::Command;
 pub use fault::Faulty;
 pub use request::Plan;
 pub use texts::Texts;

@@ -4,7 +4,7 @@ ghost use Rattle.clap.specs.Words.{kind_of};
 ghost use Rattle.clap.specs.declared.error.kind.ErrorKind.{ErrorKind};
 ghost use Rattle.command_words.specs.Plans.{Blames};
 
-use crate::command::{Command, Question};
+use crate::command::{WORDS, row_of};
 use crate::fault::Faulty;
 use attributes::Text;
 use clap::Error;
@@ -14,15 +14,19 @@ use std::alloc::{AllocError, Global};
 /// The program with all its commands. It reads words whose first is no command, for its help, its
 /// version, and what it says of a word that it doesn't know.
 fn program<'a>(alloc: Global) -> Result<clap::Command<'a>, AllocError> {
-    clap::Command::new(alloc, "site")
+    let mut program = clap::Command::new(alloc, "site")
         .bin_name("site")?
         .version("0.1.0")
         .about("Answers questions about the events in files of CloudEvents")
         .no_binary_name(true)
         .subcommand_required(true)
-        .arg_required_else_help(true)
-        .subcommand(Command::Ask(Question::Cover).parser(alloc)?)?
-        .subcommand(Command::Ask(Question::Shown).parser(alloc)?)
+        .arg_required_else_help(true);
+    for word in WORDS {
+        if let Some(row) = row_of(word) {
+            program = program.subcommand(row.parser(alloc)?)?;
+        }
+    }
+    Ok(program)
 }
 
 /// What is said of words whose first is no command: help, the version, or which word is unknown.

@@ -1,10 +1,10 @@
 //! What the words of the command line ask for.
-use crate::command::Question;
 use crate::texts::Texts;
+use file_reports::Query;
 
 /// What the words ask for: a command and the texts of its arguments.
 #[derive(Drop)]
 pub enum Plan {
-    /// The answer to a question for the events of all files.
-    Ask { question: Question, files: Texts },
+    /// The answer to a query for the events of all files together.
+    Ask { query: Query, files: Texts },
 }

@@ -5,8 +5,6 @@ mod fault;
 mod intervals;
 pub mod laws;
 mod summary;
-#[cfg(test)]
-mod tests;
 
 pub use fault::SummaryFault;
 pub use intervals::{Interval, Intervals};

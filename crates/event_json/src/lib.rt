@@ -4,8 +4,6 @@
 
 mod faults;
 mod reader;
-#[cfg(test)]
-mod tests;
 mod writer;
 
 pub use faults::ReadFault;

@@ -15,9 +15,9 @@ use Rattle.coverage.specs.CoverText.{IsCoverText}
 use Rattle.file_reports.specs.declared.query.Query.{Query}
 use Rattle.file_reports.specs.declared.query.Query.TheVariants.{Cover, Shown}
 use Rattle.file_reports.specs.Reports.{EachReads, HoldsEvent, HoldSameEvents, IsAnswer, IsReport, has_number, is_numbered, joined, line, text_line}
-use Rattle.file_reports.specs.Shown.{AreShown, IsShown, Row, Yields, key_cmp, row_of, text_cmp}
+use Rattle.file_reports.specs.Shown.{AreShown, Hides, IsShown, Row, pair_cmp, row_of, text_cmp}
 use Rattle.file_reports.proofs.FirstsLemmas.{at_places, or_true}
-use Rattle.file_reports.proofs.ShownLemmas.{key_total, rows_same, text_total}
+use Rattle.file_reports.proofs.ShownLemmas.{pair_total, rows_same, text_total}
 
 -- ---- elements of lists
 -- each element of the first list is one of the second
@@ -115,7 +115,7 @@ no_less r s f g = step (text_cmp r s) refl
     step Equal e = e
     step Greater e = absurd (g (text_total.antisymm s r ∙ ap ordering_reverse e))
 
-row_alike : (r s : Row) → key_cmp r s ≡ Equal → text_cmp r s ≢ Less → text_cmp s r ≢ Less → r ≡ s
+row_alike : (r s : Row) → pair_cmp r s ≡ Equal → text_cmp r s ≢ Less → text_cmp s r ≢ Less → r ≡ s
 row_alike r s key f g =
     let both = then_equal _ _ key in
     rows_same r.0 r.1 r.2 s.0 s.1 s.2 (exact_bytes r.0 s.0 both.0) (exact_bytes r.1 s.1 both.1) (exact_bytes r.2 s.2 (no_less r s f g))
@@ -124,21 +124,24 @@ shown_there : (es fs : List EventValue) (rows others : List Row) → AreShown es
 shown_there es fs rows others a b f g r c =
     let here : IsShown es r = all_at (IsShown es) rows r a.shown c in
     let mine : Row = row_of here.event in
-    let named = all_at (λ e. list_any (λ row. is_eq (key_cmp (row_of e) row)) others ≡ true) fs here.event b.complete (f here.event here.is_there) in
-    let found = any_of (λ row. is_eq (key_cmp mine row)) others named in
+    let named = all_at (λ e. list_any (λ row. is_eq (pair_cmp (row_of e) row)) others ≡ true) fs here.event b.complete (f here.event here.is_there) in
+    let found = any_of (λ row. is_eq (pair_cmp mine row)) others named in
     let there : IsShown fs found.0 = all_at (IsShown fs) others found.0 b.shown found.1 in
-    let tied : key_cmp mine found.0 ≡ Equal = (Equal-is (key_cmp mine found.0)).0 found.2 in
-    let key : key_cmp r found.0 ≡ Equal = ap (λ x. key_cmp x found.0) here.is_row ∙ tied in
-    let least = all_at (λ e. Yields (row_of e) found.0) fs here.event there.is_least (f here.event here.is_there) in
-    let back = all_at (λ e. Yields (row_of e) r) es there.event here.is_least (g there.event there.is_there) in
+    let tied : pair_cmp mine found.0 ≡ Equal = (Equal-is (pair_cmp mine found.0)).0 found.2 in
+    let key : pair_cmp r found.0 ≡ Equal = ap (λ x. pair_cmp x found.0) here.is_row ∙ tied in
+    let least = all_at (λ e. Hides (row_of e) found.0 → ⊥) fs here.event there.is_least (f here.event here.is_there) in
+    let back = all_at (λ e. Hides (row_of e) r → ⊥) es there.event here.is_least (g there.event there.is_there) in
     let same : r ≡ found.0 = row_alike r found.0 key
-    (λ less. least tied (ap (λ x. text_cmp x found.0) (sym here.is_row) ∙ less))
-    (λ less. back (ap (λ x. key_cmp x r) (sym there.is_row) ∙ tied_back key_total r found.0 key) (ap (λ x. text_cmp x r) (sym there.is_row) ∙ less)) in
+    (λ less. least (tied, ap (λ x. text_cmp x found.0) (sym here.is_row) ∙ less))
+    (λ less. back (
+        ap (λ x. pair_cmp x r) (sym there.is_row) ∙ tied_back pair_total r found.0 key,
+        ap (λ x. text_cmp x r) (sym there.is_row) ∙ less,
+    )) in
     subst (Contains others) (sym same) found.1
 
 shown_alike : (es fs : List EventValue) (rows others : List Row) → AreShown es rows → AreShown fs others → Among es fs → Among fs es → rows ≡ others
 shown_alike es fs rows others a b f g =
-    ascending_alike key_cmp key_total rows others a.in_order b.in_order (shown_there es fs rows others a b f g) (shown_there fs es others rows b a g f)
+    ascending_alike pair_cmp pair_total rows others a.in_order b.in_order (shown_there es fs rows others a b f g) (shown_there fs es others rows b a g f)
 
 -- ---- reports
 -- what is known of the readings of bytes

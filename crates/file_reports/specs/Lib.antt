@@ -1,4 +1,4 @@
-pub mod Inputs
+pub mod Numbers
 pub mod Shelves
 pub mod Shown
 pub mod Reports

@@ -29,11 +29,11 @@ pub enum Unread {
 }
 
 impl Unread {
-    ghost use Rattle.file_reports.specs.Inputs.{number_of};
+    ghost use Rattle.file_reports.specs.Numbers.{unread_number};
 
     /// The number of the reason, from 1.
     pub fn number(self) -> u8
-        ensures { result ≡ number_of self }
+        ensures { result ≡ unread_number self }
     {
         match self {
             Unread::OutOfMemory => 1,

@@ -5,8 +5,8 @@ ghost use Rattle.std.specs.List.Sorted.{IsPermutation, IsSorted};
 ghost use Rattle.std.specs.Option.{option_map};
 ghost use Rattle.std.specs.Ordering.{is_eq};
 ghost use Rattle.file_reports.specs.Reports.{EachReads, IsRefusal, IsReport, joined, text_line};
-ghost use Rattle.file_reports.specs.Shown.{key_cmp, row_of};
-ghost use Rattle.file_reports.specs.steps.Rows.{firsts, is_new, kept_if, row_at, row_cmp};
+ghost use Rattle.file_reports.specs.Shown.{pair_cmp, row_of};
+ghost use Rattle.file_reports.specs.steps.Rows.{firsts, is_new, kept_if, row_at, key_cmp};
 
 use crate::batch::batch_of_file;
 use crate::query::Query;
@@ -75,7 +75,7 @@ fn push_rows<'a>(rows: &mut Vec<Row<'a>>, batch: &'a Batch) -> Result<(), AllocE
 /// comes first.
 fn sort(rows: &mut Vec<Row<'_>>)
     ensures same { IsPermutation rows.old.items rows.new.items }
-    ensures sorted { IsSorted (λ r s. row_cmp (row_at r) (row_at s)) rows.new.items }
+    ensures sorted { IsSorted (λ r s. key_cmp (row_at r) (row_at s)) rows.new.items }
 {
     rows.sort_unstable();
 }
@@ -83,7 +83,7 @@ fn sort(rows: &mut Vec<Row<'_>>)
 /// The texts of the rows that have another source or id than the row before, each in a line.
 fn lines_of(alloc: Global, rows: &[Row<'_>]) -> Result<Text, AllocError>
     ensures { IfOk result (λ t.
-        t ≡ flat_map text_line (firsts key_cmp None (map row_at rows.now))) }
+        t ≡ flat_map text_line (firsts pair_cmp None (map row_at rows.now))) }
 {
     let mut lines = String::new(alloc);
     let mut before = None;
@@ -101,7 +101,7 @@ fn append_if_new(
     row: Row<'_>,
 ) -> Result<(), AllocError>
     ensures { OnOk result (string_bytes lines.new ≡ string_bytes lines.old ++ flat_map text_line
-        (kept_if (is_new key_cmp (option_map row_at before.entry) (row_at row.entry))
+        (kept_if (is_new pair_cmp (option_map row_at before.entry) (row_at row.entry))
         (row_at row.entry) [])) }
 {
     if let Some(last) = before {
@@ -115,7 +115,7 @@ fn append_if_new(
 
 /// Whether the rows have one source and one id.
 fn has_same_key(row: Row<'_>, other: Row<'_>) -> bool
-    ensures { result ≡ is_eq (key_cmp (row_at row.entry) (row_at other.entry)) }
+    ensures { result ≡ is_eq (pair_cmp (row_at row.entry) (row_at other.entry)) }
 {
     row.0.cmp(&other.0).then(row.1.cmp(&other.1)).is_eq()
 }

@@ -21,6 +21,21 @@ pub enum ReportFault {
     Event { index: u64, fault: Fault },
 }
 
+impl ReportFault {
+    ghost use Rattle.file_reports.specs.Numbers.{fault_number};
+
+    /// The number of the reason, from 1.
+    pub fn number(self) -> u8
+        ensures { result ≡ fault_number self }
+    {
+        match self {
+            ReportFault::OutOfMemory => 1,
+            ReportFault::Read(_) => 2,
+            ReportFault::Event { .. } => 3,
+        }
+    }
+}
+
 impl From<AllocError> for ReportFault {
     ghost from_gives = { λ _ e. e ≡ OutOfMemory };
 

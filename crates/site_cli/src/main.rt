@@ -3,7 +3,7 @@
 
 mod ending;
 mod line;
-mod question;
+mod query;
 mod run;
 mod system;
 #[cfg(test)]

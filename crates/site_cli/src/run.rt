@@ -7,7 +7,7 @@ ghost use Rattle.site_cli.specs.Runs.{EndsUnheard, IsEnding, IsLine, IsUnheard, 
 
 use crate::ending::{Ending, finish};
 use crate::line::{Refusal, line_of};
-use crate::question::ask;
+use crate::query::ask;
 use crate::system::SystemFiles;
 use attributes::Text;
 use command_words::{Faulty, Plan, plan};
@@ -88,7 +88,7 @@ fn carried_out<S: Shelf>(alloc: Global, shelf: &S, plan: &Plan) -> Result<Text, 
         (RefusesPlan (S.is_content shelf.now) (S.is_unread shelf.now) plan.now) }
 {
     match plan {
-        Plan::Ask { question, files } => ask(alloc, shelf, *question, files.as_slice()),
+        Plan::Ask { query, files } => ask(alloc, shelf, *query, files.as_slice()),
     }
 }
 

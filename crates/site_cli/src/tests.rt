@@ -1,8 +1,8 @@
 //! Runs of the program on files in a folder of the test's own.
 use crate::run::perform;
 use attributes::Text;
-use command_words::{Command, Plan, Question, plan};
-use file_reports::{Unread, read_all};
+use command_words::{Command, Plan, plan};
+use file_reports::{Query, Unread, read_all};
 use std::alloc::Global;
 use std::io::{Read, Write};
 use std::test::Fail;
@@ -259,9 +259,9 @@ fn faulty_words_and_help_end_with_two(rt: HostRuntime) -> Result<(), Fail> {
 #[test]
 fn a_plan_holds_the_question_and_the_files(rt: HostRuntime) -> Result<(), Fail> {
     let words = words_of(rt.alloc(), &["shown", "f", "-", "--", "-g"])?;
-    let Plan::Ask { question, files } = plan(rt.alloc(), words.as_slice()).ok().ok_or("no plan")?;
-    assert_eq!(rt; Command::of_word("shown"), Some(Command::Ask(question)));
-    assert_eq!(rt; question, Question::Shown);
+    let Plan::Ask { query, files } = plan(rt.alloc(), words.as_slice()).ok().ok_or("no plan")?;
+    assert_eq!(rt; Command::of_word("shown"), Some(Command::Ask(query)));
+    assert_eq!(rt; query, Query::Shown);
     assert_eq!(rt; files.len(), 3);
     assert_eq!(rt; files.at(1).as_str(), "-");
     assert_eq!(rt; files.at(2).as_str(), "-g");

@@ -3,7 +3,7 @@ use Rattle.std.specs.Prelude.{ℕ, List, [], ◌∷◌, Bool, true, not, Option,
 use Rattle.std.specs.Borrow.{Bor}
 use Rattle.std.specs.Ordering.{is_eq, ordering_then}
 use Rattle.std.specs.declared.cmp.Ordering.{Ordering}
-use Rattle.file_reports.specs.Shown.{Row, key_cmp, text_cmp}
+use Rattle.file_reports.specs.Shown.{Row, pair_cmp, text_cmp}
 
 -- three texts that are lent
 abbrev pub LentRow : Type 0
@@ -14,8 +14,8 @@ abbrev pub row_at : LentRow → Row
 row_at r = (r.0.now, r.1.now, r.2.now)
 
 -- by source, then id, then canonical text
-abbrev pub row_cmp : Row → Row → Ordering
-row_cmp r s = ordering_then (key_cmp r s) (text_cmp r s)
+abbrev pub key_cmp : Row → Row → Ordering
+key_cmp r s = ordering_then (pair_cmp r s) (text_cmp r s)
 
 -- r has another source or id than the row before it, or is the first
 abbrev pub is_new : {X : Type 0} → (X → X → Ordering) → Option X → X → Bool

@@ -3,7 +3,7 @@ use Rattle.std.specs.Prelude.{None, map}
 use Rattle.std.specs.List.{flat_map}
 use Rattle.attributes.specs.Events.{EventValue}
 use Rattle.file_reports.specs.Reports.{joined, text_line}
-use Rattle.file_reports.specs.Shown.{key_cmp, row_of}
+use Rattle.file_reports.specs.Shown.{pair_cmp, row_of}
 use Rattle.file_reports.specs.steps.Rows.{LentRow, firsts, row_at}
 use Rattle.file_reports.proofs.ShownLemmas.{shown_from}
 use Rattle.file_reports.proofs.listing.shown_lines.Goals as goal
@@ -15,11 +15,11 @@ returns-clause-ok c =
       lists,
       c.in_ok-batches.ensures.ok,
       (
-        firsts key_cmp None (map row_at sorted),
+        firsts pair_cmp None (map row_at sorted),
         shown_from row_at (joined lists) c.in_ok-rows.rows.items sorted
             (c.in_ok-rows.ensures ∙ ap (λ (ls : List (List EventValue)). map row_of (joined ls)) c.as_slice.ensures.value)
             c.sort.ensures.same c.sort.ensures.sorted,
         c.in_ok-lines_of.ensures
-            ∙ ap (λ (rows : List LentRow). flat_map text_line (firsts key_cmp None (map row_at rows))) c.as_slice-2.ensures.value,
+            ∙ ap (λ (rows : List LentRow). flat_map text_line (firsts pair_cmp None (map row_at rows))) c.as_slice-2.ensures.value,
       ),
     )

@@ -1,5 +1,5 @@
 //! Tests of what no clause says.
-use super::*;
+use coverage::{Interval, Intervals, Summary, SummaryFault};
 use attributes::{Sequence, Text};
 use std::alloc::{AllocError, Global};
 use std::test::Fail;

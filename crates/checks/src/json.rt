@@ -1,4 +1,4 @@
-use crate::{ReadFault, read_events, write_batch, write_event, write_sequenced};
+use event_json::{ReadFault, read_events, write_batch, write_event, write_sequenced};
 use attributes::{Batch, Fault, Sequenced};
 use std::alloc::{AllocError, Global};
 use std::process::Abort;
@@ -294,4 +294,31 @@ fn want_of_memory_is_no_other_refusal(rt: HostRuntime) {
         }
         Err(refusal) => assert_eq!(rt; refusal, ReadFault::OutOfMemory),
     }
+}
+
+/// A batch of so many events.
+fn batch_of(alloc: Global, count: u64) -> Result<String, AllocError> {
+    let mut text = String::new(alloc);
+    text.push('[')?;
+    for number in 0..count {
+        if number > 0 {
+            text.push(',')?;
+        }
+        let event = format!(in alloc;
+            "{{\"id\":\"{number}\",\"source\":\"/o\",\"specversion\":\"1.0\",\"type\":\"t\"}}"
+        )?;
+        text.push_str(event.as_str())?;
+    }
+    text.push(']')?;
+    Ok(text)
+}
+
+#[test]
+fn a_thousand_events_are_read(rt: HostRuntime) -> Result<(), Fail> {
+    let alloc = rt.alloc();
+    let text = batch_of(alloc, 1000)?;
+    let events = read_events(alloc, text.as_str().as_bytes()).ok().ok_or("refused")?;
+    assert_eq!(rt; events.len(), 1000);
+    assert_eq!(rt; events.at(999).id(), "999");
+    Ok(())
 }

@@ -1,0 +1,13 @@
+//! What no contract says of the libraries: that calls succeed with ample memory, and that the
+//! definitions mean what the standards say. Only public calls are used, so that no library is
+//! proved a second time for its tests.
+#![tactic(auto)]
+
+#[cfg(test)]
+mod events;
+#[cfg(test)]
+mod json;
+#[cfg(test)]
+mod reports;
+#[cfg(test)]
+mod summaries;

@@ -1,0 +1,28 @@
+//! The commands that ask a question about the events of files.
+ghost use Rattle.std.specs.Prelude.{◌≡◌, IfErr, IfOk};
+ghost use Rattle.site_cli.specs.Answers.{AnswersQuery, RefusesQuery};
+
+use crate::line::Refusal;
+use attributes::Text;
+use file_reports::{Query, Shelf, contents_of, report};
+use std::alloc::Global;
+
+/// The answer to the query for the events of all files. All files are read before one is judged.
+pub fn ask<S: Shelf>(
+    alloc: Global,
+    shelf: &S,
+    query: Query,
+    files: &[Text],
+) -> Result<Text, Refusal>
+    ensures ok { IfOk result (AnswersQuery (S.is_content shelf.now) query files.now) }
+    ensures err { IfErr result
+        (RefusesQuery (S.is_content shelf.now) (S.is_unread shelf.now) files.now) }
+{
+    match contents_of(alloc, shelf, files) {
+        Ok(contents) => match report(alloc, query, contents.as_slice()) {
+            Ok(text) => Ok(text),
+            Err(refused) => Err(Refusal::File(refused)),
+        },
+        Err(at) => Err(Refusal::Unread(at)),
+    }
+}
