@@ -321,8 +321,7 @@ fn faults_have_numbers_and_names(rt: HostRuntime) -> Result<(), Fail> {
 
 /// The name of the source at a place of the byte order.
 fn name_at(alloc: Global, place: u64) -> Result<Text, Fail> {
-    let name = format!(in alloc; "/source/{place:04}")?;
-    Ok(Text::of(alloc, name.as_str())?)
+    Ok(Text::from_string(format!(in alloc; "/source/{place:04}")?))
 }
 
 /// A summary of 500 sources, each with the number of its place. The step is coprime to 500: 1 makes
