@@ -56,7 +56,8 @@ is_civil t = is_day (year_of t) (two_at t 5) (two_at t 8) && is_clock t
 -- what follows one or more digits
 abbrev pub after_digits : List ℕ → Option (List ℕ)
 after_digits [] = None
-after_digits (x ∷ xs) = if is_ascii_digit x then Some (drop (length (take_while is_ascii_digit xs)) xs) else None
+after_digits (x ∷ xs) =
+    if is_ascii_digit x then Some (drop (length (take_while is_ascii_digit xs)) xs) else None
 
 -- what follows a fraction, where one stands
 abbrev pub after_fraction : List ℕ → Option (List ℕ)

@@ -58,8 +58,8 @@ impl Batch {
         &self.items[i as usize]
     }
 
-    /// Adds an event at the end, or hands it back where memory is refused. The time of many pushes is in proportion
-    /// to their number.
+    /// Adds an event at the end, or hands it back where memory is refused. The time of many pushes
+    /// is in proportion to their number.
     pub fn push(&mut self, event: Sequenced) -> Result<(), AllocFailed<Sequenced>>
         ensures ok { OnOk result (self.new ≡ self.old ++ event ∷ []) }
         ensures err { OnErr result (self.new ≡ self.old) }

@@ -22,8 +22,8 @@ pub(crate) struct Span {
     pub(crate) end: u32,
 }
 
-/// A value, or where it ends. A text begins behind its name and `":"`; `Escaped` ones stand, with their names,
-/// aside of the canonical text and without escapes.
+/// A value, or where it ends. A text begins behind its name and `":"`; `Escaped` ones stand, with
+/// their names, aside of the canonical text and without escapes.
 #[derive(Clone, Copy)]
 pub(crate) enum Kind {
     Flag(bool),
@@ -47,8 +47,9 @@ pub(crate) struct Draft {
     pub(crate) places: Vec<Place>,
 }
 
-/// The canonical text and behind it, in one string, what stands aside of it and the key: `"`, the source, `"`,
-/// the id, `"`. So two events are compared by their keys with one look into memory each.
+/// The canonical text and behind it, in one string, what stands aside of it and the key: `"`, the
+/// source, `"`, the id, `"`. So two events are compared by their keys with one look into memory
+/// each.
 #[derive(Drop)]
 pub(crate) struct Body {
     pub(crate) all: String,
@@ -108,7 +109,8 @@ fn value_of<'a>(text: &'a str, aside: &'a str, place: Place) -> Attribute<'a>
 /// The value of the attribute of this name, by its place.
 fn find_in<'a>(text: &'a str, aside: &'a str, places: &[Place], name: &str) -> Option<Attribute<'a>>
     requires { ArePlaces text.now aside.now places.now }
-    ensures { option_map scalar_of result ≡ value_at name.now (shown text.now aside.now places.now) }
+    ensures { option_map scalar_of result
+        ≡ value_at name.now (shown text.now aside.now places.now) }
 {
     for place in places {
         if is_same(name, name_at(text, aside, *place)) {

@@ -15,6 +15,7 @@ use crate::body::{Attribute, Body};
 use crate::canonical::{canonical, sealed};
 use crate::content::{Content, Offered};
 use crate::fault::Fault;
+use crate::list::List;
 use crate::parts::Parts;
 use crate::scalar::{Given, Scalar};
 use crate::validation::{first_member_fault, first_payload_fault, words_at, words_or_empty_at};
@@ -27,8 +28,8 @@ use std::marker::Model;
 /// How many bytes a canonical text may have.
 const MAX_TEXT: usize = 262_144;
 
-/// An event (CloudEvents 1.0.2): its attributes, what it carries, and its canonical text. Two events
-/// are equal exactly where their canonical texts are.
+/// An event (CloudEvents 1.0.2): its attributes, what it carries, and its canonical text. Two
+/// events are equal exactly where their canonical texts are.
 #[derive(Drop)]
 pub struct Event {
     body: Body,
@@ -50,6 +51,9 @@ impl Model for Event {
 
     ghost invariant = { λ e. IsKept e.body e.content e.day };
 }
+
+/// Events in an order.
+pub type Events = List<Event>;
 
 /// The text of an attribute, or else the empty one.
 fn words_or_empty<'a>(attribute: Option<Attribute<'a>>) -> &'a str
@@ -102,7 +106,8 @@ fn time_day(time: Option<&str>) -> Option<i32>
 
 impl Event {
     /// Tests the parts in the order of the faults, and answers the first one or the event. Want of
-    /// memory may come in the place of `TooLarge` alone, since the text is made before it is measured.
+    /// memory may come in the place of `TooLarge` alone, since the text is made before it is
+    /// measured.
     ///
     /// Time and memory in proportion to the parts' bytes.
     pub fn build(parts: Parts) -> Result<Event, Fault>

@@ -36,10 +36,12 @@ pub enum Fault {
     /// The same as `Subject`, of `dataschema`.
     #[error("Schema")]
     Schema,
-    /// A name has other characters than lower-case letters and digits of ASCII, is empty or is `data`.
+    /// A name has other characters than lower-case letters and digits of ASCII, is empty or is
+    /// `data`.
     #[error("ExtensionName")]
     ExtensionName,
-    /// A value is no truth value, no whole number of 32 bits and no text without control characters.
+    /// A value is no truth value, no whole number of 32 bits and no text without control
+    /// characters.
     #[error("ExtensionValue")]
     ExtensionValue,
     /// Both payload members are there.

@@ -32,8 +32,8 @@ impl Model for Sequence {
 }
 
 impl Sequence {
-    /// Reads exactly twenty digits of ASCII. At a fixed width the order of the texts as bytes is that
-    /// of the numbers.
+    /// Reads exactly twenty digits of ASCII. At a fixed width the order of the texts as bytes is
+    /// that of the numbers.
     pub fn of_text(text: &str) -> Option<Sequence>
         ensures { result ≡ sequence_of text.now }
     {
@@ -111,7 +111,8 @@ pub struct Unsequenced {
 
 /// The number of an attribute, where it is a text that has one.
 fn number_at(attribute: Option<Attribute<'_>>) -> Option<Sequence>
-    ensures { result ≡ option_and_then sequence_of (words_of (option_map scalar_of attribute.entry)) }
+    ensures { result
+        ≡ option_and_then sequence_of (words_of (option_map scalar_of attribute.entry)) }
 {
     match attribute {
         Some(Attribute::Words(text)) => Sequence::of_text(text),
@@ -130,9 +131,9 @@ fn fault_at(attribute: Option<Attribute<'_>>) -> Fault
 }
 
 impl Sequenced {
-    /// The event with the number of its attribute `sequence` (CloudEvents Sequence extension): twenty
-    /// digits whose number is in 1..=9,223,372,036,854,775,807. Otherwise the event comes back with
-    /// the reason.
+    /// The event with the number of its attribute `sequence` (CloudEvents Sequence extension):
+    /// twenty digits whose number is in 1..=9,223,372,036,854,775,807. Otherwise the event comes
+    /// back with the reason.
     pub fn of(event: Event) -> Result<Sequenced, Unsequenced>
         ensures ok { IfOk result (λ s. s ≡ event) }
         ensures numbered { IfOk result (λ s. (n : ℕ) × (number_of event ≡ Some n)) }

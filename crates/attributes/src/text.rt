@@ -5,14 +5,18 @@ ghost use Rattle.base64.specs.GeneralPurpose.{IsBytes};
 ghost use Rattle.attributes.specs.Character.{is_filled};
 
 use crate::character::is_filled;
+use crate::list::List;
 use std::alloc::{AllocError, Global};
 use std::marker::Model;
 
 /// A text in UTF-8, seen as its bytes.
-#[derive(Drop)]
+#[derive(Debug, Drop)]
 pub struct Text {
     string: String,
 }
+
+/// Texts in an order.
+pub type Texts = List<Text>;
 
 impl Model for Text {
     ghost use Rattle.std.specs.Prelude.{List, ℕ, string_bytes};
@@ -71,7 +75,7 @@ fn as_they_are(bytes: &[u8]) -> &[u8]
 }
 
 /// Bytes as they are.
-#[derive(Drop)]
+#[derive(Debug, Drop)]
 pub struct Octets {
     bytes: Vec<u8>,
 }

@@ -48,7 +48,8 @@ pub(crate) fn words_at<'a>(members: &'a BTreeMap<String, Given>, name: &str) -> 
 
 /// The same, or else the empty text.
 pub(crate) fn words_or_empty_at<'a>(members: &'a BTreeMap<String, Given>, name: &str) -> &'a str
-    ensures { result.now ≡ unwrap_or (given_words (value_at name.now (named members.now.entries))) [] }
+    ensures { result.now
+        ≡ unwrap_or (given_words (value_at name.now (named members.now.entries))) [] }
 {
     match words_at(members, name) {
         Some(words) => words,

@@ -1,6 +1,6 @@
 //! What the words of the command line ask for.
 use crate::command::Question;
-use crate::texts::Texts;
+use attributes::Texts;
 
 /// What the words ask for: a command and the texts of its arguments.
 #[derive(Drop)]

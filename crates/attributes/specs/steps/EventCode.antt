@@ -26,7 +26,9 @@ scalar_parts (scalar.Whole z) = (1, (false, (z, [])))
 scalar_parts (scalar.Words t) = (2, (false, (pos 0, t)))
 
 abbrev scalar_from : Plain → Scalar
-scalar_from p = cond (p.0 == 0) (scalar.Flag p.1.0) (cond (p.0 == 1) (scalar.Whole p.1.1.0) (scalar.Words p.1.1.1))
+scalar_from p =
+    cond (p.0 == 0) (scalar.Flag p.1.0)
+    (cond (p.0 == 1) (scalar.Whole p.1.1.0) (scalar.Words p.1.1.1))
 
 pub scalar_back : (s : Scalar) → scalar_from (scalar_parts s) ≡ s
 scalar_back (scalar.Flag b) = refl
@@ -43,7 +45,9 @@ given_parts (given.Words t) = (2, (false, (pos 0, t)))
 given_parts given.Other = (3, (false, (pos 0, [])))
 
 abbrev given_from : Plain → Given
-given_from p = cond (p.0 == 0) (given.Flag p.1.0) (cond (p.0 == 1) (given.Whole p.1.1.0) (cond (p.0 == 2) (given.Words p.1.1.1) given.Other))
+given_from p =
+    cond (p.0 == 0) (given.Flag p.1.0) (cond (p.0 == 1) (given.Whole p.1.1.0)
+    (cond (p.0 == 2) (given.Words p.1.1.1) given.Other))
 
 pub given_back : (g : Given) → given_from (given_parts g) ≡ g
 given_back (given.Flag b) = refl
@@ -66,7 +70,9 @@ content_parts (content.Tree d) = (1, (d, []))
 content_parts (content.Bytes b) = (2, (null, b))
 
 abbrev content_from : Payload → Content
-content_from p = cond (p.0 == 0) content.Nothing (cond (p.0 == 1) (content.Tree p.1.0) (content.Bytes p.1.1))
+content_from p =
+    cond (p.0 == 0) content.Nothing
+    (cond (p.0 == 1) (content.Tree p.1.0) (content.Bytes p.1.1))
 
 pub content_back : (c : Content) → content_from (content_parts c) ≡ c
 content_back content.Nothing = refl
@@ -84,7 +90,9 @@ offered_parts offered.Both = (3, (null, []))
 offered_parts offered.Undecodable = (4, (null, []))
 
 abbrev offered_from : Payload → Offered
-offered_from p = cond (p.0 == 0) offered.Nothing (cond (p.0 == 1) (offered.Tree p.1.0) (cond (p.0 == 2) (offered.Bytes p.1.1) (cond (p.0 == 3) offered.Both offered.Undecodable)))
+offered_from p =
+    cond (p.0 == 0) offered.Nothing (cond (p.0 == 1) (offered.Tree p.1.0)
+    (cond (p.0 == 2) (offered.Bytes p.1.1) (cond (p.0 == 3) offered.Both offered.Undecodable)))
 
 pub offered_back : (o : Offered) → offered_from (offered_parts o) ≡ o
 offered_back offered.Nothing = refl
@@ -98,10 +106,12 @@ offered_code = code_by Payload payload_code offered_parts offered_from offered_b
 
 abbrev pub event_code : Coded EventValue
 event_code =
-    code_by (List (List ℕ × Scalar) × Content) (coded× (coded_list (coded× (coded_list coded_ℕ) scalar_code)) content_code)
+    code_by (List (List ℕ × Scalar) × Content)
+    (coded× (coded_list (coded× (coded_list coded_ℕ) scalar_code)) content_code)
     (λ e. (e.attributes, e.content)) (λ p. record { attributes = p.0; content = p.1 }) (λ _. refl)
 
 abbrev pub offer_code : Coded OfferValue
 offer_code =
-    code_by (List (List ℕ × Given) × Offered) (coded× (coded_list (coded× (coded_list coded_ℕ) given_code)) offered_code)
+    code_by (List (List ℕ × Given) × Offered)
+    (coded× (coded_list (coded× (coded_list coded_ℕ) given_code)) offered_code)
     (λ p. (p.members, p.offered)) (λ p. record { members = p.0; offered = p.1 }) (λ _. refl)

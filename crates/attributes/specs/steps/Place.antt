@@ -60,7 +60,8 @@ IsPlace text aside p = Stands text aside p.name p.value
 -- the attributes of places
 abbrev pub shown : List ℕ → List ℕ → List Place → List (List ℕ × Scalar)
 shown text aside [] = []
-shown text aside (p ∷ ps) = (place_name text aside p, place_value text aside p) ∷ shown text aside ps
+shown text aside (p ∷ ps) =
+    (place_name text aside p, place_value text aside p) ∷ shown text aside ps
 
 -- each place stands
 abbrev pub ArePlaces : List ℕ → List ℕ → List Place → Type 0

@@ -88,10 +88,15 @@ add_member name (members ms ∷ st) = st
 
 abbrev step : Step → List Part → List Part
 step s st =
-    cond (s.0 == 0) (value null ∷ st) (cond (s.0 == 1) (value (boolean true) ∷ st) (cond (s.0 == 2) (value (boolean false) ∷ st)
-    (cond (s.0 == 3) (value (number (unsigned s.1.0)) ∷ st) (cond (s.0 == 4) (value (number (negative s.1.1.0)) ∷ st) (cond (s.0 == 5) (value (number (float s.1.1.1.1)) ∷ st)
-    (cond (s.0 == 6) (value (string s.1.1.1.0) ∷ st) (cond (s.0 == 7) (close_array st) (cond (s.0 == 8) (close_object st)
-    (cond (s.0 == 9) (items no_items ∷ st) (cond (s.0 == 10) (add_item st) (cond (s.0 == 11) (members no_members ∷ st) (add_member s.1.1.1.0 st))))))))))))
+    cond (s.0 == 0) (value null ∷ st) (cond (s.0 == 1) (value (boolean true) ∷ st)
+    (cond (s.0 == 2) (value (boolean false) ∷ st)
+    (cond (s.0 == 3) (value (number (unsigned s.1.0)) ∷ st)
+    (cond (s.0 == 4) (value (number (negative s.1.1.0)) ∷ st)
+    (cond (s.0 == 5) (value (number (float s.1.1.1.1)) ∷ st)
+    (cond (s.0 == 6) (value (string s.1.1.1.0) ∷ st)
+    (cond (s.0 == 7) (close_array st) (cond (s.0 == 8) (close_object st)
+    (cond (s.0 == 9) (items no_items ∷ st) (cond (s.0 == 10) (add_item st)
+    (cond (s.0 == 11) (members no_members ∷ st) (add_member s.1.1.1.0 st))))))))))))
 
 abbrev run : List Step → List Part → List Part
 run [] st = st
@@ -115,18 +120,25 @@ mutual
   run-emit (array ds) k st = run-emit_items ds (plain 7 ∷ k) st
   run-emit (object ms) k st = run-emit_members ms (plain 8 ∷ k) st
 
-  run-emit_items : (ds : Items) (k : List Step) (st : List Part) → run (emit_items ds k) st ≡ run k (items ds ∷ st)
+  run-emit_items : (ds : Items) (k : List Step) (st : List Part)
+      → run (emit_items ds k) st ≡ run k (items ds ∷ st)
   run-emit_items no_items k st = refl
-  run-emit_items (item d ds) k st = run-emit_items ds (emit d (plain 10 ∷ k)) st ∙ run-emit d (plain 10 ∷ k) (items ds ∷ st)
+  run-emit_items (item d ds) k st =
+      run-emit_items ds (emit d (plain 10 ∷ k)) st ∙ run-emit d (plain 10 ∷ k) (items ds ∷ st)
 
-  run-emit_members : (ms : Members) (k : List Step) (st : List Part) → run (emit_members ms k) st ≡ run k (members ms ∷ st)
+  run-emit_members : (ms : Members) (k : List Step) (st : List Part)
+      → run (emit_members ms k) st ≡ run k (members ms ∷ st)
   run-emit_members no_members k st = refl
-  run-emit_members (member name d ms) k st = run-emit_members ms (emit d (text_step 12 name ∷ k)) st ∙ run-emit d (text_step 12 name ∷ k) (members ms ∷ st)
+  run-emit_members (member name d ms) k st =
+      run-emit_members ms (emit d (text_step 12 name ∷ k)) st
+      ∙ run-emit d (text_step 12 name ∷ k) (members ms ∷ st)
 
 pub top-run-emit : (d : Data) → top (run (emit d []) []) ≡ d
 top-run-emit d = ap top (run-emit d [] [])
 
 abbrev pub data_code : Coded Data
 data_code =
-    code_by (List Step) (coded_list (coded× coded_ℕ (coded× coded_ℕ (coded× coded_ℤ (coded× (coded_list coded_ℕ) coded_float)))))
+    code_by (List Step)
+    (coded_list (coded× coded_ℕ
+        (coded× coded_ℕ (coded× coded_ℤ (coded× (coded_list coded_ℕ) coded_float)))))
     (λ d. emit d []) (λ k. top (run k [])) top-run-emit
