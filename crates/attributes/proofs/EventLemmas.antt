@@ -12,7 +12,8 @@ use Rattle.attributes.specs.declared.scalar.Scalar.TheVariants as scalar
 use Rattle.attributes.specs.declared.content.Content.{Content}
 use Rattle.attributes.specs.declared.content.Content.TheVariants as content
 use Rattle.attributes.proofs.ObjectLemmas.{with_all-direct}
-use Rattle.attributes.proofs.FaultLemmas.{and_parts, first_failed-None, names_pass, no_member_fault, values_pass}
+use Rattle.attributes.proofs.BoolLemmas.{and_parts}
+use Rattle.attributes.proofs.FaultLemmas.{first_failed-None, names_pass, no_member_fault, values_pass}
 
 -- ---- required attributes are filled
 

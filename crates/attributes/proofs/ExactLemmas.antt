@@ -1,5 +1,5 @@
 -- What a JSON text reads as: numbers in range, and each object's names once and in order.
-use Rattle.std.proofs.Common.{◌≡◌, ◌∙◌, ◌<◌, ◌≤◌, ◌^◌, ℕ, zero, suc, pos, negsuc, Bool, true, false, ◌&&◌, ◌||◌, List, Option, Some, None, refl, ap, subst, arith}
+use Rattle.std.proofs.Common.{◌≡◌, ◌∙◌, ◌<◌, ◌≤◌, ◌^◌, ℕ, zero, suc, pos, negsuc, Bool, true, false, ◌&&◌, List, Option, Some, None, refl, ap, subst, arith}
 use Rattle.std.specs.Prelude.{if◌then◌else◌, option_map, option_and_then, nat_lt, nat_le, Float, ⊤, drop, slice_index, ◌==◌}
 use Rattle.std.specs.Float.{float_is_finite, binary64}
 use Rattle.std.specs.Ordering.{match_ordering, ordering_reverse}
@@ -18,6 +18,8 @@ use Rattle.serde_json.specs.Read.{is_integer, float_of, number_from, number_of, 
 use Rattle.serde_json.specs.Written.{has_float, items_have_float, members_have_float}
 use Rattle.attributes.specs.Bytes.{byte_cmp}
 use Rattle.attributes.specs.Exact.{IsWhole, member_names, KeysAscend, IsExact, ItemsAreExact, MembersAreExact}
+use Rattle.attributes.proofs.OptionLemmas.{same_some}
+use Rattle.attributes.proofs.BoolLemmas.{and_left, and_right, or_left, or_right}
 
 -- a whole number in range, or a float
 abbrev IsInRange : Num → Type 0
@@ -46,9 +48,6 @@ abbrev mutual
 
 -- ---- numbers
 
-same_some : {A : Type 0} (x y : A) → Some x ≡ Some y → x ≡ y
-same_some x y h = cc
-
 no_some : {A : Type 0} (y : A) → None ≡ Some y → ⊥
 no_some y h = cc
 
@@ -59,14 +58,6 @@ from_float false x n h = absurd (no_some n h)
 if_in_range : (b : Bool) (m n : Num) (rest : Option Num) → (b ≡ true → IsInRange m) → (rest ≡ Some n → IsInRange n) → (if b then Some m else rest) ≡ Some n → IsInRange n
 if_in_range true m n rest first second h = subst IsInRange (same_some m n h) (first refl)
 if_in_range false m n rest first second h = second h
-
-last_of : (a b : Bool) → (a && b) ≡ true → b ≡ true
-last_of true b h = h
-last_of false b h = cc
-
-first_of_two : (a b : Bool) → (a && b) ≡ true → a ≡ true
-first_of_two true b h = refl
-first_of_two false b h = cc
 
 from_lt : (a b : ℕ) → nat_lt a b ≡ true → a < b
 from_lt a b h = grind (arith, nat_tests)
@@ -81,15 +72,15 @@ negative_in_range (suc m) some small = omega arith
 number_from-in_range : (sign : Bool) (p : Parts) (n : Num) → number_from sign p ≡ Some n → IsInRange n
 number_from-in_range false p n h =
     if_in_range (is_integer p && nat_lt (digits_of p) (2 ^ 64)) (unsigned (digits_of p)) n (float_of false p)
-    (λ e. let small : nat_lt (digits_of p) (2 ^ 64) ≡ true = last_of (is_integer p) (nat_lt (digits_of p) (2 ^ 64)) e in grind (arith, nat_tests))
+    (λ e. let small : nat_lt (digits_of p) (2 ^ 64) ≡ true = and_right (is_integer p) (nat_lt (digits_of p) (2 ^ 64)) e in grind (arith, nat_tests))
     (from_float (float_is_finite (nearest binary64 false p)) (nearest binary64 false p) n)
     h
 number_from-in_range true p n h =
     if_in_range (is_integer p && nat_lt 0 (digits_of p) && nat_le (digits_of p) (2 ^ 63)) (negative (with_sign true (digits_of p))) n (float_of true p)
     (λ e.
     let all : ((is_integer p && nat_lt 0 (digits_of p)) && nat_le (digits_of p) (2 ^ 63)) ≡ true = e in
-    let small : nat_le (digits_of p) (2 ^ 63) ≡ true = last_of (is_integer p && nat_lt 0 (digits_of p)) (nat_le (digits_of p) (2 ^ 63)) all in
-    let some : nat_lt 0 (digits_of p) ≡ true = last_of (is_integer p) (nat_lt 0 (digits_of p)) (first_of_two (is_integer p && nat_lt 0 (digits_of p)) (nat_le (digits_of p) (2 ^ 63)) all) in
+    let small : nat_le (digits_of p) (2 ^ 63) ≡ true = and_right (is_integer p && nat_lt 0 (digits_of p)) (nat_le (digits_of p) (2 ^ 63)) all in
+    let some : nat_lt 0 (digits_of p) ≡ true = and_right (is_integer p) (nat_lt 0 (digits_of p)) (and_left (is_integer p && nat_lt 0 (digits_of p)) (nat_le (digits_of p) (2 ^ 63)) all) in
     negative_in_range (digits_of p) (from_lt 0 (digits_of p) some) (from_le (digits_of p) (2 ^ 63) small))
     (from_float (float_is_finite (nearest binary64 true p)) (nearest binary64 true p) n)
     h
@@ -104,15 +95,15 @@ number_of-in_range s n h = either (slice_index s 0 == minus) (number_from true (
 
 -- ---- members
 
-by_order : (P : Members → Type 0) (o : Ordering) (a b c : Members) → (o ≡ Less → P a) → (o ≡ Equal → P b) → (o ≡ Greater → P c) → P (match_ordering o a b c)
-by_order P Less a b c x y z = x refl
-by_order P Equal a b c x y z = y refl
-by_order P Greater a b c x y z = z refl
+by_known_order : (P : Members → Type 0) (o : Ordering) (a b c : Members) → (o ≡ Less → P a) → (o ≡ Equal → P b) → (o ≡ Greater → P c) → P (match_ordering o a b c)
+by_known_order P Less a b c x y z = x refl
+by_known_order P Equal a b c x y z = y refl
+by_known_order P Greater a b c x y z = z refl
 
 pub MembersAreTidy-put : (k : List ℕ) (d : Data) (ms : Members) → IsTidy d → MembersAreTidy ms → MembersAreTidy (put k d ms)
 MembersAreTidy-put k d no_members h m = (h, tt)
 MembersAreTidy-put k d (member l e ms) h m =
-    by_order MembersAreTidy (byte_cmp k l) (member k d (member l e ms)) (member l d ms) (member l e (put k d ms))
+    by_known_order MembersAreTidy (byte_cmp k l) (member k d (member l e ms)) (member l d ms) (member l e (put k d ms))
     (λ _. (h, (m.0, m.1))) (λ _. (h, m.1)) (λ _. (m.0, MembersAreTidy-put k d ms h m.1))
 
 abbrev IsUnder : List ℕ → Members → Type 0
@@ -121,7 +112,7 @@ IsUnder name ms = AllByRecursion (λ l. byte_cmp name l ≡ Less) (member_names 
 IsUnder-put : (name k : List ℕ) (d : Data) (ms : Members) → byte_cmp name k ≡ Less → IsUnder name ms → IsUnder name (put k d ms)
 IsUnder-put name k d no_members less h = (less, tt)
 IsUnder-put name k d (member l e ms) less h =
-    by_order (IsUnder name) (byte_cmp k l) (member k d (member l e ms)) (member l d ms) (member l e (put k d ms))
+    by_known_order (IsUnder name) (byte_cmp k l) (member k d (member l e ms)) (member l d ms) (member l e (put k d ms))
     (λ _. (less, (h.0, h.1))) (λ _. (h.0, h.1)) (λ _. (h.0, IsUnder-put name k d ms less h.1))
 
 IsUnder-trans : (k l : List ℕ) (ms : Members) → byte_cmp k l ≡ Less → IsUnder l ms → IsUnder k ms
@@ -135,7 +126,7 @@ pub KeysAscend-put : (k : List ℕ) (d : Data) (ms : Members) → KeysAscend ms 
 unfolding IsStrictlySortedBy
 KeysAscend-put k d no_members h = (tt, tt)
 KeysAscend-put k d (member l e ms) h =
-    by_order KeysAscend (byte_cmp k l) (member k d (member l e ms)) (member l d ms) (member l e (put k d ms))
+    by_known_order KeysAscend (byte_cmp k l) (member k d (member l e ms)) (member l d ms) (member l e (put k d ms))
     (λ less. ((less, IsUnder-trans k l ms less h.0), (h.0, h.1)))
     (λ _. (h.0, h.1))
     (λ more. (IsUnder-put l k d ms (under_greater k l more) h.0, KeysAscend-put k d ms h.1))
@@ -181,14 +172,6 @@ pub IsTidy-read : (t : List ℕ) (d : Data) → read t ≡ Some d → IsTidy d
 IsTidy-read t d h = let j = then_some of_json (option_and_then (λ (p : json.Json × List Token). json.if_last p.0 p.1) (json.value max_depth (tokens t))) d h in IsTidy-of_json j.0 d j.2
 
 -- ---- without a float
-
-or_left : (a b : Bool) → (a || b) ≡ false → a ≡ false
-or_left true b h = h
-or_left false b h = refl
-
-or_right : (a b : Bool) → (a || b) ≡ false → b ≡ false
-or_right true b h = cc
-or_right false b h = h
 
 whole_in_range : (n : Num) → IsInRange n → has_float (number n) ≡ false → IsWhole n
 whole_in_range (unsigned n) h f = h

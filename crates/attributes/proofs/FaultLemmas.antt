@@ -1,5 +1,5 @@
 -- What parts without a fault are.
-use Rattle.std.proofs.Common.{◌≡◌, ◌∙◌, ◌≤◌, ℕ, Bool, true, false, not, ◌&&◌, List, [], ◌∷◌, length, Option, Some, None, refl, ap, ap₂, sym, subst, arith}
+use Rattle.std.proofs.Common.{◌≡◌, ◌∙◌, ◌≤◌, ℕ, Bool, true, false, ◌&&◌, List, [], ◌∷◌, length, Option, Some, None, refl, ap, ap₂, sym, subst, arith}
 use Rattle.std.specs.Prelude.{if◌then◌else◌, nat_lt, nat_le, bytes_eq, unwrap_or}
 use Rattle.std.specs.List.{list_all, AllByRecursion}
 use Rattle.std.proofs.lemmas.Bool.Decides.{nat_tests}
@@ -19,10 +19,7 @@ use Rattle.attributes.specs.declared.scalar.Given.{Given}
 use Rattle.attributes.specs.declared.scalar.Given.TheVariants as given
 use Rattle.attributes.specs.declared.content.Offered.{Offered}
 use Rattle.attributes.specs.declared.content.Offered.TheVariants as offered
-
-pub and_parts : (a b : Bool) → (a && b) ≡ true → (a ≡ true) × (b ≡ true)
-and_parts true b h = (refl, h)
-and_parts false b h = cc
+use Rattle.attributes.proofs.BoolLemmas.{and_parts, not_true}
 
 passes : (b : Bool) (f : Fault) (rest : Option Fault) → (if b then rest else Some f) ≡ None → (b ≡ true) × (rest ≡ None)
 passes true f rest h = (refl, h)
@@ -114,10 +111,6 @@ fault-parts_of p h k short =
     let again : given_all (scalars_of p.members) ≡ p.members = given_all-scalars_of p.members (values_pass p.members h) in
     let same : event_of (parts_of (event_of p)) ≡ event_of p = ap₂ (λ a c. record { attributes = a; content = c }) (ap scalars_of again) (content_of-offered_of p.offered) in
     fault-None (parts_of (event_of p)) (ap member_fault again ∙ h) (offered_fault p.offered k) (subst (λ e. length (text e) ≤ max_text) (sym same) short)
-
-not_true : (b : Bool) → not b ≡ true → b ≡ false
-not_true true e = sym e
-not_true false e = refl
 
 -- what the payload tests tell of a tree
 pub tree_numbers : (d : Data) → payload_fault (offered.Tree d) ≡ None → has_float d ≡ false

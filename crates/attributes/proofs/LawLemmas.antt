@@ -21,7 +21,8 @@ use Rattle.attributes.proofs.ObjectLemmas.{member_names-direct, members_of-direc
 use Rattle.attributes.proofs.ExactLemmas.{KeysAscend-put}
 use Rattle.attributes.proofs.PutLemmas.{by_order}
 use Rattle.attributes.proofs.RoundTripLemmas.{read-compact_text}
-use Rattle.attributes.proofs.FaultLemmas.{and_parts, values_pass, depth_passes, no_member_fault, no_payload_fault}
+use Rattle.attributes.proofs.BoolLemmas.{and_parts}
+use Rattle.attributes.proofs.FaultLemmas.{values_pass, depth_passes, no_member_fault, no_payload_fault}
 use Rattle.attributes.proofs.TreeLemmas.{depth-with_all, shallow_with}
 
 abbrev InOrderNames : List (List ℕ) → Type 0

@@ -13,7 +13,7 @@ use Rattle.attributes.specs.Event.{EventValue, members_of, text}
 use Rattle.attributes.specs.Exact.{IsExact, IsWhole, ItemsAreExact, MembersAreExact}
 use Rattle.attributes.specs.Fault.{IsEvent}
 use Rattle.attributes.proofs.SequenceLemmas.{own}
-use Rattle.attributes.proofs.FaultLemmas.{and_parts}
+use Rattle.attributes.proofs.BoolLemmas.{and_parts}
 use Rattle.attributes.proofs.LawLemmas.{exact_event}
 
 abbrev IsLine : List ℕ → Type 0

@@ -26,7 +26,9 @@ use Rattle.attributes.specs.declared.scalar.Scalar.{Scalar}
 use Rattle.attributes.specs.declared.scalar.Scalar.TheVariants as scalar
 use Rattle.attributes.specs.declared.content.Content.{Content}
 use Rattle.attributes.specs.declared.content.Content.TheVariants as content
-use Rattle.attributes.proofs.FaultLemmas.{and_parts, names_given, names_pass, no_member_fault}
+use Rattle.attributes.proofs.OptionLemmas.{same_some}
+use Rattle.attributes.proofs.BoolLemmas.{and_parts}
+use Rattle.attributes.proofs.FaultLemmas.{names_given, names_pass, no_member_fault}
 use Rattle.attributes.proofs.PutLemmas.{then_members-no_members, then_members-assoc, put-last, AreBelowAll, AreBelowAll-no_members, AreBelowAll-more, text_equal}
 
 pub member_names-direct : (attributes : List (List ℕ × Scalar)) → member_names (direct attributes) ≡ keys_of attributes
@@ -146,9 +148,6 @@ some_none x d h k = no_some (sym k ∙ h)
   where
     no_some : None ≡ Some d → ⊥
     no_some e = cc
-
-same_some : (d e : Data) → Some d ≡ Some e → d ≡ e
-same_some d e h = cc
 
 same_string : (s t : List ℕ) → string s ≡ string t → s ≡ t
 same_string s t h = cc

@@ -22,7 +22,7 @@ use Rattle.attributes.specs.steps.ObjectText.{IsPayload, onto, pending}
 use Rattle.attributes.specs.steps.Plain.{is_plain_byte, is_plain}
 use Rattle.attributes.specs.declared.scalar.Scalar.{Scalar}
 use Rattle.attributes.specs.declared.scalar.Scalar.TheVariants as scalar
-use Rattle.attributes.proofs.FaultLemmas.{and_parts}
+use Rattle.attributes.proofs.BoolLemmas.{and_parts}
 use Rattle.attributes.proofs.PutLemmas.{text_equal}
 use Rattle.attributes.proofs.ObjectLemmas.{with_all-direct}
 

@@ -7,7 +7,7 @@ use Rattle.std.proofs.lemmas.Bool.Decides.{nat_tests}
 use Rattle.std.proofs.lemmas.Str.Parse.{IsNumeralModel, numerals_by_fold}
 use Rattle.std.proofs.lemmas.Fmt.{digits_decimal, digits_value-decimal, length-decimal-le}
 use Rattle.attributes.specs.Sequence.{read_on, is_sequence, max_sequence, sequence_of}
-use Rattle.attributes.proofs.FaultLemmas.{and_parts}
+use Rattle.attributes.proofs.BoolLemmas.{and_parts}
 
 pub own : IsNumeralModel (λ ds. list_all is_ascii_digit ds ≡ true) (read_on 0)
 own = numerals_by_fold _ (search rules) read_on (search rules)

@@ -7,7 +7,7 @@ use Rattle.std.proofs.lemmas.List.{take_all}
 use Rattle.jiff_core.specs.Calendar.{IsBetween, IsDate, IsEpochDay, IsWithin, days_from_civil, days_in_month}
 use Rattle.attributes.specs.steps.Time.{IsShaped}
 use Rattle.attributes.specs.Time.{after_fraction, are_digits_at, day_at, has_clock, has_date, has_shape, if_in_range, has_byte_at, is_civil, is_day, offset_of, time_day}
-use Rattle.attributes.proofs.FaultLemmas.{and_parts}
+use Rattle.attributes.proofs.BoolLemmas.{and_parts}
 
 long_enough : (t : List ℕ) → nat_le 20 (length t) ≡ true → 20 ≤ length t
 long_enough t h = grind (arith, nat_tests)

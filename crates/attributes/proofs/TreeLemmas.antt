@@ -1,12 +1,13 @@
 -- What the JSON object of attributes is made of: no float, and no depth of its own.
-use Rattle.std.proofs.Common.{◌≡◌, sym, ◌∙◌, ◌≤◌, ℕ, pos, negsuc, Bool, true, false, ◌||◌, List, [], ◌∷◌, refl, ap, arith}
+use Rattle.std.proofs.Common.{◌≡◌, ◌≤◌, ℕ, pos, negsuc, true, false, List, [], ◌∷◌, refl, arith}
 use Rattle.serde_json.specs.Data.{Data, string, Members, no_members, member, put, depth, members_depth}
 use Rattle.serde_json.specs.Written.{has_float, members_have_float}
-use Rattle.std.specs.Prelude.{codes, not}
+use Rattle.std.specs.Prelude.{codes}
 use Rattle.std.proofs.lemmas.Bool.Decides.{nat_tests}
 use Rattle.base64.specs.Engines.{standard}
 use Rattle.base64.specs.GeneralPurpose.{encode_of}
 use Rattle.attributes.specs.Bytes.{byte_cmp}
+use Rattle.attributes.proofs.BoolLemmas.{not_true, or_false, or_left, or_right}
 use Rattle.attributes.proofs.PutLemmas.{by_order}
 use Rattle.attributes.specs.Event.{json_of, with_all, with_content}
 use Rattle.attributes.specs.Fault.{has_whole_numbers, is_shallow, offered_of}
@@ -15,26 +16,11 @@ use Rattle.attributes.specs.declared.content.Content.TheVariants as content
 use Rattle.attributes.specs.declared.scalar.Scalar.{Scalar}
 use Rattle.attributes.specs.declared.scalar.Scalar.TheVariants as scalar
 
-or_false : (a b : Bool) → a ≡ false → b ≡ false → (a || b) ≡ false
-or_false a b h k = ap (λ x. x || b) h ∙ k
-
-left_false : (a b : Bool) → (a || b) ≡ false → a ≡ false
-left_false true b h = h
-left_false false b h = refl
-
-not_true : (b : Bool) → not b ≡ true → b ≡ false
-not_true true h = sym h
-not_true false h = refl
-
-right_false : (a b : Bool) → (a || b) ≡ false → b ≡ false
-right_false true b h = cc
-right_false false b h = h
-
 pub has_float-put : (k : List ℕ) (d : Data) (ms : Members) → has_float d ≡ false → members_have_float ms ≡ false → members_have_float (put k d ms) ≡ false
 has_float-put k d no_members h m = or_false (has_float d) false h refl
 has_float-put k d (member l e ms) h m =
-    let first : has_float e ≡ false = left_false (has_float e) (members_have_float ms) m in
-    let rest : members_have_float ms ≡ false = right_false (has_float e) (members_have_float ms) m in
+    let first : has_float e ≡ false = or_left (has_float e) (members_have_float ms) m in
+    let rest : members_have_float ms ≡ false = or_right (has_float e) (members_have_float ms) m in
     by_order (λ xs. members_have_float xs ≡ false) (byte_cmp k l) (member k d (member l e ms)) (member l d ms) (member l e (put k d ms))
     (or_false (has_float d) _ h m)
     (or_false (has_float d) _ h rest)

@@ -10,7 +10,7 @@ ghost use Rattle.attributes.specs.Members.{named, value_at};
 ghost use Rattle.attributes.specs.steps.Given.{given_words, is_allowed_value};
 ghost use Rattle.attributes.specs.Fault.{is_allowed, is_attribute, is_required, is_time, is_version, member_fault, payload_fault};
 
-use crate::character::{is_printable, is_name, is_version};
+use crate::character::{is_name, is_printable, is_version};
 use crate::content::Offered;
 use crate::fault::Fault;
 use crate::scalar::Given;

@@ -140,5 +140,5 @@ abbrev pub data_code : Coded Data
 data_code =
     code_by (List Step)
     (coded_list (coded× coded_ℕ
-        (coded× coded_ℕ (coded× coded_ℤ (coded× (coded_list coded_ℕ) coded_float)))))
+    (coded× coded_ℕ (coded× coded_ℤ (coded× (coded_list coded_ℕ) coded_float)))))
     (λ d. emit d []) (λ k. top (run k [])) top-run-emit
