@@ -11,18 +11,22 @@ use Rattle.serde_json.specs.Data.{Num, unsigned, negative, float, Data, null, bo
 abbrev Step : Type 0
 Step = ℕ × (ℕ × (ℤ × (List ℕ × Float)))
 
+-- a step that is given nothing
 abbrev plain : ℕ → Step
 plain kind = (kind, (0, (pos 0, ([], nan))))
 
+-- the step that puts a number on the stack
 abbrev number_step : Num → Step
 number_step (unsigned n) = (3, (n, (pos 0, ([], nan))))
 number_step (negative z) = (4, (0, (z, ([], nan))))
 number_step (float x) = (5, (0, (pos 0, ([], x))))
 
+-- the step that puts a truth value on the stack
 abbrev bool_step : Bool → Step
 bool_step true = plain 1
 bool_step false = plain 2
 
+-- a step that is given a text
 abbrev text_step : ℕ → List ℕ → Step
 text_step kind s = (kind, (0, (pos 0, (s, nan))))
 
@@ -44,6 +48,7 @@ abbrev mutual
   emit_members no_members k = plain 11 ∷ k
   emit_members (member name d ms) k = emit_members ms (emit d (text_step 12 name ∷ k))
 
+-- what stands on the stack
 pub data Part : Type 0 where
   value : Data → Part
   items : Items → Part
@@ -56,36 +61,42 @@ close_array (value d ∷ st) = st
 close_array (items ds ∷ st) = value (array ds) ∷ st
 close_array (members ms ∷ st) = st
 
+-- the same of an object
 abbrev close_object : List Part → List Part
 close_object [] = []
 close_object (value d ∷ st) = st
 close_object (items ds ∷ st) = st
 close_object (members ms ∷ st) = value (object ms) ∷ st
 
+-- the value goes before the items under it
 abbrev item_before : Data → List Part → List Part
 item_before d [] = []
 item_before d (value e ∷ st) = st
 item_before d (items ds ∷ st) = items (item d ds) ∷ st
 item_before d (members ms ∷ st) = st
 
+-- the value on top goes before the items under it
 abbrev add_item : List Part → List Part
 add_item [] = []
 add_item (value d ∷ st) = item_before d st
 add_item (items ds ∷ st) = st
 add_item (members ms ∷ st) = st
 
+-- the value goes, with its name, before the members under it
 abbrev member_before : List ℕ → Data → List Part → List Part
 member_before name d [] = []
 member_before name d (value e ∷ st) = st
 member_before name d (items ds ∷ st) = st
 member_before name d (members ms ∷ st) = members (member name d ms) ∷ st
 
+-- the value on top goes, with its name, before the members under it
 abbrev add_member : List ℕ → List Part → List Part
 add_member name [] = []
 add_member name (value d ∷ st) = member_before name d st
 add_member name (items ds ∷ st) = st
 add_member name (members ms ∷ st) = st
 
+-- what a step does to the stack
 abbrev step : Step → List Part → List Part
 step s st =
     cond (s.0 == 0) (value null ∷ st) (cond (s.0 == 1) (value (boolean true) ∷ st)
@@ -98,10 +109,12 @@ step s st =
     (cond (s.0 == 9) (items no_items ∷ st) (cond (s.0 == 10) (add_item st)
     (cond (s.0 == 11) (members no_members ∷ st) (add_member s.1.1.1.0 st))))))))))))
 
+-- what steps do, one after another
 abbrev run : List Step → List Part → List Part
 run [] st = st
 run (s ∷ k) st = run k (step s st)
 
+-- the value on top
 abbrev top : List Part → Data
 top [] = null
 top (value d ∷ st) = d
@@ -136,6 +149,7 @@ mutual
 pub top-run-emit : (d : Data) → top (run (emit d []) []) ≡ d
 top-run-emit d = ap top (run-emit d [] [])
 
+-- the code of trees
 abbrev pub data_code : Coded Data
 data_code =
     code_by (List Step)
