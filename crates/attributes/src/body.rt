@@ -2,7 +2,8 @@
 
 ghost use Rattle.std.specs.Prelude.{◌≡◌, ◌+◌, ◌-◌, ◌<◌, ◌≤◌, bytes_eq, length, option_map, string_bytes, IfOk};
 ghost use Rattle.attributes.specs.Members.{value_at};
-ghost use Rattle.attributes.specs.Places.{ArePlaces, IsPlace, IsBody, IsSpan, aside_of, attributes_in, id_in, in_span, place_name, place_value, scalar_of, shown, source_in, text_of};
+ghost use Rattle.attributes.specs.steps.Place.{ArePlaces, IsPlace, IsBody, IsSpan, aside_of, attributes_in, id_in, in_span, place_name, place_value, shown, source_in, text_of};
+ghost use Rattle.attributes.specs.Event.{scalar_of};
 
 use std::alloc::AllocError;
 
@@ -21,8 +22,8 @@ pub(crate) struct Span {
     pub(crate) end: u32,
 }
 
-/// A value, or where it ends. A text begins behind its name and `":"`; `Escaped` ones stand, with their names,
-/// aside of the canonical text and without escapes.
+/// A value, or where it ends. A text begins behind its name and `":"`; `Escaped` ones stand, with
+/// their names, aside of the canonical text and without escapes.
 #[derive(Clone, Copy)]
 pub(crate) enum Kind {
     Flag(bool),
@@ -46,8 +47,9 @@ pub(crate) struct Draft {
     pub(crate) places: Vec<Place>,
 }
 
-/// The canonical text and behind it, in one string, what stands aside of it and the key: `"`, the source, `"`,
-/// the id, `"`. So two events are compared by their keys with one look into memory each.
+/// The canonical text and behind it, in one string, what stands aside of it and the key: `"`, the
+/// source, `"`, the id, `"`. So two events are compared by their keys with one look into memory
+/// each.
 #[derive(Drop)]
 pub(crate) struct Body {
     pub(crate) all: String,
@@ -56,6 +58,7 @@ pub(crate) struct Body {
     pub(crate) source: Span,
 }
 
+/// The text between two marks.
 fn between(text: &str, start: usize, end: usize) -> &str
     requires { IsSpan text.now (record { start = start; end = end }) }
     ensures { result.now ≡ in_span text.now (record { start = start; end = end }) }
@@ -63,6 +66,7 @@ fn between(text: &str, start: usize, end: usize) -> &str
     &text[start..end]
 }
 
+/// The text of a span.
 fn spanned(text: &str, span: Span) -> &str
     requires { IsSpan text.now span }
     ensures { result.now ≡ in_span text.now span }
@@ -70,7 +74,8 @@ fn spanned(text: &str, span: Span) -> &str
     between(text, span.start as usize, span.end as usize)
 }
 
-fn are_same(name: &str, other: &str) -> bool
+/// Whether two names have the same bytes.
+fn is_same(name: &str, other: &str) -> bool
     ensures { result ≡ bytes_eq name.now other.now }
 {
     name == other
@@ -101,12 +106,14 @@ fn value_of<'a>(text: &'a str, aside: &'a str, place: Place) -> Attribute<'a>
     }
 }
 
+/// The value of the attribute of this name, by its place.
 fn find_in<'a>(text: &'a str, aside: &'a str, places: &[Place], name: &str) -> Option<Attribute<'a>>
     requires { ArePlaces text.now aside.now places.now }
-    ensures { option_map scalar_of result ≡ value_at name.now (shown text.now aside.now places.now) }
+    ensures { option_map scalar_of result
+        ≡ value_at name.now (shown text.now aside.now places.now) }
 {
     for place in places {
-        if are_same(name, name_at(text, aside, *place)) {
+        if is_same(name, name_at(text, aside, *place)) {
             return Some(value_of(text, aside, *place));
         }
     }
@@ -122,6 +129,7 @@ impl Body {
         &self.all[..self.text_end as usize]
     }
 
+    /// What stands behind the canonical text.
     fn aside(&self) -> &str
         requires { IsBody self.now }
         ensures { result.now ≡ aside_of self.now }
@@ -157,6 +165,7 @@ impl Body {
         find_in(self.text(), self.aside(), self.places.as_slice(), name)
     }
 
+    /// What is equal, with a string of its own.
     pub(crate) fn copy(&self) -> Result<Body, AllocError>
         ensures all { IfOk result (λ s. string_bytes s.all ≡ string_bytes self.now.all) }
         ensures places { IfOk result (λ s. s.places.items ≡ self.now.places.items) }

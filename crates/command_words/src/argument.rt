@@ -3,8 +3,7 @@ ghost use Rattle.std.specs.Prelude.{◌≡◌, false, IfOk, [], unwrap_or, map};
 ghost use Rattle.clap.specs.Words.{all_of, found_of, rows_of, rule_of};
 ghost use Rattle.command_words.specs.Commands.{files_rule};
 
-use crate::texts::Texts;
-use attributes::Text;
+use attributes::{Text, Texts};
 use clap::{Arg, ArgAction, ArgMatches};
 use std::alloc::{AllocError, Global};
 

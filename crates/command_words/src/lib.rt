@@ -6,11 +6,10 @@ mod command;
 mod fault;
 mod program;
 mod request;
-mod texts;
 mod words;
 
 pub use command::Command;
 pub use fault::Faulty;
 pub use request::Plan;
-pub use texts::Texts;
+pub use attributes::Texts;
 pub use words::plan;

@@ -1,5 +1,5 @@
 //! What the words of the command line ask for.
-use crate::texts::Texts;
+use attributes::Texts;
 use file_reports::Query;
 
 /// What the words ask for: a command and the texts of its arguments.

@@ -10,7 +10,7 @@ use Rattle.std.specs.String.{string_bytes}
 use Rattle.std.specs.declared.string.String.{String}
 use Rattle.std.specs.Option.{IsSomeAnd}
 use Rattle.std.specs.Prelude.{◌≢◌}
-use Rattle.attributes.specs.Characters.{is_filled}
+use Rattle.attributes.specs.Character.{is_filled}
 use Rattle.serde_json.specs.Data.{Data, array, Items, no_items, item, Members, no_members, member}
 use Rattle.coverage.specs.Intervals.{Interval, max_sequence, fits_from, rises_from, IsCanonical}
 use Rattle.coverage.specs.Summary.{byte_cmp, Entry, Sources, IsEntry, IsSummary}

@@ -6,7 +6,7 @@ use Rattle.std.specs.Cmp.Lexicographic.{slice_cmp}
 use Rattle.std.specs.Str.{IsUtf8}
 use Rattle.std.specs.Map.{keys_of}
 use Rattle.std.specs.List.Sorted.{IsStrictlySortedBy}
-use Rattle.attributes.specs.Characters.{is_filled}
+use Rattle.attributes.specs.Character.{is_filled}
 use Rattle.coverage.specs.Intervals.{Interval, IsCanonical, holds}
 
 -- the order of texts by their bytes

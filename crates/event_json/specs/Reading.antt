@@ -3,8 +3,8 @@ use Rattle.std.specs.Prelude.{◌≡◌, ◌<◌, ◌≤◌, ℕ, List, length, 
 use Rattle.std.specs.List.{AllByRecursion}
 use Rattle.serde_json.specs.Data.{Data}
 use Rattle.serde_json.specs.Read.{read}
-use Rattle.attributes.specs.Events.{EventValue}
-use Rattle.attributes.specs.declared.faults.Fault.{Fault}
+use Rattle.attributes.specs.Event.{EventValue}
+use Rattle.attributes.specs.declared.fault.Fault.{Fault}
 use Rattle.event_json.specs.Spelling.{fault_in, event_in, candidates}
 use Rattle.event_json.specs.declared.faults.ReadFault.{ReadFault}
 use Rattle.event_json.specs.declared.faults.ReadFault.TheVariants.{OutOfMemory, NotJson, NotEvent, BadEvent, InputTooLarge}

@@ -4,7 +4,7 @@ ghost use Rattle.base64.specs.GeneralPurpose.{decode_of};
 ghost use Rattle.serde_json.specs.Find.{as_i64};
 ghost use Rattle.serde_json.specs.Read.{read as read_text};
 ghost use Rattle.serde_json.specs.View.{view, number_view, members_view};
-ghost use Rattle.attributes.specs.Events.{EventValue};
+ghost use Rattle.attributes.specs.Event.{EventValue};
 ghost use Rattle.event_json.specs.Payload.{unless_null, payload, bytes_by, decoded};
 ghost use Rattle.event_json.specs.Spelling.{given_whole, given_by, spelled, offer_by, fault_in, event_in};
 ghost use Rattle.event_json.specs.Reading.{Spells, IsNoSpelling, Reads, IsRefused, max_input};

@@ -1,7 +1,7 @@
 ghost use Rattle.std.specs.Prelude.{◌≡◌, ◌≤◌, ◌<◌, Some, List, ◌++◌, length, slice_get, IfOk, IfSome, OnOk, string_bytes};
 ghost use Rattle.std.specs.List.{AllByRecursion};
-ghost use Rattle.attributes.specs.Events.{EventValue, text};
-ghost use Rattle.attributes.specs.Faults.{IsEvent};
+ghost use Rattle.attributes.specs.Event.{EventValue, text};
+ghost use Rattle.attributes.specs.Fault.{IsEvent};
 ghost use Rattle.event_json.specs.Reading.{Reads, max_input};
 ghost use Rattle.event_json.specs.BatchText.{separated, batch_text};
 
@@ -63,7 +63,7 @@ pub fn batch_texts_read_back()
 // A list whose members are events.
 trait EventList {
     ghost use Rattle.std.specs.Prelude.{List};
-    ghost use Rattle.attributes.specs.Events.{EventValue};
+    ghost use Rattle.attributes.specs.Event.{EventValue};
 
     ghost list: { Self → List EventValue };
 

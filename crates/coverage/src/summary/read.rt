@@ -2,7 +2,7 @@
 ghost use Rattle.std.specs.Prelude.{◌≡◌, ◌≢◌, ◌↔◌, ◌≤◌, true, Some, List, [], IsTrue, IfOk, IfErr, IfSome, IsSomeAnd, MatchResult, OnErr};
 ghost use Rattle.serde_json.specs.Data.{array};
 ghost use Rattle.serde_json.specs.View.{view, items_view, members_view};
-ghost use Rattle.attributes.specs.Characters.{is_filled};
+ghost use Rattle.attributes.specs.Character.{is_filled};
 ghost use Rattle.coverage.specs.Intervals.{Interval, IsCanonical, fits_from};
 ghost use Rattle.coverage.specs.Summary.{IsSummary, Sources};
 ghost use Rattle.coverage.specs.SummaryText.{intervals_items, sources_members, summary_data, summary_text};

@@ -1,5 +1,5 @@
 use Rattle.std.proofs.Common.{ap, ap₂, ◌∙◌}
-use Rattle.attributes.specs.Events.{OfferValue}
+use Rattle.attributes.specs.Event.{OfferValue}
 use Rattle.event_json.specs.Payload.{payload}
 use Rattle.event_json.proofs.Taken.{offer, offer-taken}
 use Rattle.event_json.proofs.reader.parts.Goals as goal

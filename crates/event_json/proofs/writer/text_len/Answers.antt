@@ -1,5 +1,5 @@
 use Rattle.std.proofs.Common.{◌≡◌, ◌+◌, length, eqb, true, ap, arith}
-use Rattle.attributes.specs.Events.{text}
+use Rattle.attributes.specs.Event.{text}
 use Rattle.event_json.specs.BatchText.{separated, joined}
 use Rattle.event_json.proofs.Joined.{length_step, length-separated_first, length-separated_later}
 use Rattle.event_json.proofs.writer.text_len.Goals as goal

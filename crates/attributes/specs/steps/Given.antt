@@ -1,0 +1,24 @@
+-- What is given as the value of an attribute, as its tests look at it.
+use Rattle.std.specs.Prelude.{ℕ, List, Bool, true, Option, Some, None}
+use Rattle.attributes.specs.Fault.{is_attribute}
+use Rattle.attributes.specs.declared.scalar.Scalar.{Scalar}
+use Rattle.attributes.specs.declared.scalar.Scalar.TheVariants as scalar
+use Rattle.attributes.specs.declared.scalar.Given.{Given}
+use Rattle.attributes.specs.declared.scalar.Given.TheVariants as given
+
+-- what is given, as an attribute
+abbrev pub lent_of : Given → Option Scalar
+lent_of (given.Flag b) = Some (scalar.Flag b)
+lent_of (given.Whole z) = Some (scalar.Whole z)
+lent_of (given.Words t) = Some (scalar.Words t)
+lent_of given.Other = None
+
+-- what is given, where it is a text
+abbrev pub given_words : Option Given → Option (List ℕ)
+given_words (Some (given.Words t)) = Some t
+given_words _ = None
+
+-- where something is given, it may be an attribute
+abbrev pub is_allowed_value : Option Given → Bool
+is_allowed_value None = true
+is_allowed_value (Some g) = is_attribute g

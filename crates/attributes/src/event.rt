@@ -1,0 +1,232 @@
+//! Events, built of parts.
+
+ghost use Rattle.std.specs.Prelude.{◌≡◌, ◌≢◌, ◌↔◌, Err, IfErr, IfOk, Some, None, true, option_and_then, option_map};
+ghost use Rattle.std.specs.Option.{option_copied, option_or};
+ghost use Rattle.std.specs.declared.cmp.Ordering.TheVariants.{Equal};
+ghost use Rattle.attributes.specs.Bytes.{byte_cmp};
+ghost use Rattle.attributes.specs.Character.{is_filled};
+ghost use Rattle.attributes.specs.Members.{InOrder, named};
+ghost use Rattle.attributes.specs.Event.{scalar_of, attribute_of, content_of, day_of, event_of, id_of, kind_of, scalars_of, source_of, subject_of, text, time_of, words_of, words_or_empty};
+ghost use Rattle.attributes.specs.Time.{time_day};
+ghost use Rattle.attributes.specs.Fault.{IsEvent, fault, member_fault, payload_fault};
+ghost use Rattle.attributes.specs.declared.fault.Fault.TheVariants.{OutOfMemory};
+
+use crate::body::{Attribute, Body};
+use crate::canonical::{canonical, sealed};
+use crate::content::{Content, Offered};
+use crate::fault::Fault;
+use crate::list::List;
+use crate::parts::Parts;
+use crate::scalar::{Given, Scalar};
+use crate::time::day_in;
+use crate::validation::{first_member_fault, first_payload_fault, words_at, words_or_empty_at};
+use std::alloc::{AllocError, Global};
+use std::cmp::Ordering;
+use std::collections::BTreeMap;
+use std::marker::Model;
+
+/// How many bytes a canonical text may have.
+const MAX_TEXT: usize = 262_144;
+
+/// An event (CloudEvents 1.0.2): its attributes, what it carries, and its canonical text. Two
+/// events are equal exactly where their canonical texts are.
+#[derive(Drop)]
+pub struct Event {
+    body: Body,
+    content: Content,
+    day: Option<i32>,
+}
+
+impl Model for Event {
+    ghost use Rattle.attributes.specs.steps.EventCode.{event_code};
+    ghost use Rattle.attributes.specs.Event.{EventValue, view_of};
+    ghost use Rattle.attributes.specs.steps.Kept.{IsKept};
+    ghost use Rattle.attributes.specs.steps.Place.{attributes_in};
+
+    ghost Value = { EventValue };
+
+    ghost coded = { event_code };
+
+    ghost view = { λ e. view_of (attributes_in e.body) e.content };
+
+    ghost invariant = { λ e. IsKept e.body e.content e.day };
+}
+
+/// Events in an order.
+pub type Events = List<Event>;
+
+/// The text of an attribute, or else the empty one.
+fn words_or_empty<'a>(attribute: Option<Attribute<'a>>) -> &'a str
+    ensures { result.now ≡ words_or_empty (option_map scalar_of attribute.entry) }
+{
+    match attribute {
+        Some(Attribute::Words(text)) => text,
+        _ => "",
+    }
+}
+
+/// The text of an attribute, where it is one.
+fn words_of<'a>(attribute: Option<Attribute<'a>>) -> Option<&'a str>
+    ensures { option_copied result ≡ words_of (option_map scalar_of attribute.entry) }
+{
+    match attribute {
+        Some(Attribute::Words(text)) => Some(text),
+        _ => None,
+    }
+}
+
+/// What offered data is carried as.
+fn content_of(offered: Offered) -> Content
+    ensures { result ≡ content_of offered }
+{
+    match offered {
+        Offered::Tree(tree) => {
+            if tree.is_null() {
+                Content::Nothing
+            } else {
+                Content::Tree(tree)
+            }
+        }
+        Offered::Bytes(bytes) => Content::Bytes(bytes),
+        Offered::Nothing => Content::Nothing,
+        Offered::Both => Content::Nothing,
+        Offered::Undecodable => Content::Nothing,
+    }
+}
+
+/// The UTC day of a time, where there is one.
+fn time_day(time: Option<&str>) -> Option<i32>
+    ensures { result ≡ option_and_then time_day (option_copied time.entry) }
+{
+    match time {
+        Some(time) => day_in(time),
+        None => None,
+    }
+}
+
+impl Event {
+    /// Tests the parts in the order of the faults, and answers the first one or the event. Want of
+    /// memory may come in the place of `TooLarge` alone, since the text is made before it is
+    /// measured.
+    ///
+    /// Time and memory in proportion to the parts' bytes.
+    pub fn build(parts: Parts) -> Result<Event, Fault>
+        ensures built { IfOk result (λ e. (fault parts ≡ None) × (e ≡ event_of parts)) }
+        ensures refused { IfErr result (λ f. f ≢ OutOfMemory → fault parts ≡ Some f) }
+
+        // These faults are found before any memory is asked for.
+        ensures tested { (f : Fault)
+            → option_or (member_fault parts.members) (payload_fault parts.offered) ≡ Some f
+            → result ≡ Err f }
+    {
+        match first_member_fault(&parts.members) {
+            None => {}
+            Some(fault) => return Err(fault),
+        }
+        match first_payload_fault(&parts.offered) {
+            None => {}
+            Some(fault) => return Err(fault),
+        }
+        let content = content_of(parts.offered);
+        let source = words_or_empty_at(&parts.members, "source");
+        let id = words_or_empty_at(&parts.members, "id");
+        let room = source.len().saturating_add(id.len()).saturating_add(3);
+        let draft = canonical(parts.alloc, &parts.members, &content, room)?;
+        if draft.text.len() > MAX_TEXT {
+            return Err(Fault::TooLarge);
+        }
+        let body = sealed(draft, source, id)?;
+        let day = time_day(words_at(&parts.members, "time"));
+        Ok(Event { body, content, day })
+    }
+
+    /// The canonical text: compact JSON, the members in byte order of their names, strings with the
+    /// escapes `\"`, `\\`, `\b`, `\t`, `\n`, `\f`, `\r` and `\u00` with two lower-case hexadecimal
+    /// digits for other control characters. At most 262,144 bytes. Takes no time.
+    pub fn text(&self) -> &str
+        ensures text { result.now ≡ text self.now }
+        ensures event { IsEvent self.now }
+    {
+        self.body.text()
+    }
+
+    /// The value of an attribute. Goes over the names.
+    pub fn attribute(&self, name: &str) -> Option<Attribute<'_>>
+        ensures { option_map scalar_of result ≡ attribute_of name.now self.now }
+    {
+        self.body.find(name)
+    }
+
+    /// The attribute `id`, which tells the events of one source apart.
+    pub fn id(&self) -> &str
+        ensures value { result.now ≡ id_of self.now }
+        ensures allowed { is_filled result.now ≡ true }
+    {
+        self.body.id()
+    }
+
+    /// The attribute `source`: where the event comes from.
+    pub fn source(&self) -> &str
+        ensures value { result.now ≡ source_of self.now }
+        ensures allowed { is_filled result.now ≡ true }
+    {
+        self.body.source()
+    }
+
+    /// The attribute `type`: what happened.
+    pub fn kind(&self) -> &str
+        ensures value { result.now ≡ kind_of self.now }
+        ensures allowed { is_filled result.now ≡ true }
+    {
+        words_or_empty(self.body.find("type"))
+    }
+
+    /// The attribute `subject`, where it is there: what the event is about.
+    pub fn subject(&self) -> Option<&str>
+        ensures { option_copied result ≡ subject_of self.now }
+    {
+        words_of(self.attribute("subject"))
+    }
+
+    /// The attribute `time`, where it is there, as it was written (RFC 3339).
+    pub fn time(&self) -> Option<&str>
+        ensures { option_copied result ≡ time_of self.now }
+    {
+        words_of(self.attribute("time"))
+    }
+
+    /// The UTC day of `time`, where that is there: days from 1970-01-01, in -719,528 to 2,932,896.
+    pub fn day(&self) -> Option<i32>
+        ensures { result ≡ day_of self.now }
+    {
+        self.day
+    }
+
+    /// What the event carries: nothing, a JSON value or bytes.
+    pub fn content(&self) -> &Content
+        ensures { result.now ≡ self.now.content }
+    {
+        &self.content
+    }
+
+    /// An event that is equal. Time and memory in proportion to its text.
+    pub fn copy(&self) -> Result<Event, AllocError>
+        ensures { IfOk result (λ e. e ≡ self.now) }
+    {
+        let body = self.body.copy()?;
+        let content = self.content.copy()?;
+        Ok(Event {
+            body,
+            content,
+            day: self.day,
+        })
+    }
+
+    /// The order of the canonical texts as bytes.
+    pub fn compare(&self, other: &Event) -> Ordering
+        ensures order { result ≡ byte_cmp (text self.now) (text other.now) }
+        ensures same { (result ≡ Equal) ↔ (self.now ≡ other.now) }
+    {
+        self.body.text().cmp(other.body.text())
+    }
+}

@@ -1,0 +1,212 @@
+//! The tests of members, in the order of their faults.
+
+ghost use Rattle.std.specs.Prelude.{◌≡◌, [], true, Option, unwrap_or};
+ghost use Rattle.std.specs.List.{list_all};
+ghost use Rattle.std.specs.Option.{option_copied};
+ghost use Rattle.serde_json.specs.View.{view as tree_of};
+ghost use Rattle.attributes.specs.declared.content.Offered.TheVariants.{Tree};
+ghost use Rattle.attributes.specs.Character.{is_filled, is_name};
+ghost use Rattle.attributes.specs.Members.{named, value_at};
+ghost use Rattle.attributes.specs.steps.Given.{given_words, is_allowed_value};
+ghost use Rattle.attributes.specs.Fault.{is_allowed, is_attribute, is_required, is_time, is_version, member_fault, payload_fault};
+
+use crate::character::{is_name, is_printable, is_version};
+use crate::content::Offered;
+use crate::fault::Fault;
+use crate::scalar::Given;
+use crate::time::day_in;
+use crate::tree::{any_float, is_within};
+use serde_json::Value;
+use std::collections::BTreeMap;
+
+/// How deep arrays and objects may nest in data.
+const MAX_DATA_DEPTH: u8 = 120;
+
+/// What is given at a name.
+fn at<'a>(members: &'a BTreeMap<String, Given>, name: &str) -> Option<&'a Given>
+    ensures { option_copied result ≡ value_at name.now (named members.now.entries) }
+{
+    members.get(name)
+}
+
+/// What is given, where it is a text.
+fn given_words(given: Option<&Given>) -> Option<&str>
+    ensures { option_copied result ≡ given_words (option_copied given.entry) }
+{
+    match given {
+        Some(Given::Words(text)) => Some(text.as_str()),
+        _ => None,
+    }
+}
+
+/// The text of a member, where it is there and a text.
+pub(crate) fn words_at<'a>(members: &'a BTreeMap<String, Given>, name: &str) -> Option<&'a str>
+    ensures { option_copied result ≡ given_words (value_at name.now (named members.now.entries)) }
+{
+    given_words(at(members, name))
+}
+
+/// The same, or else the empty text.
+pub(crate) fn words_or_empty_at<'a>(members: &'a BTreeMap<String, Given>, name: &str) -> &'a str
+    ensures { result.now
+        ≡ unwrap_or (given_words (value_at name.now (named members.now.entries))) [] }
+{
+    match words_at(members, name) {
+        Some(words) => words,
+        None => "",
+    }
+}
+
+/// Whether it is there, and the one version.
+fn is_required_version(given: Option<&Given>) -> bool
+    ensures { result ≡ is_required is_version (option_copied given.entry) }
+{
+    match given {
+        Some(Given::Words(text)) => is_version(text.as_str()),
+        _ => false,
+    }
+}
+
+/// Whether it is there and a filled text; `passed` says that all texts are printable.
+fn is_filled_text(given: Option<&Given>, passed: bool) -> bool
+    requires { passed ≡ true → is_allowed_value (option_copied given) ≡ true }
+    ensures { result ≡ is_required is_filled (option_copied given.entry) }
+{
+    match given {
+        Some(Given::Words(text)) => {
+            !text.as_str().is_empty() && (passed || is_printable(text.as_str()))
+        }
+        _ => false,
+    }
+}
+
+/// The same of a member that must be there.
+fn is_required_at(members: &BTreeMap<String, Given>, name: &str, passed: bool) -> bool
+    requires { passed ≡ true → list_all (λ m. is_attribute m.1) (named members.now.entries) ≡ true }
+    ensures { result ≡ is_required is_filled (value_at name.now (named members.now.entries)) }
+{
+    is_filled_text(at(members, name), passed)
+}
+
+/// The same of a member that may be there.
+fn is_allowed_at(members: &BTreeMap<String, Given>, name: &str, passed: bool) -> bool
+    requires { passed ≡ true → list_all (λ m. is_attribute m.1) (named members.now.entries) ≡ true }
+    ensures { result ≡ is_allowed is_filled (value_at name.now (named members.now.entries)) }
+{
+    match at(members, name) {
+        None => true,
+        given => is_filled_text(given, passed),
+    }
+}
+
+/// Whether it is a time, where it is there.
+fn is_allowed_time(given: Option<&Given>) -> bool
+    ensures { result ≡ is_allowed is_time (option_copied given.entry) }
+{
+    match given {
+        None => true,
+        Some(Given::Words(text)) => day_in(text.as_str()).is_some(),
+        _ => false,
+    }
+}
+
+/// Whether a value may be that of an attribute.
+fn is_attribute(given: &Given) -> bool
+    ensures { result ≡ is_attribute given.now }
+{
+    match given {
+        Given::Flag(_) => true,
+        Given::Whole(number) => {
+            let _whole = *number;
+            true
+        }
+        Given::Words(text) => is_printable(text.as_str()),
+        Given::Other => false,
+    }
+}
+
+/// Whether all names pass, and whether all values do.
+#[derive(Clone, Copy)]
+struct Passed {
+    names: bool,
+    values: bool,
+}
+
+/// Tests the names and the values of all members in one pass.
+fn passed_tests(members: &BTreeMap<String, Given>) -> Passed
+    ensures names { result.names ≡ list_all (λ m. is_name m.0) (named members.now.entries) }
+    ensures values { result.values ≡ list_all (λ m. is_attribute m.1) (named members.now.entries) }
+{
+    let mut names = true;
+    let mut values = true;
+    for (name, given) in members {
+        names = names && is_name(name.as_str());
+        values = values && is_attribute(given);
+    }
+    Passed { names, values }
+}
+
+/// The first fault of the members, where they have one. Texts and names are gone through once, and
+/// eight of the names are looked up.
+pub(crate) fn first_member_fault(members: &BTreeMap<String, Given>) -> Option<Fault>
+    ensures { result ≡ member_fault (named members.now.entries) }
+{
+    let passed = passed_tests(members);
+    if !is_required_version(at(members, "specversion")) {
+        return Some(Fault::SpecVersion);
+    }
+    if !is_required_at(members, "id", passed.values) {
+        return Some(Fault::Id);
+    }
+    if !is_required_at(members, "source", passed.values) {
+        return Some(Fault::Source);
+    }
+    if !is_required_at(members, "type", passed.values) {
+        return Some(Fault::Kind);
+    }
+    if !is_allowed_at(members, "subject", passed.values) {
+        return Some(Fault::Subject);
+    }
+    if !is_allowed_time(at(members, "time")) {
+        return Some(Fault::Time);
+    }
+    if !is_allowed_at(members, "datacontenttype", passed.values) {
+        return Some(Fault::ContentType);
+    }
+    if !is_allowed_at(members, "dataschema", passed.values) {
+        return Some(Fault::Schema);
+    }
+    if !passed.names {
+        return Some(Fault::ExtensionName);
+    }
+    if !passed.values {
+        return Some(Fault::ExtensionValue);
+    }
+    None
+}
+
+/// The first fault of data, where it has one.
+fn tree_fault(value: &Value) -> Option<Fault>
+    ensures { result ≡ payload_fault (Tree (tree_of value.now)) }
+{
+    if any_float(value) {
+        return Some(Fault::DataNumber);
+    }
+    if !is_within(value, MAX_DATA_DEPTH) {
+        return Some(Fault::TooDeep);
+    }
+    None
+}
+
+/// The first fault of what is offered as data, where it has one. A tree is gone through twice.
+pub(crate) fn first_payload_fault(offered: &Offered) -> Option<Fault>
+    ensures { result ≡ payload_fault offered.now }
+{
+    match offered {
+        Offered::Nothing => None,
+        Offered::Tree(tree) => tree_fault(tree.value()),
+        Offered::Bytes(_) => None,
+        Offered::Both => Some(Fault::TwoData),
+        Offered::Undecodable => Some(Fault::Base64),
+    }
+}
