@@ -62,7 +62,7 @@ pub Reads-batch_text : Laws → PartsMakeEvents → (es : List EventValue) → A
 Reads-batch_text laws again es h fits =
     record {
       value = array (objects es);
-      is_text = record { fits = fits; utf8 = utf8_batch_text es h; reads = read-batch_text laws es h };
+      is_text = record { fits = fits; is_json = (utf8_batch_text es h, read-batch_text laws es h) };
       spells = record { found = list_of (objects es); are_found = refl; faultless = faultless_objects laws es h; are_events = events_of_objects laws again es h };
     }
 

@@ -1,9 +1,9 @@
 -- Which events bytes spell, and why they spell none (CloudEvents JSON Event Format 1.0.2, sections 3 and 4; RFC 8259).
-use Rattle.std.specs.Prelude.{◌≡◌, ◌<◌, ◌≤◌, ℕ, List, length, map, take, Some, None, option_and_then, slice_get, IsUtf8}
+use Rattle.std.specs.Prelude.{◌≡◌, ◌<◌, ◌≤◌, ℕ, List, length, map, take, Some, None, option_and_then, slice_get}
 use Rattle.std.specs.List.{AllByRecursion}
 use Rattle.serde_json.specs.Data.{Data}
-use Rattle.serde_json.specs.Read.{read}
 use Rattle.attributes.specs.Events.{EventValue}
+use Rattle.attributes.specs.JsonText.{IsJsonText}
 use Rattle.attributes.specs.declared.faults.Fault.{Fault}
 use Rattle.event_json.specs.Spelling.{fault_in, event_in, candidates}
 use Rattle.event_json.specs.declared.faults.ReadFault.{ReadFault}
@@ -42,8 +42,7 @@ max_input = 33554432
 -- bytes within the limit that are the JSON text of a value
 pub record IsTextOf (b : List ℕ) (value : Data) : Type 0 where
   pub fits : length b ≤ max_input
-  pub utf8 : IsUtf8 b
-  pub reads : read b ≡ Some value
+  pub is_json : IsJsonText b value
 
 -- the bytes spell these events
 pub record Reads (b : List ℕ) (es : List EventValue) : Type 0 where

@@ -1,10 +1,11 @@
-ghost use Rattle.std.specs.Prelude.{◌≡◌, ◌≢◌, ◌<◌, ℕ, List, [], ◌∷◌, length, map, option_map, Err, IfOk, IfErr, IsUtf8};
+ghost use Rattle.std.specs.Prelude.{◌≡◌, ◌≢◌, ◌<◌, ℕ, List, [], ◌∷◌, length, map, option_map, Err, IfOk, IfErr};
 ghost use Rattle.base64.specs.Engines.{standard};
 ghost use Rattle.base64.specs.GeneralPurpose.{decode_of};
 ghost use Rattle.serde_json.specs.Find.{as_i64};
-ghost use Rattle.serde_json.specs.Read.{read as read_text};
+ghost use Rattle.serde_json.specs.Data.{Data};
 ghost use Rattle.serde_json.specs.View.{view, number_view, members_view};
 ghost use Rattle.attributes.specs.Events.{EventValue};
+ghost use Rattle.attributes.specs.JsonText.{IsJsonText};
 ghost use Rattle.event_json.specs.Payload.{unless_null, payload, bytes_by, decoded};
 ghost use Rattle.event_json.specs.Spelling.{given_whole, given_by, spelled, offer_by, fault_in, event_in};
 ghost use Rattle.event_json.specs.Reading.{Spells, IsNoSpelling, Reads, IsRefused, max_input};
@@ -53,11 +54,10 @@ pub fn readings_are_one()
 {}
 
 fn parse(alloc: Global, bytes: &[u8]) -> Result<Value, ReadFault>
-    ensures utf8 { IfOk result (λ v. IsUtf8 bytes.now) }
-    ensures value { IfOk result (λ v. read_text bytes.now ≡ Some (view v)) }
+    ensures value { IfOk result (λ v. IsJsonText bytes.now (view v)) }
     ensures fault { IfErr result (λ f. f ≢ ReadFault.OutOfMemory → f ≡ ReadFault.NotJson) }
-    ensures none { IfErr result (λ f. f ≢ ReadFault.OutOfMemory → IsUtf8 bytes.now
-        → read_text bytes.now ≡ None) }
+    ensures none { IfErr result (λ f. f ≢ ReadFault.OutOfMemory
+        → (d : Data) → IsJsonText bytes.now d → ⊥) }
 {
     match Value::from_slice(alloc, bytes) {
         Ok(value) => Ok(value),
