@@ -1,17 +1,11 @@
 -- Which numbers of each source have been seen.
+pub use Rattle.attributes.specs.Bytes.{byte_cmp}
 use Rattle.std.specs.Prelude.{◌≡◌, ◌≢◌, ℕ, Bool, true, List, [], ◌∷◌, bytes_eq, if◌then◌else◌}
-use Rattle.std.specs.Ordering.{nat_cmp}
-use Rattle.std.specs.declared.cmp.Ordering.{Ordering}
-use Rattle.std.specs.Cmp.Lexicographic.{slice_cmp}
 use Rattle.std.specs.Str.{IsUtf8}
 use Rattle.std.specs.Map.{keys_of}
 use Rattle.std.specs.List.Sorted.{IsStrictlySortedBy}
 use Rattle.attributes.specs.Characters.{is_filled}
 use Rattle.coverage.specs.Intervals.{Interval, IsCanonical, holds}
-
--- the order of texts by their bytes
-abbrev pub byte_cmp : List ℕ → List ℕ → Ordering
-byte_cmp = slice_cmp nat_cmp
 
 -- a source with the intervals of its numbers
 abbrev pub Entry : Type 0

@@ -3,11 +3,12 @@ ghost use Rattle.std.specs.Prelude.{◌≡◌, ◌≢◌, ◌↔◌, ◌≤◌, 
 ghost use Rattle.serde_json.specs.Data.{array};
 ghost use Rattle.serde_json.specs.View.{view, items_view, members_view};
 ghost use Rattle.attributes.specs.Characters.{is_filled};
+ghost use Rattle.attributes.specs.JsonText.{IsJsonText};
 ghost use Rattle.coverage.specs.Intervals.{Interval, IsCanonical, fits_from};
 ghost use Rattle.coverage.specs.Summary.{IsSummary, Sources};
 ghost use Rattle.coverage.specs.SummaryText.{intervals_items, sources_members, summary_data, summary_text};
 ghost use Rattle.coverage.specs.SummaryShape.{is_shaped, version_of};
-ghost use Rattle.coverage.specs.Refusals.{IsSummaryText, Parses, Refuses};
+ghost use Rattle.coverage.specs.Refusals.{IsSummaryText, Refuses};
 ghost use Rattle.coverage.specs.steps.Places.{EndsBefore};
 
 use super::Summary;
@@ -21,7 +22,7 @@ use std::cmp::Ordering;
 
 /// The bytes as a JSON value.
 fn parsed(alloc: Global, bytes: &[u8]) -> Result<Value, SummaryFault>
-    ensures value { IfOk result (λ v. Parses bytes.now (view v)) }
+    ensures value { IfOk result (λ v. IsJsonText bytes.now (view v)) }
     ensures refused { IfErr result (Refuses bytes.now) }
     ensures accepted { IsSummaryText bytes.now
         → OnErr result (result ≡ Err SummaryFault.OutOfMemory) }
@@ -39,7 +40,7 @@ fn parsed(alloc: Global, bytes: &[u8]) -> Result<Value, SummaryFault>
 
 /// The bytes as a JSON value of version 1 and a summary's shape.
 fn shaped(alloc: Global, bytes: &[u8]) -> Result<Value, SummaryFault>
-    ensures value { IfOk result (λ v. Parses bytes.now (view v)) }
+    ensures value { IfOk result (λ v. IsJsonText bytes.now (view v)) }
     ensures version { IfOk result (λ v. version_of (view v) ≡ Some 1) }
     ensures shape { IfOk result (λ v. is_shaped (view v) ≡ true) }
     ensures refused { IfErr result (Refuses bytes.now) }
