@@ -6,7 +6,8 @@ use Rattle.coverage.specs.Summary.{Sources, IsSummary}
 use Rattle.coverage.specs.SummaryText.{summary_text}
 use Rattle.coverage.specs.SummaryShape.{version_of, is_shaped}
 use Rattle.coverage.specs.declared.fault.SummaryFault.{SummaryFault}
-use Rattle.coverage.specs.declared.fault.SummaryFault.TheVariants.{OutOfMemory, NotJson, Shape, Version, NotCanonical}
+use Rattle.coverage.specs.declared.fault.SummaryFault.TheVariants.{OutOfMemory, NotJson, Shape}
+use Rattle.coverage.specs.declared.fault.SummaryFault.TheVariants.{Version, NotCanonical}
 
 -- the bytes are no JSON text
 abbrev pub IsNoJson : List ℕ → Type 0

@@ -3,6 +3,7 @@ pub use Rattle.attributes.specs.Bytes.{byte_cmp}
 use Rattle.std.specs.Prelude.{◌≡◌, ◌≢◌, ℕ, Bool, true, List, [], ◌∷◌, bytes_eq, if◌then◌else◌}
 use Rattle.std.specs.Str.{IsUtf8}
 use Rattle.std.specs.Map.{keys_of}
+use Rattle.std.specs.List.{AllByRecursion}
 use Rattle.std.specs.List.Sorted.{IsStrictlySortedBy}
 use Rattle.attributes.specs.Characters.{is_filled}
 use Rattle.coverage.specs.Intervals.{Interval, IsCanonical, holds}
@@ -21,8 +22,7 @@ IsEntry e = IsUtf8 e.0 × (is_filled e.0 ≡ true) × (e.1 ≢ []) × IsCanonica
 
 -- every entry is one
 abbrev pub AreEntries : Sources → Type 0
-AreEntries [] = Unit {0}
-AreEntries (e ∷ es) = IsEntry e × AreEntries es
+AreEntries es = AllByRecursion IsEntry es
 
 -- the entries
 abbrev pub entries_of : Sources → List Entry

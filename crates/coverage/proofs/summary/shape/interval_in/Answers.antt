@@ -1,6 +1,6 @@
 use Rattle.std.proofs.Common.{◌∙◌}
 use Rattle.coverage.proofs.ShapeLemmas.{pair-wrong_length}
-use Rattle.coverage.proofs.summary.shape.pair_of.Goals as goal
+use Rattle.coverage.proofs.summary.shape.interval_in.Goals as goal
 
 pub returns-then-len-ne2 : goal.returns-then-len-ne2
 returns-then-len-ne2 c =

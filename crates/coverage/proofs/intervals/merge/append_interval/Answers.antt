@@ -4,7 +4,7 @@ use Rattle.coverage.specs.Intervals.{Interval, IsCanonical}
 use Rattle.coverage.specs.steps.Starts.{last_start_or, StartsAtMost}
 use Rattle.coverage.proofs.HoldsLemmas.{last_start_or-push}
 use Rattle.coverage.proofs.MergeLemmas.{IsExtended, ends_with, extended_first, extended_apart, extended_joined}
-use Rattle.coverage.proofs.intervals.merge.append.Goals as goal
+use Rattle.coverage.proofs.intervals.merge.append_interval.Goals as goal
 
 -- where the last interval starts, which is no later than the new one
 starts_before : (old xs : List Interval) (last : Interval) (n : ℕ) → old ≡ xs ++ last ∷ [] → StartsAtMost old n → last.0 ≤ n

@@ -2,7 +2,7 @@ use Rattle.std.proofs.Common.{◌≡◌, ℕ, ◌≤◌, false, refl, arith}
 use Rattle.std.specs.Ordering.{nat_cmp, is_gt}
 use Rattle.std.proofs.lemmas.Bool.Decides.{nat_tests}
 use Rattle.std.proofs.lemmas.Map.Keys.{le_from_not_gt, ge_from_not_lt}
-use Rattle.coverage.proofs.intervals.map.before.Goals as goal
+use Rattle.coverage.proofs.intervals.map.last_up_to.Goals as goal
 
 not_gt_from_le : (a n : ℕ) → a ≤ n → is_gt (nat_cmp a n) ≡ false
 not_gt_from_le a n h = grind (arith, nat_tests)

@@ -1,6 +1,6 @@
 use Rattle.std.proofs.Common.{true≢false, sym}
 use Rattle.coverage.proofs.TextLemmas.{is_json}
-use Rattle.coverage.proofs.summary.read.parsed.Goals as goal
+use Rattle.coverage.proofs.summary.read.parse.Goals as goal
 
 pub returns-else-is_memory-clause-accepted : goal.returns-else-is_memory-clause-accepted
 returns-else-is_memory-clause-accepted c =
