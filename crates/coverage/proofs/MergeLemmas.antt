@@ -60,7 +60,8 @@ extended_joined xs last p m h later touches ordered bounded e =
       starts = last_start xs (last.0, m) p.0 later;
     }
 
--- the numbers of the first i intervals of one list and the first j of the other, of which none that is left starts earlier
+-- the numbers of the first i intervals of one list and the first j of the other, of which none that
+-- is left starts earlier
 pub record IsMergedUpTo (xs ys : List Interval) (i j : ℕ) (both : List Interval) : Type 0 where
   pub first_in : i ≤ length xs
   pub second_in : j ≤ length ys

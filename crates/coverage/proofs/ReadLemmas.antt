@@ -33,7 +33,8 @@ rises_from-append n [] ys = refl
 rises_from-append n (x ∷ xs) ys =
     ap (λ b. fits_from n x && b) (rises_from-append (x.1 + 2) xs ys) ∙ sym (and_assoc (fits_from n x) (rises_from (x.1 + 2) xs) (rises_from (next_free (x.1 + 2) xs) ys))
 
--- the pairs that were read, and that they are the front of every canonical list of which the items are the JSON
+-- the pairs that were read, and that they are the front of every canonical list of which the items
+-- are the JSON
 pub record ReadsUpTo (items : Items) (pairs : List Interval) (from : ℕ) (left : Items) : Type 0 where
   pub canonical : IsCanonical pairs
   pub from_is : from ≡ next_free 1 pairs
@@ -185,7 +186,8 @@ members_taken s v ms some taken =
     cc same
 
 -- ---- entries
--- the entries that were read, and that they are the front of every summary of which the all_members are the JSON
+-- the entries that were read, and that they are the front of every summary of which the members
+-- are the JSON
 pub record ReadsEntriesUpTo (all_members : Members) (entries : Sources) (left : Members) : Type 0 where
   pub summary : IsSummary entries
   pub rest : (s : Sources) → IsSummary s → all_members ≡ sources_members s → (t : Sources) × ((s ≡ entries ++ t) × (left ≡ sources_members t))
@@ -227,7 +229,7 @@ entries_more all_members entries new left k d ms p r is complete key entry befor
       (w.1.0, (found.0 ∙ ap (λ (q : Entry). entries ++ q ∷ w.1.0) (sym same) ∙ sym (append_assoc entries (p ∷ []) w.1.0), found.3));
 })
 
--- no summary has these all_members
+-- no summary has these members
 pub entries_no_numbers : (all_members : Members) (entries : Sources) (left : Members) (k : List ℕ) (d : Data) (ms : Members) → ReadsEntriesUpTo all_members entries left → left ≡ member k d ms → IsCompleteFor d None
     → (s : Sources) → IsSummary s → all_members ≡ sources_members s → ⊥
 entries_no_numbers all_members entries left k d ms r is complete s h e =

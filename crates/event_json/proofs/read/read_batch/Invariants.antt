@@ -1,4 +1,4 @@
--- What is done, then the rest, is the whole; and the first bad one of the rest is that of the whole.
+-- What is done, then the rest, is the whole; the first bad one of the rest is that of the whole.
 use Rattle.std.proofs.Common.{◌≡◌, ◌++◌, map, length}
 use Rattle.serde_json.specs.View.{view}
 use Rattle.event_json.specs.Spelling.{event_in}
