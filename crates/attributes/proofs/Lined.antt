@@ -9,12 +9,12 @@ use Rattle.std.proofs.lemmas.List.Elements.{All-from_recursion}
 use Rattle.json.specs.Print.{escape, escape_byte, escape_letter, quoted}
 use Rattle.serde_json.specs.Data.{Num, unsigned, negative, float, Data, null, boolean, number, string, array, object, Items, no_items, item, Members, no_members, member}
 use Rattle.serde_json.specs.Written.{comma_if, compact_text, items_text, members_text, number_text}
-use Rattle.attributes.specs.Events.{EventValue, members_of, text}
+use Rattle.attributes.specs.Event.{EventValue, members_of, text}
 use Rattle.attributes.specs.Exact.{IsExact, IsWhole, ItemsAreExact, MembersAreExact}
-use Rattle.attributes.specs.Faults.{IsEvent}
-use Rattle.attributes.proofs.Digits.{own}
-use Rattle.attributes.proofs.Faultless.{and_parts}
-use Rattle.attributes.proofs.Law.{exact_event}
+use Rattle.attributes.specs.Fault.{IsEvent}
+use Rattle.attributes.proofs.SequenceLemmas.{own}
+use Rattle.attributes.proofs.FaultLemmas.{and_parts}
+use Rattle.attributes.proofs.LawLemmas.{exact_event}
 
 abbrev IsLine : List ℕ → Type 0
 IsLine t = AllByRecursion (λ b. 32 ≤ b) t

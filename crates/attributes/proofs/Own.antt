@@ -3,17 +3,16 @@ use Rattle.std.proofs.Common.{◌≡◌, ◌≢◌, ◌∙◌, ℕ, true, false,
 use Rattle.std.specs.Prelude.{if◌then◌else◌, bytes_eq, codes, option_map}
 use Rattle.std.specs.List.{AllByRecursion, list_all}
 use Rattle.serde_json.specs.Data.{Data, null, boolean, number, string, array, object}
-use Rattle.attributes.specs.Characters.{is_filled, is_name}
+use Rattle.attributes.specs.Character.{is_filled, is_name}
 use Rattle.attributes.specs.Members.{value_at}
-use Rattle.attributes.specs.Events.{EventValue, content_of, event_of, id_of, kind_of, members_of, scalars_of, source_of, tree_content, with_content, words_or_empty}
-use Rattle.attributes.specs.Faults.{IsCarried, IsEvent, given_all, given_of, is_attribute, is_required, member_tests, offered_of, parts_of}
-use Rattle.attributes.specs.Plain.{direct}
-use Rattle.attributes.specs.declared.scalars.Scalar.{Scalar}
-use Rattle.attributes.specs.declared.scalars.Scalar.TheVariants as scalar
-use Rattle.attributes.specs.declared.contents.Content.{Content}
-use Rattle.attributes.specs.declared.contents.Content.TheVariants as content
-use Rattle.attributes.proofs.Alike.{with_all-direct}
-use Rattle.attributes.proofs.Faultless.{and_parts, first_failed-None, names_pass, no_member_fault, values_pass}
+use Rattle.attributes.specs.Event.{EventValue, content_of, event_of, id_of, kind_of, members_of, scalars_of, source_of, tree_content, with_content, words_or_empty, direct}
+use Rattle.attributes.specs.Fault.{IsCarried, IsEvent, given_all, given_of, is_attribute, is_required, member_tests, offered_of, parts_of}
+use Rattle.attributes.specs.declared.scalar.Scalar.{Scalar}
+use Rattle.attributes.specs.declared.scalar.Scalar.TheVariants as scalar
+use Rattle.attributes.specs.declared.content.Content.{Content}
+use Rattle.attributes.specs.declared.content.Content.TheVariants as content
+use Rattle.attributes.proofs.ObjectLemmas.{with_all-direct}
+use Rattle.attributes.proofs.FaultLemmas.{and_parts, first_failed-None, names_pass, no_member_fault, values_pass}
 
 -- ---- required attributes are filled
 

@@ -6,8 +6,8 @@ use Rattle.std.specs.List.{list_all}
 use Rattle.std.specs.Str.{IsAscii}
 use Rattle.std.proofs.lemmas.Bool.Decides.{nat_tests}
 use Rattle.std.proofs.lemmas.Str.{chars-IsAscii}
-use Rattle.attributes.specs.Characters.{is_printable, is_visible}
-use Rattle.attributes.proofs.Faultless.{and_parts}
+use Rattle.attributes.specs.Character.{is_printable, is_visible}
+use Rattle.attributes.proofs.FaultLemmas.{and_parts}
 
 low : (b : ℕ) → is_visible b ≡ true → b < 128
 low b h = grind (arith, nat_tests)

@@ -2,7 +2,8 @@
 
 ghost use Rattle.std.specs.Prelude.{◌≡◌, ◌+◌, ◌-◌, ◌<◌, ◌≤◌, bytes_eq, length, option_map, string_bytes, IfOk};
 ghost use Rattle.attributes.specs.Members.{value_at};
-ghost use Rattle.attributes.specs.Places.{ArePlaces, IsPlace, IsBody, IsSpan, aside_of, attributes_in, id_in, in_span, place_name, place_value, scalar_of, shown, source_in, text_of};
+ghost use Rattle.attributes.specs.steps.Place.{ArePlaces, IsPlace, IsBody, IsSpan, aside_of, attributes_in, id_in, in_span, place_name, place_value, shown, source_in, text_of};
+ghost use Rattle.attributes.specs.Event.{scalar_of};
 
 use std::alloc::AllocError;
 

@@ -1,7 +1,6 @@
 -- Sets of sequence numbers as ascending, disjoint, not adjacent intervals.
-pub use Rattle.attributes.specs.Sequences.{max_sequence}
-use Rattle.std.specs.Prelude.{◌≡◌, ℕ, ◌+◌, ◌-◌, ◌<◌, ◌≤◌, Bool, true, false, ◌&&◌, ◌||◌, nat_le}
-use Rattle.std.specs.Prelude.{List, [], ◌∷◌, length, slice_index_or, sum_by, IsTrue, ◌↔◌}
+pub use Rattle.attributes.specs.Sequence.{max_sequence}
+use Rattle.std.specs.Prelude.{◌≡◌, ℕ, ◌+◌, ◌-◌, ◌<◌, ◌≤◌, Bool, true, false, ◌&&◌, ◌||◌, nat_le, List, [], ◌∷◌, length, slice_index_or, sum_by, IsTrue, ◌↔◌}
 
 -- the first and the last number
 abbrev pub Interval : Type 0

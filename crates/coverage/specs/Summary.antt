@@ -5,7 +5,7 @@ use Rattle.std.specs.Str.{IsUtf8}
 use Rattle.std.specs.Map.{keys_of}
 use Rattle.std.specs.List.{AllByRecursion}
 use Rattle.std.specs.List.Sorted.{IsStrictlySortedBy}
-use Rattle.attributes.specs.Characters.{is_filled}
+use Rattle.attributes.specs.Character.{is_filled}
 use Rattle.coverage.specs.Intervals.{Interval, IsCanonical, holds}
 
 -- a source with the intervals of its numbers

@@ -4,9 +4,9 @@ use Rattle.std.specs.List.{AllByRecursion}
 use Rattle.serde_json.specs.Data.{Data, array, object, Items, no_items, item, members_depth, items_depth}
 use Rattle.serde_json.specs.Read.{read}
 use Rattle.serde_json.specs.Written.{compact_text, items_text}
-use Rattle.attributes.specs.Events.{EventValue, members_of, text, event_of}
+use Rattle.attributes.specs.Event.{EventValue, members_of, text, event_of}
 use Rattle.attributes.specs.Exact.{ItemsAreExact}
-use Rattle.attributes.specs.Faults.{IsEvent, fault, parts_of}
+use Rattle.attributes.specs.Fault.{IsEvent, fault, parts_of}
 use Rattle.event_json.specs.Spelling.{event_in, list_of}
 use Rattle.event_json.specs.Reading.{AreFaultless, Reads, max_input}
 use Rattle.event_json.specs.BatchText.{batch_text}

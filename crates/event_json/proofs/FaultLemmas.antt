@@ -2,12 +2,13 @@
 use Rattle.std.proofs.Common.{◌≡◌, ℕ, List, [], ◌∷◌, Bool, true, false, cond, Option, Some, None, option_and_then, slice_get, nat_lt, length, subst}
 use Rattle.std.specs.List.{AllByRecursion}
 use Rattle.serde_json.specs.Data.{Data, null, boolean, number, string, array, object}
-use Rattle.attributes.specs.Events.{OfferValue, event_of, text}
-use Rattle.attributes.specs.Faults.{first_failed, member_tests, payload_tests, member_fault, payload_fault, or_else, max_text, fault}
-use Rattle.attributes.specs.declared.contents.Offered.{Offered}
-use Rattle.attributes.specs.declared.scalars.Given.{Given}
-use Rattle.attributes.specs.declared.faults.Fault.{Fault}
-use Rattle.attributes.specs.declared.faults.Fault.TheVariants.{OutOfMemory, TooLarge}
+use Rattle.attributes.specs.Event.{OfferValue, event_of, text}
+use Rattle.attributes.specs.Fault.{first_failed, member_tests, payload_tests, member_fault, payload_fault, max_text, fault}
+use Rattle.std.specs.Option.{option_or}
+use Rattle.attributes.specs.declared.content.Offered.{Offered}
+use Rattle.attributes.specs.declared.scalar.Given.{Given}
+use Rattle.attributes.specs.declared.fault.Fault.{Fault}
+use Rattle.attributes.specs.declared.fault.Fault.TheVariants.{OutOfMemory, TooLarge}
 use Rattle.event_json.specs.Spelling.{offer_in, fault_in}
 use Rattle.event_json.specs.Reading.{IsNoSpelling}
 use Rattle.event_json.specs.declared.fault.ReadFault.{ReadFault}
@@ -31,7 +32,7 @@ member_fault-other ms h =
 payload_fault-other : (o : Offered) → IsMemory (payload_fault o) → ⊥
 payload_fault-other o h = first_failed-other (payload_tests o) (λ e. (cc), (λ e. (cc), (λ e. (cc), (λ e. (cc), tt)))) h
 
-either_other : (first next : Option Fault) → (IsMemory first → ⊥) → (IsMemory next → ⊥) → IsMemory (or_else first next) → ⊥
+either_other : (first next : Option Fault) → (IsMemory first → ⊥) → (IsMemory next → ⊥) → IsMemory (option_or first next) → ⊥
 either_other None next other later h = later h
 either_other (Some f) next other later h = other h
 
@@ -42,7 +43,7 @@ large_other false h = cc
 fault-other : (p : OfferValue) → IsMemory (fault p) → ⊥
 fault-other p h =
     let large = nat_lt max_text (length (text (event_of p))) in
-    either_other (member_fault p.members) (or_else (payload_fault p.offered) (cond large (Some TooLarge) None)) (member_fault-other p.members)
+    either_other (member_fault p.members) (option_or (payload_fault p.offered) (cond large (Some TooLarge) None)) (member_fault-other p.members)
     (λ e. either_other (payload_fault p.offered) (cond large (Some TooLarge) None) (payload_fault-other p.offered) (large_other large) e) h
 
 pub fault_in-other : (d : Data) → IsMemory (fault_in d) → ⊥

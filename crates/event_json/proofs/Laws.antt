@@ -5,11 +5,10 @@ use Rattle.std.specs.List.{AllByRecursion}
 use Rattle.serde_json.specs.Data.{Data, depth, members_depth, object}
 use Rattle.serde_json.specs.Read.{max_depth, read}
 use Rattle.serde_json.specs.Written.{compact_text}
-use Rattle.attributes.specs.Characters.{is_name}
-use Rattle.attributes.specs.Events.{EventValue, members_of, with_content}
+use Rattle.attributes.specs.Character.{is_name}
+use Rattle.attributes.specs.Event.{EventValue, members_of, with_content, direct}
 use Rattle.attributes.specs.Exact.{IsExact}
-use Rattle.attributes.specs.Faults.{IsEvent, given_of, is_attribute}
-use Rattle.attributes.specs.Plain.{direct}
+use Rattle.attributes.specs.Fault.{IsEvent, given_of, is_attribute}
 
 pub record Laws : Type 0 where
   pub members : (e : EventValue) → IsEvent e → members_of e ≡ with_content e.content (direct e.attributes)

@@ -9,14 +9,13 @@ use Rattle.serde_json.specs.Data.{Data, null, boolean, number, string, array, ob
 use Rattle.serde_json.specs.Find.{get_member}
 use Rattle.serde_json.proofs.Views.{get_member-put, get_member-put_other}
 use Rattle.attributes.specs.Bytes.{byte_cmp}
-use Rattle.attributes.specs.Characters.{is_name}
-use Rattle.attributes.specs.Events.{EventValue, json_of, with_content, members_of}
-use Rattle.attributes.specs.Faults.{IsEvent, IsCarried, is_attribute, given_of, given_all, offered_of, parts_of}
-use Rattle.attributes.specs.declared.scalars.Scalar.{Scalar}
-use Rattle.attributes.specs.declared.scalars.Scalar.TheVariants as scalar
-use Rattle.attributes.specs.declared.contents.Content.{Content}
-use Rattle.attributes.specs.declared.contents.Content.TheVariants as content
-use Rattle.attributes.specs.Plain.{direct}
+use Rattle.attributes.specs.Character.{is_name}
+use Rattle.attributes.specs.Event.{EventValue, json_of, with_content, members_of, direct}
+use Rattle.attributes.specs.Fault.{IsEvent, IsCarried, is_attribute, given_of, given_all, offered_of, parts_of}
+use Rattle.attributes.specs.declared.scalar.Scalar.{Scalar}
+use Rattle.attributes.specs.declared.scalar.Scalar.TheVariants as scalar
+use Rattle.attributes.specs.declared.content.Content.{Content}
+use Rattle.attributes.specs.declared.content.Content.TheVariants as content
 use Rattle.event_json.specs.Payload.{tree_name, bytes_name, is_payload, attribute_members, unless_null, decoded, payload, offered_in}
 use Rattle.event_json.specs.Spelling.{given_in, with_given, spelled, offer_in}
 use Rattle.event_json.proofs.PayloadNameLemmas.{same_name, tree_is_payload, bytes_is_payload, is_payload-same, is_payload-neither, not_tree, not_bytes, is_eq-names, choice_at_other}

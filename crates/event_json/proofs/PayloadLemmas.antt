@@ -9,9 +9,9 @@ use Rattle.serde_json.specs.View.{view, members_view}
 use Rattle.serde_json.specs.declared.value.Value.{Value}
 use Rattle.serde_json.proofs.Views.{view-lookup}
 use Rattle.attributes.specs.Bytes.{byte_cmp}
-use Rattle.attributes.specs.Events.{OfferValue}
-use Rattle.attributes.specs.declared.contents.Offered.{Offered}
-use Rattle.attributes.specs.declared.scalars.Given.{Given}
+use Rattle.attributes.specs.Event.{OfferValue}
+use Rattle.attributes.specs.declared.content.Offered.{Offered}
+use Rattle.attributes.specs.declared.scalar.Given.{Given}
 use Rattle.event_json.specs.Payload.{tree_name, bytes_name, is_payload, attribute_members, unless_null, payload}
 use Rattle.event_json.specs.Spelling.{spelled, offer_in}
 use Rattle.event_json.proofs.SpellingLemmas.{Entry}

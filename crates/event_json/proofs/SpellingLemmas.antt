@@ -8,8 +8,8 @@ use Rattle.std.specs.Ordering.{ordering_reverse}
 use Rattle.serde_json.specs.View.{view, members_view}
 use Rattle.serde_json.specs.declared.value.Value.{Value}
 use Rattle.attributes.specs.Bytes.{byte_cmp}
-use Rattle.attributes.specs.Members.{with_value, names_of}
-use Rattle.attributes.specs.declared.scalars.Given.{Given}
+use Rattle.attributes.specs.Members.{with_value}
+use Rattle.attributes.specs.declared.scalar.Given.{Given}
 use Rattle.event_json.specs.Spelling.{given_in, with_given, spelled}
 
 -- values by name
@@ -60,15 +60,15 @@ without_middle [] k ys h = h.1
 without_middle (x ∷ xs) k ys h = (all_without_middle (λ y. byte_cmp x y ≡ Less) xs k ys h.0, without_middle xs k ys h.1)
 
 -- a name that is above those before it goes last
-set_last : (done : Offer) (k : List ℕ) (g : Given) (ns : List (List ℕ)) → Ascend (names_of done ++ k ∷ ns) → with_value k g done ≡ done ++ (k, g) ∷ []
+set_last : (done : Offer) (k : List ℕ) (g : Given) (ns : List (List ℕ)) → Ascend (keys_of done ++ k ∷ ns) → with_value k g done ≡ done ++ (k, g) ∷ []
 unfolding IsStrictlySortedBy
 set_last [] k g ns h = refl
 set_last (e ∷ done) k g ns h =
     let above : byte_cmp k e.0 ≡ Greater =
-    nat_list_cmp_total.antisymm k e.0 ∙ ap ordering_reverse (middle (λ y. byte_cmp e.0 y ≡ Less) (names_of done) k ns h.0) in
+    nat_list_cmp_total.antisymm k e.0 ∙ ap ordering_reverse (middle (λ y. byte_cmp e.0 y ≡ Less) (keys_of done) k ns h.0) in
     rw above (ap (λ r. e ∷ r) (set_last done k g ns h.1))
 
-regroup_names : (done : Offer) (k : List ℕ) (g : Given) (ns : List (List ℕ)) → names_of done ++ k ∷ ns ≡ names_of (done ++ (k, g) ∷ []) ++ ns
+regroup_names : (done : Offer) (k : List ℕ) (g : Given) (ns : List (List ℕ)) → keys_of done ++ k ∷ ns ≡ keys_of (done ++ (k, g) ∷ []) ++ ns
 regroup_names [] k g ns = refl
 regroup_names (e ∷ done) k g ns = ap (λ r. e.0 ∷ r) (regroup_names done k g ns)
 
@@ -79,10 +79,10 @@ regroup (e ∷ done) k g rest = ap (λ r. e ∷ r) (regroup done k g rest)
 -- ---- the entries after any parts
 
 abbrev Gathers : List Entry → Type 0
-Gathers ms = (done : Offer) → Ascend (names_of done ++ names ms) → set_all done ms ≡ done ++ spelled (members_view ms)
+Gathers ms = (done : Offer) → Ascend (keys_of done ++ names ms) → set_all done ms ≡ done ++ spelled (members_view ms)
 
-gather_next : (o : Option Given) (k : List ℕ) (ms : List Entry) → Gathers ms → (done : Offer) → Ascend (names_of done ++ k ∷ names ms) → set_all (set_one k o done) ms ≡ done ++ with_given k o (spelled (members_view ms))
-gather_next None k ms rest done h = rest done (without_middle (names_of done) k (names ms) h)
+gather_next : (o : Option Given) (k : List ℕ) (ms : List Entry) → Gathers ms → (done : Offer) → Ascend (keys_of done ++ k ∷ names ms) → set_all (set_one k o done) ms ≡ done ++ with_given k o (spelled (members_view ms))
+gather_next None k ms rest done h = rest done (without_middle (keys_of done) k (names ms) h)
 gather_next (Some g) k ms rest done h =
     ap (λ p. set_all p ms) (set_last done k g (names ms) h)
     ∙ rest (done ++ (k, g) ∷ []) (subst Ascend (regroup_names done k g (names ms)) h)

@@ -4,8 +4,8 @@ use Rattle.serde_json.specs.Data.{Data, object}
 use Rattle.serde_json.specs.View.{view, items_view, members_view}
 use Rattle.serde_json.specs.declared.value.Value.{Value, Array, Object}
 use Rattle.serde_json.proofs.Views.{view-Array, view-Object}
-use Rattle.attributes.specs.Events.{EventValue}
-use Rattle.attributes.specs.declared.faults.Fault.{Fault}
+use Rattle.attributes.specs.Event.{EventValue}
+use Rattle.attributes.specs.declared.fault.Fault.{Fault}
 use Rattle.event_json.specs.Spelling.{fault_in, event_in, list_of, candidates}
 use Rattle.event_json.specs.Reading.{AreFaultless, Spells, IsNoSpelling}
 use Rattle.event_json.specs.steps.Walk.{bad, bad_or, first_bad}

@@ -5,8 +5,8 @@ use Rattle.std.specs.Str.{IsAscii}
 use Rattle.std.proofs.lemmas.List.Elements.{All-from_recursion}
 use Rattle.std.proofs.lemmas.Str.{IsUtf8-append, IsUtf8-from_ascii, IsUtf8-nil}
 use Rattle.std.proofs.lemmas.Str.Ascii.{IsAscii-from_all}
-use Rattle.attributes.specs.Events.{EventValue, text}
-use Rattle.attributes.specs.Faults.{IsEvent}
+use Rattle.attributes.specs.Event.{EventValue, text}
+use Rattle.attributes.specs.Fault.{IsEvent}
 use Rattle.event_json.specs.BatchText.{batch_text}
 use Rattle.event_json.specs.steps.Joined.{separated, joined}
 

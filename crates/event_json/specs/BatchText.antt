@@ -1,7 +1,7 @@
 -- The canonical text of a batch (CloudEvents JSON Event Format 1.0.2, section 4).
 use Rattle.std.specs.Prelude.{ℕ, List, [], ◌∷◌, ◌++◌, map}
 use Rattle.std.specs.List.{join_with_byte}
-use Rattle.attributes.specs.Events.{EventValue, text}
+use Rattle.attributes.specs.Event.{EventValue, text}
 
 -- the texts joined by commas, in brackets
 abbrev pub batch_text : List EventValue → List ℕ

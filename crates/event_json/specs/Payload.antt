@@ -7,8 +7,8 @@ use Rattle.base64.specs.Engines.{standard}
 use Rattle.base64.specs.GeneralPurpose.{decode_of}
 use Rattle.serde_json.specs.Data.{Data, null, string, Members, no_members, member}
 use Rattle.serde_json.specs.Find.{get_member}
-use Rattle.attributes.specs.declared.contents.Offered.{Offered}
-use Rattle.attributes.specs.declared.contents.Offered.TheVariants as offered
+use Rattle.attributes.specs.declared.content.Offered.{Offered}
+use Rattle.attributes.specs.declared.content.Offered.TheVariants as offered
 
 -- the names of the members that carry data
 abbrev pub tree_name : List ℕ

@@ -1,16 +1,14 @@
 -- Which events bytes spell, and why they spell none (CloudEvents JSON Event Format 1.0.2, sections
 -- 3 and 4; RFC 8259).
-use Rattle.std.specs.Prelude.{◌≡◌, ◌<◌, ◌≤◌, ℕ, List, length, map, take, Some, None}
-use Rattle.std.specs.Prelude.{option_and_then, slice_get}
+use Rattle.std.specs.Prelude.{◌≡◌, ◌<◌, ◌≤◌, ℕ, List, length, map, take, Some, None, option_and_then, slice_get}
 use Rattle.std.specs.List.{AllByRecursion}
 use Rattle.serde_json.specs.Data.{Data}
-use Rattle.attributes.specs.Events.{EventValue}
+use Rattle.attributes.specs.Event.{EventValue}
 use Rattle.attributes.specs.JsonText.{IsJsonText}
-use Rattle.attributes.specs.declared.faults.Fault.{Fault}
+use Rattle.attributes.specs.declared.fault.Fault.{Fault}
 use Rattle.event_json.specs.Spelling.{fault_in, event_in, candidates}
 use Rattle.event_json.specs.declared.fault.ReadFault.{ReadFault}
-use Rattle.event_json.specs.declared.fault.ReadFault.TheVariants.{OutOfMemory, NotJson, NotEvent}
-use Rattle.event_json.specs.declared.fault.ReadFault.TheVariants.{BadEvent, InputTooLarge}
+use Rattle.event_json.specs.declared.fault.ReadFault.TheVariants.{OutOfMemory, NotJson, NotEvent, BadEvent, InputTooLarge}
 
 -- none of the values has a fault
 abbrev pub AreFaultless : List Data → Type 0

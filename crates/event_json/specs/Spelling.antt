@@ -1,14 +1,13 @@
 -- What a JSON value spells as an event (CloudEvents JSON Event Format 1.0.2, sections 2.2 and 3).
 use Rattle.std.specs.Prelude.{ℕ, ℤ, List, [], ◌∷◌, Option, Some, None, if◌then◌else◌}
-use Rattle.serde_json.specs.Data.{Data, null, boolean, number, string, array, object}
-use Rattle.serde_json.specs.Data.{Items, no_items, item, Members, no_members, member}
+use Rattle.serde_json.specs.Data.{Data, null, boolean, number, string, array, object, Items, no_items, item, Members, no_members, member}
 use Rattle.serde_json.specs.Find.{as_i64}
-use Rattle.attributes.specs.Events.{EventValue, OfferValue, event_of}
-use Rattle.attributes.specs.Faults.{is_integer, fault}
-use Rattle.attributes.specs.declared.scalars.Given.{Given}
-use Rattle.attributes.specs.declared.scalars.Given.TheVariants as given
-use Rattle.attributes.specs.declared.faults.Fault.{Fault}
-use Rattle.attributes.specs.declared.faults.Fault.TheVariants.{SpecVersion}
+use Rattle.attributes.specs.Event.{EventValue, OfferValue, event_of}
+use Rattle.attributes.specs.Fault.{is_integer, fault}
+use Rattle.attributes.specs.declared.scalar.Given.{Given}
+use Rattle.attributes.specs.declared.scalar.Given.TheVariants as given
+use Rattle.attributes.specs.declared.fault.Fault.{Fault}
+use Rattle.attributes.specs.declared.fault.Fault.TheVariants.{SpecVersion}
 use Rattle.event_json.specs.Payload.{attribute_members, offered_in}
 
 -- a whole number of 32 bits, or a value of no attribute type

@@ -1,16 +1,14 @@
 //! Events read from JSON: one alone, or a batch.
-ghost use Rattle.std.specs.Prelude.{◌≡◌, ◌≢◌, ◌<◌, ℕ, List, [], ◌∷◌, length, map, option_map};
-ghost use Rattle.std.specs.Prelude.{Err, IfOk, IfErr};
+ghost use Rattle.std.specs.Prelude.{◌≡◌, ◌≢◌, ◌<◌, ℕ, List, [], ◌∷◌, length, map, option_map, Err, IfOk, IfErr};
 ghost use Rattle.base64.specs.Engines.{standard};
 ghost use Rattle.base64.specs.GeneralPurpose.{decode_of};
 ghost use Rattle.serde_json.specs.Data.{Data, object};
 ghost use Rattle.serde_json.specs.Find.{as_i64};
 ghost use Rattle.serde_json.specs.View.{view, number_view, members_view};
-ghost use Rattle.attributes.specs.Events.{EventValue};
+ghost use Rattle.attributes.specs.Event.{EventValue};
 ghost use Rattle.attributes.specs.JsonText.{IsJsonText};
 ghost use Rattle.event_json.specs.Payload.{unless_null, payload, bytes_in, decoded};
-ghost use Rattle.event_json.specs.Spelling.{given_whole, given_in, spelled, offer_in};
-ghost use Rattle.event_json.specs.Spelling.{fault_in, event_in};
+ghost use Rattle.event_json.specs.Spelling.{given_whole, given_in, spelled, offer_in, fault_in, event_in};
 ghost use Rattle.event_json.specs.Reading.{Spells, IsNoSpelling, Reads, Refuses, max_input};
 ghost use Rattle.event_json.specs.steps.Walk.{bad, bad_or, first_bad};
 

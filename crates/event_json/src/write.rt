@@ -1,9 +1,8 @@
 //! Events written as JSON.
-ghost use Rattle.std.specs.Prelude.{◌≡◌, ◌≤◌, ◌<◌, Some, List, ◌++◌, length, slice_get};
-ghost use Rattle.std.specs.Prelude.{IfOk, IfSome, OnOk, string_bytes};
+ghost use Rattle.std.specs.Prelude.{◌≡◌, ◌≤◌, ◌<◌, Some, List, ◌++◌, length, slice_get, IfOk, IfSome, OnOk, string_bytes};
 ghost use Rattle.std.specs.List.{AllByRecursion};
-ghost use Rattle.attributes.specs.Events.{EventValue, text};
-ghost use Rattle.attributes.specs.Faults.{IsEvent};
+ghost use Rattle.attributes.specs.Event.{EventValue, text};
+ghost use Rattle.attributes.specs.Fault.{IsEvent};
 ghost use Rattle.event_json.specs.Reading.{Reads, max_input};
 ghost use Rattle.event_json.specs.BatchText.{batch_text};
 ghost use Rattle.event_json.specs.steps.Joined.{separated};
@@ -62,7 +61,7 @@ pub fn batch_texts_read_back()
 /// A list whose members are events.
 trait EventList {
     ghost use Rattle.std.specs.Prelude.{List};
-    ghost use Rattle.attributes.specs.Events.{EventValue};
+    ghost use Rattle.attributes.specs.Event.{EventValue};
 
     ghost list: { Self → List EventValue };
 

@@ -9,7 +9,7 @@ use Rattle.std.specs.declared.cmp.Ordering.{Ordering}
 use Rattle.std.specs.declared.cmp.Ordering.TheVariants.{Less, Equal, Greater}
 use Rattle.std.proofs.lemmas.Cmp.{tied_back, tied_itself}
 use Rattle.std.proofs.lemmas.Map.Lookups.{exact_bytes}
-use Rattle.attributes.specs.Events.{EventValue}
+use Rattle.attributes.specs.Event.{EventValue}
 use Rattle.event_json.specs.Reading.{Reads}
 use Rattle.coverage.specs.CoverText.{IsCoverText}
 use Rattle.file_reports.specs.declared.query.Query.{Query}

@@ -5,8 +5,8 @@ use Rattle.std.proofs.Math.Bool.{or_assoc}
 use Rattle.std.proofs.lemmas.List.{take_more}
 use Rattle.std.proofs.lemmas.List.Folds.{list_any-append}
 use Rattle.std.proofs.lemmas.Option.{get_or_from_slice_get, slice_get_within}
-use Rattle.attributes.specs.Events.{EventValue, source_of}
-use Rattle.attributes.specs.Sequences.{number_of}
+use Rattle.attributes.specs.Event.{EventValue, source_of}
+use Rattle.attributes.specs.Sequence.{number_of}
 use Rattle.file_reports.specs.Reports.{has_number, is_number, is_numbered}
 
 or_false : (b : Bool) → (b || false) ≡ b

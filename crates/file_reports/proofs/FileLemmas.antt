@@ -5,11 +5,11 @@ use Rattle.std.specs.Prelude.{◌||◌, ◌&&◌, Some, is_some, slice_get}
 use Rattle.std.specs.List.{list_all}
 use Rattle.std.proofs.lemmas.List.{flat_map_more}
 use Rattle.std.proofs.lemmas.List.Folds.{list_all-append, list_any-append}
-use Rattle.attributes.specs.Events.{EventValue}
+use Rattle.attributes.specs.Event.{EventValue}
 use Rattle.event_json.specs.Reading.{Reads}
 use Rattle.coverage.specs.Summary.{Sources, holds_at}
-use Rattle.attributes.specs.Sequences.{number_of, sequence_fault}
-use Rattle.attributes.specs.declared.faults.Fault.{Fault}
+use Rattle.attributes.specs.Sequence.{number_of, sequence_fault}
+use Rattle.attributes.specs.declared.fault.Fault.{Fault}
 use Rattle.file_reports.proofs.CountLemmas.{take_next}
 use Rattle.file_reports.specs.declared.refusal.ReportFault.{ReportFault}
 use Rattle.file_reports.specs.declared.refusal.ReportFault.TheVariants.{OutOfMemory, Read, Event}

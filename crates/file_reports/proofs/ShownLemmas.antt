@@ -9,7 +9,7 @@ use Rattle.std.proofs.lemmas.Cmp.{nat_list_cmp_total, on_total, then_total}
 use Rattle.std.proofs.lemmas.List.{map-append}
 use Rattle.std.proofs.lemmas.List.MinMax.{ranks_by}
 use Rattle.std.proofs.lemmas.List.Sorted.{All-permutation, IsPermutation-map, IsPermutation-sym, sorted_far}
-use Rattle.attributes.specs.Events.{EventValue}
+use Rattle.attributes.specs.Event.{EventValue}
 use Rattle.file_reports.specs.Reports.{joined}
 use Rattle.file_reports.proofs.CountLemmas.{take_next}
 use Rattle.file_reports.proofs.FileLemmas.{joined-more}

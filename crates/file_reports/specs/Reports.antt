@@ -1,9 +1,9 @@
 -- Answers to questions about the events of files.
 use Rattle.std.specs.Prelude.{◌≡◌, ◌==◌, ◌&&◌, ◌⊎◌, ◌↔◌, ◌++◌, Contains, ℕ, List, [], ◌∷◌, Bool, true, false, None, Option, Some, bytes_eq, is_some, slice_get, take}
 use Rattle.std.specs.List.{flat_map, list_all, list_any}
-use Rattle.attributes.specs.Events.{EventValue, source_of}
-use Rattle.attributes.specs.Sequences.{number_of, sequence_fault}
-use Rattle.attributes.specs.declared.faults.Fault.{Fault}
+use Rattle.attributes.specs.Event.{EventValue, source_of}
+use Rattle.attributes.specs.Sequence.{number_of, sequence_fault}
+use Rattle.attributes.specs.declared.fault.Fault.{Fault}
 use Rattle.event_json.specs.Reading.{Refuses, Reads}
 use Rattle.coverage.specs.CoverText.{IsCoverText}
 use Rattle.file_reports.specs.declared.query.Query.{Query}

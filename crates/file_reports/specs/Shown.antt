@@ -7,7 +7,7 @@ use Rattle.std.specs.Ordering.{is_eq, nat_cmp, ordering_then}
 use Rattle.std.specs.Cmp.Lexicographic.{slice_cmp}
 use Rattle.std.specs.declared.cmp.Ordering.{Ordering}
 use Rattle.std.specs.declared.cmp.Ordering.TheVariants.{Less, Equal}
-use Rattle.attributes.specs.Events.{EventValue, id_of, source_of, text}
+use Rattle.attributes.specs.Event.{EventValue, id_of, source_of, text}
 
 -- the source, the id and the canonical text of an event
 abbrev pub Row : Type 0

@@ -1,6 +1,6 @@
 //! The answer to the question which numbers of each source there are.
 ghost use Rattle.std.specs.Prelude.{◌≡◌, ◌||◌, ℕ, List, true, IfErr, IfOk, OnOk};
-ghost use Rattle.attributes.specs.Characters.{is_filled};
+ghost use Rattle.attributes.specs.Character.{is_filled};
 ghost use Rattle.coverage.specs.Summary.{holds_at};
 ghost use Rattle.file_reports.specs.Reports.{IsReport, IsRefusal, has_number, line};
 ghost use Rattle.file_reports.specs.steps.Counts.{CountsFiles};

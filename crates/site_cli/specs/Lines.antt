@@ -4,8 +4,8 @@ use Rattle.std.specs.Char.{digit_char, encode_utf8, is_control}
 use Rattle.std.specs.Fmt.{decimal}
 use Rattle.std.specs.List.{flat_map}
 use Rattle.std.specs.Str.{chars}
-use Rattle.attributes.specs.declared.faults.Fault.{Fault}
-use Rattle.attributes.specs.declared.faults.Fault.TheVariants as fault
+use Rattle.attributes.specs.declared.fault.Fault.{Fault}
+use Rattle.attributes.specs.declared.fault.Fault.TheVariants as fault
 use Rattle.event_json.specs.declared.fault.ReadFault.TheVariants as read
 use Rattle.file_reports.specs.declared.input.Unread.{Unread}
 use Rattle.file_reports.specs.declared.input.Unread.TheVariants as unread

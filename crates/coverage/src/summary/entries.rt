@@ -1,12 +1,9 @@
 //! A summary's entries: made, looked up, added and copied.
-ghost use Rattle.std.specs.Prelude.{◌≡◌, ◌≢◌, ◌<◌, ◌↔◌, ℕ, ◌||◌, ◌&&◌, ◌==◌, ◌++◌, ◌∷◌, true};
-ghost use Rattle.std.specs.Prelude.{false, not, List, [], length, map, slice_get, bytes_eq, Some};
-ghost use Rattle.std.specs.Prelude.{IsTrue, IfOk, IfSome, MatchOption, OnOk, OnErr};
+ghost use Rattle.std.specs.Prelude.{◌≡◌, ◌≢◌, ◌<◌, ◌↔◌, ℕ, ◌||◌, ◌&&◌, ◌==◌, ◌++◌, ◌∷◌, true, false, not, List, [], length, map, slice_get, bytes_eq, Some, IsTrue, IfOk, IfSome, MatchOption, OnOk, OnErr};
 ghost use Rattle.std.specs.Map.Iter.{deref_pair};
-ghost use Rattle.attributes.specs.Characters.{is_filled};
+ghost use Rattle.attributes.specs.Character.{is_filled};
 ghost use Rattle.coverage.specs.Intervals.{IsCanonical};
-ghost use Rattle.coverage.specs.Summary.{IsEntry, IsSummary, entries_of, holds_at, numbers_of};
-ghost use Rattle.coverage.specs.Summary.{sources_of};
+ghost use Rattle.coverage.specs.Summary.{IsEntry, IsSummary, entries_of, holds_at, numbers_of, sources_of};
 ghost use Rattle.coverage.specs.steps.Places.{EndsBefore};
 
 use super::Summary;

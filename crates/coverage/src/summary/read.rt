@@ -1,17 +1,13 @@
 //! A summary read from its text.
-ghost use Rattle.std.specs.Prelude.{option_map, ◌≡◌, ◌≢◌, ◌↔◌, ◌≤◌, true, Some, List, [], IsTrue};
-ghost use Rattle.std.specs.Prelude.{IfOk};
-ghost use Rattle.std.specs.Prelude.{IfErr};
-ghost use Rattle.std.specs.Prelude.{IfSome, IsSomeAnd, MatchResult, OnErr};
+ghost use Rattle.std.specs.Prelude.{option_map, ◌≡◌, ◌≢◌, ◌↔◌, ◌≤◌, true, Some, List, [], IsTrue, IfOk, IfErr, IfSome, IsSomeAnd, MatchResult, OnErr};
 ghost use Rattle.serde_json.specs.Data.{array};
 ghost use Rattle.serde_json.specs.Find.{as_object};
 ghost use Rattle.serde_json.specs.View.{view, items_view, members_view};
-ghost use Rattle.attributes.specs.Characters.{is_filled};
+ghost use Rattle.attributes.specs.Character.{is_filled};
 ghost use Rattle.attributes.specs.JsonText.{IsJsonText};
 ghost use Rattle.coverage.specs.Intervals.{Interval, IsCanonical, fits_from};
 ghost use Rattle.coverage.specs.Summary.{IsSummary, Sources};
-ghost use Rattle.coverage.specs.SummaryText.{intervals_items, sources_members, summary_data};
-ghost use Rattle.coverage.specs.SummaryText.{summary_text};
+ghost use Rattle.coverage.specs.SummaryText.{intervals_items, sources_members, summary_data, summary_text};
 ghost use Rattle.coverage.specs.SummaryShape.{is_shaped, version_of};
 ghost use Rattle.coverage.specs.Refusals.{IsSummaryText, Refuses};
 ghost use Rattle.coverage.specs.steps.Places.{EndsBefore};

@@ -1,6 +1,6 @@
 -- Texts joined from the front, one member after the other.
 use Rattle.std.specs.Prelude.{ℕ, List, [], ◌∷◌, ◌++◌, Bool, true, false}
-use Rattle.attributes.specs.Events.{EventValue, text}
+use Rattle.attributes.specs.Event.{EventValue, text}
 
 -- the text, with a comma before it unless it is the first
 abbrev pub separated : Bool → List ℕ → List ℕ

@@ -1,6 +1,6 @@
 -- The numbers that were counted so far.
 use Rattle.std.specs.Prelude.{◌≡◌, ℕ, List}
-use Rattle.attributes.specs.Events.{EventValue}
+use Rattle.attributes.specs.Event.{EventValue}
 use Rattle.coverage.specs.Summary.{Sources, holds_at}
 use Rattle.file_reports.specs.Reports.{EachReads, has_number, joined}
 

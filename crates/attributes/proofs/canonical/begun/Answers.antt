@@ -1,4 +1,4 @@
-use Rattle.attributes.proofs.Named.{InOrder-named}
+use Rattle.attributes.proofs.MembersLemmas.{InOrder-named}
 use Rattle.attributes.proofs.canonical.begun.Goals as goal
 
 pub returns-clause-ordered : goal.returns-clause-ordered

@@ -1,6 +1,6 @@
 use Rattle.std.proofs.Common.{string_bytes, ap}
-use Rattle.attributes.specs.declared.scalars.Scalar.TheVariants as scalar
-use Rattle.attributes.proofs.Spans.{aside_name, aside_name_is, aside_words, aside_words_are}
+use Rattle.attributes.specs.declared.scalar.Scalar.TheVariants as scalar
+use Rattle.attributes.proofs.PlaceLemmas.{aside_name, aside_name_is, aside_words, aside_words_are}
 use Rattle.attributes.proofs.canonical.push_aside.Goals as goal
 
 pub returns-clause-place : goal.returns-clause-place

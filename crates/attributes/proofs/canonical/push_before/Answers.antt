@@ -1,7 +1,7 @@
 use Rattle.std.proofs.Common.{◌≡◌, ◌∙◌, Bool, true, false, string_bytes, ap, sym, rules}
 use Rattle.serde_json.specs.Data.{member}
-use Rattle.attributes.specs.Plain.{onto, pending}
-use Rattle.attributes.proofs.Lines.{put_above, put_below}
+use Rattle.attributes.specs.steps.ObjectText.{onto, pending}
+use Rattle.attributes.proofs.ObjectTextLemmas.{put_above, put_below}
 use Rattle.attributes.proofs.canonical.push_before.Goals as goal
 
 pub returns-then-not-is_below-clause-text : goal.returns-then-not-is_below-clause-text

@@ -2,11 +2,11 @@ use Rattle.std.proofs.Common.{◌≡◌, ◌++◌, true, string_bytes}
 use Rattle.std.specs.List.{list_all}
 use Rattle.serde_json.specs.Data.{Data}
 use Rattle.serde_json.specs.Written.{compact_text}
-use Rattle.attributes.specs.Characters.{is_name}
-use Rattle.attributes.specs.Events.{scalars_of}
+use Rattle.attributes.specs.Character.{is_name}
+use Rattle.attributes.specs.Event.{scalars_of, direct}
 use Rattle.attributes.specs.Members.{named}
-use Rattle.attributes.specs.Places.{HasPlaces, drafted}
-use Rattle.attributes.specs.Plain.{direct, onto, pending}
+use Rattle.attributes.specs.steps.Place.{HasPlaces, drafted}
+use Rattle.attributes.specs.steps.ObjectText.{onto, pending}
 use Rattle.attributes.proofs.canonical.push_members.Given as goal
 
 abbrev pub invariant-loop-name : goal.invariant-loop-name

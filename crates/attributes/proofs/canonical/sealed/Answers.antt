@@ -1,6 +1,6 @@
 use Rattle.std.proofs.Common.{◌≡◌, ◌∙◌, ◌∷◌, ◌++◌, [], ℕ, List, ap, sym, subst, append_assoc, length, arith, string_bytes}
-use Rattle.attributes.specs.Places.{IsSpan, id_span}
-use Rattle.attributes.proofs.Spans.{ends_kept, places_kept, shown_kept}
+use Rattle.attributes.specs.steps.Place.{IsSpan, id_span}
+use Rattle.attributes.proofs.PlaceLemmas.{ends_kept, places_kept, shown_kept}
 use Rattle.attributes.proofs.canonical.sealed.Goals as goal
 
 joined : (t u more k one two all : List ℕ) → more ≡ u → one ≡ t ++ more → two ≡ one ++ k → all ≡ two → all ≡ t ++ (u ++ k)

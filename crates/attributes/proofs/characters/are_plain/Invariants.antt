@@ -1,7 +1,7 @@
 use Rattle.std.proofs.Common.{◌≡◌, take}
 use Rattle.std.specs.List.{list_all}
-use Rattle.attributes.specs.Plain.{is_plain_byte}
-use Rattle.attributes.proofs.characters.are_plain.Given as goal
+use Rattle.attributes.specs.steps.Plain.{is_plain_byte}
+use Rattle.attributes.proofs.character.are_plain.Given as goal
 
 abbrev pub invariant-loop-byte : goal.invariant-loop-byte
 invariant-loop-byte l = l.all ≡ list_all is_plain_byte (take l.byte-index l.bytes)

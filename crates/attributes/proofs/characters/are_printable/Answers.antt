@@ -1,8 +1,8 @@
 use Rattle.std.proofs.Common.{◌≡◌, ◌∙◌, true, ap, sym}
 use Rattle.std.specs.List.{list_all}
-use Rattle.attributes.specs.Characters.{is_visible}
-use Rattle.attributes.proofs.Visible.{visible_printable}
-use Rattle.attributes.proofs.characters.are_printable.Goals as goal
+use Rattle.attributes.specs.Character.{is_visible}
+use Rattle.attributes.proofs.CharacterLemmas.{visible_printable}
+use Rattle.attributes.proofs.character.are_printable.Goals as goal
 
 pub returns-then-are_visible : goal.returns-then-are_visible
 returns-then-are_visible c =

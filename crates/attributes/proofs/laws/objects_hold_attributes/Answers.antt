@@ -1,5 +1,5 @@
-use Rattle.attributes.proofs.Law.{depth_event, exact_event}
-use Rattle.attributes.proofs.Own.{members_direct, names_allowed, values_allowed}
+use Rattle.attributes.proofs.LawLemmas.{depth_event, exact_event}
+use Rattle.attributes.proofs.EventLemmas.{members_direct, names_allowed, values_allowed}
 use Rattle.attributes.proofs.laws.objects_hold_attributes.Goals as goal
 
 pub returns : goal.returns

@@ -1,4 +1,4 @@
-use Rattle.attributes.proofs.Own.{event_again}
+use Rattle.attributes.proofs.EventLemmas.{event_again}
 use Rattle.attributes.proofs.laws.parts_make_events.Goals as goal
 
 pub returns : goal.returns

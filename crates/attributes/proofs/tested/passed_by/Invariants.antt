@@ -1,9 +1,9 @@
 use Rattle.std.proofs.Common.{◌≡◌, ◌&&◌}
 use Rattle.std.specs.List.{list_all}
-use Rattle.attributes.specs.Characters.{is_name}
-use Rattle.attributes.specs.Faults.{is_attribute}
+use Rattle.attributes.specs.Character.{is_name}
+use Rattle.attributes.specs.Fault.{is_attribute}
 use Rattle.attributes.specs.Members.{named}
-use Rattle.attributes.proofs.tested.passed_by.Given as goal
+use Rattle.attributes.proofs.validation.passed_by.Given as goal
 
 abbrev pub invariant-loop-name : goal.invariant-loop-name
 invariant-loop-name l = record {

@@ -1,5 +1,5 @@
 use Rattle.std.proofs.Common.{ap, ap₂, ◌∙◌}
-use Rattle.attributes.specs.Events.{OfferValue}
+use Rattle.attributes.specs.Event.{OfferValue}
 use Rattle.event_json.specs.Payload.{payload}
 use Rattle.event_json.proofs.PayloadLemmas.{offer, offer-taken}
 use Rattle.event_json.proofs.read.event_parts.Goals as goal

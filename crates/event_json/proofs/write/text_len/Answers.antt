@@ -1,5 +1,5 @@
 use Rattle.std.proofs.Common.{◌≡◌, ◌+◌, length, eqb, ap, sym, arith}
-use Rattle.attributes.specs.Events.{text}
+use Rattle.attributes.specs.Event.{text}
 use Rattle.event_json.specs.BatchText.{batch_text}
 use Rattle.event_json.specs.steps.Joined.{separated}
 use Rattle.event_json.proofs.WriteLemmas.{length-batch_text, length_step, length-separated_first, length-separated_later}

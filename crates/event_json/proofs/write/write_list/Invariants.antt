@@ -1,7 +1,7 @@
 -- What is written, then the rest, is the whole; and where the rest are events, all are.
 use Rattle.std.proofs.Common.{◌≡◌, ◌∷◌, ◌++◌, drop, eqb, true, string_bytes}
 use Rattle.std.specs.List.{AllByRecursion}
-use Rattle.attributes.specs.Faults.{IsEvent}
+use Rattle.attributes.specs.Fault.{IsEvent}
 use Rattle.event_json.specs.steps.Joined.{joined}
 use Rattle.event_json.proofs.write.write_list.Given as goal
 

@@ -1,6 +1,6 @@
 use Rattle.std.proofs.Common.{◌≡◌, List, ap, sym, ◌∙◌}
 use Rattle.std.specs.Prelude.{◌||◌}
-use Rattle.attributes.specs.Events.{EventValue, source_of}
+use Rattle.attributes.specs.Event.{EventValue, source_of}
 use Rattle.coverage.specs.Summary.{holds_at}
 use Rattle.file_reports.specs.Reports.{has_number}
 use Rattle.file_reports.proofs.CountLemmas.{counted_more, is_numbered-Some, take_next}

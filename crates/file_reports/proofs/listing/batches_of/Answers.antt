@@ -1,7 +1,7 @@
 use Rattle.std.proofs.Common.{◌≡◌, ◌∙◌, ℕ, List, [], ◌∷◌, ◌++◌, ap, sym, subst, take, length, arith, refl}
 use Rattle.std.specs.Prelude.{Some, slice_get}
 use Rattle.std.proofs.lemmas.Option.{slice_get_read}
-use Rattle.attributes.specs.Events.{EventValue}
+use Rattle.attributes.specs.Event.{EventValue}
 use Rattle.file_reports.specs.Reports.{EachReads}
 use Rattle.file_reports.proofs.CountLemmas.{take_next}
 use Rattle.file_reports.proofs.FileLemmas.{EachReads-more, refusal_by}

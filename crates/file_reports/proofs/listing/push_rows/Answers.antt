@@ -1,6 +1,6 @@
 use Rattle.std.proofs.Common.{◌≡◌, ◌∙◌, ap, sym}
 use Rattle.std.specs.Prelude.{Some, map, slice_get}
-use Rattle.attributes.specs.Events.{EventValue}
+use Rattle.attributes.specs.Event.{EventValue}
 use Rattle.file_reports.specs.Shown.{row_of}
 use Rattle.file_reports.specs.steps.Rows.{row_at}
 use Rattle.file_reports.proofs.ShownLemmas.{rows_more, rows_same}

@@ -1,7 +1,7 @@
 use Rattle.std.proofs.Common.{◌∙◌, List, ap}
 use Rattle.std.specs.Prelude.{None, map}
 use Rattle.std.specs.List.{flat_map}
-use Rattle.attributes.specs.Events.{EventValue}
+use Rattle.attributes.specs.Event.{EventValue}
 use Rattle.file_reports.specs.Reports.{joined, text_line}
 use Rattle.file_reports.specs.Shown.{key_cmp, row_of}
 use Rattle.file_reports.specs.steps.Rows.{LentRow, firsts, row_at}

@@ -1,5 +1,5 @@
 use Rattle.std.proofs.Common.{string_bytes}
-use Rattle.attributes.proofs.Spans.{boundary_at}
+use Rattle.attributes.proofs.PlaceLemmas.{boundary_at}
 use Rattle.attributes.proofs.body.Body.aside.Goals as goal
 
 pub range_from-requires : goal.range_from-requires

@@ -1,5 +1,5 @@
 use Rattle.std.proofs.Common.{string_bytes}
-use Rattle.attributes.proofs.Spans.{boundary_at}
+use Rattle.attributes.proofs.PlaceLemmas.{boundary_at}
 use Rattle.attributes.proofs.body.Body.text.Goals as goal
 
 pub range-requires-clause-end_boundary : goal.range-requires-clause-end_boundary

@@ -1,8 +1,8 @@
 use Rattle.std.proofs.Common.{◌∙◌, ap}
-use Rattle.attributes.specs.Characters.{is_filled}
-use Rattle.attributes.specs.Kept.{event_with}
-use Rattle.attributes.proofs.Own.{id_filled}
-use Rattle.attributes.proofs.events.Event.id.Goals as goal
+use Rattle.attributes.specs.Character.{is_filled}
+use Rattle.attributes.specs.steps.Kept.{event_with}
+use Rattle.attributes.proofs.EventLemmas.{id_filled}
+use Rattle.attributes.proofs.event.Event.id.Goals as goal
 
 pub returns-clause-allowed : goal.returns-clause-allowed
 returns-clause-allowed c =

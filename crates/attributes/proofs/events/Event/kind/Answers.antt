@@ -1,9 +1,9 @@
 use Rattle.std.proofs.Common.{◌∙◌, ap}
-use Rattle.attributes.specs.Characters.{is_filled}
-use Rattle.attributes.specs.Events.{words_or_empty}
-use Rattle.attributes.specs.Kept.{event_with}
-use Rattle.attributes.proofs.Own.{kind_filled}
-use Rattle.attributes.proofs.events.Event.kind.Goals as goal
+use Rattle.attributes.specs.Character.{is_filled}
+use Rattle.attributes.specs.Event.{words_or_empty}
+use Rattle.attributes.specs.steps.Kept.{event_with}
+use Rattle.attributes.proofs.EventLemmas.{kind_filled}
+use Rattle.attributes.proofs.event.Event.kind.Goals as goal
 
 pub returns-clause-allowed : goal.returns-clause-allowed
 returns-clause-allowed c =

@@ -1,8 +1,8 @@
 use Rattle.std.proofs.Common.{◌∙◌, ap}
-use Rattle.attributes.specs.Characters.{is_filled}
-use Rattle.attributes.specs.Kept.{event_with}
-use Rattle.attributes.proofs.Own.{source_filled}
-use Rattle.attributes.proofs.events.Event.source.Goals as goal
+use Rattle.attributes.specs.Character.{is_filled}
+use Rattle.attributes.specs.steps.Kept.{event_with}
+use Rattle.attributes.proofs.EventLemmas.{source_filled}
+use Rattle.attributes.proofs.event.Event.source.Goals as goal
 
 pub returns-clause-allowed : goal.returns-clause-allowed
 returns-clause-allowed c =
