@@ -18,7 +18,7 @@ use Rattle.coverage.specs.steps.Entries.{sources_in}
 use Rattle.coverage.specs.steps.Places.{entry_at}
 use Rattle.coverage.proofs.HoldsLemmas.{holds-nil, holds_first, same_numbers-same}
 use Rattle.coverage.proofs.RoundLemmas.{same_texts-same}
-use Rattle.coverage.proofs.EntriesLemmas.{bytes_eq-equal, bytes_eq-apart, cases_order, less_from_greater, cmp-chain, apart_from_less, numbers_of-head, numbers_of-tail, numbers_of-nowhere, InOrder-at, holds_at-push, is_next, split_more, split_all}
+use Rattle.coverage.proofs.EntriesLemmas.{bytes_eq-equal, bytes_eq-apart, cases_order, less_from_greater, byte_cmp-chain, apart_from_less, numbers_of-head, numbers_of-tail, numbers_of-nowhere, InOrder-at, holds_at-push, is_next, split_more, split_all}
 
 -- ---- what is covered
 -- what the entries that are done hold is covered
@@ -69,7 +69,7 @@ absent_below e es s h less = numbers_of-nowhere (e ∷ es) s (go (e ∷ es) h le
     go : (l : Sources) → InOrder l → byte_cmp s (entry_at l 0).0 ≡ Less → (k : ℕ) → k < length l → s ≡ (entry_at l k).0 → ⊥
     go l sorted first zero hk = apart_from_less s (entry_at l 0).0 first
     go l sorted first (suc k) hk =
-        apart_from_less s (entry_at l (suc k)).0 (cmp-chain s (entry_at l 0).0 (entry_at l (suc k)).0 first (InOrder-at l 0 (suc k) sorted (omega arith) hk))
+        apart_from_less s (entry_at l (suc k)).0 (byte_cmp-chain s (entry_at l 0).0 (entry_at l (suc k)).0 first (InOrder-at l 0 (suc k) sorted (omega arith) hk))
 
 -- a source that the first list holds, and that is below the second's first
 not_same_first : (d e : Entry) (ds es : Sources) → IsEntry d → InOrder (e ∷ es) → ((s : List ℕ) (n : ℕ) → holds_at (d ∷ ds) s n ≡ holds_at (e ∷ es) s n) → byte_cmp d.0 e.0 ≡ Less → ⊥

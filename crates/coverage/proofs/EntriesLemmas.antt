@@ -4,6 +4,7 @@ use Rattle.std.proofs.lemmas.Bool.{cases_Bool, both_ways}
 use Rattle.std.proofs.lemmas.Slice.Eq.{bytes_eq-Decides}
 use Rattle.std.proofs.lemmas.Cmp.{nat_list_cmp_total}
 use Rattle.std.proofs.lemmas.Map.Lookups.{exact_bytes}
+use Rattle.std.proofs.Math.Bool.{or-false}
 use Rattle.std.proofs.lemmas.Map.Text.{is_eq-slice_cmp, text_cmp}
 use Rattle.std.specs.Str.{bytes_eq}
 use Rattle.std.specs.Cmp.{Equal-is}
@@ -26,7 +27,7 @@ use Rattle.coverage.specs.Intervals.{Interval, holds, IsCanonical}
 use Rattle.coverage.specs.Summary.{byte_cmp, Entry, Sources, IsEntry, AreEntries, InOrder, IsSummary, numbers_of, holds_at, sources_of}
 use Rattle.coverage.specs.steps.Places.{entry_at, EndsBefore}
 use Rattle.coverage.specs.steps.Entries.{entry_in, sources_in}
-use Rattle.coverage.proofs.HoldsLemmas.{holds-nil, or-false}
+use Rattle.coverage.proofs.HoldsLemmas.{holds-nil}
 
 -- ---- texts
 pub bytes_eq-same : (s : List ℕ) → bytes_eq s s ≡ true
@@ -41,14 +42,14 @@ bytes_eq-other s k h = elim (cases_Bool (bytes_eq s k)) [ inl t ↦ absurd (h (b
 pub bytes_eq-apart : (s k : List ℕ) → bytes_eq s k ≡ false → s ≡ k → ⊥
 bytes_eq-apart s k f e = both_ways _ f ((bytes_eq-Decides s k).1 e)
 
-pub cmp-same : (s k : List ℕ) → s ≡ k → byte_cmp s k ≡ Equal
-cmp-same s k e = (Equal-is _).0 (is_eq-slice_cmp s k ∙ (bytes_eq-Decides s k).1 e)
+pub byte_cmp-same : (s k : List ℕ) → s ≡ k → byte_cmp s k ≡ Equal
+byte_cmp-same s k e = (Equal-is _).0 (is_eq-slice_cmp s k ∙ (bytes_eq-Decides s k).1 e)
 
-pub cmp-flip : (x y : List ℕ) → byte_cmp x y ≡ ordering_reverse (byte_cmp y x)
-cmp-flip x y = nat_list_cmp_total.antisymm x y
+pub byte_cmp-flip : (x y : List ℕ) → byte_cmp x y ≡ ordering_reverse (byte_cmp y x)
+byte_cmp-flip x y = nat_list_cmp_total.antisymm x y
 
-pub cmp-chain : (x y z : List ℕ) → byte_cmp x y ≡ Less → byte_cmp y z ≡ Less → byte_cmp x z ≡ Less
-cmp-chain x y z = nat_list_cmp_total.trans x y z
+pub byte_cmp-chain : (x y z : List ℕ) → byte_cmp x y ≡ Less → byte_cmp y z ≡ Less → byte_cmp x z ≡ Less
+byte_cmp-chain x y z = nat_list_cmp_total.trans x y z
 
 less_not_equal : (o : Ordering) → o ≡ Less → o ≡ Equal → ⊥
 less_not_equal o p q = cc
@@ -57,16 +58,16 @@ greater_not_equal : (o : Ordering) → o ≡ Greater → o ≡ Equal → ⊥
 greater_not_equal o p q = cc
 
 pub apart_from_less : (x y : List ℕ) → byte_cmp x y ≡ Less → x ≡ y → ⊥
-apart_from_less x y h e = less_not_equal _ h (cmp-same x y e)
+apart_from_less x y h e = less_not_equal _ h (byte_cmp-same x y e)
 
 pub apart_from_greater : (x y : List ℕ) → byte_cmp x y ≡ Greater → x ≡ y → ⊥
-apart_from_greater x y h e = greater_not_equal _ h (cmp-same x y e)
+apart_from_greater x y h e = greater_not_equal _ h (byte_cmp-same x y e)
 
 pub greater_from_less : (x y : List ℕ) → byte_cmp x y ≡ Less → byte_cmp y x ≡ Greater
-greater_from_less x y h = cmp-flip y x ∙ ap ordering_reverse h
+greater_from_less x y h = byte_cmp-flip y x ∙ ap ordering_reverse h
 
 pub less_from_greater : (x y : List ℕ) → byte_cmp x y ≡ Greater → byte_cmp y x ≡ Less
-less_from_greater x y h = cmp-flip y x ∙ ap ordering_reverse h
+less_from_greater x y h = byte_cmp-flip y x ∙ ap ordering_reverse h
 
 pub cases_order : (o : Ordering) → (o ≡ Less) ⊎ ((o ≡ Equal) ⊎ (o ≡ Greater))
 cases_order Less = inl refl
@@ -140,7 +141,7 @@ AreEntries-insert_entry (e ∷ es) k v h new = elim (cases_order (byte_cmp k e.0
 
 above_chain : (q k : List ℕ) (ks : List (List ℕ)) → byte_cmp q k ≡ Less → AllByRecursion (λ y. byte_cmp k y ≡ Less) ks → AllByRecursion (λ y. byte_cmp q y ≡ Less) ks
 above_chain q k [] h a = tt
-above_chain q k (x ∷ xs) h a = (cmp-chain q k x h a.0, above_chain q k xs h a.1)
+above_chain q k (x ∷ xs) h a = (byte_cmp-chain q k x h a.0, above_chain q k xs h a.1)
 
 above_entry : (q : List ℕ) (es : Sources) (k : List ℕ) (v : List Interval) → AllByRecursion (λ y. byte_cmp q y ≡ Less) (keys_of es) → byte_cmp q k ≡ Less →
     AllByRecursion (λ y. byte_cmp q y ≡ Less) (keys_of (insert_entry byte_cmp es k v))

@@ -17,7 +17,7 @@ pub record AreGapsUpTo (pairs : List Interval) (top i next : ℕ) (found : List 
   pub behind : (n : ℕ) → holds (take i pairs) n ≡ true → n < next
   pub members : (n : ℕ) → holds found n ≡ (nat_le (n + 1) next && (nat_le 1 n && (nat_le n top && not (holds (take i pairs) n))))
 
--- one more interval, where the gap before it is added: seen says whether an earlier interval holds n
+-- one more interval, where the gap before it is added: seen says whether an earlier one holds n
 gap_added : (old seen : Bool) (p : Interval) (next top m n : ℕ) → 1 ≤ next → (seen ≡ true → n < next) → next < p.0 → p.0 ≤ p.1 → m ≡ min top (p.0 - 1)
     → old ≡ (nat_le (n + 1) next && (nat_le 1 n && (nat_le n top && not seen)))
     → (old || in_interval (next, m) n) ≡ (nat_le (n + 1) (p.1 + 1) && (nat_le 1 n && (nat_le n top && not (seen || in_interval p n))))

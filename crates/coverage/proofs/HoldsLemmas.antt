@@ -1,5 +1,6 @@
 -- What is held by lists of intervals, and what a canonical list says of its places.
 use Rattle.std.proofs.Common.{◌≡◌, ℕ, zero, suc, ◌+◌, ◌<◌, ◌≤◌, Bool, true, false, ◌&&◌, ◌||◌, ◌⊎◌, List, [], ◌∷◌, ◌++◌, length, take, refl, sym, ap, ap₂, subst, true≢false, ◌∙◌, arith, le_of_suc-le-suc, not-suc-le-zero, inl, inr}
+use Rattle.std.proofs.Math.Bool.{and-true, and_assoc, or_assoc, or-false}
 use Rattle.std.proofs.lemmas.Bool.{and_parts, both_ways, cases_lt}
 use Rattle.std.proofs.lemmas.Bool.Decides.{nat_tests}
 use Rattle.std.proofs.lemmas.List.{take_more}
@@ -26,27 +27,11 @@ pub holds-cons : (p : Interval) (ps : List Interval) (n : ℕ) → holds (p ∷ 
 unfolding holds
 holds-cons p ps n = refl
 
-pub or_assoc : (x y z : Bool) → (x || (y || z)) ≡ ((x || y) || z)
-or_assoc true y z = refl
-or_assoc false y z = refl
-
-pub or-false : (x : Bool) → (x || false) ≡ x
-or-false true = refl
-or-false false = refl
-
-and_assoc : (x y z : Bool) → (x && (y && z)) ≡ ((x && y) && z)
-and_assoc true y z = refl
-and_assoc false y z = refl
-
-and-true : (x : Bool) → (x && true) ≡ x
-and-true true = refl
-and-true false = refl
-
 pub holds-append : (xs ys : List Interval) (n : ℕ) → holds (xs ++ ys) n ≡ (holds xs n || holds ys n)
 unfolding holds
 holds-append [] ys n = refl
 holds-append (x ∷ xs) ys n =
-    ap (λ b. in_interval x n || b) (holds-append xs ys n) ∙ or_assoc (in_interval x n) (holds xs n) (holds ys n)
+    ap (λ b. in_interval x n || b) (holds-append xs ys n) ∙ sym (or_assoc (in_interval x n) (holds xs n) (holds ys n))
 
 pub holds-push : (xs : List Interval) (p : Interval) (n : ℕ) → holds (xs ++ p ∷ []) n ≡ (holds xs n || in_interval p n)
 unfolding holds
@@ -109,7 +94,7 @@ unfolding rises_from next_free
 rises_from-push n [] p = and-true (fits_from n p)
 rises_from-push n (x ∷ xs) p =
     ap (λ b. fits_from n x && b) (rises_from-push (x.1 + 2) xs p)
-    ∙ and_assoc (fits_from n x) (rises_from (x.1 + 2) xs) (fits_from (next_free (x.1 + 2) xs) p)
+    ∙ sym (and_assoc (fits_from n x) (rises_from (x.1 + 2) xs) (fits_from (next_free (x.1 + 2) xs) p))
 
 pub fits_from-true : (n : ℕ) (p : Interval) → fits_from n p ≡ true → (n ≤ p.0) × (p.0 ≤ p.1) × (p.1 ≤ max_sequence)
 fits_from-true n p h = grind (arith, nat_tests)

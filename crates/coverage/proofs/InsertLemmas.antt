@@ -11,7 +11,8 @@ use Rattle.coverage.specs.Intervals.{Interval, max_sequence, holds, IsCanonical}
 use Rattle.coverage.specs.steps.Starts.{found, NoneUpTo, IsLastUpTo}
 use Rattle.coverage.proofs.MapLemmas.{is_at-same, is_at-other, found-fits, found-apart, rises_from-found, holds-found, found-holds}
 
--- n isn't held, and start is where its interval begins: at n, or at that of an interval that ends right before
+-- n isn't held, and start is where its interval begins: at n, or at that of an interval that ends
+-- right before
 pub record StartsAt (old : List Interval) (n start : ℕ) : Type 0 where
   pub absent : holds old n ≡ false
   pub from : 1 ≤ start
@@ -159,7 +160,8 @@ none_or_some : (o : Option ℕ) → (o ≡ None) ⊎ ((b : ℕ) × (o ≡ Some b
 none_or_some None = inl refl
 none_or_some (Some b) = inr (b, refl)
 
--- an interval that ends before n, and is the last to start up to n, doesn't hold n, nor does any other
+-- an interval that ends before n, and is the last to start up to n, doesn't hold n, nor does any
+-- other
 pub absent_after : (ps : List Interval) (n : ℕ) (p : Interval) → IsCanonical ps → IsLastUpTo ps n p → p.1 < n → holds ps n ≡ false
 absent_after ps n p h last lt = elim (cases_Bool (holds ps n)) [
   | inl t ↦

@@ -1,9 +1,10 @@
 -- Passes over lists of intervals.
 use Rattle.std.proofs.Common.{◌≡◌, ℕ, ◌+◌, ◌<◌, ◌≤◌, Bool, true, false, ◌||◌, max, List, [], ◌∷◌, ◌++◌, length, take, refl, sym, ap, ap₂, ◌∙◌, arith}
 use Rattle.std.proofs.lemmas.Bool.{and_parts, and_from}
+use Rattle.std.proofs.Math.Bool.{or_assoc}
 use Rattle.coverage.specs.Intervals.{Interval, max_sequence, in_interval, holds, interval_at, fits_from, rises_from, IsCanonical}
 use Rattle.coverage.specs.steps.Starts.{last_start_or, StartsAtMost}
-use Rattle.coverage.proofs.HoldsLemmas.{in_interval_tells, holds-nil, holds-more, holds-push, or_assoc, next_free, next_free-nil, next_free-push, last_start_or-nil, last_start_or-push, rises_from-nil, rises_from-push, rises_from-at, rises_from-gap, fits_from-true, le-fits_from}
+use Rattle.coverage.proofs.HoldsLemmas.{in_interval_tells, holds-nil, holds-more, holds-push, next_free, next_free-nil, next_free-push, last_start_or-nil, last_start_or-push, rises_from-nil, rises_from-push, rises_from-at, rises_from-gap, fits_from-true, le-fits_from}
 
 -- the list with an interval more that starts no earlier than those that are there
 pub record IsExtended (old : List Interval) (p : Interval) (new : List Interval) : Type 0 where
@@ -54,12 +55,13 @@ extended_joined xs last p m h later touches ordered bounded e =
       canonical = canonical-push xs (last.0, m) (record { front = end.front; free = end.free; ordered = omega (arith, e, end.ordered); bounded = omega (arith, e, end.bounded) });
       members = λ n. holds-push xs (last.0, m) n
           ∙ (ap (λ b. holds xs n || b) (joined_holds last p m n later touches end.ordered ordered e)
-          ∙ (or_assoc (holds xs n) (in_interval last n) (in_interval p n)
+          ∙ (sym (or_assoc (holds xs n) (in_interval last n) (in_interval p n))
           ∙ ap (λ b. b || in_interval p n) (sym (holds-push xs last n))));
       starts = last_start xs (last.0, m) p.0 later;
     }
 
--- the numbers of the first i intervals of one list and the first j of the other, of which none that is left starts earlier
+-- the numbers of the first i intervals of one list and the first j of the other, of which none that
+-- is left starts earlier
 pub record IsMergedUpTo (xs ys : List Interval) (i j : ℕ) (both : List Interval) : Type 0 where
   pub first_in : i ≤ length xs
   pub second_in : j ≤ length ys
@@ -115,6 +117,6 @@ merged_second xs ys i j old new h m hj next canonical members starts = record {
       let own = rises_from-at 1 ys j h hj in
       omega arith;
   members = λ n. members n ∙ ap (λ b. b || in_interval (interval_at ys j) n) (m.members n)
-      ∙ sym (or_assoc (holds (take i xs) n) (holds (take j ys) n) (in_interval (interval_at ys j) n))
+      ∙ or_assoc (holds (take i xs) n) (holds (take j ys) n) (in_interval (interval_at ys j) n)
       ∙ ap (λ b. holds (take i xs) n || b) (sym (holds-more ys j n hj));
 }

@@ -1,21 +1,29 @@
 -- A summary out of a JSON value: what has been read, and what is left.
-use Rattle.std.proofs.Common.{◌≡◌, ℕ, zero, suc, ◌+◌, ◌<◌, ◌≤◌, Bool, true, false, ◌&&◌, List, [], ◌∷◌, ◌++◌, Option, Some, None, length, drop, drop-cons, add-one, get_or, inl, inr, ◌-◌, refl, sym, ap, ap₂, subst, ◌∙◌, arith, append_assoc, append-nil}
+use Rattle.std.proofs.Common.{◌≡◌, ℕ, zero, suc, ◌+◌, ◌<◌, ◌≤◌, true, false, ◌&&◌, List, [], ◌∷◌, ◌++◌, Option, Some, None, Global, length, drop, drop-cons, add-one, get_or, option_map, inl, inr, ◌-◌, refl, sym, ap, ap₂, subst, ◌∙◌, arith, append_assoc, append-nil}
+use Rattle.std.proofs.Math.Bool.{and_assoc}
 use Rattle.std.proofs.lemmas.Bool.{and_parts, and_from, both_ways, cases_lt}
 use Rattle.std.specs.declared.cmp.Ordering.TheVariants.{Less}
 use Rattle.coverage.specs.steps.Places.{entry_at, EndsBefore}
 use Rattle.coverage.specs.steps.Entries.{entry_in, sources_in}
-use Rattle.coverage.proofs.EntriesLemmas.{cmp-chain, InOrder-at, InOrder-nil, IsSummary-push, entry_between, before_between}
+use Rattle.coverage.proofs.EntriesLemmas.{byte_cmp-chain, InOrder-at, InOrder-nil, IsSummary-push, entry_between, before_between}
 use Rattle.std.specs.List.{slice_get}
 use Rattle.std.specs.String.{string_bytes}
 use Rattle.std.specs.declared.string.String.{String}
 use Rattle.std.specs.Option.{IsSomeAnd}
-use Rattle.std.specs.Prelude.{◌≢◌}
+use Rattle.std.specs.Prelude.{◌≢◌, codes}
+use Rattle.std.specs.Map.{lookup}
+use Rattle.std.specs.BTreeMap.{is_at}
 use Rattle.attributes.specs.Character.{is_filled}
-use Rattle.serde_json.specs.Data.{Data, array, Items, no_items, item, Members, no_members, member}
+use Rattle.serde_json.specs.Data.{Data, array, object, Items, no_items, item, Members, no_members, member}
+use Rattle.serde_json.specs.Find.{get, as_object}
+use Rattle.serde_json.specs.View.{view, members_view}
+use Rattle.serde_json.specs.declared.value.Value.{Value}
+use Rattle.serde_json.proofs.Views.{view-lookup}
 use Rattle.coverage.specs.Intervals.{Interval, max_sequence, fits_from, rises_from, IsCanonical}
 use Rattle.coverage.specs.Summary.{byte_cmp, Entry, Sources, IsEntry, IsSummary}
-use Rattle.coverage.specs.SummaryText.{interval_data, intervals_items, sources_members}
+use Rattle.coverage.specs.SummaryText.{interval_data, intervals_items, sources_members, summary_data}
 use Rattle.coverage.specs.SummaryShape.{interval_in}
+use Rattle.coverage.proofs.ShapeLemmas.{object_of}
 use Rattle.coverage.proofs.HoldsLemmas.{next_free, next_free-push, next_free-nil, rises_from-nil, rises_from-cons, rises_from-push, fits_from-true}
 
 -- the rest of a canonical list rises after its front
@@ -23,13 +31,10 @@ rises_from-append : (n : ℕ) (xs ys : List Interval) → rises_from n (xs ++ ys
 unfolding rises_from next_free
 rises_from-append n [] ys = refl
 rises_from-append n (x ∷ xs) ys =
-    ap (λ b. fits_from n x && b) (rises_from-append (x.1 + 2) xs ys) ∙ and_assoc (fits_from n x) (rises_from (x.1 + 2) xs) (rises_from (next_free (x.1 + 2) xs) ys)
-  where
-    and_assoc : (x y z : Bool) → (x && (y && z)) ≡ ((x && y) && z)
-    and_assoc true y z = refl
-    and_assoc false y z = refl
+    ap (λ b. fits_from n x && b) (rises_from-append (x.1 + 2) xs ys) ∙ sym (and_assoc (fits_from n x) (rises_from (x.1 + 2) xs) (rises_from (next_free (x.1 + 2) xs) ys))
 
--- the pairs that were read, and that they are the front of every canonical list of which the items are the JSON
+-- the pairs that were read, and that they are the front of every canonical list of which the items
+-- are the JSON
 pub record ReadsUpTo (items : Items) (pairs : List Interval) (from : ℕ) (left : Items) : Type 0 where
   pub canonical : IsCanonical pairs
   pub from_is : from ≡ next_free 1 pairs
@@ -138,7 +143,7 @@ ends_before_last es now e key seen h last less k hk =
     let here : byte_cmp (entry_at now (length es - 1)).0 key ≡ Less = subst (λ (x : Entry). byte_cmp x.0 key ≡ Less) (sym at.1 ∙ ap (λ l. entry_at l (length es - 1)) seen) less in
     let m : length now ≡ length es = ap length (sym seen) ∙ n in
     elim (cases_lt k (length es - 1)) [
-      | inl lt ↦ cmp-chain (entry_at now k).0 (entry_at now (length es - 1)).0 key (InOrder-at now k (length es - 1) h.1 lt (omega arith)) here
+      | inl lt ↦ byte_cmp-chain (entry_at now k).0 (entry_at now (length es - 1)).0 key (InOrder-at now k (length es - 1) h.1 lt (omega arith)) here
       | inr ge ↦ let same : length es - 1 ≡ k = omega arith in subst (λ j. byte_cmp (entry_at now j).0 key ≡ Less) same here
     ]
 
@@ -154,8 +159,35 @@ ends_before_none es now key seen none k hk =
     let n : length now ≡ length es = ap length (sym seen) ∙ length-sources_in es in
     absurd (none (omega arith))
 
+-- ---- the member `sources`
+-- a summary is an object
+pub summary_data-object : (d : Data) (s : Sources) → None ≡ as_object d → d ≡ summary_data s → ⊥
+summary_data-object d s none is = let clash : None ≡ as_object (summary_data s) = none ∙ ap as_object is in cc clash
+
+-- the one that is taken out of it has its sources
+pub sources_taken : (d : Data) (s : Sources) (ms : List (String Global × Value)) (o : Option Value) → Some (members_view ms) ≡ as_object d
+    → o ≡ lookup (is_at (λ (k : String Global). byte_cmp (codes "sources") (string_bytes k))) ms → d ≡ summary_data s → option_map view o ≡ Some (object (sources_members s))
+sources_taken d s ms o members taken is =
+    ap (option_map view) taken ∙ view-lookup (codes "sources") ms ∙ ap (get (codes "sources")) (sym (object_of d (members_view ms) members) ∙ is)
+
+pub some_taken : (s : Sources) (o : Option Value) → None ≡ o → option_map view o ≡ Some (object (sources_members s)) → ⊥
+some_taken s o none taken = let clash : None ≡ Some (object (sources_members s)) = ap (option_map view) none ∙ taken in cc clash
+
+pub object_taken : (s : Sources) (v : Value) → None ≡ as_object (view v) → option_map view (Some v) ≡ Some (object (sources_members s)) → ⊥
+object_taken s v none taken =
+    let is : view v ≡ object (sources_members s) = cc taken in
+    let clash : None ≡ Some (sources_members s) = none ∙ ap as_object is in
+    cc clash
+
+pub members_taken : (s : Sources) (v : Value) (ms : Members) → Some ms ≡ as_object (view v) → option_map view (Some v) ≡ Some (object (sources_members s)) → ms ≡ sources_members s
+members_taken s v ms some taken =
+    let is : view v ≡ object (sources_members s) = cc taken in
+    let same : Some ms ≡ Some (sources_members s) = some ∙ ap as_object is in
+    cc same
+
 -- ---- entries
--- the entries that were read, and that they are the front of every summary of which the all_members are the JSON
+-- the entries that were read, and that they are the front of every summary of which the members
+-- are the JSON
 pub record ReadsEntriesUpTo (all_members : Members) (entries : Sources) (left : Members) : Type 0 where
   pub summary : IsSummary entries
   pub rest : (s : Sources) → IsSummary s → all_members ≡ sources_members s → (t : Sources) × ((s ≡ entries ++ t) × (left ≡ sources_members t))
@@ -197,7 +229,7 @@ entries_more all_members entries new left k d ms p r is complete key entry befor
       (w.1.0, (found.0 ∙ ap (λ (q : Entry). entries ++ q ∷ w.1.0) (sym same) ∙ sym (append_assoc entries (p ∷ []) w.1.0), found.3));
 })
 
--- no summary has these all_members
+-- no summary has these members
 pub entries_no_numbers : (all_members : Members) (entries : Sources) (left : Members) (k : List ℕ) (d : Data) (ms : Members) → ReadsEntriesUpTo all_members entries left → left ≡ member k d ms → IsCompleteFor d None
     → (s : Sources) → IsSummary s → all_members ≡ sources_members s → ⊥
 entries_no_numbers all_members entries left k d ms r is complete s h e =

@@ -1,9 +1,10 @@
 -- The union of two summaries, an entry of the second at a time.
 use Rattle.std.proofs.Common.{◌≡◌, ℕ, Bool, true, false, ◌||◌, ◌&&◌, List, [], ◌∷◌, ◌++◌, refl, sym, ap, subst, ◌∙◌}
 use Rattle.std.specs.Str.{bytes_eq}
+use Rattle.std.proofs.Math.Bool.{or_assoc, or-false}
 use Rattle.coverage.specs.Intervals.{Interval, IsCanonical, holds}
 use Rattle.coverage.specs.Summary.{Entry, Sources, IsSummary, holds_at}
-use Rattle.coverage.proofs.HoldsLemmas.{holds-nil, holds_first, or-false, or_assoc}
+use Rattle.coverage.proofs.HoldsLemmas.{holds-nil, holds_first}
 use Rattle.coverage.proofs.EntriesLemmas.{holds_at-push, holds_some, is_next, split_more, split_all}
 
 -- the numbers of the one summary, and of those entries of the other that are done
@@ -30,7 +31,7 @@ united_more own all left old new e rest h u is summary added =
       summary = summary;
       members = λ s n. added s n
           ∙ ap (λ b. b || (bytes_eq s e.0 && holds e.1 n)) (u.members s n)
-          ∙ sym (or_assoc (holds_at own s n) (holds_at u.done s n) (bytes_eq s e.0 && holds e.1 n))
+          ∙ or_assoc (holds_at own s n) (holds_at u.done s n) (bytes_eq s e.0 && holds e.1 n)
           ∙ ap (λ b. holds_at own s n || b) (sym (holds_at-push u.done e s n next.before));
     }
 

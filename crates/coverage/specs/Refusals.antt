@@ -1,37 +1,33 @@
 -- What each refusal of a text says, in the order in which they are tested.
 use Rattle.std.specs.Prelude.{◌≡◌, ◌≢◌, ◌⊎◌, ℕ, List, Some, None, true, false}
-use Rattle.std.specs.Str.{IsUtf8}
 use Rattle.serde_json.specs.Data.{Data}
-use Rattle.serde_json.specs.Read.{read}
+use Rattle.attributes.specs.JsonText.{IsJsonText}
 use Rattle.coverage.specs.Summary.{Sources, IsSummary}
 use Rattle.coverage.specs.SummaryText.{summary_text}
 use Rattle.coverage.specs.SummaryShape.{version_of, is_shaped}
 use Rattle.coverage.specs.declared.fault.SummaryFault.{SummaryFault}
-use Rattle.coverage.specs.declared.fault.SummaryFault.TheVariants.{OutOfMemory, NotJson, Shape, Version, NotCanonical}
-
--- the bytes are a JSON text with this value
-abbrev pub Parses : List ℕ → Data → Type 0
-Parses bytes d = IsUtf8 bytes × (read bytes ≡ Some d)
+use Rattle.coverage.specs.declared.fault.SummaryFault.TheVariants.{OutOfMemory, NotJson, Shape}
+use Rattle.coverage.specs.declared.fault.SummaryFault.TheVariants.{Version, NotCanonical}
 
 -- the bytes are no JSON text
 abbrev pub IsNoJson : List ℕ → Type 0
-IsNoJson bytes = (d : Data) → Parses bytes d → ⊥
+IsNoJson bytes = (d : Data) → IsJsonText bytes d → ⊥
 
 -- a value that has no version, or version 1 and another shape than a summary's
 abbrev pub IsMisshapen : List ℕ → Type 0
 IsMisshapen bytes =
-    (d : Data) × (Parses bytes d
+    (d : Data) × (IsJsonText bytes d
     × ((version_of d ≡ None) ⊎ ((version_of d ≡ Some 1) × (is_shaped d ≡ false))))
 
 -- a value that has another version
 abbrev pub IsOtherVersion : List ℕ → Type 0
 IsOtherVersion bytes =
-    (d : Data) × (Parses bytes d × ((v : ℕ) × ((version_of d ≡ Some v) × (v ≢ 1))))
+    (d : Data) × (IsJsonText bytes d × ((v : ℕ) × ((version_of d ≡ Some v) × (v ≢ 1))))
 
 -- a value of version 1 and a summary's shape, in bytes that are no summary's text
 abbrev pub IsNotCanonical : List ℕ → Type 0
 IsNotCanonical bytes =
-    (d : Data) × (Parses bytes d × (version_of d ≡ Some 1) × (is_shaped d ≡ true)
+    (d : Data) × (IsJsonText bytes d × (version_of d ≡ Some 1) × (is_shaped d ≡ true)
     × ((s : Sources) → IsSummary s → bytes ≢ summary_text s))
 
 -- what is true of bytes that are refused with the fault

@@ -1,17 +1,12 @@
 -- Which numbers of each source have been seen.
+pub use Rattle.attributes.specs.Bytes.{byte_cmp}
 use Rattle.std.specs.Prelude.{◌≡◌, ◌≢◌, ℕ, Bool, true, List, [], ◌∷◌, bytes_eq, if◌then◌else◌}
-use Rattle.std.specs.Ordering.{nat_cmp}
-use Rattle.std.specs.declared.cmp.Ordering.{Ordering}
-use Rattle.std.specs.Cmp.Lexicographic.{slice_cmp}
 use Rattle.std.specs.Str.{IsUtf8}
 use Rattle.std.specs.Map.{keys_of}
+use Rattle.std.specs.List.{AllByRecursion}
 use Rattle.std.specs.List.Sorted.{IsStrictlySortedBy}
 use Rattle.attributes.specs.Character.{is_filled}
 use Rattle.coverage.specs.Intervals.{Interval, IsCanonical, holds}
-
--- the order of texts by their bytes
-abbrev pub byte_cmp : List ℕ → List ℕ → Ordering
-byte_cmp = slice_cmp nat_cmp
 
 -- a source with the intervals of its numbers
 abbrev pub Entry : Type 0
@@ -27,8 +22,7 @@ IsEntry e = IsUtf8 e.0 × (is_filled e.0 ≡ true) × (e.1 ≢ []) × IsCanonica
 
 -- every entry is one
 abbrev pub AreEntries : Sources → Type 0
-AreEntries [] = Unit {0}
-AreEntries (e ∷ es) = IsEntry e × AreEntries es
+AreEntries es = AllByRecursion IsEntry es
 
 -- the entries
 abbrev pub entries_of : Sources → List Entry

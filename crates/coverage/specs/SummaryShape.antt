@@ -1,7 +1,9 @@
 -- What a JSON value must be so that it may stand for a summary.
 use Rattle.std.specs.Option.{option_zip}
-use Rattle.std.specs.Prelude.{ℕ, Bool, true, false, ◌&&◌, ◌==◌, Option, Some, None, option_and_then, is_some, codes}
-use Rattle.serde_json.specs.Data.{Data, array, object, Items, no_items, item, Members, no_members, member}
+use Rattle.std.specs.Prelude.{ℕ, Bool, true, false, ◌&&◌, ◌==◌, Option, Some, None, option_and_then}
+use Rattle.std.specs.Prelude.{is_some, codes}
+use Rattle.serde_json.specs.Data.{Data, array, object, Items, no_items, item, Members, no_members}
+use Rattle.serde_json.specs.Data.{member}
 use Rattle.serde_json.specs.Find.{get, as_number, as_u64}
 use Rattle.serde_json.specs.Events.{members_len}
 use Rattle.coverage.specs.Intervals.{Interval}

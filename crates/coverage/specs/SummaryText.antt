@@ -1,6 +1,7 @@
 -- The text of a summary, version 1: our own, a JSON object without white space (RFC 8259).
 use Rattle.std.specs.Prelude.{ℕ, List, [], ◌∷◌, codes}
-use Rattle.serde_json.specs.Data.{unsigned, Data, number, array, object, Items, no_items, item, Members, no_members, member}
+use Rattle.serde_json.specs.Data.{unsigned, Data, number, array, object, Items, no_items, item}
+use Rattle.serde_json.specs.Data.{Members, no_members, member}
 use Rattle.serde_json.specs.Written.{compact_text}
 use Rattle.coverage.specs.Intervals.{Interval}
 use Rattle.coverage.specs.Summary.{Sources}

@@ -1,6 +1,6 @@
 //! Why bytes are no summary's text.
 ghost use Rattle.std.specs.Prelude.{◌≡◌};
-ghost use Rattle.coverage.specs.Fault.{number_of};
+ghost use Rattle.coverage.specs.Fault.{fault_number};
 ghost use Rattle.coverage.specs.declared.fault.SummaryFault.TheVariants.{OutOfMemory};
 
 use std::alloc::AllocError;
@@ -28,6 +28,7 @@ pub enum SummaryFault {
 impl From<AllocError> for SummaryFault {
     ghost from_gives = { λ _ e. e ≡ OutOfMemory };
 
+    /// Want of memory.
     fn from(_error: AllocError) -> SummaryFault {
         SummaryFault::OutOfMemory
     }
@@ -36,7 +37,7 @@ impl From<AllocError> for SummaryFault {
 impl SummaryFault {
     /// The number that the refusal is known by, 1 to 5.
     pub fn number(self) -> u8
-        ensures { result ≡ number_of self }
+        ensures { result ≡ fault_number self }
     {
         match self {
             SummaryFault::OutOfMemory => 1,

@@ -1,4 +1,5 @@
--- The laws of events and of exact JSON that the proofs on batch texts rest on; `attributes` has each on a public function.
+-- The laws of events and of exact JSON that the proofs on batch texts rest on; `attributes` has
+-- each on a public function.
 use Rattle.std.proofs.Common.{◌≡◌, ◌≤◌, true, Some}
 use Rattle.std.specs.List.{AllByRecursion}
 use Rattle.serde_json.specs.Data.{Data, depth, members_depth, object}

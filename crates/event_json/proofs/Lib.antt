@@ -1,9 +1,9 @@
-pub mod Gathered
-pub mod Names
-pub mod Taken
+pub mod SpellingLemmas
+pub mod PayloadNameLemmas
+pub mod PayloadLemmas
 pub mod Laws
-pub mod Carried
-pub mod Firsts
-pub mod Unnamed
-pub mod Joined
-pub mod ReadBack
+pub mod PartsLemmas
+pub mod WalkLemmas
+pub mod FaultLemmas
+pub mod WriteLemmas
+pub mod BatchTextLemmas

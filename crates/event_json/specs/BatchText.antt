@@ -1,17 +1,8 @@
--- The canonical text of a batch.
-use Rattle.std.specs.Prelude.{ℕ, List, [], ◌∷◌, ◌++◌, Bool, true, false}
+-- The canonical text of a batch (CloudEvents JSON Event Format 1.0.2, section 4).
+use Rattle.std.specs.Prelude.{ℕ, List, [], ◌∷◌, ◌++◌, map}
+use Rattle.std.specs.List.{join_with_byte}
 use Rattle.attributes.specs.Event.{EventValue, text}
-
--- the text, with a comma before it unless it is the first
-abbrev pub separated : Bool → List ℕ → List ℕ
-separated true t = t
-separated false t = 44 ∷ t
-
--- the texts joined by commas; the flag says that nothing stands before
-abbrev pub joined : Bool → List EventValue → List ℕ
-joined first [] = []
-joined first (e ∷ es) = separated first (text e) ++ joined false es
 
 -- the texts joined by commas, in brackets
 abbrev pub batch_text : List EventValue → List ℕ
-batch_text es = 91 ∷ (joined true es ++ 93 ∷ [])
+batch_text es = 91 ∷ (join_with_byte 44 (map text es) ++ 93 ∷ [])

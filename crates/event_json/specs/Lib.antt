@@ -1,6 +1,6 @@
-pub mod Refusals
+pub mod Fault
 pub mod Payload
 pub mod Spelling
 pub mod Reading
-pub mod Walk
 pub mod BatchText
+pub mod steps

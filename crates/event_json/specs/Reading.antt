@@ -1,13 +1,14 @@
--- Which events bytes spell, and why they spell none (CloudEvents JSON Event Format 1.0.2, sections 3 and 4; RFC 8259).
-use Rattle.std.specs.Prelude.{◌≡◌, ◌<◌, ◌≤◌, ℕ, List, length, map, take, Some, None, option_and_then, slice_get, IsUtf8}
+-- Which events bytes spell, and why they spell none (CloudEvents JSON Event Format 1.0.2, sections
+-- 3 and 4; RFC 8259).
+use Rattle.std.specs.Prelude.{◌≡◌, ◌<◌, ◌≤◌, ℕ, List, length, map, take, Some, None, option_and_then, slice_get}
 use Rattle.std.specs.List.{AllByRecursion}
 use Rattle.serde_json.specs.Data.{Data}
-use Rattle.serde_json.specs.Read.{read}
 use Rattle.attributes.specs.Event.{EventValue}
+use Rattle.attributes.specs.JsonText.{IsJsonText}
 use Rattle.attributes.specs.declared.fault.Fault.{Fault}
 use Rattle.event_json.specs.Spelling.{fault_in, event_in, candidates}
-use Rattle.event_json.specs.declared.faults.ReadFault.{ReadFault}
-use Rattle.event_json.specs.declared.faults.ReadFault.TheVariants.{OutOfMemory, NotJson, NotEvent, BadEvent, InputTooLarge}
+use Rattle.event_json.specs.declared.fault.ReadFault.{ReadFault}
+use Rattle.event_json.specs.declared.fault.ReadFault.TheVariants.{OutOfMemory, NotJson, NotEvent, BadEvent, InputTooLarge}
 
 -- none of the values has a fault
 abbrev pub AreFaultless : List Data → Type 0
@@ -29,11 +30,9 @@ pub record IsBadAt (value : Data) (i : ℕ) (f : Fault) : Type 0 where
 
 -- why a value spells no events
 abbrev pub IsNoSpelling : Data → ReadFault → Type 0
-IsNoSpelling value OutOfMemory = ⊥
-IsNoSpelling value NotJson = ⊥
 IsNoSpelling value NotEvent = candidates value ≡ None
 IsNoSpelling value (BadEvent i f) = IsBadAt value i f
-IsNoSpelling value InputTooLarge = ⊥
+IsNoSpelling value _ = ⊥
 
 -- the greatest length of an input, in bytes
 abbrev pub max_input : ℕ
@@ -42,8 +41,7 @@ max_input = 33554432
 -- bytes within the limit that are the JSON text of a value
 pub record IsTextOf (b : List ℕ) (value : Data) : Type 0 where
   pub fits : length b ≤ max_input
-  pub utf8 : IsUtf8 b
-  pub reads : read b ≡ Some value
+  pub is_json : IsJsonText b value
 
 -- the bytes spell these events
 pub record Reads (b : List ℕ) (es : List EventValue) : Type 0 where
@@ -60,9 +58,9 @@ abbrev pub HasNoSpelling : List ℕ → ReadFault → Type 0
 HasNoSpelling b f = (value : Data) × IsTextOf b value × IsNoSpelling value f
 
 -- when each refusal comes; want of memory says nothing of the bytes
-abbrev pub IsRefused : List ℕ → ReadFault → Type 0
-IsRefused b OutOfMemory = ⊥
-IsRefused b NotJson = IsNotJson b
-IsRefused b NotEvent = HasNoSpelling b NotEvent
-IsRefused b (BadEvent i f) = HasNoSpelling b (BadEvent i f)
-IsRefused b InputTooLarge = max_input < length b
+abbrev pub Refuses : List ℕ → ReadFault → Type 0
+Refuses b OutOfMemory = ⊥
+Refuses b NotJson = IsNotJson b
+Refuses b NotEvent = HasNoSpelling b NotEvent
+Refuses b (BadEvent i f) = HasNoSpelling b (BadEvent i f)
+Refuses b InputTooLarge = max_input < length b

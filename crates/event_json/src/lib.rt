@@ -2,12 +2,12 @@
 //! and writers of the canonical texts.
 #![tactic(auto)]
 
-mod faults;
-mod reader;
-mod writer;
+mod fault;
+mod read;
+mod write;
 
-pub use faults::ReadFault;
-pub use reader::{MAX_INPUT, read_events, readings_are_one};
-pub use writer::{
+pub use fault::ReadFault;
+pub use read::{MAX_INPUT, read_events, readings_are_one};
+pub use write::{
     batch_texts_read_back, batch_texts_tell_lists, write_batch, write_event, write_sequenced,
 };

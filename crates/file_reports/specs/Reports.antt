@@ -4,7 +4,7 @@ use Rattle.std.specs.List.{flat_map, list_all, list_any}
 use Rattle.attributes.specs.Event.{EventValue, source_of}
 use Rattle.attributes.specs.Sequence.{number_of, sequence_fault}
 use Rattle.attributes.specs.declared.fault.Fault.{Fault}
-use Rattle.event_json.specs.Reading.{IsRefused, Reads}
+use Rattle.event_json.specs.Reading.{Refuses, Reads}
 use Rattle.coverage.specs.CoverText.{IsCoverText}
 use Rattle.file_reports.specs.declared.query.Query.{Query}
 use Rattle.file_reports.specs.Shown.{AreShown, Row}
@@ -92,7 +92,7 @@ IsUnnumbered events (fault.Event i why) = IsUnnumberedAt events i why
 -- the first fault of a file: it spells no events, or one of its events has no number
 abbrev pub IsFault : List ℕ → ReportFault → Type 0
 IsFault file fault.OutOfMemory = ⊥
-IsFault file (fault.Read why) = IsRefused file why
+IsFault file (fault.Read why) = Refuses file why
 IsFault file (fault.Event i why) =
     (events : List EventValue) × Reads file events × IsUnnumberedAt events i why
 

@@ -6,7 +6,7 @@ use Rattle.std.specs.List.{flat_map}
 use Rattle.std.specs.Str.{chars}
 use Rattle.attributes.specs.declared.fault.Fault.{Fault}
 use Rattle.attributes.specs.declared.fault.Fault.TheVariants as fault
-use Rattle.event_json.specs.declared.faults.ReadFault.TheVariants as read
+use Rattle.event_json.specs.declared.fault.ReadFault.TheVariants as read
 use Rattle.file_reports.specs.declared.input.Unread.{Unread}
 use Rattle.file_reports.specs.declared.input.Unread.TheVariants as unread
 use Rattle.file_reports.specs.declared.refusal.ReportFault.{ReportFault}

@@ -3,7 +3,7 @@ ghost use Rattle.std.specs.Prelude.{◌≡◌, ◌≤◌, ◌↔◌, ℕ, [], Is
 ghost use Rattle.coverage.specs.Intervals.{AllStartBefore, HoldsAll, IsCanonical, IsGreatest};
 ghost use Rattle.coverage.specs.Intervals.{IsNextSpan, holds, max_sequence, size_of};
 
-use super::map::before;
+use super::map::last_up_to;
 use super::{Interval, Intervals};
 
 impl Intervals {
@@ -55,7 +55,7 @@ impl Intervals {
         ensures { IsTrue result ↔ HoldsAll self.now other.now }
     {
         for (first, last) in &other.starts {
-            let Some((_, end)) = before(&self.starts, *first) else {
+            let Some((_, end)) = last_up_to(&self.starts, *first) else {
                 return false;
             };
             if end < *last {

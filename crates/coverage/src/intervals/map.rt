@@ -1,5 +1,6 @@
 //! A set as a map from the start of each interval to its end.
-ghost use Rattle.std.specs.Prelude.{◌≡◌, ℕ, ◌||◌, ◌==◌, not, false, [], ◌↔◌, IsTrue, IfOk, OnOk, OnErr, MatchOption};
+ghost use Rattle.std.specs.Prelude.{◌≡◌, ℕ, ◌||◌, ◌==◌, not, false, [], ◌↔◌, IsTrue, IfOk, OnOk};
+ghost use Rattle.std.specs.Prelude.{OnErr, MatchOption};
 ghost use Rattle.coverage.specs.Intervals.{IsCanonical, holds};
 ghost use Rattle.coverage.specs.steps.Starts.{NoneUpTo, IsLastUpTo};
 
@@ -9,7 +10,7 @@ use std::alloc::{AllocError, Global};
 use std::collections::BTreeMap;
 
 /// The last interval that starts at the number or before.
-pub(super) fn before(starts: &BTreeMap<u64, u64>, n: u64) -> Option<Interval>
+pub(super) fn last_up_to(starts: &BTreeMap<u64, u64>, n: u64) -> Option<Interval>
     ensures { MatchOption result (NoneUpTo starts.now.entries n)
         (IsLastUpTo starts.now.entries n) }
 {
@@ -36,7 +37,7 @@ impl Intervals {
         ensures { result ≡ holds self.now number }
     {
         let n = number.number();
-        match before(&self.starts, n) {
+        match last_up_to(&self.starts, n) {
             Some((_, last)) => n <= last,
             None => false,
         }
@@ -54,7 +55,7 @@ impl Intervals {
     {
         let n = number.number();
         let mut start = n;
-        if let Some((first, last)) = before(&self.starts, n) {
+        if let Some((first, last)) = last_up_to(&self.starts, n) {
             if n <= last {
                 return Ok(false);
             }

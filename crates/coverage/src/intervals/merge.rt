@@ -1,13 +1,15 @@
 //! Sets united, subtracted and completed: passes over their intervals from the front to the end.
-ghost use Rattle.std.specs.Prelude.{◌≡◌, ℕ, ◌<◌, ◌≤◌, ◌||◌, ◌&&◌, false, not, nat_le, ◌⊎◌, length, IsTrue, IfOk, OnOk};
-ghost use Rattle.coverage.specs.Intervals.{Forms, IsCanonical, IsMissing, holds, in_interval, interval_at, max_sequence};
+ghost use Rattle.std.specs.Prelude.{◌≡◌, ℕ, ◌<◌, ◌≤◌, ◌||◌, ◌&&◌, false, not, nat_le, ◌⊎◌, length};
+ghost use Rattle.std.specs.Prelude.{IsTrue, IfOk, OnOk};
+ghost use Rattle.coverage.specs.Intervals.{Forms, IsCanonical, IsMissing, holds, in_interval};
+ghost use Rattle.coverage.specs.Intervals.{interval_at, max_sequence};
 ghost use Rattle.coverage.specs.steps.Starts.{StartsAtMost};
 
 use super::{Interval, Intervals};
 use std::alloc::{AllocError, Global};
 
 /// Adds an interval that starts no earlier than those already there.
-fn append(pairs: &mut Vec<Interval>, interval: Interval) -> Result<(), AllocError>
+fn append_interval(pairs: &mut Vec<Interval>, interval: Interval) -> Result<(), AllocError>
     requires canonical { IsCanonical pairs.old.items }
     requires from { 1 ≤ interval.0 }
     requires ordered { interval.0 ≤ interval.1 }
@@ -64,10 +66,10 @@ fn merged(alloc: Global, xs: &[Interval], ys: &[Interval]) -> Result<Vec<Interva
     let mut j = 0;
     while i < xs.len() || j < ys.len() {
         if first_is_next(xs, i, ys, j) {
-            append(&mut both, xs[i])?;
+            append_interval(&mut both, xs[i])?;
             i += 1;
         } else {
-            append(&mut both, ys[j])?;
+            append_interval(&mut both, ys[j])?;
             j += 1;
         }
     }
@@ -86,12 +88,12 @@ fn gaps(alloc: Global, pairs: &[Interval], top: u64) -> Result<Vec<Interval>, Al
     let mut next = 1;
     for interval in pairs {
         if next < interval.0 && next <= top {
-            append(&mut found, (next, top.min(interval.0 - 1)))?;
+            append_interval(&mut found, (next, top.min(interval.0 - 1)))?;
         }
         next = interval.1 + 1;
     }
     if next <= top {
-        append(&mut found, (next, top))?;
+        append_interval(&mut found, (next, top))?;
     }
     Ok(found)
 }

@@ -1,17 +1,19 @@
 //! A summary read from its text.
-ghost use Rattle.std.specs.Prelude.{◌≡◌, ◌≢◌, ◌↔◌, ◌≤◌, true, Some, List, [], IsTrue, IfOk, IfErr, IfSome, IsSomeAnd, MatchResult, OnErr};
+ghost use Rattle.std.specs.Prelude.{option_map, ◌≡◌, ◌≢◌, ◌↔◌, ◌≤◌, true, Some, List, [], IsTrue, IfOk, IfErr, IfSome, IsSomeAnd, MatchResult, OnErr};
 ghost use Rattle.serde_json.specs.Data.{array};
+ghost use Rattle.serde_json.specs.Find.{as_object};
 ghost use Rattle.serde_json.specs.View.{view, items_view, members_view};
 ghost use Rattle.attributes.specs.Character.{is_filled};
+ghost use Rattle.attributes.specs.JsonText.{IsJsonText};
 ghost use Rattle.coverage.specs.Intervals.{Interval, IsCanonical, fits_from};
 ghost use Rattle.coverage.specs.Summary.{IsSummary, Sources};
 ghost use Rattle.coverage.specs.SummaryText.{intervals_items, sources_members, summary_data, summary_text};
 ghost use Rattle.coverage.specs.SummaryShape.{is_shaped, version_of};
-ghost use Rattle.coverage.specs.Refusals.{IsSummaryText, Parses, Refuses};
+ghost use Rattle.coverage.specs.Refusals.{IsSummaryText, Refuses};
 ghost use Rattle.coverage.specs.steps.Places.{EndsBefore};
 
 use super::Summary;
-use super::shape::{has_shape, pair_of, version};
+use super::shape::{interval_in, is_shaped, version_of};
 use crate::fault::SummaryFault;
 use crate::intervals::{Interval, Intervals};
 use attributes::{Sequence, Text};
@@ -20,8 +22,8 @@ use std::alloc::{AllocError, Global};
 use std::cmp::Ordering;
 
 /// The bytes as a JSON value.
-fn parsed(alloc: Global, bytes: &[u8]) -> Result<Value, SummaryFault>
-    ensures value { IfOk result (λ v. Parses bytes.now (view v)) }
+fn parse(alloc: Global, bytes: &[u8]) -> Result<Value, SummaryFault>
+    ensures value { IfOk result (λ v. IsJsonText bytes.now (view v)) }
     ensures refused { IfErr result (Refuses bytes.now) }
     ensures accepted { IsSummaryText bytes.now
         → OnErr result (result ≡ Err SummaryFault.OutOfMemory) }
@@ -38,29 +40,29 @@ fn parsed(alloc: Global, bytes: &[u8]) -> Result<Value, SummaryFault>
 }
 
 /// The bytes as a JSON value of version 1 and a summary's shape.
-fn shaped(alloc: Global, bytes: &[u8]) -> Result<Value, SummaryFault>
-    ensures value { IfOk result (λ v. Parses bytes.now (view v)) }
+fn parse_shaped(alloc: Global, bytes: &[u8]) -> Result<Value, SummaryFault>
+    ensures value { IfOk result (λ v. IsJsonText bytes.now (view v)) }
     ensures version { IfOk result (λ v. version_of (view v) ≡ Some 1) }
     ensures shape { IfOk result (λ v. is_shaped (view v) ≡ true) }
     ensures refused { IfErr result (Refuses bytes.now) }
     ensures accepted { IsSummaryText bytes.now
         → OnErr result (result ≡ Err SummaryFault.OutOfMemory) }
 {
-    let value = parsed(alloc, bytes)?;
-    let Some(found) = version(&value) else {
+    let value = parse(alloc, bytes)?;
+    let Some(found) = version_of(&value) else {
         return Err(SummaryFault::Shape);
     };
     if found != 1 {
         return Err(SummaryFault::Version);
     }
-    if !has_shape(&value) {
+    if !is_shaped(&value) {
         return Err(SummaryFault::Shape);
     }
     Ok(value)
 }
 
 /// Whether the pair is an interval of sequence numbers that starts at the number or later.
-fn fits(from: u64, pair: Interval) -> bool
+fn fits_from(from: u64, pair: Interval) -> bool
     requires { 1 ≤ from }
     ensures { result ≡ fits_from from pair }
 {
@@ -68,7 +70,7 @@ fn fits(from: u64, pair: Interval) -> bool
 }
 
 /// The intervals of which these are the JSON, where they are that of any.
-fn pairs_in(alloc: Global, list: &[Value]) -> Result<Option<Vec<Interval>>, AllocError>
+fn read_pairs(alloc: Global, list: &[Value]) -> Result<Option<Vec<Interval>>, AllocError>
     ensures canonical { IfOk result (λ o. IfSome o (λ v. IsCanonical v.items)) }
     ensures complete { IfOk result (λ o. (ps : List Interval) → IsCanonical ps
         → items_view list.now ≡ intervals_items ps → IsSomeAnd o (λ v. v.items ≡ ps)) }
@@ -76,10 +78,10 @@ fn pairs_in(alloc: Global, list: &[Value]) -> Result<Option<Vec<Interval>>, Allo
     let mut pairs = Vec::with_capacity(alloc, list.len())?;
     let mut from = 1;
     for item in list {
-        let Some(pair) = pair_of(item) else {
+        let Some(pair) = interval_in(item) else {
             return Ok(None);
         };
-        if !fits(from, pair) {
+        if !fits_from(from, pair) {
             return Ok(None);
         }
         from = pair.1 + 2;
@@ -89,32 +91,33 @@ fn pairs_in(alloc: Global, list: &[Value]) -> Result<Option<Vec<Interval>>, Allo
 }
 
 /// The set of which this is the JSON, where it is that of any.
-fn intervals_in(alloc: Global, value: &Value) -> Result<Option<Intervals>, AllocError>
+fn read_intervals(alloc: Global, value: Value) -> Result<Option<Intervals>, AllocError>
     ensures canonical { IfOk result (λ o. IfSome o (λ i. IsCanonical i)) }
     ensures complete { IfOk result (λ o. (ps : List Interval) → IsCanonical ps
-        → view value.now ≡ array (intervals_items ps) → IsSomeAnd o (λ i. i ≡ ps)) }
+        → view value ≡ array (intervals_items ps) → IsSomeAnd o (λ i. i ≡ ps)) }
 {
-    let Some(list) = value.as_array() else {
+    let Value::Array(list) = value else {
         return Ok(None);
     };
-    match pairs_in(alloc, list)? {
+    match read_pairs(alloc, &list)? {
         Some(pairs) => Ok(Some(Intervals::of_pairs(alloc, &pairs)?)),
         None => Ok(None),
     }
 }
 
-/// The summary of which these members are the JSON of the sources, where they are that of any.
-fn summary_of(alloc: Global, sources: &Map<String, Value>) -> Result<Option<Summary>, AllocError>
+/// The summary of which these members are the JSON of the sources, where they are that of any. The
+/// tree of each member is given back as soon as its numbers stand.
+fn read_entries(alloc: Global, sources: Map<String, Value>) -> Result<Option<Summary>, AllocError>
     ensures summary { IfOk result (λ o. IfSome o (λ s. IsSummary s)) }
     ensures complete { IfOk result (λ o. (s : Sources) → IsSummary s
-        → members_view sources.now.entries ≡ sources_members s → IsSomeAnd o (λ r. r ≡ s)) }
+        → members_view sources.entries ≡ sources_members s → IsSomeAnd o (λ r. r ≡ s)) }
 {
     let mut summary = Summary::empty(alloc);
     for (name, list) in sources {
-        let Some(numbers) = intervals_in(alloc, list)? else {
+        let Some(numbers) = read_intervals(alloc, list)? else {
             return Ok(None);
         };
-        let source = Text::of(alloc, name.as_str())?;
+        let source = Text::from_string(name);
         if !summary.may_end_with(&source, &numbers) {
             return Ok(None);
         }
@@ -123,16 +126,32 @@ fn summary_of(alloc: Global, sources: &Map<String, Value>) -> Result<Option<Summ
     Ok(Some(summary))
 }
 
+/// The members of an object, taken out of the value.
+fn members_of(value: Value) -> Option<Map<String, Value>>
+    ensures { option_map (λ m. members_view m.entries) result ≡ as_object (view value) }
+{
+    match value {
+        Value::Object(members) => Some(members),
+        _ => None,
+    }
+}
+
 /// The summary of which this is the JSON, where it is that of any.
-fn summary_in(alloc: Global, value: &Value) -> Result<Option<Summary>, AllocError>
+fn read_summary(alloc: Global, value: Value) -> Result<Option<Summary>, AllocError>
     ensures summary { IfOk result (λ o. IfSome o (λ s. IsSummary s)) }
     ensures complete { IfOk result (λ o. (s : Sources) → IsSummary s
-        → view value.now ≡ summary_data s → IsSomeAnd o (λ r. r ≡ s)) }
+        → view value ≡ summary_data s → IsSomeAnd o (λ r. r ≡ s)) }
 {
-    let Some(sources) = value.get("sources").and_then(Value::as_object) else {
+    let Some(mut members) = members_of(value) else {
         return Ok(None);
     };
-    summary_of(alloc, sources)
+    let Some(member) = members.remove("sources") else {
+        return Ok(None);
+    };
+    let Some(sources) = members_of(member) else {
+        return Ok(None);
+    };
+    read_entries(alloc, sources)
 }
 
 /// Whether the bytes are the text's.
@@ -156,8 +175,8 @@ impl Summary {
         ensures accepted { (s : Sources) → IsSummary s → bytes.now ≡ summary_text s
             → MatchResult result (λ r. r ≡ s) (λ e. e ≡ SummaryFault.OutOfMemory) }
     {
-        let value = shaped(alloc, bytes)?;
-        let Some(summary) = summary_in(alloc, &value)? else {
+        let value = parse_shaped(alloc, bytes)?;
+        let Some(summary) = read_summary(alloc, value)? else {
             return Err(SummaryFault::NotCanonical);
         };
         let text = summary.to_text()?;

@@ -1,13 +1,14 @@
 //! Tests of a JSON value's shape.
 ghost use Rattle.std.specs.Prelude.{◌≡◌, Some};
 ghost use Rattle.serde_json.specs.View.{view};
-ghost use Rattle.coverage.specs.SummaryShape.{interval_in, is_list_of_pairs, is_object_of_lists, is_shaped, version_of};
+ghost use Rattle.coverage.specs.SummaryShape.{interval_in, is_list_of_pairs, is_object_of_lists};
+ghost use Rattle.coverage.specs.SummaryShape.{is_shaped, version_of};
 
 use crate::intervals::Interval;
 use serde_json::Value;
 
 /// The two numbers of an array of two whole numbers.
-pub(crate) fn pair_of(value: &Value) -> Option<Interval>
+pub(crate) fn interval_in(value: &Value) -> Option<Interval>
     ensures { result ≡ interval_in (view value.now) }
 {
     let Some(pair) = value.as_array() else {
@@ -23,14 +24,14 @@ pub(crate) fn pair_of(value: &Value) -> Option<Interval>
 }
 
 /// Whether the value is an array of pairs of numbers.
-fn is_list(value: &Value) -> bool
+fn is_list_of_pairs(value: &Value) -> bool
     ensures { result ≡ is_list_of_pairs (view value.now) }
 {
     let Some(list) = value.as_array() else {
         return false;
     };
     for item in list {
-        if pair_of(item).is_none() {
+        if interval_in(item).is_none() {
             return false;
         }
     }
@@ -38,14 +39,14 @@ fn is_list(value: &Value) -> bool
 }
 
 /// Whether the value is an object of such arrays.
-fn are_sources(value: &Value) -> bool
+fn is_object_of_lists(value: &Value) -> bool
     ensures { result ≡ is_object_of_lists (view value.now) }
 {
     let Some(sources) = value.as_object() else {
         return false;
     };
     for (_, list) in sources {
-        if !is_list(list) {
+        if !is_list_of_pairs(list) {
             return false;
         }
     }
@@ -53,7 +54,7 @@ fn are_sources(value: &Value) -> bool
 }
 
 /// The member `version`, where it is a whole number.
-pub(crate) fn version(value: &Value) -> Option<u64>
+pub(crate) fn version_of(value: &Value) -> Option<u64>
     ensures { result ≡ version_of (view value.now) }
 {
     value.get("version").and_then(Value::as_u64)
@@ -61,7 +62,7 @@ pub(crate) fn version(value: &Value) -> Option<u64>
 
 /// Whether the members are just `version` and `sources`, and `sources` has lists of pairs of
 /// numbers.
-pub(crate) fn has_shape(value: &Value) -> bool
+pub(crate) fn is_shaped(value: &Value) -> bool
     ensures { result ≡ is_shaped (view value.now) }
 {
     let Some(members) = value.as_object() else {
@@ -71,7 +72,7 @@ pub(crate) fn has_shape(value: &Value) -> bool
         return false;
     }
     match value.get("sources") {
-        Some(sources) => are_sources(sources),
+        Some(sources) => is_object_of_lists(sources),
         None => false,
     }
 }

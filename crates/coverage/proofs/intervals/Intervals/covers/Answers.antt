@@ -16,12 +16,12 @@ returns-in_default c = (
 pub returns-then-end-last : goal.returns-then-end-last
 returns-then-end-last c = (
   λ t. absurd (true≢false (sym t)),
-  λ all. absurd (uncovered_end c.args.self.now c.args.other.now _ (c.in-Some.first.now, c.in-Some.last.now) _ (c.in-Some-before.field-0-0, c.in-Some-before.end) (ap (rises_from 1) (sym c.self.view_is) ∙ c.self.invariant) c.loop-first.invariant c.in-Some.ensures.steps (subst (λ l. IsLastUpTo l c.in-Some.first.now (c.in-Some-before.field-0-0, c.in-Some-before.end)) c.self.view_is c.in-Some-before.ensures) c.if-end-last.true all),
+  λ all. absurd (uncovered_end c.args.self.now c.args.other.now _ (c.in-Some.first.now, c.in-Some.last.now) _ (c.in-Some-last_up_to.field-0-0, c.in-Some-last_up_to.end) (ap (rises_from 1) (sym c.self.view_is) ∙ c.self.invariant) c.loop-first.invariant c.in-Some.ensures.steps (subst (λ l. IsLastUpTo l c.in-Some.first.now (c.in-Some-last_up_to.field-0-0, c.in-Some-last_up_to.end)) c.self.view_is c.in-Some-last_up_to.ensures) c.if-end-last.true all),
 )
 
 pub loop-first-preserved : goal.loop-first-preserved
 loop-first-preserved c =
-    covers_more c.args.self.now c.args.other.now _ (c.in-Some.first.now, c.in-Some.last.now) _ (c.in-Some-before.field-0-0, c.in-Some-before.end) c.loop-first.invariant c.in-Some.ensures.steps (subst (λ l. IsLastUpTo l c.in-Some.first.now (c.in-Some-before.field-0-0, c.in-Some-before.end)) c.self.view_is c.in-Some-before.ensures) c.if-end-last.false
+    covers_more c.args.self.now c.args.other.now _ (c.in-Some.first.now, c.in-Some.last.now) _ (c.in-Some-last_up_to.field-0-0, c.in-Some-last_up_to.end) c.loop-first.invariant c.in-Some.ensures.steps (subst (λ l. IsLastUpTo l c.in-Some.first.now (c.in-Some-last_up_to.field-0-0, c.in-Some-last_up_to.end)) c.self.view_is c.in-Some-last_up_to.ensures) c.if-end-last.false
 
 pub returns : goal.returns
 returns c = (λ _. covers_all c.args.self.now c.args.other.now _ c.loop-first.invariant c.in-None.ensures.steps.0, λ _. search rules)

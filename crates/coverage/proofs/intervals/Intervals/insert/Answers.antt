@@ -21,13 +21,13 @@ invariant_of-self-2 c =
     let old = c.self.inside.starts.entries in
     let n = c.number-n.result in
     let canonical = c.self.invariant in
-    let starts : StartsAt old n c.match-before.start = elim c.match-before.branch [
+    let starts : StartsAt old n c.match-last_up_to.start = elim c.match-last_up_to.branch [
       | in-Some+else-n-last+then-last-n w ↦ rw w.start-is (starts_left old n (w.in-Some.first, w.in-Some.last) canonical w.in-Some.ensures (omega arith))
       | in-Some+else-n-last+else-last-n w ↦ rw w.start-is (starts_apart old n (w.in-Some.first, w.in-Some.last) canonical c.number-n.ensures.low w.in-Some.ensures w.if-n-last.false w.if-last-n.false)
       | in_default w ↦ rw w.start-is (starts_alone old n canonical c.number-n.ensures.low w.in_default.ensures)
     ] in
     let ends : EndsAt old n c.unwrap_or-end.result = rw c.unwrap_or-end.ensures (ends_at old n c.copied.result canonical c.number-n.ensures.high (c.copied.ensures ∙ c.get.ensures.value)) in
-    let joined : Joins old c.remove.new.self.entries n c.match-before.start c.unwrap_or-end.result =
+    let joined : Joins old c.remove.new.self.entries n c.match-last_up_to.start c.unwrap_or-end.result =
     joins_made old c.insert.new.self.entries _ n _ _ c.in_ok-insert.ensures.updates.0 c.remove.ensures.updates.0 c.remove.ensures.ordered starts ends in
     joins-canonical old _ n _ _ canonical joined
 
@@ -36,13 +36,13 @@ returns c =
     let old = c.self.inside.starts.entries in
     let n = c.number-n.result in
     let canonical = c.self.invariant in
-    let starts : StartsAt old n c.match-before.start = elim c.match-before.branch [
+    let starts : StartsAt old n c.match-last_up_to.start = elim c.match-last_up_to.branch [
       | in-Some+else-n-last+then-last-n w ↦ rw w.start-is (starts_left old n (w.in-Some.first, w.in-Some.last) canonical w.in-Some.ensures (omega arith))
       | in-Some+else-n-last+else-last-n w ↦ rw w.start-is (starts_apart old n (w.in-Some.first, w.in-Some.last) canonical c.number-n.ensures.low w.in-Some.ensures w.if-n-last.false w.if-last-n.false)
       | in_default w ↦ rw w.start-is (starts_alone old n canonical c.number-n.ensures.low w.in_default.ensures)
     ] in
     let ends : EndsAt old n c.unwrap_or-end.result = rw c.unwrap_or-end.ensures (ends_at old n c.copied.result canonical c.number-n.ensures.high (c.copied.ensures ∙ c.get.ensures.value)) in
-    let joined : Joins old c.remove.new.self.entries n c.match-before.start c.unwrap_or-end.result =
+    let joined : Joins old c.remove.new.self.entries n c.match-last_up_to.start c.unwrap_or-end.result =
     joins_made old c.insert.new.self.entries _ n _ _ c.in_ok-insert.ensures.updates.0 c.remove.ensures.updates.0 c.remove.ensures.ordered starts ends in
     record {
       new = sym (ap not (sym (ap₂ holds c.self.view_is c.number-n.ensures.value) ∙ starts.absent));

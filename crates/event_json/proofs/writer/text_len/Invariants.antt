@@ -1,8 +1,0 @@
--- The length so far, and that of the rest, is that of the whole.
-use Rattle.std.proofs.Common.{◌≡◌, ◌+◌, length, drop, eqb, true}
-use Rattle.event_json.specs.BatchText.{joined}
-use Rattle.event_json.proofs.writer.text_len.Given as goal
-
-abbrev pub invariant-loop-i : goal.invariant-loop-i
-invariant-loop-i g l =
-    l.len + length (joined (eqb l.i 0) (drop l.i (g.L.EventList.list l.list))) ≡ 2 + length (joined true (g.L.EventList.list l.list))

@@ -1,0 +1,243 @@
+//! Events read from JSON: one alone, or a batch.
+ghost use Rattle.std.specs.Prelude.{◌≡◌, ◌≢◌, ◌<◌, ℕ, List, [], ◌∷◌, length, map, option_map, Err, IfOk, IfErr};
+ghost use Rattle.base64.specs.Engines.{standard};
+ghost use Rattle.base64.specs.GeneralPurpose.{decode_of};
+ghost use Rattle.serde_json.specs.Data.{Data, object};
+ghost use Rattle.serde_json.specs.Find.{as_i64};
+ghost use Rattle.serde_json.specs.View.{view, number_view, members_view};
+ghost use Rattle.attributes.specs.Event.{EventValue};
+ghost use Rattle.attributes.specs.JsonText.{IsJsonText};
+ghost use Rattle.event_json.specs.Payload.{unless_null, payload, bytes_in, decoded};
+ghost use Rattle.event_json.specs.Spelling.{given_whole, given_in, spelled, offer_in, fault_in, event_in};
+ghost use Rattle.event_json.specs.Reading.{Spells, IsNoSpelling, Reads, Refuses, max_input};
+ghost use Rattle.event_json.specs.steps.Walk.{bad, bad_or, first_bad};
+
+use crate::fault::ReadFault;
+use attributes::{Event, Events, Fault, Given, Octets, Offered, Parts, Text, Tree};
+use base64::DecodeAllocError;
+use base64::engine::general_purpose::STANDARD;
+use serde_json::{Category, Map, Number, Value};
+use std::alloc::{AllocError, Global};
+
+/// The greatest length of an input, in bytes (32 MiB).
+pub const MAX_INPUT: u64 = 33_554_432;
+
+/// Reads the events that a JSON object or an array of objects spells, in their order (CloudEvents
+/// JSON Event Format 1.0.2, sections 3 and 4). A member that is null is unset, and of a name that
+/// stands twice the last value counts.
+///
+/// The refusals are tested in the order that [`ReadFault`] gives, and the first member of a batch
+/// that is no event is named. Too much is refused before any memory is asked for, and want of
+/// memory is never the fault of a member. Time and memory are proportional to the length of the
+/// input: for a moment usual events take about nine times its length, and the tree of `[0,0,..]`
+/// twenty times.
+pub fn read_events(alloc: Global, bytes: &[u8]) -> Result<Events, ReadFault>
+    ensures ok { IfOk result (λ l. Reads bytes.now l) }
+    ensures refused { IfErr result (λ f. f ≢ ReadFault.OutOfMemory → Refuses bytes.now f) }
+    ensures too_large { max_input < length bytes.now → result ≡ Err ReadFault.InputTooLarge }
+    ensures limit { MAX_INPUT ≡ max_input }
+    ensures named { IfErr result (λ f. (i : ℕ) → f ≢ ReadFault.BadEvent i Fault.OutOfMemory) }
+{
+    if bytes.len() as u64 > MAX_INPUT {
+        return Err(ReadFault::InputTooLarge);
+    }
+    let value = parse(alloc, bytes)?;
+    read_value(alloc, value)
+}
+
+/// Bytes spell at most one list of events, and are refused only where they spell none.
+pub fn readings_are_one()
+    ensures one { (b : List ℕ) (l m : List EventValue) → Reads b l → Reads b m → l ≡ m }
+    ensures apart { (b : List ℕ) (l : List EventValue) (f : ReadFault)
+        → Reads b l → Refuses b f → ⊥ }
+{}
+
+/// The bytes as a JSON value.
+fn parse(alloc: Global, bytes: &[u8]) -> Result<Value, ReadFault>
+    ensures value { IfOk result (λ v. IsJsonText bytes.now (view v)) }
+    ensures fault { IfErr result (λ f. f ≢ ReadFault.OutOfMemory → f ≡ ReadFault.NotJson) }
+    ensures none { IfErr result (λ f. f ≢ ReadFault.OutOfMemory
+        → (d : Data) → IsJsonText bytes.now d → ⊥) }
+{
+    match Value::from_slice(alloc, bytes) {
+        Ok(value) => Ok(value),
+        Err(e) => match e.classify() {
+            Category::Memory => Err(ReadFault::OutOfMemory),
+            _ => Err(ReadFault::NotJson),
+        },
+    }
+}
+
+/// The events of an object, which is one event, or of an array, which is a batch.
+fn read_value(alloc: Global, value: Value) -> Result<Events, ReadFault>
+    ensures ok { IfOk result (λ l. Spells (view value) l) }
+    ensures refused { IfErr result (λ f. f ≢ ReadFault.OutOfMemory
+        → IsNoSpelling (view value) f) }
+{
+    match value {
+        Value::Object(members) => read_single(alloc, members),
+        Value::Array(items) => read_batch(alloc, items),
+        _ => Err(ReadFault::NotEvent),
+    }
+}
+
+/// The event of an object that stands alone.
+fn read_single(alloc: Global, members: Map<String, Value>) -> Result<Events, ReadFault>
+    ensures ok { IfOk result (λ l. (fault_in (object (members_view members.entries)) ≡ None)
+        × (l ≡ event_in (object (members_view members.entries)) ∷ [])) }
+    ensures refused { IfErr result (λ f. f ≢ ReadFault.OutOfMemory
+        → bad_or 0 (fault_in (object (members_view members.entries))) None ≡ Some f) }
+{
+    let mut events = Events::empty(alloc);
+    match read_event(alloc, members) {
+        Ok(event) => events.push(event)?,
+        Err(fault) => return Err(refusal(0, fault)),
+    }
+    Ok(events)
+}
+
+/// The events of an array's items. The tree of each is given back as soon as its event stands.
+fn read_batch(alloc: Global, items: Vec<Value>) -> Result<Events, ReadFault>
+    ensures ok { IfOk result (λ l. (first_bad 0 (map view items.items) ≡ None)
+        × (l ≡ map event_in (map view items.items))) }
+    ensures refused { IfErr result (λ f. f ≢ ReadFault.OutOfMemory
+        → first_bad 0 (map view items.items) ≡ Some f) }
+{
+    let mut events = Events::empty(alloc);
+    for item in items {
+        match read_item(alloc, item) {
+            Ok(event) => events.push(event)?,
+            Err(fault) => return Err(refusal(events.len(), fault)),
+        }
+    }
+    Ok(events)
+}
+
+/// The refusal of the value at the index, for its fault.
+fn refusal(index: u64, fault: Fault) -> ReadFault
+    ensures value { result ≢ ReadFault.OutOfMemory → result ≡ bad index fault }
+    ensures cause { result ≢ ReadFault.OutOfMemory → fault ≢ Fault.OutOfMemory }
+{
+    match fault {
+        Fault::OutOfMemory => ReadFault::OutOfMemory,
+        _ => ReadFault::BadEvent { index, fault },
+    }
+}
+
+/// The event of a batch's item. What is no object has no version.
+fn read_item(alloc: Global, item: Value) -> Result<Event, Fault>
+    ensures ok { IfOk result (λ e. fault_in (view item) ≡ None) }
+    ensures built { IfOk result (λ e. e ≡ event_in (view item)) }
+    ensures refused { IfErr result (λ f. f ≢ Fault.OutOfMemory → fault_in (view item) ≡ Some f) }
+{
+    match item {
+        Value::Object(members) => read_event(alloc, members),
+        _ => Err(Fault::SpecVersion),
+    }
+}
+
+/// The event that an object's members spell.
+fn read_event(alloc: Global, members: Map<String, Value>) -> Result<Event, Fault>
+    ensures ok { IfOk result (λ e. fault_in (object (members_view members.entries)) ≡ None) }
+    ensures built { IfOk result (λ e. e ≡ event_in (object (members_view members.entries))) }
+    ensures refused { IfErr result (λ f. f ≢ Fault.OutOfMemory
+        → fault_in (object (members_view members.entries)) ≡ Some f) }
+{
+    Event::build(event_parts(alloc, members)?)
+}
+
+/// The parts that an object's members spell. The payload members are taken out first, so that
+/// their values are moved and not copied.
+fn event_parts(alloc: Global, mut members: Map<String, Value>) -> Result<Parts, AllocError>
+    ensures { IfOk result (λ p. p ≡ offer_in (members_view members.entries)) }
+{
+    let tree = members.remove("data");
+    let coded = members.remove("data_base64");
+    let mut parts = attribute_parts(alloc, members)?;
+    parts.offer(payload(alloc, unless_null(tree), unless_null(coded))?);
+    Ok(parts)
+}
+
+/// The parts of members that are all attributes. A map's names are in order and each stands once,
+/// so each part is new.
+fn attribute_parts(alloc: Global, members: Map<String, Value>) -> Result<Parts, AllocError>
+    ensures { IfOk result (λ p. p ≡ record {
+      members = spelled (members_view members.entries);
+      offered = Offered.Nothing;
+    }) }
+{
+    let mut parts = Parts::empty(alloc);
+    for (name, value) in members {
+        if let Some(given) = given_in(value) {
+            parts.insert(name, given)?;
+        }
+    }
+    Ok(parts)
+}
+
+/// What a member's value offers, where it is set.
+fn given_in(value: Value) -> Option<Given>
+    ensures { result ≡ given_in (view value) }
+{
+    match value {
+        Value::Null => None,
+        Value::Bool(flag) => Some(Given::Flag(flag)),
+        Value::Number(number) => Some(given_whole(&number)),
+        Value::String(words) => Some(Given::Words(Text::from_string(words))),
+        Value::Array(_) => Some(Given::Other),
+        Value::Object(_) => Some(Given::Other),
+    }
+}
+
+/// What a number offers: a whole number of 32 bits, or no value of an attribute.
+fn given_whole(number: &Number) -> Given
+    ensures { result ≡ given_whole (as_i64 (number_view number.now)) }
+{
+    match number.as_i64() {
+        Some(n) if n >= -2_147_483_648 && n < 2_147_483_648 => Given::Whole(n as i32),
+        _ => Given::Other,
+    }
+}
+
+/// The member, unless it is null.
+fn unless_null(member: Option<Value>) -> Option<Value>
+    ensures { option_map view result ≡ unless_null (option_map view member) }
+{
+    match member {
+        Some(Value::Null) => None,
+        other => other,
+    }
+}
+
+/// What the members `data` and `data_base64` offer.
+fn payload(alloc: Global, tree: Option<Value>, coded: Option<Value>) -> Result<Offered, AllocError>
+    ensures { IfOk result (λ o. o ≡ payload (option_map view tree) (option_map view coded)) }
+{
+    match (tree, coded) {
+        (None, None) => Ok(Offered::Nothing),
+        (Some(tree), None) => Ok(Offered::Tree(Tree::of(tree))),
+        (None, Some(coded)) => bytes_in(alloc, coded),
+        (Some(_), Some(_)) => Ok(Offered::Both),
+    }
+}
+
+/// The bytes of a text in Base64.
+fn bytes_in(alloc: Global, coded: Value) -> Result<Offered, AllocError>
+    ensures { IfOk result (λ o. o ≡ bytes_in (view coded)) }
+{
+    match coded {
+        Value::String(text) => decoded(alloc, text.as_str()),
+        _ => Ok(Offered::Undecodable),
+    }
+}
+
+/// The bytes, where the text can be decoded.
+fn decoded(alloc: Global, text: &str) -> Result<Offered, AllocError>
+    ensures { IfOk result (λ o. o ≡ decoded (decode_of standard text.now)) }
+{
+    match STANDARD.decode(alloc, text.as_bytes()) {
+        Ok(bytes) => Ok(Offered::Bytes(Octets::from_vec(bytes))),
+        Err(DecodeAllocError::DecodeError(_)) => Ok(Offered::Undecodable),
+        Err(DecodeAllocError::OutOfMemory) => Err(AllocError),
+    }
+}
