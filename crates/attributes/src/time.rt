@@ -15,7 +15,7 @@ use std::alloc::Global;
 use std::marker::Model;
 
 /// A time of RFC 3339 with its UTC day, seen as its text. The day is in the years 0000 to 9999.
-#[derive(Debug, Drop)]
+#[derive(Drop)]
 pub struct Moment {
     text: Text,
     day: i32,
