@@ -1,6 +1,4 @@
 -- Words of private clauses and of proofs alone: whoever reads what is promised needs none of them.
-pub mod TreeCode
-pub mod EventCode
 pub mod Given
 pub mod Content
 pub mod Plain

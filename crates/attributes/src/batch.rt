@@ -16,7 +16,7 @@ pub struct Batch {
 impl Model for Batch {
     ghost use Rattle.std.specs.Prelude.{List};
     ghost use Rattle.std.specs.Coded.{coded_list};
-    ghost use Rattle.attributes.specs.steps.EventCode.{event_code};
+    ghost use Rattle.attributes.specs.EventCode.{event_code};
     ghost use Rattle.attributes.specs.Event.{EventValue};
 
     ghost Value = { List EventValue };

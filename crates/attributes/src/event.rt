@@ -38,7 +38,7 @@ pub struct Event {
 }
 
 impl Model for Event {
-    ghost use Rattle.attributes.specs.steps.EventCode.{event_code};
+    ghost use Rattle.attributes.specs.EventCode.{event_code};
     ghost use Rattle.attributes.specs.Event.{EventValue, view_of};
     ghost use Rattle.attributes.specs.steps.Kept.{IsKept};
     ghost use Rattle.attributes.specs.steps.Place.{attributes_in};

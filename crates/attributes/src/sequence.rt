@@ -89,7 +89,7 @@ pub struct Sequenced {
 
 impl Model for Sequenced {
     ghost use Rattle.std.specs.Prelude.{◌≡◌, Some};
-    ghost use Rattle.attributes.specs.steps.EventCode.{event_code};
+    ghost use Rattle.attributes.specs.EventCode.{event_code};
     ghost use Rattle.attributes.specs.Event.{EventValue};
     ghost use Rattle.attributes.specs.Sequence.{number_of};
 

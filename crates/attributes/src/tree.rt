@@ -18,7 +18,7 @@ pub struct Tree {
 impl Model for Tree {
     ghost use Rattle.serde_json.specs.Data.{Data};
     ghost use Rattle.serde_json.specs.View.{view as tree_of};
-    ghost use Rattle.attributes.specs.steps.TreeCode.{data_code};
+    ghost use Rattle.attributes.specs.TreeCode.{data_code};
 
     ghost Value = { Data };
 

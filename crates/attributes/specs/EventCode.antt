@@ -3,7 +3,7 @@
 use Rattle.std.specs.Prelude.{◌≡◌, ℕ, ◌==◌, ℤ, pos, List, [], Bool, false, cond, refl}
 use Rattle.std.specs.Coded.{Coded, code_by, coded×, coded_list, coded_ℕ, coded_ℤ, coded_bool}
 use Rattle.serde_json.specs.Data.{Data, null}
-use Rattle.attributes.specs.steps.TreeCode.{data_code}
+use Rattle.attributes.specs.TreeCode.{data_code}
 use Rattle.attributes.specs.Event.{EventValue, OfferValue}
 use Rattle.attributes.specs.declared.scalar.Scalar.{Scalar}
 use Rattle.attributes.specs.declared.scalar.Scalar.TheVariants as scalar
