@@ -1,0 +1,11 @@
+use Rattle.attributes.specs.Faults.{IsEvent}
+use Rattle.inbox.proofs.OrderLemmas.{key_cmp_total, tied_events}
+use Rattle.inbox.proofs.SetLemmas.{has-in_order, sets_are_members, sorted-in_order}
+use Rattle.inbox.proofs.laws.sets_are_members.Goals as goal
+
+pub returns : goal.returns
+returns c = record {
+  sorted = sorted-in_order key_cmp_total;
+  members = has-in_order key_cmp_total;
+  same = sets_are_members key_cmp_total IsEvent (tied_events c.text_tells_events.ensures);
+}
