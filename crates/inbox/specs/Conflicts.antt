@@ -1,5 +1,5 @@
--- The keys that several events of a set E, a list in key order, have: source and id are to tell events apart
--- (CloudEvents 1.0.2, "id"), and here they don't.
+-- The keys that several events of a set E, a list in key order, have: source and id are to tell
+-- events apart (CloudEvents 1.0.2, "id"), and here they don't.
 use Rattle.std.specs.Prelude.{List, Bool, ◌&&◌, filter, length, map, nat_lt}
 use Rattle.attributes.specs.Events.{EventValue, id_of, source_of}
 use Rattle.inbox.specs.KeyOrder.{same_key}

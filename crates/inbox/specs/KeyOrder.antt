@@ -1,5 +1,5 @@
--- Key order: by source, then id (CloudEvents 1.0.2, "source" and "id": together they tell events apart),
--- then canonical text, all as bytes.
+-- Key order: by source, then id (CloudEvents 1.0.2, "source" and "id": together they tell events
+-- apart), then canonical text, all as bytes.
 use Rattle.std.specs.Prelude.{Bool}
 use Rattle.std.specs.declared.cmp.Ordering.{Ordering}
 use Rattle.std.specs.Ordering.{is_eq, ordering_then}

@@ -6,7 +6,8 @@ use Rattle.inbox.specs.KeyOrder.{key_cmp}
 use Rattle.inbox.specs.Ordered.{append_new, has}
 use Rattle.inbox.specs.Sets.{AreEvents, set_of, union}
 
--- the set of a list has the list's events, each once and in key order, and nothing else tells it from another
+-- the set of a list has the list's events, each once and in key order, and nothing else tells it
+-- from another
 pub record SetLaws : Type 0 where
   pub sorted : (A : List EventValue) → IsStrictlySortedBy key_cmp (set_of A)
   pub members : (A : List EventValue) (e : EventValue) → has key_cmp (set_of A) e ≡ has key_cmp A e
@@ -20,7 +21,8 @@ pub record UnionLaws : Type 0 where
   pub commutative : (A B : List EventValue) → AreEvents A → AreEvents B
       → union (set_of A) (set_of B) ≡ union (set_of B) (set_of A)
   pub associative : (A B C : List EventValue) → AreEvents A → AreEvents B → AreEvents C
-      → union (union (set_of A) (set_of B)) (set_of C) ≡ union (set_of A) (union (set_of B) (set_of C))
+      → union (union (set_of A) (set_of B)) (set_of C)
+      ≡ union (set_of A) (union (set_of B) (set_of C))
   pub idempotent : (A : List EventValue) → AreEvents A → union (set_of A) (set_of A) ≡ set_of A
 
 -- the set of arrivals is the union of the sets of its parts, whatever arrives again

@@ -1,5 +1,6 @@
--- Which events of a set E, a list in key order, are shown: of those with one source and id the one whose
--- canonical text is least (CloudEvents 1.0.2, "source" and "id"; the least text is this project's own rule).
+-- Which events of a set E, a list in key order, are shown: of those with one source and id the one
+-- whose canonical text is least (CloudEvents 1.0.2, "source" and "id"; that the least text is shown
+-- is this project's own rule).
 use Rattle.std.specs.Prelude.{◌≡◌, ℕ, List, Bool, true, false, not, ◌&&◌, Some, bytes_eq, filter, slice_get}
 use Rattle.std.specs.Ordering.{is_lt}
 use Rattle.std.specs.List.{list_any}

@@ -6,7 +6,8 @@ use attributes::{Batch, Text};
 use std::alloc::{AllocFailed, Global};
 use std::marker::Model;
 
-/// A source and an id that two or more events have, with those events in the order of their texts. The first is shown.
+/// A source and an id that two or more events have, with those events in the order of their texts.
+/// The first is shown.
 #[derive(Drop)]
 pub struct Conflict {
     pub source: Text,
@@ -65,8 +66,8 @@ impl Conflicts {
         &self.items[i as usize]
     }
 
-    /// Adds a conflict at the end, or hands it back where memory is refused. The time of many pushes is in proportion
-    /// to their number.
+    /// Adds a conflict at the end, or hands it back where memory is refused. The time of many
+    /// pushes is in proportion to their number.
     pub fn push(&mut self, conflict: Conflict) -> Result<(), AllocFailed<Conflict>>
         ensures ok { OnOk result (self.new ≡ self.old ++ conflict ∷ []) }
         ensures err { OnErr result (self.new ≡ self.old) }

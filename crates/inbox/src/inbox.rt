@@ -3,12 +3,12 @@
 ghost use Rattle.std.specs.Prelude.{◌≡◌, ◌+◌, ◌<◌, ◌≤◌, ◌∷◌, ◌++◌, [], Ok, drop, false, filter, is_ok, length, map, slice_get, take, true, IfOk, IfErr, IfSome, IfNone, OnOk, OnErr, Some, if◌then◌else◌};
 ghost use Rattle.attributes.specs.Events.{EventValue};
 ghost use Rattle.inbox.specs.Conflicts.{conflict_of, conflicts, is_first_of_several, of_key};
-ghost use Rattle.inbox.specs.Kept.{events};
+ghost use Rattle.inbox.specs.Kept.{Adds, HaveCome, Holds, IsGrownBy, LacksAt, answer_to, events, prefix};
 ghost use Rattle.inbox.specs.KeyOrder.{key_cmp};
-ghost use Rattle.inbox.specs.Ordered.{IsGapFor, append_new, has};
-ghost use Rattle.inbox.specs.Sets.{AreEvents, union};
+ghost use Rattle.inbox.specs.Ordered.{IsGapFor, has};
+ghost use Rattle.inbox.specs.Sets.{AreEvents};
 ghost use Rattle.inbox.specs.Shown.{IsShownOf, NoneHas, is_shown, shown};
-ghost use Rattle.inbox.specs.declared.inbox.Taken.TheVariants.{New, Again};
+ghost use Rattle.inbox.specs.declared.inbox.Taken.TheVariants.{Again};
 
 use crate::conflict::{Conflict, Conflicts};
 use crate::places::Places;
@@ -44,8 +44,9 @@ pub struct Short {
     pub fresh: u64,
 }
 
-/// A set of events. Contracts see the events in the order in which they came, and for how many more there is room;
-/// `events` of that is the set, in key order: by source, then id, then canonical text, all as bytes.
+/// A set of events. Contracts see the events in the order in which they came, and for how many more
+/// there is room; `events` of that is the set, in key order: by source, then id, then canonical
+/// text, all as bytes.
 ///
 /// n events take some 112 bytes each beside their own memory.
 #[derive(Drop)]
@@ -116,7 +117,8 @@ impl Inbox {
         self.places.len() as u64
     }
 
-    /// The event at place i of key order. The time grows with the logarithm of the number of events.
+    /// The event at place i of key order. The time grows with the logarithm of the number of
+    /// events.
     pub fn at(&self, i: u64) -> &Sequenced
         requires { i < length (events self.now) }
         ensures { slice_get (events self.now) i ≡ Some result.now }
@@ -124,8 +126,8 @@ impl Inbox {
         event_at(&self.arrivals, &self.places, i as usize)
     }
 
-    /// The place of an event in key order: `Ok` where it stands, `Err` where it would go. The time grows with the
-    /// logarithm of the number of events.
+    /// The place of an event in key order: `Ok` where it stands, `Err` where it would go. The time
+    /// grows with the logarithm of the number of events.
     pub fn place_of(&self, event: &Sequenced) -> Result<u64, u64>
         ensures there { IfOk result (λ i. slice_get (events self.now) i ≡ Some event.now) }
         ensures gap { IfErr result (λ i. IsGapFor key_cmp (events self.now) event.now i) }
@@ -138,15 +140,16 @@ impl Inbox {
         }
     }
 
-    /// Adds an event, for which there must be room, unless it is there. It takes no memory. The time is that of
-    /// `place_of`, and a move of at most some 2,048 positions; one in about 2,048 new events goes over all positions.
+    /// Adds an event, for which there must be room, unless it is there. It takes no memory. The
+    /// time is that of `place_of`, and a move of at most some 2,048 positions; one in about 2,048
+    /// new events goes over all positions.
     pub fn put(&mut self, event: Sequenced) -> Taken
         requires { 0 < self.old.spare }
-        ensures arrivals { self.new.arrivals ≡ append_new key_cmp self.old.arrivals (event ∷ []) }
-        ensures set { events self.new ≡ union (events self.old) (event ∷ []) }
-        ensures answer { result ≡ (if has key_cmp self.old.arrivals event then Again else New) }
+        ensures arrivals { HaveCome (event ∷ []) self.old self.new }
+        ensures set { Adds (event ∷ []) self.old self.new }
+        ensures answer { result ≡ answer_to self.old event }
         ensures room { self.old.spare ≤ self.new.spare + 1 }
-        ensures again { has key_cmp self.old.arrivals event ≡ true → self.new ≡ self.old }
+        ensures again { Holds self.old event → self.new ≡ self.old }
     {
         match find(&self.arrivals, &self.places, &event) {
             Ok(_) => Taken::Again,
@@ -159,13 +162,16 @@ impl Inbox {
         }
     }
 
-    /// Adds an event, if there is memory for it, unless it is there; that is found without memory. The time is that of
-    /// `put`, and where the inbox grows, a copy of all positions.
+    /// Adds an event, if there is memory for it, unless it is there; that is found without memory.
+    /// The time is that of `put`, and where the inbox grows, a copy of all positions.
     pub fn take(&mut self, event: Sequenced) -> Result<Taken, Back>
-        ensures arrivals { OnOk result (self.new.arrivals ≡ append_new key_cmp self.old.arrivals (event ∷ [])) }
-        ensures set { OnOk result (events self.new ≡ union (events self.old) (event ∷ [])) }
-        ensures answer { IfOk result (λ taken. taken ≡ (if has key_cmp self.old.arrivals event then Again else New)) }
-        ensures again { has key_cmp self.old.arrivals event ≡ true → (result ≡ Ok Again) × (self.new ≡ self.old) }
+        ensures arrivals { OnOk result (HaveCome (event ∷ []) self.old self.new) }
+        ensures set { OnOk result (Adds (event ∷ []) self.old self.new) }
+        ensures answer { IfOk result (λ taken. taken ≡ answer_to self.old event) }
+
+        // An event that is there needs no memory.
+        ensures again { Holds self.old event → (result ≡ Ok Again) × (self.new ≡ self.old) }
+
         ensures same { OnErr result (self.new.arrivals ≡ self.old.arrivals) }
         ensures back { IfErr result (λ back. back.event ≡ event) }
     {
@@ -196,8 +202,8 @@ impl Inbox {
         &self.arrivals[i as usize]
     }
 
-    /// Whether the event at place i of key order is shown: whether it has the least text of its source and id. The time
-    /// grows with the logarithm of the number of events.
+    /// Whether the event at place i of key order is shown: whether it has the least text of its
+    /// source and id. The time grows with the logarithm of the number of events.
     pub fn is_shown(&self, i: u64) -> bool
         requires { i < length (events self.now) }
         ensures { (e : EventValue) → slice_get (events self.now) i ≡ Some e
@@ -209,8 +215,8 @@ impl Inbox {
         !have_same_key(self.at(i - 1), self.at(i))
     }
 
-    /// The shown event of a source and an id, where there is one. The time grows with the logarithm of the number of
-    /// events.
+    /// The shown event of a source and an id, where there is one. The time grows with the logarithm
+    /// of the number of events.
     pub fn shown_of(&self, source: &str, id: &str) -> Option<&Sequenced>
         ensures some { IfSome result (λ e. IsShownOf (events self.now) source.now id.now e.now) }
         ensures none { IfNone result (NoneHas (events self.now) source.now id.now) }
@@ -307,8 +313,8 @@ impl Inbox {
         Ok(())
     }
 
-    /// The keys that two or more events have, in key order, each with its events in the order of their texts. Goes over
-    /// all events, and copies those in conflict.
+    /// The keys that two or more events have, in key order, each with its events in the order of
+    /// their texts. Goes over all events, and copies those in conflict.
     pub fn conflicts(&self) -> Result<Conflicts, AllocError>
         ensures { IfOk result (λ list. list ≡ conflicts (events self.now)) }
     {
@@ -321,7 +327,7 @@ impl Inbox {
 
     /// Adds a copy of an event, unless it is there.
     fn take_copy(&mut self, event: &Sequenced) -> Result<(), AllocError>
-        ensures ok { OnOk result (self.new.arrivals ≡ append_new key_cmp self.old.arrivals (event.now ∷ [])) }
+        ensures ok { OnOk result (HaveCome (event.now ∷ []) self.old self.new) }
         ensures same { OnErr result (self.new.arrivals ≡ self.old.arrivals) }
         ensures err { OnErr result (has key_cmp self.old.arrivals event.now ≡ false) }
     {
@@ -334,21 +340,21 @@ impl Inbox {
         }
     }
 
-    /// Takes copies of the other's events, in key order; those that are there are not copied, and need no memory. After
-    /// a refusal those before it stay. The time is that of `take` for each event.
+    /// Takes copies of the other's events, in key order; those that are there are not copied, and
+    /// need no memory. After a refusal those before it stay. The time is that of `take` for each
+    /// event.
     pub fn merge(&mut self, other: &Inbox) -> Result<Counts, Short>
-        ensures arrivals { OnOk result (self.new.arrivals ≡ append_new key_cmp self.old.arrivals (events other.now)) }
-        ensures set { OnOk result (events self.new ≡ union (events self.old) (events other.now)) }
-        ensures fresh { IfOk result (λ n. length self.old.arrivals + n.fresh ≡ length self.new.arrivals) }
+        ensures arrivals { OnOk result (HaveCome (events other.now) self.old self.new) }
+        ensures set { OnOk result (Adds (events other.now) self.old self.new) }
+        ensures fresh { IfOk result (λ n. IsGrownBy n.fresh self.old self.new) }
         ensures repeated { IfOk result (λ n. n.fresh + n.repeated ≡ length (events other.now)) }
-        ensures short { IfErr result (λ s. self.new.arrivals
-            ≡ append_new key_cmp self.old.arrivals (take s.taken (events other.now))) }
-        ensures short_set { IfErr result (λ s. events self.new
-            ≡ union (events self.old) (take s.taken (events other.now))) }
-        ensures short_fresh { IfErr result (λ s. length self.old.arrivals + s.fresh ≡ length self.new.arrivals) }
+        ensures short { IfErr result (λ s. HaveCome (prefix s.taken other.now) self.old self.new) }
+        ensures short_set { IfErr result (λ s. Adds (prefix s.taken other.now) self.old self.new) }
+        ensures short_fresh { IfErr result (λ s. IsGrownBy s.fresh self.old self.new) }
         ensures short_taken { IfErr result (λ s. s.taken < length (events other.now)) }
-        ensures short_of_new { IfErr result (λ s. (e : EventValue) → slice_get (events other.now) s.taken ≡ Some e
-            → has key_cmp self.new.arrivals e ≡ false) }
+
+        // Memory was wanted for a new event.
+        ensures short_of_new { IfErr result (λ s. LacksAt self.new (events other.now) s.taken) }
     {
         let before = self.arrived();
         for i in 0..other.len() {

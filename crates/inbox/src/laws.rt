@@ -4,7 +4,8 @@ ghost use Rattle.inbox.specs.Laws.{ArrivalsUnite, SetLaws, UnionLaws};
 
 use attributes::laws::text_tells_events;
 
-/// A set of events is its members: each once, in key order, and two sets that have the same ones are one list.
+/// A set of events is its members: each once, in key order, and two sets that have the same ones
+/// are one list.
 pub fn sets_are_members()
     ensures { SetLaws }
 {

@@ -4,7 +4,7 @@ ghost use Rattle.std.specs.Prelude.{ℕ, ◌≡◌, ◌≢◌, IfSome, IfNone, �
 ghost use Rattle.std.specs.List.{insert};
 ghost use Rattle.std.specs.Vec.{vec_capacity, vec_len};
 ghost use Rattle.inbox.specs.declared.places.Late.{Late};
-ghost use Rattle.inbox.specs.steps.Woven.{Rise, woven, order, StandsAt};
+ghost use Rattle.inbox.specs.steps.Woven.{IsAmong, IsBehind, IsElsewhere, IsLateAt, Rise, StandsAt, order, up_to, woven};
 
 use std::alloc::{AllocError, Global};
 use std::marker::Model;
@@ -20,9 +20,10 @@ pub(crate) struct Late {
     pub(crate) position: usize,
 }
 
-/// Positions in an order: settled ones in a row, and late ones, each with how many settled positions stand before it.
-/// An insert moves late positions alone, which are some 2,048 at most. Where there is no room for another, all are
-/// written to the second buffer in their order, and the two are swapped: about one insert in 2,048 goes over all.
+/// Positions in an order: settled ones in a row, and late ones, each with how many settled
+/// positions stand before it. An insert moves late positions alone, which are some 2,048 at most.
+/// Where there is no room for another, all are written to the second buffer in their order, and the
+/// two are swapped: about one insert in 2,048 goes over all.
 #[derive(Drop, Debug)]
 pub(crate) struct Places {
     settled: Vec<usize>,
@@ -41,11 +42,13 @@ impl Model for Places {
     ghost view = { λ p. record {
       settled = p.settled.items;
       late = p.late.items;
-      room = room_in (vec_capacity p.settled) (vec_capacity p.other) (vec_len p.settled) (vec_len p.late);
+      room = room_in (vec_capacity p.settled) (vec_capacity p.other)
+          (vec_len p.settled) (vec_len p.late);
     } };
 
     ghost invariant = { λ p. Rise 0 (length p.settled.items) p.late.items
-        × HasRoom (vec_len p.settled) (vec_len p.late) (vec_capacity p.settled) (vec_capacity p.other)
+        × HasRoom (vec_len p.settled) (vec_len p.late)
+        (vec_capacity p.settled) (vec_capacity p.other)
         (vec_capacity p.late) };
 }
 
@@ -54,8 +57,7 @@ fn push_to(settled: &[usize], from: usize, late: Late, all: &mut Vec<usize>)
     requires low { from ≤ late.before }
     requires high { late.before ≤ length settled.now }
     requires room { vec_len all.old + (late.before - from) + 1 ≤ vec_capacity all.old }
-    ensures items { all.new.items
-        ≡ all.old.items ++ (take (late.before - from) (drop from settled.now) ++ late.position ∷ []) }
+    ensures items { all.new.items ≡ all.old.items ++ up_to from settled.now late }
     ensures len { vec_len all.new ≡ vec_len all.old + (late.before - from) + 1 }
     ensures capacity { vec_capacity all.old ≤ vec_capacity all.new }
 {
@@ -98,8 +100,8 @@ fn make_room(late: &mut Vec<Late>, wanted: usize) -> Result<(), AllocError>
 /// How many late positions are among the first i of all.
 fn late_among(late: &[Late], i: usize) -> usize
     ensures within { result ≤ length late.now }
-    ensures before { (j : ℕ) (l : Late) → j + 1 ≡ result → slice_get late.now j ≡ Some l → l.before + j < i }
-    ensures after { (l : Late) → slice_get late.now result ≡ Some l → i ≤ l.before + result }
+    ensures before { (k : ℕ) → k + 1 ≡ result → IsAmong late.now k i }
+    ensures after { IsBehind late.now result i }
     ensures few { result ≤ i }
 {
     let mut low = 0;
@@ -118,9 +120,8 @@ fn late_among(late: &[Late], i: usize) -> usize
 /// The late position that stands at place i, behind so many late ones, if one stands there.
 fn late_position(late: &[Late], among: usize, i: usize) -> Option<usize>
     requires few { among ≤ i }
-    ensures some { IfSome result (λ p. (l : Late) × (slice_get late.now among ≡ Some l)
-        × (l.before + among ≡ i) × (p ≡ l.position)) }
-    ensures none { IfNone result ((l : Late) → slice_get late.now among ≡ Some l → l.before + among ≢ i) }
+    ensures some { IfSome result (λ p. IsLateAt late.now among i p) }
+    ensures none { IfNone result (IsElsewhere late.now among i) }
 {
     if among >= late.len() {
         return None;
@@ -153,7 +154,8 @@ impl Places {
         self.settled.len() + self.late.len()
     }
 
-    /// The position at place i of the order. The time grows with the logarithm of the number of late positions.
+    /// The position at place i of the order. The time grows with the logarithm of the number of
+    /// late positions.
     pub(crate) fn at(&self, i: usize) -> usize
         requires { i < length (order self.now) }
         ensures { slice_get (order self.now) i ≡ Some result }

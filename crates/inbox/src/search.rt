@@ -3,12 +3,13 @@
 ghost use Rattle.std.specs.Prelude.{◌≡◌, ◌+◌, ◌<◌, ℕ, length, slice_get, Some, IfErr, IfNone, IfOk, IfSome, is_ok};
 ghost use Rattle.attributes.specs.Faults.{IsEvent};
 ghost use Rattle.inbox.specs.KeyOrder.{key_cmp, same_key};
-ghost use Rattle.inbox.specs.Ordered.{IsGapFor, has, in_order};
+ghost use Rattle.inbox.specs.Ordered.{IsGapFor, has};
+ghost use Rattle.inbox.specs.Sets.{set_of};
 ghost use Rattle.inbox.specs.Shown.{IsShownOf, NoneHas, has_key};
 ghost use Rattle.inbox.specs.declared.places.Late.{Late};
-ghost use Rattle.inbox.specs.steps.Reads.{ReadsInOrder};
+ghost use Rattle.inbox.specs.steps.Reads.{ReadsAt, ReadsInOrder};
 ghost use Rattle.inbox.specs.steps.Rows.{probe};
-ghost use Rattle.inbox.specs.steps.Search.{IsLowerBound, SplitsLate, SplitsSettled};
+ghost use Rattle.inbox.specs.steps.Search.{IsLowerBound, LateEnd, SettledEnd};
 ghost use Rattle.inbox.specs.steps.Woven.{Rise, StandsAt, order};
 
 use crate::places::{Late, Places};
@@ -62,7 +63,7 @@ fn event_in(arrivals: &[Sequenced], position: usize) -> &Sequenced
 fn settled_event<'a>(arrivals: &'a [Sequenced], places: &Places, i: usize) -> &'a Sequenced
     requires reads { ReadsInOrder key_cmp arrivals.now (order places.now) }
     requires in_range { i < length places.now.settled }
-    ensures { (p : ℕ) × (slice_get places.now.settled i ≡ Some p) × (slice_get arrivals.now p ≡ Some result.now) }
+    ensures { ReadsAt arrivals.now places.now.settled i result.now }
 {
     event_in(arrivals, places.settled_at(i))
 }
@@ -80,7 +81,7 @@ fn late_event<'a>(arrivals: &'a [Sequenced], places: &Places, late: Late) -> &'a
 pub(crate) fn event_at<'a>(arrivals: &'a [Sequenced], places: &Places, i: usize) -> &'a Sequenced
     requires reads { ReadsInOrder key_cmp arrivals.now (order places.now) }
     requires in_range { i < length (order places.now) }
-    ensures { slice_get (in_order key_cmp arrivals.now) i ≡ Some result.now }
+    ensures { slice_get (set_of arrivals.now) i ≡ Some result.now }
 {
     event_in(arrivals, places.at(i))
 }
@@ -94,7 +95,7 @@ fn settled_before(
     text: &str,
 ) -> usize
     requires reads { ReadsInOrder key_cmp arrivals.now (order places.now) }
-    ensures { SplitsSettled (probe source.now id.now text.now) arrivals.now places.now.settled result result }
+    ensures { SettledEnd (probe source.now id.now text.now) arrivals.now places.now result }
 {
     let mut low = 0;
     let mut high = places.settled_len();
@@ -119,7 +120,7 @@ fn late_before(
 ) -> usize
     requires reads { ReadsInOrder key_cmp arrivals.now (order places.now) }
     ensures rise { Rise 0 (length places.now.settled) places.now.late }
-    ensures splits { SplitsLate (probe source.now id.now text.now) arrivals.now places.now.late before result result }
+    ensures end { LateEnd (probe source.now id.now text.now) arrivals.now places.now before result }
 {
     let mut low = 0;
     let mut high = places.late_len();
@@ -150,7 +151,7 @@ pub(crate) fn lower_bound(
 ) -> Gap
     requires reads { ReadsInOrder key_cmp arrivals.now (order places.now) }
     ensures stands { StandsAt places.now result.before result.late }
-    ensures bound { IsLowerBound (probe source.now id.now text.now) (in_order key_cmp arrivals.now)
+    ensures bound { IsLowerBound (probe source.now id.now text.now) (set_of arrivals.now)
         (result.before + result.late) }
 {
     let before = settled_before(arrivals, places, source, id, text);
@@ -161,9 +162,9 @@ pub(crate) fn lower_bound(
 /// The place in key order where an event stands, or where it goes.
 pub(crate) fn find(arrivals: &[Sequenced], places: &Places, event: &Sequenced) -> Result<usize, Gap>
     requires reads { ReadsInOrder key_cmp arrivals.now (order places.now) }
-    ensures there { IfOk result (λ i. slice_get (in_order key_cmp arrivals.now) i ≡ Some event.now) }
+    ensures there { IfOk result (λ i. slice_get (set_of arrivals.now) i ≡ Some event.now) }
     ensures stands { IfErr result (λ gap. StandsAt places.now gap.before gap.late) }
-    ensures gap { IfErr result (λ gap. IsGapFor key_cmp (in_order key_cmp arrivals.now) event.now
+    ensures gap { IfErr result (λ gap. IsGapFor key_cmp (set_of arrivals.now) event.now
         (gap.before + gap.late)) }
     ensures known { is_ok result ≡ has key_cmp arrivals.now event.now }
     ensures event { IsEvent event.now }
@@ -189,8 +190,8 @@ fn is_of(event: &Sequenced, source: &str, id: &str) -> bool
     event.event().source() == source && event.event().id() == id
 }
 
-/// The first event of a source and an id in key order, where there is one: the empty text, which is sought, is the
-/// least.
+/// The first event of a source and an id in key order, where there is one: the empty text, which is
+/// sought, is the least.
 pub(crate) fn first_of<'a>(
     arrivals: &'a [Sequenced],
     places: &Places,
@@ -198,8 +199,8 @@ pub(crate) fn first_of<'a>(
     id: &str,
 ) -> Option<&'a Sequenced>
     requires reads { ReadsInOrder key_cmp arrivals.now (order places.now) }
-    ensures some { IfSome result (λ e. IsShownOf (in_order key_cmp arrivals.now) source.now id.now e.now) }
-    ensures none { IfNone result (NoneHas (in_order key_cmp arrivals.now) source.now id.now) }
+    ensures some { IfSome result (λ e. IsShownOf (set_of arrivals.now) source.now id.now e.now) }
+    ensures none { IfNone result (NoneHas (set_of arrivals.now) source.now id.now) }
 {
     let gap = lower_bound(arrivals, places, source, id, "");
     let len = places.len();

@@ -12,7 +12,7 @@ loop-low-preserved-in-Less c = record {
       (omega (arith, c.if-late-before-2.false)) (sym c.compare.ensures ∙ c.in-Less.is);
 }
 
-pub returns-clause-splits : goal.returns-clause-splits
-returns-clause-splits c =
+pub returns-clause-end : goal.returns-clause-end
+returns-clause-end c =
     subst (λ n. SplitsLate (probe c.args.source.now c.args.id.now c.args.text.now) c.args.arrivals.now c.args.places.now.late c.args.before c.loop-low.low n)
     (omega (arith, c.loop-low-test.false, c.loop-low.invariant.ordered)) c.loop-low.invariant.splits

@@ -18,7 +18,7 @@ returns-clause-stands c =
     let probe : Row = (c.args.source.now, c.args.id.now, c.args.text.now) in
     let parts = parts_found (λ e. row_cmp (row_of e) probe) (falls probe) c.args.arrivals.now c.args.places.now.settled c.args.places.now.late (in_order key_cmp c.args.arrivals.now)
     c.requires.reads c.late_before-late.ensures.rise (sorted-in_order key_cmp_total c.args.arrivals.now) c.settled_before-before.result c.late_before-late.result
-    c.settled_before-before.ensures c.late_before-late.ensures.splits in
+    c.settled_before-before.ensures c.late_before-late.ensures.end in
     record {
       within = parts.within;
       first = parts_first (length c.args.places.now.settled) c.settled_before-before.result c.late_before-late.result c.args.places.now.late c.late_before-late.ensures.rise parts;
@@ -30,4 +30,4 @@ returns-clause-bound c =
     let probe : Row = (c.args.source.now, c.args.id.now, c.args.text.now) in
     bound_found (λ e. row_cmp (row_of e) probe) (falls probe) c.args.arrivals.now c.args.places.now.settled c.args.places.now.late (in_order key_cmp c.args.arrivals.now)
     c.requires.reads c.late_before-late.ensures.rise (sorted-in_order key_cmp_total c.args.arrivals.now) c.settled_before-before.result c.late_before-late.result
-    c.settled_before-before.ensures c.late_before-late.ensures.splits
+    c.settled_before-before.ensures c.late_before-late.ensures.end

@@ -13,7 +13,7 @@ index-requires c =
     let there : c.args.i - k < length S = settled_there c.args.i k S late c.self.invariant.0
     (subst (λ (q : List Late). k ≤ length q) c.deref.ensures.value c.late_among-late.ensures.within)
     c.late_among-late.ensures.few in_range
-    (λ j l u e. c.late_among-late.ensures.before j l u (ap (λ (q : List Late). slice_get q j) c.deref.ensures.value ∙ e))
+    (λ j l u e. c.late_among-late.ensures.before j u l (ap (λ (q : List Late). slice_get q j) c.deref.ensures.value ∙ e))
     (λ l e. c.late_among-late.ensures.after l (ap (λ (q : List Late). slice_get q k) c.deref.ensures.value ∙ e))
     (λ l e. c.in-None.ensures.none l (ap (λ (q : List Late). slice_get q k) c.deref-2.ensures.value ∙ e)) in
     omega (arith, there, c.self.inside.settled.ok.0)
@@ -22,9 +22,9 @@ pub returns-in-Some : goal.returns-in-Some
 returns-in-Some c =
     let found = c.in-Some.ensures.some in
     let k : ℕ = c.late_among-late.result in
-    let here : slice_get c.self.inside.late.items k ≡ Some found.0 = ap (λ (q : List Late). slice_get q k) (sym c.deref-2.ensures.value) ∙ found.1 in
+    let here : slice_get c.self.inside.late.items k ≡ Some found.item = ap (λ (q : List Late). slice_get q k) (sym c.deref-2.ensures.value) ∙ found.is_there in
     subst (λ p. slice_get (order p) c.args.i ≡ Some c.in-Some.position) c.self.view_is
-    (at_late c.args.i k c.self.inside.settled.items c.self.inside.late.items found.0 c.self.invariant.0 here found.2 ∙ ap Some (sym found.3))
+    (at_late c.args.i k c.self.inside.settled.items c.self.inside.late.items found.item c.self.invariant.0 here found.place ∙ ap Some (sym found.is_position))
 
 pub returns-in-None : goal.returns-in-None
 returns-in-None c =
@@ -36,7 +36,7 @@ returns-in-None c =
     (at_settled c.args.i k S late c.self.invariant.0
     (subst (λ (q : List Late). k ≤ length q) c.deref.ensures.value c.late_among-late.ensures.within)
     c.late_among-late.ensures.few in_range
-    (λ j l u e. c.late_among-late.ensures.before j l u (ap (λ (q : List Late). slice_get q j) c.deref.ensures.value ∙ e))
+    (λ j l u e. c.late_among-late.ensures.before j u l (ap (λ (q : List Late). slice_get q j) c.deref.ensures.value ∙ e))
     (λ l e. c.late_among-late.ensures.after l (ap (λ (q : List Late). slice_get q k) c.deref.ensures.value ∙ e))
     (λ l e. c.in-None.ensures.none l (ap (λ (q : List Late). slice_get q k) c.deref-2.ensures.value ∙ e))
     c.index.result.now
