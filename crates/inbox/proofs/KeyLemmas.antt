@@ -1,5 +1,5 @@
 -- The events of one key stand side by side.
-use Rattle.std.proofs.Common.{◌≡◌, ◌≢◌, ℕ, zero, suc, ◌+◌, ◌<◌, ◌≤◌, List, [], ◌∷◌, ◌++◌, Bool, true, false, not, ◌||◌, ◌&&◌, cond, filter, length, get_or, take, drop, Some, slice_get, refl, sym, ap, ◌∙◌, arith}
+use Rattle.std.proofs.Common.{◌≡◌, ◌≢◌, ℕ, zero, suc, ◌+◌, ◌<◌, ◌≤◌, List, [], ◌∷◌, ◌++◌, Bool, true, false, not, ◌||◌, ◌&&◌, cond, filter, length, map, get_or, take, drop, Some, slice_get, refl, sym, ap, ◌∙◌, arith}
 use Rattle.std.specs.declared.cmp.Ordering.{Ordering}
 use Rattle.std.specs.declared.cmp.Ordering.TheVariants.{Less, Equal, Greater}
 use Rattle.std.specs.Ordering.{is_eq, is_lt, ordering_then}
@@ -37,6 +37,20 @@ none_at p (x ∷ xs) (suc k) d h l = none_at p xs k d (right (p x) (list_any p x
     right : (a b : Bool) → (a || b) ≡ false → b ≡ false
     right true b h = absurd (cc)
     right false b h = h
+
+-- where an item passes, some are left
+pub some_kept : {X Y : Type 0} (f : X → Y) (p : X → Bool) (xs : List X) (i : ℕ) (x : X) → slice_get xs i ≡ Some x → p x ≡ true → map f (filter p xs) ≢ []
+some_kept f p [] i x h t = absurd (cc)
+some_kept f p (y ∷ ys) zero x h t = let same : y ≡ x = cc in left (p y) (ap p same ∙ t)
+  where
+    left : (b : Bool) → b ≡ true → map f (cond b (y ∷ filter p ys) (filter p ys)) ≢ []
+    left true e = λ n. cc
+    left false e = absurd (cc)
+some_kept f p (y ∷ ys) (suc i) x h t = left (p y) (some_kept f p ys i x h t)
+  where
+    left : (b : Bool) → map f (filter p ys) ≢ [] → map f (cond b (y ∷ filter p ys) (filter p ys)) ≢ []
+    left true n = λ e. cc
+    left false n = n
 
 nothing_after : {X : Type 0} (xs : List X) → xs ++ [] ≡ xs
 nothing_after [] = refl

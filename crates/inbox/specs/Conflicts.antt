@@ -18,6 +18,10 @@ is_first_of_several E e = is_shown E e && nat_lt 1 (length (of_key E e))
 abbrev pub conflict_of : List EventValue → EventValue → Conflict
 conflict_of E e = record { source = source_of e; id = id_of e; events = of_key E e }
 
+-- the conflicts of the keys whose shown events are among those of L
+abbrev pub conflicts_of : List EventValue → List EventValue → List Conflict
+conflicts_of E L = map (conflict_of E) (filter (is_first_of_several E) L)
+
 -- the keys that two or more events have, in key order, each with its events by text
 abbrev pub conflicts : List EventValue → List Conflict
-conflicts E = map (conflict_of E) (filter (is_first_of_several E) E)
+conflicts E = conflicts_of E E

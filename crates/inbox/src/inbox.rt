@@ -1,8 +1,8 @@
 //! The inbox: a set of events.
 
-ghost use Rattle.std.specs.Prelude.{◌≡◌, ◌+◌, ◌<◌, ◌≤◌, ◌∷◌, ◌++◌, [], Ok, drop, false, filter, is_ok, length, map, slice_get, take, true, IfOk, IfErr, IfSome, IfNone, OnOk, OnErr, Some, if◌then◌else◌};
+ghost use Rattle.std.specs.Prelude.{◌≡◌, ◌≢◌, ◌+◌, ◌<◌, ◌≤◌, ◌∷◌, ◌++◌, [], Ok, drop, false, filter, is_ok, length, map, slice_get, take, true, IfOk, IfErr, IfSome, IfNone, OnOk, OnErr, Some, if◌then◌else◌};
 ghost use Rattle.attributes.specs.Events.{EventValue};
-ghost use Rattle.inbox.specs.Conflicts.{conflict_of, conflicts, is_first_of_several, of_key};
+ghost use Rattle.inbox.specs.Conflicts.{conflict_of, conflicts, conflicts_of, is_first_of_several, of_key};
 ghost use Rattle.inbox.specs.Kept.{Adds, HaveCome, Holds, IsGrownBy, LacksAt, answer_to, events, prefix};
 ghost use Rattle.inbox.specs.KeyOrder.{key_cmp};
 ghost use Rattle.inbox.specs.Ordered.{IsGapFor, has};
@@ -168,6 +168,7 @@ impl Inbox {
         ensures arrivals { OnOk result (HaveCome (event ∷ []) self.old self.new) }
         ensures set { OnOk result (Adds (event ∷ []) self.old self.new) }
         ensures answer { IfOk result (λ taken. taken ≡ answer_to self.old event) }
+        ensures room { self.old.spare ≤ self.new.spare + 1 }
 
         // An event that is there needs no memory.
         ensures again { Holds self.old event → (result ≡ Ok Again) × (self.new ≡ self.old) }
@@ -299,9 +300,10 @@ impl Inbox {
     /// Adds the conflict of the key of the event at place i, if that is the first of several.
     fn add_conflict(&self, conflicts: &mut Conflicts, i: u64) -> Result<(), AllocError>
         requires in_range { i < length (events self.now) }
-        ensures { OnOk result ((e : EventValue) → slice_get (events self.now) i ≡ Some e
-            → conflicts.new ≡ conflicts.old ++ map (conflict_of (events self.now))
-            (filter (is_first_of_several (events self.now)) (e ∷ []))) }
+        ensures ok { OnOk result ((e : EventValue) → slice_get (events self.now) i ≡ Some e
+            → conflicts.new ≡ conflicts.old ++ conflicts_of (events self.now) (e ∷ [])) }
+        ensures err { OnErr result ((e : EventValue) → slice_get (events self.now) i ≡ Some e
+            → is_first_of_several (events self.now) e ≡ true) }
     {
         if !self.is_shown(i) {
             return Ok(());
@@ -316,7 +318,10 @@ impl Inbox {
     /// The keys that two or more events have, in key order, each with its events in the order of
     /// their texts. Goes over all events, and copies those in conflict.
     pub fn conflicts(&self) -> Result<Conflicts, AllocError>
-        ensures { IfOk result (λ list. list ≡ conflicts (events self.now)) }
+        ensures ok { IfOk result (λ list. list ≡ conflicts (events self.now)) }
+
+        // Memory is wanted for conflicts alone.
+        ensures err { OnErr result (conflicts (events self.now) ≢ []) }
     {
         let mut conflicts = Conflicts::empty(*self.arrivals.allocator());
         for i in 0..self.len() {
