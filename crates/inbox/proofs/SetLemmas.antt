@@ -4,10 +4,11 @@ use Rattle.std.specs.declared.cmp.Ordering.{Ordering}
 use Rattle.std.specs.declared.cmp.Ordering.TheVariants.{Less, Equal, Greater}
 use Rattle.std.specs.Ordering.{is_eq, ordering_reverse, match_ordering}
 use Rattle.std.specs.Cmp.{IsTotalOrder}
-use Rattle.std.specs.List.{AllByRecursion}
+use Rattle.std.specs.List.{AllByRecursion, Contains}
 use Rattle.std.specs.List.Sorted.{IsStrictlySortedBy}
 use Rattle.std.specs.BTreeSet.{insert_key}
 use Rattle.std.proofs.lemmas.Cmp.{tied_itself}
+use Rattle.std.proofs.lemmas.List.Folds.{list_any_at}
 use mathlib.Core.Bool.{true≢false}
 use Rattle.inbox.specs.Ordered.{has, add_all, in_order, append_new}
 
@@ -143,11 +144,25 @@ module _ {K : Type 0} {R : K → K → Ordering} (o : IsTotalOrder R) where
         | false ↦ λ e. in_order-append_new (A ++ x ∷ []) xs ∙ ap (λ E. add_all R E xs) (in_order-push A x)
       ] refl
 
+  -- one of the items ties with itself
+  pub has-from_Contains : (E : List K) (x : K) → Contains E x → has R E x ≡ true
+  has-from_Contains E x c = list_any_at (λ y. is_eq (R x y)) E c.0 x c.1 (ap (λ y. is_eq (R x y)) c.2 ∙ ap is_eq (tied_itself o x))
+
   pub has_alike : (E : List K) (x y : K) → R x y ≡ Equal → has R E x ≡ has R E y
   has_alike [] x y e = refl
   has_alike (z ∷ zs) x y e = ap (λ r. is_eq r || has R zs x) (o.congr x y z e) ∙ ap (λ b. is_eq (R y z) || b) (has_alike zs x y e)
 
   module _ (P : K → Type 0) (exact : (x y : K) → P x → P y → R x y ≡ Equal → x ≡ y) where
+    -- where ties are equal, what ties is one of the items
+    pub Contains-from_has : (xs : List K) (k : K) → AllByRecursion P xs → P k → has R xs k ≡ true → Contains xs k
+    Contains-from_has [] k a p h = absurd (true≢false (sym h))
+    Contains-from_has (x ∷ xs) k a p h = first_or_later (R k x) refl h (Contains-from_has xs k a.1 p)
+      where
+        first_or_later : (r : Ordering) → R k x ≡ r → (is_eq r || has R xs k) ≡ true → (has R xs k ≡ true → Contains xs k) → Contains (x ∷ xs) k
+        first_or_later Less e t f = let c = f t in (suc c.0, omega (arith, c.1), c.2)
+        first_or_later Equal e t f = (0, omega arith, sym (exact k x p a.0 e))
+        first_or_later Greater e t f = let c = f t in (suc c.0, omega (arith, c.1), c.2)
+
     tail_has : (x : K) (xs ys : List K) (k : K) → AllByRecursion (λ z. R x z ≡ Less) xs → AllByRecursion (λ z. R x z ≡ Less) ys → (is_eq (R k x) || has R xs k) ≡ (is_eq (R k x) || has R ys k) → has R xs k ≡ has R ys k
     tail_has x xs ys k a b h =
         elim (R k x) as (λ r. R k x ≡ r → (is_eq r || has R xs k) ≡ (is_eq r || has R ys k) → has R xs k ≡ has R ys k) [

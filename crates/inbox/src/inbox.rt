@@ -47,8 +47,6 @@ pub struct Short {
 /// A set of events. Contracts see the events in the order in which they came, and for how many more
 /// there is room; `events` of that is the set, in key order: by source, then id, then canonical
 /// text, all as bytes.
-///
-/// n events take some 112 bytes each beside their own memory.
 #[derive(Drop)]
 pub struct Inbox {
     arrivals: Vec<Sequenced>,

@@ -14,7 +14,7 @@ use std::mem;
 const LATE: usize = 2048;
 
 /// A late position, and how many settled positions stand before it.
-#[derive(Clone, Copy, Debug)]
+#[derive(Clone, Copy)]
 pub(crate) struct Late {
     pub(crate) before: usize,
     pub(crate) position: usize,
@@ -24,7 +24,7 @@ pub(crate) struct Late {
 /// positions stand before it. An insert moves late positions alone, which are some 2,048 at most.
 /// Where there is no room for another, all are written to the second buffer in their order, and the
 /// two are swapped: about one insert in 2,048 goes over all.
-#[derive(Drop, Debug)]
+#[derive(Drop)]
 pub(crate) struct Places {
     settled: Vec<usize>,
     late: Vec<Late>,

@@ -17,7 +17,7 @@ use attributes::Sequenced;
 use std::cmp::Ordering;
 
 /// A place in key order: behind so many settled positions and so many late ones.
-#[derive(Clone, Copy, Debug)]
+#[derive(Clone, Copy)]
 pub(crate) struct Gap {
     pub(crate) before: usize,
     pub(crate) late: usize,
