@@ -131,6 +131,7 @@ impl Inbox {
         ensures gap { IfErr result (λ i. IsGapFor key_cmp (events self.now) event.now i) }
         ensures known { is_ok result ≡ has key_cmp self.now.arrivals event.now }
     {
+        // The count bounds the sum below.
         let _len = self.places.len();
         match find(&self.arrivals, &self.places, event) {
             Ok(at) => Ok(at as u64),
@@ -139,8 +140,8 @@ impl Inbox {
     }
 
     /// Adds an event, for which there must be room, unless it is there. It takes no memory. The
-    /// time is that of `place_of`, and a move of at most some 2,048 positions; one in about 2,048
-    /// new events goes over all positions.
+    /// time is that of `place_of` and of a move of mostly at most 2,048 positions; about one new
+    /// event in 2,048 goes over all positions.
     pub fn put(&mut self, event: Sequenced) -> Taken
         requires { 0 < self.old.spare }
         ensures arrivals { HaveCome (event ∷ []) self.old self.new }
@@ -271,6 +272,7 @@ impl Inbox {
         ensures { IfOk result (λ batch. batch ≡ take n (drop i (events self.now))) }
     {
         let mut batch = Batch::empty(*self.arrivals.allocator());
+        // The count bounds the sum below.
         let _len = self.len();
         for k in 0..n {
             batch.push(self.at(i + k).copy()?)?;

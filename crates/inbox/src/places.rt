@@ -21,9 +21,9 @@ pub(crate) struct Late {
 }
 
 /// Positions in an order: settled ones in a row, and late ones, each with how many settled
-/// positions stand before it. An insert moves late positions alone, which are some 2,048 at most.
-/// Where there is no room for another, all are written to the second buffer in their order, and the
-/// two are swapped: about one insert in 2,048 goes over all.
+/// positions stand before it. An insert moves late positions alone, which are mostly 2,048 at most
+/// and never more than 4,094. Where there is no room for another, all are written to the second
+/// buffer in their order, and the two are swapped: about one insert in 2,048 goes over all.
 #[derive(Drop)]
 pub(crate) struct Places {
     settled: Vec<usize>,
@@ -83,7 +83,7 @@ fn weave(settled: &[usize], late: &[Late], all: &mut Vec<usize>)
     let _ = all.extend_from_slice(&settled[from..]);
 }
 
-/// Makes room for some late positions, up to 2,048.
+/// Makes room for the late positions among so many, of which 2,048 are enough.
 fn make_room(late: &mut Vec<Late>, wanted: usize) -> Result<(), AllocError>
     ensures items { late.new.items ≡ late.old.items }
     ensures len { vec_len late.new ≡ vec_len late.old }

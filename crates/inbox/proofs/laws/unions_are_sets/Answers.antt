@@ -1,5 +1,4 @@
 use Rattle.attributes.specs.Faults.{IsEvent}
-use Rattle.inbox.specs.KeyOrder.{key_cmp}
 use Rattle.inbox.proofs.OrderLemmas.{key_cmp_total, tied_events}
 use Rattle.inbox.proofs.SetLemmas.{has-add_all, union_comm, union_idem, union_assoc, sorted-in_order, all-in_order}
 use Rattle.inbox.proofs.laws.unions_are_sets.Goals as goal
