@@ -6,6 +6,8 @@
 #[cfg(test)]
 mod events;
 #[cfg(test)]
+mod inboxes;
+#[cfg(test)]
 mod json;
 #[cfg(test)]
 mod reports;

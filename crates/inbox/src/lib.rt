@@ -6,8 +6,6 @@ mod inbox;
 pub mod laws;
 mod places;
 mod search;
-#[cfg(test)]
-mod tests;
 
 pub use conflict::{Conflict, Conflicts};
 pub use inbox::{Back, Counts, Inbox, Short, Taken};
