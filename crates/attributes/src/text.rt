@@ -43,6 +43,13 @@ impl Text {
         Text { string }
     }
 
+    /// The text as a `String`, moved.
+    pub fn into_string(self) -> String
+        ensures { string_bytes result ≡ self }
+    {
+        self.string
+    }
+
     /// A text that is equal. Time and memory in proportion to its bytes.
     pub fn copy(&self) -> Result<Text, AllocError>
         ensures { IfOk result (λ t. t ≡ self.now) }

@@ -21,8 +21,8 @@ texts_in rows id = unwrap_or (all_of id rows) []
 abbrev pub HasTextsOf : List Row → Plan → Type 0
 HasTextsOf rows (plan.Ask query files) = files ≡ texts_in rows (codes "file")
 
--- clap's rule for the command finds no fault in the words, and the plan is that command with the texts
--- that the rule matches
+-- clap's rule for the command finds no fault in the words, and the plan is that command with the
+-- texts that the rule matches
 pub record IsPlanFor (words : List Text) (command : Command) (plan : Plan) : Type 0 where
   pub is_command : command_of plan ≡ command
   pub faultless : fault_of (app_for command) words ≡ []

@@ -11,7 +11,8 @@ AreContents R (name ∷ names) (bytes ∷ contents) = R name bytes × AreContent
 AreContents R _ _ = ⊥
 
 -- the name at the place is the first that was not read, and this is why; those before it were read
-pub record IsFirstUnread (R : List ℕ → List ℕ → Type 0) (U : List ℕ → Unread → Type 0) (names : List (List ℕ)) (at : UnreadAt) : Type 0 where
+pub record IsFirstUnread (R : List ℕ → List ℕ → Type 0) (U : List ℕ → Unread → Type 0)
+    (names : List (List ℕ)) (at : UnreadAt) : Type 0 where
   pub name : List ℕ
   pub is_there : slice_get names at.file ≡ Some name
   pub reason : U name at.why

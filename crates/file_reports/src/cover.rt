@@ -18,19 +18,18 @@ pub fn cover(alloc: Global, files: &[Octets]) -> Result<Text, Refused>
     ensures ok { IfOk result (IsReport Query.Cover files.now) }
     ensures err { IfErr result (IsRefusal files.now) }
 {
-    // The law that a text which tells the summary's numbers tells those of the events; it does nothing.
+    // The law that a text which tells the summary's numbers tells those of the events; it does
+    // nothing.
     numbers_tell_cover_texts();
     let summary = summary_of(alloc, files)?;
-    let text = summary.to_text()?;
-    Ok(lined(alloc, &text)?)
+    Ok(lined(summary.to_text()?)?)
 }
 
 /// The text, ended with LF.
-fn lined(alloc: Global, text: &Text) -> Result<Text, AllocError>
-    ensures { IfOk result (λ t. t ≡ line text.now) }
+fn lined(text: Text) -> Result<Text, AllocError>
+    ensures { IfOk result (λ t. t ≡ line text) }
 {
-    let mut string = String::new(alloc);
-    string.push_str(text.as_str())?;
+    let mut string = text.into_string();
     string.push_str("\n")?;
     Ok(Text::from_string(string))
 }

@@ -11,8 +11,8 @@ pub record Wrote (old new : Option (List ℕ)) (text rest : List ℕ) : Type 0 w
   pub split : text ≡ front ++ rest
   pub grown : Appends old new front
 
--- the stream grew by the text and the status is this one, or the writing failed: the stream grew by a
--- front of the text, and the status is 1
+-- the stream grew by the text and the status is this one, or the writing failed: the stream grew
+-- by a front of the text, and the status is 1
 abbrev pub Writes : ℕ → ℕ → Option (List ℕ) → Option (List ℕ) → List ℕ → Type 0
 Writes result status old new text = ((result ≡ status) × Appends old new text)
     ⊎ ((result ≡ 1) × (rest : List ℕ) × Wrote old new text rest)

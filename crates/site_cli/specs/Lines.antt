@@ -23,10 +23,11 @@ escape letter = 92 ∷ letter ∷ []
 -- a control character as `\u00` with two lower-case hexadecimal digits, any other as it is
 abbrev pub other_char : ℕ → List ℕ
 other_char c =
-    if is_control c then 92 ∷ 117 ∷ 48 ∷ 48 ∷ digit_char (c / 16 % 16) ∷ digit_char (c % 16) ∷ [] else encode_utf8 c
+    if is_control c then 92 ∷ 117 ∷ 48 ∷ 48 ∷ digit_char (c / 16 % 16) ∷ digit_char (c % 16) ∷ []
+    else encode_utf8 c
 
--- a control character as in a JSON string (RFC 8259, section 7), the usual ones as `\b`, `\t`, `\n`,
--- `\f`, `\r`; any other character as it is
+-- a control character as in a JSON string (RFC 8259, section 7), the usual ones as `\b`, `\t`,
+-- `\n`, `\f`, `\r`; any other character as it is
 abbrev pub name_char : ℕ → List ℕ
 name_char c =
     if c == 8 then escape 98 else if c == 9 then escape 116 else if c == 10 then escape 110

@@ -12,13 +12,15 @@ use Rattle.site_cli.specs.declared.ending.Ending.TheVariants as ending
 use Rattle.site_cli.specs.declared.line.Refusal.{Refusal}
 
 -- the words are a plan, and the text is its answer
-pub record AnswersWords (C : List ℕ → List ℕ → Type 0) (words : List (List ℕ)) (text : List ℕ) : Type 0 where
+pub record AnswersWords (C : List ℕ → List ℕ → Type 0) (words : List (List ℕ))
+    (text : List ℕ) : Type 0 where
   pub plan : Plan
   pub planned : IsPlan words plan
   pub answered : AnswersPlan C plan text
 
 -- the words are a plan that has no answer, and the text is the line that says why
-pub record RefusesWords (C : List ℕ → List ℕ → Type 0) (U : List ℕ → Unread → Type 0) (words : List (List ℕ)) (text : List ℕ) : Type 0 where
+pub record RefusesWords (C : List ℕ → List ℕ → Type 0) (U : List ℕ → Unread → Type 0)
+    (words : List (List ℕ)) (text : List ℕ) : Type 0 where
   pub plan : Plan
   pub planned : IsPlan words plan
   pub refusal : Refusal
@@ -44,7 +46,8 @@ IsEnding C U words ending.NoMemory = Unit {0}
 
 -- the run ended as the words come to; the streams are standard output, then standard error, before
 -- and after
-pub record RunsWords (C : List ℕ → List ℕ → Type 0) (U : List ℕ → Unread → Type 0) (words : List (List ℕ)) (status : ℕ) (out out' err err' : Option (List ℕ)) : Type 0 where
+pub record RunsWords (C : List ℕ → List ℕ → Type 0) (U : List ℕ → Unread → Type 0)
+    (words : List (List ℕ)) (status : ℕ) (out out' err err' : Option (List ℕ)) : Type 0 where
   pub ending : Ending
   pub is_ending : IsEnding C U words ending
   pub ends : Ends ending status out out' err err'
