@@ -22,7 +22,8 @@ pub fn cover(alloc: Global, files: &[Octets]) -> Result<Text, Refused>
     // nothing.
     numbers_tell_cover_texts();
     let summary = summary_of(alloc, files)?;
-    Ok(lined(summary.to_text()?)?)
+    let text = summary.to_text()?;
+    Ok(lined(text)?)
 }
 
 /// The text, ended with LF.
