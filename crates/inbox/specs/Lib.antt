@@ -1,0 +1,9 @@
+pub mod Ordered
+pub mod KeyOrder
+pub mod Sets
+pub mod Shown
+pub mod Conflicts
+pub mod Kept
+pub mod Codes
+pub mod Laws
+pub mod steps
