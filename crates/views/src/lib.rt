@@ -9,6 +9,8 @@ mod query;
 mod question;
 mod row;
 mod table;
+#[cfg(test)]
+mod tests;
 mod view;
 
 pub use day::Day;
