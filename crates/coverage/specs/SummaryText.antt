@@ -1,5 +1,6 @@
 -- The text of a summary, version 1: our own, a JSON object without white space (RFC 8259).
-use Rattle.std.specs.Prelude.{ℕ, List, [], ◌∷◌, codes}
+use Rattle.std.specs.Prelude.{ℕ, List, [], ◌∷◌, codes, decimal}
+use Rattle.json.specs.Token as token
 use Rattle.serde_json.specs.Data.{unsigned, Data, number, array, object, Items, no_items, item}
 use Rattle.serde_json.specs.Data.{Members, no_members, member}
 use Rattle.serde_json.specs.Written.{compact_text}
@@ -14,6 +15,13 @@ interval_data p = array (item (number (unsigned p.0)) (item (number (unsigned p.
 abbrev pub intervals_items : List Interval → Items
 intervals_items [] = no_items
 intervals_items (p ∷ ps) = item (interval_data p) (intervals_items ps)
+
+-- the JSON tokens of such arrays
+abbrev pub intervals_tokens : List Interval → List token.Token
+intervals_tokens [] = []
+intervals_tokens (p ∷ ps) =
+    token.begin_array ∷ token.number (decimal p.0) ∷ token.number (decimal p.1) ∷ token.end_array
+    ∷ intervals_tokens ps
 
 -- a member for each source, with its intervals
 abbrev pub sources_members : Sources → Members

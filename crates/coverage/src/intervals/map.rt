@@ -81,7 +81,7 @@ impl Intervals {
     }
 
     /// Whether no number is held.
-    pub(crate) fn is_empty(&self) -> bool
+    pub fn is_empty(&self) -> bool
         ensures { IsTrue result ↔ (self.now ≡ []) }
     {
         self.starts.is_empty()

@@ -1,0 +1,55 @@
+-- Lines answer questions, and a question has one answer in lines.
+use Rattle.std.proofs.Common.{◌≡◌, ℕ, Bool, List, refl, sym, subst, ap, ◌∙◌}
+use Rattle.attributes.specs.Event.{EventValue}
+use Rattle.coverage.specs.CoverText.{IsCoverText}
+use Rattle.coverage.specs.Summary.{Sources, IsSummary, holds_at}
+use Rattle.inbox.specs.Conflicts.{conflicts}
+use Rattle.inbox.specs.Shown.{shown}
+use Rattle.views.specs.Latest.{latest}
+use Rattle.views.specs.Line.{AreDayLines, conflict_lines, event_lines, gap_lines, kind_lines, line}
+use Rattle.views.specs.Law.{AnswersAreOne, LinesAreAnswers}
+use Rattle.views.specs.Number.{has_number}
+use Rattle.views.specs.Question.{AreLines, IsAnswer, IsTrueOf, query_of}
+use Rattle.views.specs.Tally.{days, kinds}
+use Rattle.views.specs.declared.query.Query.{Query}
+use Rattle.views.specs.declared.query.Query.TheVariants as query
+use Rattle.views.specs.declared.query.Answer.{Answer}
+use Rattle.views.specs.declared.query.Answer.TheVariants as answer
+use Rattle.views.proofs.GapLemmas.{gaps_are_one}
+use Rattle.views.proofs.LineLemmas.{day_lines_one}
+
+-- the numbers tell the text, whichever way they are told
+abbrev pub CoverTextsAlike : Type 0
+CoverTextsAlike =
+    (has had : List ℕ → ℕ → Bool) (t : List ℕ) → ((source : List ℕ) (n : ℕ) → has source n ≡ had source n)
+    → IsCoverText has t → IsCoverText had t
+
+abbrev pub CoverTextsOne : Type 0
+CoverTextsOne =
+    (has had : List ℕ → ℕ → Bool) (t u : List ℕ) → ((source : List ℕ) (n : ℕ) → has source n ≡ had source n)
+    → IsCoverText has t → IsCoverText had u → t ≡ u
+
+abbrev pub SummariesOne : Type 0
+SummariesOne =
+    (s t : Sources) → IsSummary s → IsSummary t → ((source : List ℕ) (n : ℕ) → holds_at s source n ≡ holds_at t source n) → s ≡ t
+
+own_lines : CoverTextsAlike → (E : List EventValue) (a : Answer) (text : List ℕ) → IsTrueOf E a → AreLines a text → IsAnswer (query_of a) E text
+own_lines alike E (answer.Cover summary) text true lines = (lines.0, alike (holds_at summary) (has_number E) lines.0 true lines.1, lines.2)
+own_lines alike E (answer.Shown events) text true lines = lines ∙ ap event_lines true
+own_lines alike E (answer.Conflicts rows) text true lines = lines ∙ ap conflict_lines true
+own_lines alike E (answer.Latest events) text true lines = lines ∙ ap event_lines true
+own_lines alike E (answer.Kinds rows) text true lines = lines ∙ ap kind_lines true
+own_lines alike E (answer.Days rows) text true lines = subst (λ r. AreDayLines r text) true lines
+own_lines alike E (answer.Gaps rows) text true lines = (rows, true, lines)
+
+pub lines_are_answers : CoverTextsAlike → LinesAreAnswers
+lines_are_answers alike query E a text asked true lines = subst (λ q. IsAnswer q E text) asked (own_lines alike E a text true lines)
+
+pub answers_are_one : CoverTextsOne → SummariesOne → AnswersAreOne
+answers_are_one told known query.Cover E t u a b = a.2 ∙ ap line (told (has_number E) (has_number E) a.0 b.0 (λ s n. refl) a.1 b.1) ∙ sym b.2
+answers_are_one told known query.Shown E t u a b = a ∙ sym b
+answers_are_one told known query.Conflicts E t u a b = a ∙ sym b
+answers_are_one told known query.Latest E t u a b = a ∙ sym b
+answers_are_one told known query.Kinds E t u a b = a ∙ sym b
+answers_are_one told known query.Days E t u a b = day_lines_one (days E) t u a b
+answers_are_one told known query.Gaps E t u a b = a.2 ∙ ap gap_lines (gaps_are_one known E a.0 b.0 a.1 b.1) ∙ sym b.2

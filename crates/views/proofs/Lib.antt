@@ -1,0 +1,10 @@
+pub mod TableLemmas
+pub mod StepLemmas
+pub mod ListLemmas
+pub mod DayLemmas
+pub mod LatestLemmas
+pub mod OrderLemmas
+pub mod GapLemmas
+pub mod LineLemmas
+pub mod GreatestLemmas
+pub mod AnswerLemmas

@@ -1,0 +1,53 @@
+-- The latest shown event of each source and subject. E is a set of events, a list in key order.
+use Rattle.std.specs.Prelude.{ℕ, List, Bool, false, Option, Some, None, if◌then◌else◌, filter, fold}
+use Rattle.std.specs.declared.cmp.Ordering.{Ordering}
+use Rattle.std.specs.Ordering.{is_eq, is_lt, nat_cmp, ordering_then}
+use Rattle.std.specs.List.{filter_map}
+use Rattle.std.specs.Option.{option_map, option_map_or}
+use Rattle.attributes.specs.Bytes.{byte_cmp}
+use Rattle.attributes.specs.Event.{EventValue, id_of, source_of, subject_of}
+use Rattle.attributes.specs.Sequence.{number_of}
+use Rattle.inbox.specs.Ordered.{in_order}
+use Rattle.inbox.specs.Shown.{shown}
+
+-- the greater of what there is and x; what there is, where they tie
+abbrev pub greater : {K : Type 0} → (K → K → Ordering) → Option K → K → K
+greater R None x = x
+greater R (Some y) x = if is_lt (R y x) then x else y
+
+-- the greatest of the items, the first of those that tie
+abbrev pub greatest : {K : Type 0} → (K → K → Ordering) → List K → Option K
+greatest R xs = fold (λ best x. Some (greater R best x)) None xs
+
+-- the source and the subject of an event that has a subject: its thread
+abbrev pub thread_of : EventValue → Option (List ℕ × List ℕ)
+thread_of e = option_map (λ subject. (source_of e, subject)) (subject_of e)
+
+-- by source, then subject
+abbrev pub thread_cmp : List ℕ × List ℕ → List ℕ × List ℕ → Ordering
+thread_cmp x y = ordering_then (byte_cmp x.0 y.0) (byte_cmp x.1 y.1)
+
+-- whether the event is of the thread
+abbrev pub is_of : List ℕ × List ℕ → EventValue → Bool
+is_of thread e = option_map_or (λ own. is_eq (thread_cmp thread own)) (thread_of e) false
+
+-- the number of an event, and 0 where it has none
+abbrev pub number_or_0 : EventValue → ℕ
+number_or_0 e = option_map_or (λ n. n) (number_of e) 0
+
+-- by number, then id
+abbrev pub number_cmp : EventValue → EventValue → Ordering
+number_cmp e f =
+    ordering_then (nat_cmp (number_or_0 e) (number_or_0 f)) (byte_cmp (id_of e) (id_of f))
+
+-- the threads of the events, each once and in order
+abbrev pub threads_of : List EventValue → List (List ℕ × List ℕ)
+threads_of events = in_order thread_cmp (filter_map thread_of events)
+
+-- the latest of the events that are of the thread: the greatest by number, then id
+abbrev pub latest_of : List EventValue → List ℕ × List ℕ → Option EventValue
+latest_of events thread = greatest number_cmp (filter (is_of thread) events)
+
+-- thread by thread, the latest shown event
+abbrev pub latest : List EventValue → List EventValue
+latest E = filter_map (latest_of (shown E)) (threads_of (shown E))

@@ -1,0 +1,44 @@
+-- What holds of answers.
+use Rattle.std.specs.Prelude.{◌≡◌, ℕ, List, ◌&&◌, true, false, Some, Contains}
+use Rattle.std.specs.List.{list_any}
+use Rattle.std.specs.Ordering.{is_lt}
+use Rattle.attributes.specs.Event.{EventValue}
+use Rattle.inbox.specs.KeyOrder.{key_cmp}
+use Rattle.inbox.specs.Ordered.{has}
+use Rattle.inbox.specs.Sets.{AreEvents, set_of}
+use Rattle.views.specs.Latest.{is_of, latest_of, number_cmp}
+use Rattle.views.specs.Question.{AreLines, IsAnswer, IsTrueOf, query_of}
+use Rattle.views.specs.declared.query.Query.{Query}
+use Rattle.views.specs.declared.query.Answer.{Answer}
+
+-- e is one of the events, of the thread, and no event of the thread is greater by number, then id
+pub record IsLatest (events : List EventValue)
+    (thread : List ℕ × List ℕ) (e : EventValue) : Type 0 where
+  pub is_there : Contains events e
+  pub of_thread : is_of thread e ≡ true
+  pub greatest : list_any (λ f. is_of thread f && is_lt (number_cmp e f)) events ≡ false
+
+-- what is found as the latest is
+abbrev pub LatestAreGreatest : Type 0
+LatestAreGreatest =
+    (events : List EventValue) (thread : List ℕ × List ℕ) (e : EventValue)
+    → latest_of events thread ≡ Some e → IsLatest events thread e
+
+-- the lines of a true answer to a question answer it
+abbrev pub LinesAreAnswers : Type 0
+LinesAreAnswers =
+    (query : Query) (E : List EventValue) (a : Answer) (text : List ℕ)
+    → query_of a ≡ query → IsTrueOf E a → AreLines a text → IsAnswer query E text
+
+-- a question has one text over a set
+abbrev pub AnswersAreOne : Type 0
+AnswersAreOne =
+    (query : Query) (E : List EventValue) (text other : List ℕ)
+    → IsAnswer query E text → IsAnswer query E other → text ≡ other
+
+-- and over the sets of two lists that have the same events, in whatever order and repetition
+abbrev pub AnswersAreAlike : Type 0
+AnswersAreAlike =
+    (query : Query) (A B : List EventValue) (text other : List ℕ) → AreEvents A → AreEvents B
+    → ((e : EventValue) → has key_cmp A e ≡ has key_cmp B e)
+    → IsAnswer query (set_of A) text → IsAnswer query (set_of B) other → text ≡ other

@@ -1,0 +1,25 @@
+-- The gaps of a summary, entry by entry.
+use Rattle.std.specs.Prelude.{◌≡◌, List, [], ◌∷◌, Bool, true, false, filter}
+use Rattle.coverage.specs.Intervals.{Interval, Forms, IsMissing}
+use Rattle.coverage.specs.Summary.{Entry, Sources}
+
+-- whether there is an interval
+abbrev pub has_any : List Interval → Bool
+has_any [] = false
+has_any (p ∷ ps) = true
+
+-- whether the source has a gap
+abbrev pub has_gap : Entry → Bool
+has_gap row = has_any row.1
+
+-- for each entry the source with what is missing of its numbers
+abbrev pub AreMissing : Sources → Sources → Type 0
+AreMissing [] [] = Unit {0}
+AreMissing (e ∷ es) (row ∷ rows) =
+    (row.0 ≡ e.0) × Forms row.1 (IsMissing e.1) × AreMissing es rows
+AreMissing _ _ = ⊥
+
+-- the same, without the sources that lack nothing
+abbrev pub AreGapsOf : Sources → Sources → Type 0
+AreGapsOf entries rows =
+    (all : Sources) × AreMissing entries all × (rows ≡ filter has_gap all)

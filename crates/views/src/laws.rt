@@ -1,0 +1,25 @@
+//! Laws of answers, each as the contract of a function that does nothing.
+
+ghost use Rattle.views.specs.Law.{AnswersAreAlike, AnswersAreOne, LatestAreGreatest, LinesAreAnswers};
+
+use coverage::laws::{numbers_tell_cover_texts, numbers_tell_summaries};
+use inbox::laws::sets_are_members;
+
+/// What is found as the latest event of a source and subject is one of theirs, and none is greater
+/// by number, then id.
+pub fn latest_are_greatest()
+    ensures { LatestAreGreatest }
+{}
+
+/// The lines of a true answer to a question answer it; a question has one text over a set of events;
+/// and where two lists have the same events, in whatever order and repetition, it has one text over
+/// the sets of both, byte for byte.
+pub fn answers_are_alike()
+    ensures written { LinesAreAnswers }
+    ensures one { AnswersAreOne }
+    ensures alike { AnswersAreAlike }
+{
+    numbers_tell_cover_texts();
+    numbers_tell_summaries();
+    sets_are_members();
+}

@@ -1,0 +1,19 @@
+//! Questions about a set of events, answered from scratch, and their answers in lines.
+#![tactic(auto)]
+
+mod day;
+pub mod laws;
+mod line;
+mod number;
+mod query;
+mod question;
+mod row;
+mod table;
+#[cfg(test)]
+mod tests;
+mod view;
+
+pub use day::Day;
+pub use query::{Answer, Query};
+pub use question::{answer, print};
+pub use row::{DayCount, Days, Gap, Gaps, KindCount, Kinds};

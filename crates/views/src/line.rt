@@ -1,0 +1,226 @@
+//! Answers in lines.
+
+ghost use Rattle.std.specs.Prelude.{◌≡◌, ◌++◌, IfOk, OnOk, List, ℕ, map, string_bytes};
+ghost use Rattle.std.specs.List.{join_with_byte};
+ghost use Rattle.attributes.specs.Event.{text};
+ghost use Rattle.jiff_core.specs.Date.{epoch_day};
+ghost use Rattle.serde_json.specs.Written.{compact_text};
+ghost use Rattle.views.specs.Day.{IsDayText};
+ghost use Rattle.views.specs.Line.{AreDayLines, IsCoverLine, IsDayLine, conflict_line, conflict_lines, day_data, event_lines, gap_data, gap_line, gap_lines, kind_data, kind_line, kind_lines, line, string_text};
+ghost use Rattle.views.specs.steps.Joined.{separated};
+
+use crate::day::Day;
+use crate::row::{DayCount, Days, Gap, Gaps, KindCount, Kinds};
+use attributes::{Batch, Text};
+use coverage::{Intervals, Summary};
+use inbox::{Conflict, Conflicts};
+use jiff::civil;
+use jiff_core::civil::Date;
+use json::Writer;
+use std::alloc::{AllocError, Global};
+
+/// Adds a line.
+fn end_line(out: &mut String, text: &str) -> Result<(), AllocError>
+    ensures { OnOk result (string_bytes out.new ≡ string_bytes out.old ++ line text.now) }
+{
+    out.push_str(text)?;
+    out.push_str("\n")
+}
+
+/// The text of a summary, in a line.
+pub(crate) fn print_cover(alloc: Global, summary: &Summary) -> Result<Text, AllocError>
+    ensures { IfOk result (IsCoverLine summary.now) }
+{
+    let mut out = String::new(alloc);
+    end_line(&mut out, summary.to_text()?.as_str())?;
+    Ok(Text::from_string(out))
+}
+
+/// The canonical texts of events, one a line. Time and memory in proportion to them.
+pub(crate) fn print_events(alloc: Global, events: &Batch) -> Result<Text, AllocError>
+    ensures { IfOk result (λ t. t ≡ event_lines events.now) }
+{
+    let mut out = String::new(alloc);
+    for i in 0..events.len() {
+        end_line(&mut out, events.at(i).event().text())?;
+    }
+    Ok(Text::from_string(out))
+}
+
+/// Adds a text, with a comma before it unless it is the first.
+fn push_text(out: &mut String, is_first: bool, text: &str) -> Result<(), AllocError>
+    ensures { OnOk result (string_bytes out.new
+        ≡ string_bytes out.old ++ separated is_first text.now) }
+{
+    if !is_first {
+        out.push_str(",")?;
+    }
+    out.push_str(text)
+}
+
+/// Adds the canonical texts of events, joined by commas.
+fn push_texts(out: &mut String, events: &Batch) -> Result<(), AllocError>
+    ensures { OnOk result (string_bytes out.new
+        ≡ string_bytes out.old ++ join_with_byte 44 (map text events.now)) }
+{
+    for i in 0..events.len() {
+        push_text(out, i == 0, events.at(i).event().text())?;
+    }
+    Ok(())
+}
+
+/// A text as a JSON string.
+fn string_text(alloc: Global, words: &str) -> Result<Text, AllocError>
+    ensures { IfOk result (λ t. t ≡ string_text words.now) }
+{
+    let mut out = Writer::new(Vec::new(alloc));
+    out.string(words)?;
+    let text = String::from_utf8(out.into_inner()).unwrap();
+    Ok(Text::from_string(text))
+}
+
+/// Adds the line of a conflict. The canonical texts are added as they are.
+fn add_conflict(alloc: Global, out: &mut String, row: &Conflict) -> Result<(), AllocError>
+    ensures { OnOk result (string_bytes out.new ≡ string_bytes out.old ++ conflict_line row.now) }
+{
+    let id = string_text(alloc, row.id.as_str())?;
+    let source = string_text(alloc, row.source.as_str())?;
+    out.push_str("{\"events\":[")?;
+    push_texts(out, &row.events)?;
+    out.push_str("],\"id\":")?;
+    out.push_str(id.as_str())?;
+    out.push_str(",\"source\":")?;
+    out.push_str(source.as_str())?;
+    out.push_str("}")?;
+    out.push_str("\n")?;
+    Ok(())
+}
+
+/// For each conflict `{"events":[T1,T2,..],"id":ID,"source":SOURCE}` in a line. Time and memory in
+/// proportion to the texts.
+pub(crate) fn print_conflicts(alloc: Global, rows: &Conflicts) -> Result<Text, AllocError>
+    ensures { IfOk result (λ t. t ≡ conflict_lines rows.now) }
+{
+    let mut out = String::new(alloc);
+    for i in 0..rows.len() {
+        add_conflict(alloc, &mut out, rows.at(i))?;
+    }
+    Ok(Text::from_string(out))
+}
+
+/// The text `["TYPE",N]`.
+fn kind_text(alloc: Global, kind: &str, count: u64) -> Result<Text, AllocError>
+    ensures { IfOk result (λ t. t ≡ compact_text (kind_data kind.now count)) }
+{
+    let mut out = Writer::new(Vec::new(alloc));
+    out.begin_array()?;
+    out.string(kind)?;
+    out.u64(count)?;
+    out.end_array()?;
+    let text = String::from_utf8(out.into_inner()).unwrap();
+    Ok(Text::from_string(text))
+}
+
+/// Adds the line of a type.
+fn add_kind(alloc: Global, out: &mut String, row: &KindCount) -> Result<(), AllocError>
+    ensures { OnOk result (string_bytes out.new ≡ string_bytes out.old ++ kind_line row.now) }
+{
+    let text = kind_text(alloc, row.0.as_str(), row.1)?;
+    end_line(out, text.as_str())
+}
+
+/// For each row `["TYPE",N]` in a line.
+pub(crate) fn print_kinds(alloc: Global, kinds: &Kinds) -> Result<Text, AllocError>
+    ensures { IfOk result (λ t. t ≡ kind_lines kinds.now) }
+{
+    let mut out = String::new(alloc);
+    for i in 0..kinds.len() {
+        add_kind(alloc, &mut out, kinds.at(i))?;
+    }
+    Ok(Text::from_string(out))
+}
+
+/// The date that has the day number.
+fn date_of(day: Day) -> civil::Date
+    ensures { epoch_day result ≡ day }
+{
+    let date = Date::from_unix_epoch_day(day.number() as i64).unwrap();
+    civil::Date::from_plain(date)
+}
+
+/// The day as YYYY-MM-DD.
+fn day_text(alloc: Global, day: Day) -> Result<String, AllocError>
+    ensures { IfOk result (λ t. IsDayText day (string_bytes t)) }
+{
+    let date = date_of(day);
+    Ok(format!(in alloc; "{date}")?)
+}
+
+/// The text `["TYPE","YYYY-MM-DD",N]`.
+fn day_row_text(alloc: Global, kind: &str, day: &str, count: u64) -> Result<Text, AllocError>
+    ensures { IfOk result (λ t. t ≡ compact_text (day_data kind.now day.now count)) }
+{
+    let mut out = Writer::new(Vec::new(alloc));
+    out.begin_array()?;
+    out.string(kind)?;
+    out.string(day)?;
+    out.u64(count)?;
+    out.end_array()?;
+    let text = String::from_utf8(out.into_inner()).unwrap();
+    Ok(Text::from_string(text))
+}
+
+/// Adds the line of a type and a day.
+fn add_day(alloc: Global, out: &mut String, row: &DayCount) -> Result<(), AllocError>
+    ensures { OnOk result ((l : List ℕ) × IsDayLine row.now l
+        × (string_bytes out.new ≡ string_bytes out.old ++ l)) }
+{
+    let day = day_text(alloc, row.0.1)?;
+    let text = day_row_text(alloc, row.0.0.as_str(), day.as_str(), row.1)?;
+    end_line(out, text.as_str())
+}
+
+/// For each row `["TYPE","YYYY-MM-DD",N]` in a line.
+pub(crate) fn print_days(alloc: Global, days: &Days) -> Result<Text, AllocError>
+    ensures { IfOk result (AreDayLines days.now) }
+{
+    let mut out = String::new(alloc);
+    for i in 0..days.len() {
+        add_day(alloc, &mut out, days.at(i))?;
+    }
+    Ok(Text::from_string(out))
+}
+
+/// The text `["SOURCE",[[a,b],..]]`.
+fn gap_text(alloc: Global, source: &str, missing: &Intervals) -> Result<Text, AllocError>
+    ensures { IfOk result (λ t. t ≡ compact_text (gap_data (source.now, missing.now))) }
+{
+    let mut out = Writer::new(Vec::new(alloc));
+    out.begin_array()?;
+    out.string(source)?;
+    out.begin_array()?;
+    missing.write(&mut out)?;
+    out.end_array()?;
+    out.end_array()?;
+    let text = String::from_utf8(out.into_inner()).unwrap();
+    Ok(Text::from_string(text))
+}
+
+/// Adds the line of a source with its gaps.
+fn add_gap(alloc: Global, out: &mut String, row: &Gap) -> Result<(), AllocError>
+    ensures { OnOk result (string_bytes out.new ≡ string_bytes out.old ++ gap_line row.now) }
+{
+    let text = gap_text(alloc, row.0.as_str(), &row.1)?;
+    end_line(out, text.as_str())
+}
+
+/// For each row `["SOURCE",[[a,b],..]]` in a line.
+pub(crate) fn print_gaps(alloc: Global, gaps: &Gaps) -> Result<Text, AllocError>
+    ensures { IfOk result (λ t. t ≡ gap_lines gaps.now) }
+{
+    let mut out = String::new(alloc);
+    for i in 0..gaps.len() {
+        add_gap(alloc, &mut out, gaps.at(i))?;
+    }
+    Ok(Text::from_string(out))
+}

@@ -1,0 +1,114 @@
+//! Tables of what events have, by key. Keys are lent by the events.
+
+ghost use Rattle.std.specs.Prelude.{◌≡◌, ◌+◌, ◌<◌, ◌^◌, IfOk, OnOk, filter_map, map, Some};
+ghost use Rattle.std.specs.BTreeMap.{get, insert_entry};
+ghost use Rattle.std.specs.Option.{option_copied, option_map_or};
+ghost use Rattle.std.specs.Ordering.{is_lt};
+ghost use Rattle.attributes.specs.Bytes.{byte_cmp};
+ghost use Rattle.attributes.specs.Event.{kind_of};
+ghost use Rattle.views.specs.Latest.{greater, number_cmp};
+ghost use Rattle.views.specs.Tally.{day_cmp, kind_and_day, tally};
+ghost use Rattle.views.specs.steps.Rows.{latest_rows};
+
+use crate::day::Day;
+use attributes::Sequenced;
+use std::alloc::{AllocError, Global};
+use std::collections::BTreeMap;
+
+/// Counts the key once more. Time logarithmic in the keys.
+fn count<K: Ord + Drop>(table: &mut BTreeMap<K, u64>, key: K) -> Result<(), AllocError>
+    requires { option_map_or (λ n. n) (get K.cmp table.old key) 0 + 1 < 2 ^ 64 }
+    ensures { OnOk result (table.new.entries ≡ insert_entry K.cmp table.old.entries key
+        (option_map_or (λ n. n) (get K.cmp table.old key) 0 + 1)) }
+{
+    let before = match table.get(&key) {
+        Some(count) => *count,
+        None => 0,
+    };
+    table.insert(key, before + 1)?;
+    Ok(())
+}
+
+/// How many of the events have each type.
+pub(crate) fn by_kind<'a>(
+    alloc: Global,
+    list: &[&'a Sequenced],
+) -> Result<BTreeMap<&'a str, u64>, AllocError>
+    ensures { IfOk result (λ table. map (λ e. (e.0.now, e.1)) table.entries
+        ≡ tally byte_cmp (map (λ e. kind_of e.now) list.now)) }
+{
+    let mut table = BTreeMap::new(alloc);
+    for event in list {
+        count(&mut table, event.event().kind())?;
+    }
+    Ok(table)
+}
+
+/// How many of the events that have a time have each type and day.
+pub(crate) fn by_day<'a>(
+    alloc: Global,
+    list: &[&'a Sequenced],
+) -> Result<BTreeMap<(&'a str, Day), u64>, AllocError>
+    ensures { IfOk result (λ table. map (λ e. ((e.0.0.now, e.0.1), e.1)) table.entries
+        ≡ tally day_cmp (filter_map (λ e. kind_and_day e.now) list.now)) }
+{
+    let mut table = BTreeMap::new(alloc);
+    for event in list {
+        let event = event.event();
+        match Day::of_event(event) {
+            Some(day) => count(&mut table, (event.kind(), day))?,
+            None => {}
+        }
+    }
+    Ok(table)
+}
+
+/// Whether the event comes before the other by number, then id.
+fn is_earlier(event: &Sequenced, other: &Sequenced) -> bool
+    ensures { result ≡ is_lt (number_cmp event.now other.now) }
+{
+    let numbers = event.number().number().cmp(&other.number().number());
+    numbers
+        .then(event.event().id().cmp(other.event().id()))
+        .is_lt()
+}
+
+/// The later of two events, the one at hand where they tie.
+fn later<'a>(before: Option<&'a Sequenced>, event: &'a Sequenced) -> &'a Sequenced
+    ensures { result.now ≡ greater number_cmp (option_copied before.entry) event.now }
+{
+    match before {
+        None => event,
+        Some(before) => {
+            if is_earlier(before, event) {
+                event
+            } else {
+                before
+            }
+        }
+    }
+}
+
+/// The latest of the events of each source and subject.
+pub(crate) fn by_thread<'a>(
+    alloc: Global,
+    list: &[&'a Sequenced],
+) -> Result<BTreeMap<(&'a str, &'a str), &'a Sequenced>, AllocError>
+    ensures { IfOk result (λ table.
+        map (λ e. ((e.0.0.now, e.0.1.now), Some e.1.now)) table.entries
+        ≡ latest_rows (map (λ e. e.now) list.now)) }
+{
+    let mut table: BTreeMap<(&'a str, &'a str), &'a Sequenced> = BTreeMap::new(alloc);
+    for event in list {
+        let event: &'a Sequenced = *event;
+        match event.event().subject() {
+            Some(subject) => {
+                let thread = (event.event().source(), subject);
+                let latest = later(table.get(&thread).copied(), event);
+                table.insert(thread, latest)?;
+            }
+            None => {}
+        }
+    }
+    Ok(table)
+}

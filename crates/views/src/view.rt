@@ -1,0 +1,91 @@
+//! What the shown events are asked: types, days and the latest.
+
+ghost use Rattle.std.specs.Prelude.{◌≡◌, IfOk, map};
+ghost use Rattle.inbox.specs.Kept.{events};
+ghost use Rattle.inbox.specs.Shown.{shown};
+ghost use Rattle.views.specs.Latest.{latest};
+ghost use Rattle.views.specs.Tally.{days, kinds};
+
+use crate::day::Day;
+use crate::row::{Days, Kinds};
+use crate::table::{by_day, by_kind, by_thread};
+use attributes::{Batch, Sequenced, Text};
+use inbox::Inbox;
+use std::alloc::{AllocError, Global};
+use std::collections::BTreeMap;
+
+/// The shown events, in key order, lent.
+fn shown_events<'a>(alloc: Global, inbox: &'a Inbox) -> Result<Vec<&'a Sequenced>, AllocError>
+    ensures { IfOk result (λ list. map (λ e. e.now) list.items ≡ shown (events inbox.now)) }
+{
+    let mut list = Vec::new(alloc);
+    for i in 0..inbox.len() {
+        if inbox.is_shown(i) {
+            list.push(inbox.at(i))?;
+        }
+    }
+    Ok(list)
+}
+
+/// How many shown events have each type, the types in byte order. Time in proportion to the events,
+/// times the logarithm of their number; a type is copied once.
+pub(crate) fn count_kinds(alloc: Global, inbox: &Inbox) -> Result<Kinds, AllocError>
+    ensures { IfOk result (λ rows. rows ≡ kinds (events inbox.now)) }
+{
+    let shown = shown_events(alloc, inbox)?;
+    let table = by_kind(alloc, &shown)?;
+    Ok(listed_kinds(alloc, &table)?)
+}
+
+/// The rows of a table of types.
+fn listed_kinds(alloc: Global, table: &BTreeMap<&str, u64>) -> Result<Kinds, AllocError>
+    ensures { IfOk result (λ rows. rows ≡ map (λ e. (e.0.now, e.1)) table.now.entries) }
+{
+    let mut rows = Kinds::empty(alloc);
+    for (kind, count) in table {
+        rows.push((Text::of(alloc, kind)?, *count))?;
+    }
+    Ok(rows)
+}
+
+/// How many shown events with a time have each type and UTC day, by type, then day. Time as for
+/// `count_kinds`.
+pub(crate) fn count_days(alloc: Global, inbox: &Inbox) -> Result<Days, AllocError>
+    ensures { IfOk result (λ rows. rows ≡ days (events inbox.now)) }
+{
+    let shown = shown_events(alloc, inbox)?;
+    let table = by_day(alloc, &shown)?;
+    Ok(listed_days(alloc, &table)?)
+}
+
+/// The rows of a table of types and days.
+fn listed_days(alloc: Global, table: &BTreeMap<(&str, Day), u64>) -> Result<Days, AllocError>
+    ensures { IfOk result (λ rows. rows ≡ map (λ e. ((e.0.0.now, e.0.1), e.1)) table.now.entries) }
+{
+    let mut rows = Days::empty(alloc);
+    for (key, count) in table {
+        rows.push(((Text::of(alloc, key.0)?, key.1), *count))?;
+    }
+    Ok(rows)
+}
+
+/// The latest shown event of each source and subject, by source, then subject. Time as for
+/// `count_kinds`, and in proportion to the events that are copied.
+pub(crate) fn find_latest(alloc: Global, inbox: &Inbox) -> Result<Batch, AllocError>
+    ensures { IfOk result (λ batch. batch ≡ latest (events inbox.now)) }
+{
+    let shown = shown_events(alloc, inbox)?;
+    let table = by_thread(alloc, &shown)?;
+    Ok(copied(alloc, &table)?)
+}
+
+/// Copies of the events of a table.
+fn copied(alloc: Global, table: &BTreeMap<(&str, &str), &Sequenced>) -> Result<Batch, AllocError>
+    ensures { IfOk result (λ batch. batch ≡ map (λ e. e.1.now) table.now.entries) }
+{
+    let mut batch = Batch::empty(alloc);
+    for entry in table {
+        batch.push(entry.1.copy()?)?;
+    }
+    Ok(batch)
+}
