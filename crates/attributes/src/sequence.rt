@@ -1,6 +1,7 @@
 //! Sequence numbers, and events that have one.
 
 ghost use Rattle.std.specs.Prelude.{◌≡◌, ◌≤◌, ℕ, if◌then◌else◌, IfErr, IfOk, None, Some, option_and_then, option_map};
+ghost use Rattle.attributes.specs.Fault.{IsEvent};
 ghost use Rattle.attributes.specs.Event.{scalar_of, words_of};
 ghost use Rattle.attributes.specs.Sequence.{fault_at, is_sequence, number_of, sequence_fault, sequence_of};
 
@@ -137,6 +138,7 @@ impl Sequenced {
     pub fn of(event: Event) -> Result<Sequenced, Unsequenced>
         ensures ok { IfOk result (λ s. s ≡ event) }
         ensures numbered { IfOk result (λ s. (n : ℕ) × (number_of event ≡ Some n)) }
+        ensures event { IfOk result (λ s. IsEvent s) }
         ensures refused { IfErr result (λ u. number_of event ≡ None) }
         ensures handed_back { IfErr result (λ u. u.event ≡ event) }
         ensures fault { IfErr result (λ u. u.fault ≡ sequence_fault event) }

@@ -5,8 +5,8 @@ ghost use Rattle.command_words.specs.Commands.{app_for, files_rule, word_of};
 ghost use Rattle.command_words.specs.declared.command.Command.{Command};
 
 use crate::argument::files;
-use file_reports::Query;
 use std::alloc::{AllocError, Global};
+use views::Query;
 
 /// A command of the program.
 #[derive(Clone, Copy, Debug, PartialEq, Eq)]
@@ -28,7 +28,15 @@ pub struct Row<'a> {
 }
 
 /// The words of all commands, in the order in which help lists them.
-pub const WORDS: [&str; 2] = ["cover", "shown"];
+pub const WORDS: [&str; 7] = [
+    "cover",
+    "gaps",
+    "shown",
+    "latest",
+    "kinds",
+    "days",
+    "conflicts",
+];
 
 /// The table: the row of a word.
 pub fn row_of<'a>(word: &str) -> Option<Row<'a>>
@@ -41,13 +49,43 @@ pub fn row_of<'a>(word: &str) -> Option<Row<'a>>
             command: Command::Ask(Query::Cover),
             word: "cover",
             full_name: "site cover",
-            about: "Prints the summary of the files' events: the numbers of each source",
+            about: "Prints which numbers each source has, as a summary that sites compare",
+        }),
+        "gaps" => Some(Row {
+            command: Command::Ask(Query::Gaps),
+            word: "gaps",
+            full_name: "site gaps",
+            about: "Prints which numbers each source lacks, to see what was lost on the way",
         }),
         "shown" => Some(Row {
             command: Command::Ask(Query::Shown),
             word: "shown",
             full_name: "site shown",
-            about: "Prints the files' events, of each source and id the one with the least text",
+            about: "Prints the events, of each source and id the one with the least text",
+        }),
+        "latest" => Some(Row {
+            command: Command::Ask(Query::Latest),
+            word: "latest",
+            full_name: "site latest",
+            about: "Prints the latest event of each source and subject, as its state now",
+        }),
+        "kinds" => Some(Row {
+            command: Command::Ask(Query::Kinds),
+            word: "kinds",
+            full_name: "site kinds",
+            about: "Prints how many shown events have each type, as a count of what happened",
+        }),
+        "days" => Some(Row {
+            command: Command::Ask(Query::Days),
+            word: "days",
+            full_name: "site days",
+            about: "Prints how many shown events have each type and UTC day, for a report by day",
+        }),
+        "conflicts" => Some(Row {
+            command: Command::Ask(Query::Conflicts),
+            word: "conflicts",
+            full_name: "site conflicts",
+            about: "Prints the events that share a source and id, to find producers at fault",
         }),
         _ => None,
     }

@@ -1,6 +1,6 @@
 //! What the words of the command line ask for.
 use attributes::Texts;
-use file_reports::Query;
+use views::Query;
 
 /// What the words ask for: a command and the texts of its arguments.
 #[derive(Drop)]

@@ -1,20 +1,25 @@
 -- Files that spell events with numbers, one more at a time.
-use Rattle.std.proofs.Common.{◌≡◌, ℕ, List, [], ◌∷◌, ◌++◌, true, None, length, refl, sym, ap, ap₂, ◌∙◌, ◌≢◌, ◌+◌, take, inl, inr, append_assoc}
+use Rattle.std.proofs.Common.{◌≡◌, ℕ, List, [], ◌∷◌, ◌++◌, true, None, length, refl, sym, subst, ap, ap₂, ◌∙◌, ◌≢◌, ◌+◌, take, inl, inr, append_assoc}
 use Rattle.std.proofs.Math.Seq.{take-append_seam}
 use Rattle.std.specs.Prelude.{◌||◌, ◌&&◌, Some, is_some, slice_get}
 use Rattle.std.specs.List.{list_all}
 use Rattle.std.proofs.lemmas.List.{flat_map_more}
-use Rattle.std.proofs.lemmas.List.Folds.{list_all-append, list_any-append}
+use Rattle.std.proofs.lemmas.List.Folds.{list_all-append}
 use Rattle.attributes.specs.Event.{EventValue}
+use Rattle.attributes.specs.Fault.{IsEvent}
 use Rattle.event_json.specs.Reading.{Reads}
-use Rattle.coverage.specs.Summary.{Sources, holds_at}
+use Rattle.inbox.specs.Kept.{Adds, Kept}
+use Rattle.inbox.specs.KeyOrder.{key_cmp}
+use Rattle.inbox.specs.Ordered.{add_all}
+use Rattle.inbox.specs.Sets.{AreEvents, set_of}
+use Rattle.std.specs.BTreeSet.{insert_key}
 use Rattle.attributes.specs.Sequence.{number_of, sequence_fault}
 use Rattle.attributes.specs.declared.fault.Fault.{Fault}
-use Rattle.file_reports.proofs.CountLemmas.{take_next}
+use Rattle.file_reports.proofs.ListLemmas.{take_next}
 use Rattle.file_reports.specs.declared.refusal.ReportFault.{ReportFault}
 use Rattle.file_reports.specs.declared.refusal.ReportFault.TheVariants.{OutOfMemory, Read, Event}
-use Rattle.file_reports.specs.steps.Counts.{CountsFiles}
-use Rattle.file_reports.specs.Reports.{AreSequenced, EachReads, IsFault, IsRefusal, IsUnnumberedAt, has_number, is_numbered, joined}
+use Rattle.file_reports.specs.steps.Intake.{KeepsFiles}
+use Rattle.file_reports.specs.Reports.{AreSequenced, EachReads, IsFault, IsRefusal, IsUnnumberedAt, joined}
 
 pub EachReads-more : (files : List (List ℕ)) (lists : List (List EventValue)) (file : List ℕ) (events : List EventValue)
     → EachReads files lists → Reads file events → AreSequenced events → EachReads (files ++ file ∷ []) (lists ++ events ∷ [])
@@ -26,17 +31,23 @@ EachReads-more (f ∷ fs) (l ∷ ls) file events h r s = (h.0, h.1, EachReads-mo
 pub joined-more : (lists : List (List EventValue)) (events : List EventValue) → joined (lists ++ events ∷ []) ≡ joined lists ++ events
 joined-more lists events = sym (flat_map_more (λ (l : List EventValue). l) [] lists events)
 
--- a file more was counted
-pub CountsFiles-more : (files : List (List ℕ)) (file : List ℕ) (events : List EventValue) (old new : Sources) → CountsFiles files old
-    → Reads file events → AreSequenced events
-    → ((source : List ℕ) (n : ℕ) → holds_at new source n ≡ (holds_at old source n || has_number events source n))
-    → CountsFiles (files ++ file ∷ []) new
-CountsFiles-more files file events old new h r s grown = (
-  h.0 ++ events ∷ [],
-  EachReads-more files h.0 file events h.1 r s,
-  λ source n. grown source n ∙ ap (λ b. b || has_number events source n) (h.2 source n)
-      ∙ sym (list_any-append (λ e. is_numbered e source n) (joined h.0) events)
-      ∙ ap (λ (l : List EventValue). has_number l source n) (sym (joined-more h.0 events)),
+-- items are added one list after the other
+add_all-append : (E xs ys : List EventValue) → add_all key_cmp E (xs ++ ys) ≡ add_all key_cmp (add_all key_cmp E xs) ys
+add_all-append E [] ys = refl
+add_all-append E (x ∷ xs) ys = add_all-append (insert_key key_cmp E x) xs ys
+
+AreEvents-append : (xs ys : List EventValue) → AreEvents xs → AreEvents ys → AreEvents (xs ++ ys)
+AreEvents-append [] ys h k = k
+AreEvents-append (x ∷ xs) ys h k = (h.0, AreEvents-append xs ys h.1 k)
+
+-- a file more was taken
+pub KeepsFiles-more : (files : List (List ℕ)) (file : List ℕ) (L : List EventValue) (old new : Kept) → KeepsFiles files old
+    → Reads file L → AreSequenced L → AreEvents L → Adds L old new → KeepsFiles (files ++ file ∷ []) new
+KeepsFiles-more files file L old new h r s are added = (
+  h.0 ++ L ∷ [],
+  EachReads-more files h.0 file L h.1 r s,
+  subst AreEvents (sym (joined-more h.0 L)) (AreEvents-append (joined h.0) L h.2 are),
+  added ∙ ap (λ E. add_all key_cmp E L) h.3 ∙ sym (add_all-append [] (joined h.0) L) ∙ ap (λ l. set_of l) (sym (joined-more h.0 L)),
 )
 
 -- an event more has a number
@@ -78,6 +89,9 @@ module _ (done rest left events : List EventValue) (e : EventValue) (next : rest
       let p = λ (x : EventValue). is_some (number_of x) in
       ap (list_all p) (pushed ∙ ap (λ (x : EventValue). done ++ x ∷ []) same)
       ∙ (list_all-append p done (e ∷ []) ∙ (ap (λ b. b && list_all p (e ∷ [])) numbered ∙ ap (λ o. is_some o && true) has))
+
+  pub events_more : (more : List EventValue) (f : EventValue) → more ≡ done ++ f ∷ [] → AreEvents done → IsEvent f → AreEvents more
+  events_more more f pushed are is = subst AreEvents (sym pushed) (AreEvents-append done (f ∷ []) are (is, tt))
 
   pub unnumbered_here : (i : ℕ) (why : Fault) → i ≡ length done → number_of e ≡ None → why ≡ sequence_fault e → IsUnnumberedAt events i why
   unnumbered_here i why at none reason = record {

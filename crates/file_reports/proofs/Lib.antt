@@ -1,6 +1,4 @@
 mod AlikeLemmas
-mod CountLemmas
 mod FileLemmas
-mod FirstsLemmas
+mod ListLemmas
 mod ShelfLemmas
-mod ShownLemmas

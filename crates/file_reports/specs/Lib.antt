@@ -1,5 +1,4 @@
 pub mod Numbers
 pub mod Shelves
-pub mod Shown
 pub mod Reports
 pub mod steps

@@ -1,14 +1,13 @@
 -- Answers to questions about the events of files.
-use Rattle.std.specs.Prelude.{◌≡◌, ◌==◌, ◌&&◌, ◌⊎◌, ◌↔◌, ◌++◌, Contains, ℕ, List, [], ◌∷◌, Bool, true, false, None, Option, Some, bytes_eq, is_some, slice_get, take}
-use Rattle.std.specs.List.{flat_map, list_all, list_any}
-use Rattle.attributes.specs.Event.{EventValue, source_of}
+use Rattle.std.specs.Prelude.{◌≡◌, ◌⊎◌, ◌↔◌, Contains, ℕ, List, [], ◌∷◌, true, None, Some, is_some, slice_get, take}
+use Rattle.std.specs.List.{flat_map, list_all}
+use Rattle.attributes.specs.Event.{EventValue}
 use Rattle.attributes.specs.Sequence.{number_of, sequence_fault}
 use Rattle.attributes.specs.declared.fault.Fault.{Fault}
 use Rattle.event_json.specs.Reading.{Refuses, Reads}
-use Rattle.coverage.specs.CoverText.{IsCoverText}
-use Rattle.file_reports.specs.declared.query.Query.{Query}
-use Rattle.file_reports.specs.Shown.{AreShown, Row}
-use Rattle.file_reports.specs.declared.query.Query.TheVariants.{Cover, Shown}
+use Rattle.inbox.specs.Sets.{set_of}
+use Rattle.views.specs.Question.{IsAnswer}
+use Rattle.views.specs.declared.query.Query.{Query}
 use Rattle.file_reports.specs.declared.refusal.ReportFault.{ReportFault}
 use Rattle.file_reports.specs.declared.refusal.ReportFault.TheVariants as fault
 use Rattle.file_reports.specs.declared.refusal.Refused.{Refused}
@@ -32,37 +31,11 @@ joined lists = flat_map (λ events. events) lists
 
 -- ---- the answers
 
-abbrev pub is_number : Option ℕ → ℕ → Bool
-is_number None n = false
-is_number (Some m) n = n == m
-
--- whether an event has the source and the number
-abbrev pub is_numbered : EventValue → List ℕ → ℕ → Bool
-is_numbered e source n = bytes_eq source (source_of e) && is_number (number_of e) n
-
--- whether one of the events has the source and the number
-abbrev pub has_number : List EventValue → List ℕ → ℕ → Bool
-has_number events source n = list_any (λ e. is_numbered e source n) events
-
--- a line ends with LF
-abbrev pub line : List ℕ → List ℕ
-line text = text ++ 10 ∷ []
-
--- the line of a shown event
-abbrev pub text_line : Row → List ℕ
-text_line row = line row.2
-
--- the text answers the question about the events
-abbrev pub IsAnswer : Query → List EventValue → List ℕ → Type 0
-IsAnswer Cover events text =
-    (summary : List ℕ) × IsCoverText (has_number events) summary × (text ≡ line summary)
-IsAnswer Shown events text =
-    (rows : List Row) × AreShown events rows × (text ≡ flat_map text_line rows)
-
--- the text answers the question about the events of the files, which all spell events with numbers
+-- the files all spell events with numbers, and the text answers the question about the set of these
+-- events
 abbrev pub IsReport : Query → List (List ℕ) → List ℕ → Type 0
 IsReport query files text = (lists : List (List EventValue)) × EachReads files lists
-    × IsAnswer query (joined lists) text
+    × IsAnswer query (set_of (joined lists)) text
 
 -- the event is one of those that the files spell
 abbrev pub HoldsEvent : List (List ℕ) → EventValue → Type 0

@@ -1,3 +1,2 @@
 -- What private clauses alone use.
-pub mod Counts
-pub mod Rows
+pub mod Intake

@@ -2,19 +2,19 @@
 ghost use Rattle.std.specs.Prelude.{◌≡◌, ℕ, List, IfErr, IfOk};
 ghost use Rattle.file_reports.specs.Reports.{HoldSameEvents, IsReport, IsRefusal};
 
-use crate::cover::cover;
-use crate::listing::shown_lines;
-use crate::query::Query;
+use crate::intake::inbox_of;
 use crate::refusal::Refused;
 use attributes::{Octets, Text};
-use coverage::laws::numbers_tell_cover_texts;
 use event_json::readings_are_one;
 use std::alloc::Global;
+use views::laws::answers_are_alike;
+use views::{Query, answer, print};
 
-/// The answer to a question about the events of all files together, in lines that end with LF.
+/// The answer to a question about the set of the events of all files, in lines that end with LF.
 ///
 /// The files are judged in their order; in a file a fault of its text comes before an event without
-/// a number. Time in proportion to the files' bytes, but for a logarithmic factor in the numbers.
+/// a number. Time in proportion to the files' bytes, and n log n in their events; the events of all
+/// files are held at once, each once.
 pub fn report(alloc: Global, query: Query, files: &[Octets]) -> Result<Text, Refused>
     ensures ok { IfOk result (IsReport query files.now) }
     ensures err { IfErr result (IsRefusal files.now) }
@@ -25,9 +25,9 @@ pub fn report(alloc: Global, query: Query, files: &[Octets]) -> Result<Text, Ref
 {
     // Two laws that `alike` rests on; they do nothing.
     readings_are_one();
-    numbers_tell_cover_texts();
-    match query {
-        Query::Cover => cover(alloc, files),
-        Query::Shown => shown_lines(alloc, files),
-    }
+    answers_are_alike();
+    let inbox = inbox_of(alloc, files)?;
+    let found = answer(alloc, &inbox, query)?;
+    let text = print(alloc, &found)?;
+    Ok(text)
 }

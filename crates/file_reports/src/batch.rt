@@ -1,6 +1,7 @@
 //! The events of one file, each with its number.
 ghost use Rattle.std.specs.Prelude.{◌≡◌, ◌≢◌, IfErr, IfOk};
 ghost use Rattle.event_json.specs.Reading.{Reads};
+ghost use Rattle.inbox.specs.Sets.{AreEvents};
 ghost use Rattle.file_reports.specs.Reports.{AreSequenced, IsFault, IsUnnumbered};
 
 use crate::refusal::ReportFault;
@@ -13,6 +14,7 @@ use std::alloc::Global;
 pub fn batch_of_file(alloc: Global, bytes: &[u8]) -> Result<Batch, ReportFault>
     ensures reads { IfOk result (λ events. Reads bytes.now events) }
     ensures numbered { IfOk result (λ events. AreSequenced events) }
+    ensures events { IfOk result (λ events. AreEvents events) }
     ensures fault { IfErr result (λ why. why ≢ ReportFault.OutOfMemory → IsFault bytes.now why) }
 {
     match read_events(alloc, bytes) {
@@ -26,6 +28,7 @@ pub fn batch_of_file(alloc: Global, bytes: &[u8]) -> Result<Batch, ReportFault>
 fn sequenced(alloc: Global, events: Events) -> Result<Batch, ReportFault>
     ensures same { IfOk result (λ batch. batch ≡ events) }
     ensures numbered { IfOk result (λ batch. AreSequenced batch) }
+    ensures events { IfOk result (λ batch. AreEvents batch) }
     ensures fault { IfErr result (λ why. why ≢ ReportFault.OutOfMemory
         → IsUnnumbered events why) }
 {

@@ -3,15 +3,13 @@
 
 mod answer;
 mod batch;
-mod cover;
 mod input;
-mod listing;
-mod query;
+mod intake;
 mod refusal;
 mod shelf;
 
 pub use answer::report;
 pub use input::{Unread, read_all};
-pub use query::Query;
 pub use refusal::{Refused, ReportFault};
 pub use shelf::{Shelf, UnreadAt, contents_of};
+pub use views::Query;

@@ -6,7 +6,7 @@ use Rattle.command_words.specs.declared.request.Plan.TheVariants as plan
 use Rattle.file_reports.specs.Shelves.{AreContents, IsUnreadAt}
 use Rattle.file_reports.specs.Reports.{IsRefusal, IsReport}
 use Rattle.file_reports.specs.declared.input.Unread.{Unread}
-use Rattle.file_reports.specs.declared.query.Query.{Query}
+use Rattle.views.specs.declared.query.Query.{Query}
 use Rattle.site_cli.specs.declared.line.Refusal.{Refusal}
 use Rattle.site_cli.specs.declared.line.Refusal.TheVariants as refusal
 

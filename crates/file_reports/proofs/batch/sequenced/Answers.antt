@@ -1,4 +1,4 @@
-use Rattle.file_reports.proofs.FileLemmas.{numbered_more, unnumbered_here, whole_more}
+use Rattle.file_reports.proofs.FileLemmas.{events_more, numbered_more, unnumbered_here, whole_more}
 use Rattle.file_reports.proofs.batch.sequenced.Goals as goal
 
 pub loop-event-preserved : goal.loop-event-preserved
@@ -10,6 +10,7 @@ loop-event-preserved c =
     let next = c.in-Some.ensures.steps.0 in record {
       whole = whole_more done rest left c.args.events e next c.loop-event.invariant.whole c.loop-event.invariant.numbered c.push.new.self c.in-Ok.event c.in_ok-push-in-Ok.ensures.ok c.in-Ok.ensures.ok;
       numbered = numbered_more done rest left c.args.events e next c.loop-event.invariant.whole c.loop-event.invariant.numbered c.push.new.self c.in-Ok.event c.in-Ok.ensures.numbered.0 c.in_ok-push-in-Ok.ensures.ok c.in-Ok.ensures.ok c.in-Ok.ensures.numbered.1;
+      events = events_more done rest left c.args.events e next c.loop-event.invariant.whole c.loop-event.invariant.numbered c.push.new.self c.in-Ok.event c.in_ok-push-in-Ok.ensures.ok c.loop-event.invariant.events c.in-Ok.ensures.event;
     }
 
 pub returns-in-Err-clause-fault : goal.returns-in-Err-clause-fault

@@ -1,4 +1,5 @@
 use Rattle.std.proofs.Common.{◌≡◌, ◌++◌}
+use Rattle.inbox.specs.Sets.{AreEvents}
 use Rattle.file_reports.specs.Reports.{AreSequenced}
 use Rattle.file_reports.proofs.batch.sequenced.Given as goal
 
@@ -6,4 +7,5 @@ abbrev pub invariant-loop-event : goal.invariant-loop-event
 invariant-loop-event l = record {
   whole : l.batch ++ l.event-iterator.rest.items ≡ l.fn.events;
   numbered : AreSequenced l.batch;
+  events : AreEvents l.batch;
 }

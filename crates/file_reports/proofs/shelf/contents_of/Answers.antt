@@ -2,7 +2,7 @@ use Rattle.std.proofs.Common.{◌≡◌, ◌∙◌, ℕ, List, [], ◌∷◌, �
 use Rattle.std.specs.Prelude.{Some, slice_get}
 use Rattle.std.proofs.lemmas.Option.{slice_get_read}
 use Rattle.file_reports.specs.Shelves.{AreContents}
-use Rattle.file_reports.proofs.CountLemmas.{take_next}
+use Rattle.file_reports.proofs.ListLemmas.{take_next}
 use Rattle.file_reports.proofs.ShelfLemmas.{AreContents-more}
 use Rattle.file_reports.proofs.shelf.contents_of.Goals as goal
 

@@ -1,13 +1,10 @@
 use Rattle.std.proofs.Common.{◌≡◌, ◌∙◌, ℕ, List, [], ap, sym, subst, take, length, arith, refl}
 use Rattle.std.specs.Prelude.{Some, slice_get}
 use Rattle.std.proofs.lemmas.Option.{slice_get_read}
-use Rattle.file_reports.specs.steps.Counts.{CountsFiles}
-use Rattle.file_reports.proofs.CountLemmas.{take_next}
-use Rattle.file_reports.proofs.FileLemmas.{CountsFiles-more, refusal_by}
-use Rattle.file_reports.proofs.cover.summary_of.Goals as goal
-
-pub loop-file-init : goal.loop-file-init
-loop-file-init c = ([], tt, λ source n. c.empty-summary.ensures.members source n)
+use Rattle.file_reports.specs.steps.Intake.{KeepsFiles}
+use Rattle.file_reports.proofs.ListLemmas.{take_next}
+use Rattle.file_reports.proofs.FileLemmas.{KeepsFiles-more, refusal_by}
+use Rattle.file_reports.proofs.intake.inbox_of.Goals as goal
 
 pub returns-in-Err-clause-err : goal.returns-in-Err-clause-err
 returns-in-Err-clause-err c =
@@ -23,6 +20,6 @@ loop-file-preserved c =
     let there : slice_get files c.loop-file.file ≡ Some c.as_bytes.result.now =
     slice_get_read files (length files) c.loop-file.file c.index-files-file.result refl (omega arith) c.index-files-file.is
     ∙ ap (λ (x : List ℕ). Some x) (sym c.as_bytes.ensures.value) in
-    subst (λ (fs : List (List ℕ)). CountsFiles fs c.add_numbers.new.summary) (sym (take_next files c.loop-file.file c.as_bytes.result.now there))
-    (CountsFiles-more (take c.loop-file.file files) c.as_bytes.result.now c.in-Ok.batch c.loop-file.summary c.add_numbers.new.summary
-    c.loop-file.invariant c.in-Ok.ensures.reads c.in-Ok.ensures.numbered c.in_ok-add_numbers-in-Ok.ensures)
+    subst (λ (fs : List (List ℕ)). KeepsFiles fs c.take_all.new.inbox) (sym (take_next files c.loop-file.file c.as_bytes.result.now there))
+    (KeepsFiles-more (take c.loop-file.file files) c.as_bytes.result.now c.in-Ok.batch c.loop-file.inbox c.take_all.new.inbox
+    c.loop-file.invariant c.in-Ok.ensures.reads c.in-Ok.ensures.numbered c.in-Ok.ensures.events c.in_ok-take_all-in-Ok.ensures)
