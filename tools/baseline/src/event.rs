@@ -27,10 +27,21 @@ pub enum Fault {
     BadSequence,
 }
 
+/// A day of the calendar, in UTC.
+#[derive(Clone, Copy, PartialEq, Eq, PartialOrd, Ord)]
+pub struct Day {
+    year: u32,
+    month: u32,
+    day: u32,
+}
+
 /// An event with what the questions ask of it.
 pub struct Event {
     pub source: String,
     pub id: String,
+    pub kind: String,
+    pub subject: Option<String>,
+    pub day: Option<Day>,
     pub sequence: Result<u64, Fault>,
     pub text: String,
 }
@@ -54,52 +65,90 @@ fn number(bytes: &[u8]) -> Option<u32> {
     Some(number)
 }
 
-/// Whether the text is a time whose UTC day lies in the years 0000 to 9999.
-fn is_time(text: &str) -> Option<()> {
-    let b = text.as_bytes();
-    if b.len() < 20 || b[4] != b'-' || b[7] != b'-' || !matches!(b[10], b'T' | b't') || b[13] != b':' || b[16] != b':' {
-        return None;
-    }
-    let (year, month, day) = (number(&b[..4])?, number(&b[5..7])?, number(&b[8..10])?);
-    let (hour, minute, second) = (number(&b[11..13])?, number(&b[14..16])?, number(&b[17..19])?);
+fn days_in(year: u32, month: u32) -> u32 {
     let leap = year % 4 == 0 && (year % 100 != 0 || year % 400 == 0);
-    let days = match month {
+    match month {
         1 | 3 | 5 | 7 | 8 | 10 | 12 => 31,
         4 | 6 | 9 | 11 => 30,
         2 if leap => 29,
         2 => 28,
-        _ => return None,
-    };
-    if day < 1 || day > days || hour > 23 || minute > 59 || second > 60 {
-        return None;
+        _ => 0,
     }
-    let mut rest = &b[19..];
-    if rest[0] == b'.' {
-        let digits = rest[1..].iter().take_while(|byte| byte.is_ascii_digit()).count();
-        if digits == 0 {
-            return None;
-        }
-        rest = &rest[1 + digits..];
-    }
-    let offset = match rest {
-        [b'Z' | b'z'] => 0,
+}
+
+/// Seconds that the local clock is ahead of UTC.
+fn offset(zone: &[u8]) -> Option<i64> {
+    match zone {
+        [b'Z' | b'z'] => Some(0),
         [sign @ (b'+' | b'-'), h1, h2, b':', m1, m2] => {
             let (hours, minutes) = (number(&[*h1, *h2])?, number(&[*m1, *m2])?);
             if hours > 23 || minutes > 59 {
                 return None;
             }
-            let offset = (hours * 3600 + minutes * 60) as i64;
-            if *sign == b'+' { offset } else { -offset }
+            let seconds = i64::from(hours * 3600 + minutes * 60);
+            Some(if *sign == b'+' { seconds } else { -seconds })
         }
-        _ => return None,
-    };
-    let clock = i64::from(hour * 3600 + minute * 60 + second.min(59)) - offset;
-    let is_first = year == 0 && month == 1 && day == 1;
-    let is_last = year == 9999 && month == 12 && day == 31;
-    if (is_first && clock < 0) || (is_last && clock >= 86_400) {
-        return None;
+        _ => None,
     }
-    Some(())
+}
+
+impl Day {
+    /// The UTC day of a time of RFC 3339, where it lies in the years 0000 to 9999.
+    fn of(text: &str) -> Option<Day> {
+        let b = text.as_bytes();
+        if b.len() < 20 || b[4] != b'-' || b[7] != b'-' || !matches!(b[10], b'T' | b't') || b[13] != b':' || b[16] != b':' {
+            return None;
+        }
+        let (year, month, day) = (number(&b[..4])?, number(&b[5..7])?, number(&b[8..10])?);
+        let (hour, minute, second) = (number(&b[11..13])?, number(&b[14..16])?, number(&b[17..19])?);
+        if day < 1 || day > days_in(year, month) || hour > 23 || minute > 59 || second > 60 {
+            return None;
+        }
+        let mut rest = &b[19..];
+        if rest[0] == b'.' {
+            let digits = rest[1..].iter().take_while(|byte| byte.is_ascii_digit()).count();
+            if digits == 0 {
+                return None;
+            }
+            rest = &rest[1 + digits..];
+        }
+        let local = Day { year, month, day };
+        match i64::from(hour * 3600 + minute * 60 + second.min(59)) - offset(rest)? {
+            ..=-1 => local.before(),
+            0..=86_399 => Some(local),
+            86_400.. => local.after(),
+        }
+    }
+
+    fn before(self) -> Option<Day> {
+        let Day { year, month, day } = self;
+        if day > 1 {
+            Some(Day { day: day - 1, ..self })
+        } else if month > 1 {
+            Some(Day { year, month: month - 1, day: days_in(year, month - 1) })
+        } else {
+            Some(Day { year: year.checked_sub(1)?, month: 12, day: 31 })
+        }
+    }
+
+    fn after(self) -> Option<Day> {
+        let Day { year, month, day } = self;
+        if day < days_in(year, month) {
+            Some(Day { day: day + 1, ..self })
+        } else if month < 12 {
+            Some(Day { year, month: month + 1, day: 1 })
+        } else if year < 9999 {
+            Some(Day { year: year + 1, month: 1, day: 1 })
+        } else {
+            None
+        }
+    }
+}
+
+impl std::fmt::Display for Day {
+    fn fmt(&self, f: &mut std::fmt::Formatter<'_>) -> std::fmt::Result {
+        write!(f, "{:04}-{:02}-{:02}", self.year, self.month, self.day)
+    }
 }
 
 fn is_value(value: &Value) -> bool {
@@ -136,8 +185,11 @@ fn is_within(value: &Value, depth: usize) -> bool {
     }
 }
 
-fn words(members: &Map<String, Value>, name: &str) -> String {
-    members[name].as_str().unwrap_or_default().to_owned()
+fn take(members: &mut Map<String, Value>, name: &str) -> Option<String> {
+    match members.remove(name)? {
+        Value::String(text) => Some(text),
+        _ => None,
+    }
 }
 
 fn sequence_of(value: Option<&Value>) -> Result<u64, Fault> {
@@ -175,9 +227,10 @@ impl Event {
         if !may_be("subject", is_filled) {
             return Err(Fault::Subject);
         }
-        if !may_be("time", |value| value.as_str().and_then(is_time).is_some()) {
-            return Err(Fault::Time);
-        }
+        let day = match members.get("time") {
+            Some(time) => Some(time.as_str().and_then(Day::of).ok_or(Fault::Time)?),
+            None => None,
+        };
         for (name, fault) in [("datacontenttype", Fault::ContentType), ("dataschema", Fault::Schema)] {
             if !may_be(name, is_filled) {
                 return Err(fault);
@@ -198,15 +251,19 @@ impl Event {
             (Some(data), None) if !is_within(data, MAX_DEPTH) => return Err(Fault::TooDeep),
             _ => {}
         }
-        let event = Event {
-            source: words(&members, "source"),
-            id: words(&members, "id"),
-            sequence: sequence_of(members.get("sequence")),
-            text: serde_json::to_string(&Value::Object(members)).unwrap(),
-        };
-        if event.text.len() > MAX_TEXT {
+        let sequence = sequence_of(members.get("sequence"));
+        let text = serde_json::to_string(&members).unwrap();
+        if text.len() > MAX_TEXT {
             return Err(Fault::TooLarge);
         }
-        Ok(event)
+        Ok(Event {
+            source: take(&mut members, "source").ok_or(Fault::Source)?,
+            id: take(&mut members, "id").ok_or(Fault::Id)?,
+            kind: take(&mut members, "type").ok_or(Fault::Kind)?,
+            subject: take(&mut members, "subject"),
+            day,
+            sequence,
+            text,
+        })
     }
 }
