@@ -4,10 +4,13 @@
     tools/make_shapes.py --sources descending > shape.json
 
 Each event has a source of its own where --sources is asked for, and the number 1; with --numbers all
-events have one source, and numbers that descend, or that no two of touch and that are shuffled.
+events have one source, and numbers that descend, or that no two of touch and that are shuffled. With
+--texts all events have one source and id and different texts; with --subject they have one source and
+subject; with --types and --days each event has a type or a day of its own.
 The shapes are the same for everybody (the seed is an option).
 """
 import argparse
+import datetime
 import random
 import sys
 
@@ -21,25 +24,43 @@ def order(kind, count, dice):
     return places
 
 
+def event(place, options):
+    """The event of a place in the order that was asked for."""
+    key, source, kind, number, more = place, "/s", "t", place + 1, ""
+    if options.sources:
+        source, number = f"/s/{place:06d}", 1
+    elif options.numbers == "scattered":
+        number = place * 2 + 1
+    elif options.texts:
+        key = "k"
+    elif options.subject:
+        more = ',"subject":"s"'
+    elif options.types:
+        kind = f"t{place:06d}"
+    elif options.days:
+        more = f',"time":"{datetime.date.min + datetime.timedelta(days=place)}T12:00:00Z"'
+    return (
+        f'{{"specversion":"1.0","id":"{key}","source":"{source}","type":"{kind}","sequence":"{number:020d}"{more}}}'
+    )
+
+
 def main():
     parser = argparse.ArgumentParser(description=__doc__, formatter_class=argparse.RawTextHelpFormatter)
     shape = parser.add_mutually_exclusive_group(required=True)
     shape.add_argument("--sources", choices=["ascending", "descending", "shuffled"])
     shape.add_argument("--numbers", choices=["ascending", "descending", "scattered"])
+    for name in ("--texts", "--subject", "--types", "--days"):
+        shape.add_argument(name, choices=["ascending", "descending", "shuffled"])
     parser.add_argument("--events", type=int, default=240_000)
     parser.add_argument("--seed", type=int, default=1)
     options = parser.parse_args()
     dice = random.Random(options.seed)
-    step = 2 if options.numbers == "scattered" else 1
+    kinds = (options.sources, options.numbers, options.texts, options.subject, options.types, options.days)
     out = sys.stdout
     out.write("[")
-    for count, place in enumerate(order(options.sources or options.numbers, options.events, dice)):
-        source = f"/s/{place:06d}" if options.sources else "/s"
-        number = 1 if options.sources else place * step + 1
+    for count, place in enumerate(order(next(filter(None, kinds)), options.events, dice)):
         out.write(",\n" if count else "\n")
-        out.write(
-            f'{{"specversion":"1.0","id":"{place}","source":"{source}","type":"t","sequence":"{number:020d}"}}'
-        )
+        out.write(event(place, options))
     out.write("\n]\n")
 
 

@@ -1,12 +1,14 @@
 #!/usr/bin/env python3
 """Runs two programs over many small files, many of them at fault, and compares what they print and how they end.
 
-usage: tools/second_opinion.py PROGRAM OTHER [--files N] [--seed N]
+usage: tools/second_opinion.py PROGRAM OTHER [--files N] [--seed N] [--commands COMMAND ..]
 
-The programs are `site` as the gate builds it and the plain Rust program in tools/baseline. The files are made of a
-good event by up to three changes: other values, names, times, numbers, encodings, repeated members, cut or garbled
-bytes. Each is given to `cover` and to `shown`. Prints a line for each difference and keeps its file; the exit status
-is 1 where there was one.
+The programs are `site` as the gate builds it and the plain Rust program in tools/baseline. Half of the files are made
+of a good event by up to three changes: other values, names, times, numbers, encodings, repeated members, cut or garbled
+bytes. The other half are batches of good events that meet: few sources, ids, types, subjects and numbers, so that there
+are conflicts, repeated events and gaps, and times near the ends of days in many zones; one in ten of these has a change
+of the first sort. Each is given to each command, at times with the file before it; the commands are `cover` and `shown`
+where none is named. Prints a line for each difference and keeps its files; the exit status is 1 where there was one.
 """
 import argparse
 import json
@@ -40,6 +42,17 @@ SEQUENCES = [
     '00000000000000000001', '00000000000000000000', '09223372036854775807', '09223372036854775808',
     '99999999999999999999', '1', '000000000000000000001', '0000000000000000000a', '+0000000000000000001', '',
 ]
+# What the good events of a batch share, so that they meet.
+SOURCES = ['/orders', '/orders/a', '/Orders', '/é', '/"q"', '/\uffff', '/\U0001f600']
+IDS = ['1', '10', '2', 'a1', 'é', '\\', '\uffff', '\U0001f600']
+KINDS = ['t.a', 't', 't.b', 'T.a', 'té', '"t"', 't\uffff', 't\U0001f600']
+SUBJECTS = ['s', 's/1', 'S', 'é', '\\', '\uffff', '\U0001f600']
+DATES = [
+    '2024-02-28', '2024-02-29', '2024-03-01', '2023-02-28', '2023-03-01', '2000-02-29', '1900-02-28', '1900-03-01',
+    '2024-12-31', '2025-01-01', '2024-04-30', '2024-05-01', '2024-07-15', '0000-01-02', '0000-02-29', '9999-12-30',
+]
+CLOCKS = ['00:00:00', '00:00:59', '00:59:60', '12:00:00.5', '23:59:59', '23:59:60', '23:59:60.999', '23:00:00']
+ZONES = ['Z', 'z', '+00:00', '-00:00', '+00:01', '-00:01', '+01:00', '-01:00', '+23:59', '-23:59', '+05:30', '-08:00']
 CODED = ['', 'AA==', 'AA=', 'AA', 'AB==', 'AAAA', 'AAA=', 'AAB=', 'A A=', '////', '____', '====', 'AA==AA==', 'é', 'aGVsbG8=']
 GARBLED = [b'\xef\xbb\xbf', b'\xff', b'\x00', b'\xc0\x80', b'\xed\xa0\x80', b',', b'}', b']', b' ', b'\n\t', b'//', b'"']
 
@@ -65,10 +78,8 @@ def member(dice):
     return dice.choice(NAMES), dice.choice(VALUES)
 
 
-def event(dice):
-    """The JSON text of an object that is an event, or nearly one."""
-    members = [('specversion', '"1.0"'), ('id', '"a1"'), ('source', '"/orders"'), ('type', '"t.a"'),
-               ('sequence', '"%020d"' % dice.randrange(1, 9))]
+def changed(dice, members):
+    """The members with up to three changes."""
     for _ in range(dice.choice([0, 1, 1, 1, 2, 3])):
         change = dice.randrange(4)
         made = member(dice)
@@ -81,15 +92,72 @@ def event(dice):
             members.insert(dice.randrange(len(members) + 1), made)
         if not members:
             break
+    return members
+
+
+def written(dice, members):
+    """The JSON text of the object with these members, in their order."""
     space = dice.choice(['', '', '', ' ', '\n'])
     return '{' + (',' + space).join(words(name) + ':' + space + value for name, value in members) + '}'
 
 
+def event(dice):
+    """The JSON text of an object that is an event, or nearly one."""
+    return written(dice, changed(dice, [
+        ('specversion', '"1.0"'), ('id', '"a1"'), ('source', '"/orders"'), ('type', '"t.a"'),
+        ('sequence', '"%020d"' % dice.randrange(1, 9))]))
+
+
+def time(dice):
+    if dice.random() < 0.1:
+        return dice.choice(['0000-01-01T00:00:00Z', '0000-01-01T00:01:00+00:01', '9999-12-31T23:58:59-00:01',
+                            '9999-12-31T23:59:60Z', '2000-02-29t12:00:00.5z'])
+    return dice.choice(DATES) + dice.choice('TTTt') + dice.choice(CLOCKS) + dice.choice(ZONES)
+
+
+def good_members(dice, variety):
+    """The members of a good event, each of the first few values."""
+    def one_of(values):
+        return words(dice.choice(values[:variety]))
+
+    numbers = dice.choice([range(1, 4), range(1, 12), range(1, 40), [2**63 - 1, 2**63 - 3]])
+    members = [('specversion', '"1.0"'), ('id', one_of(IDS)), ('source', one_of(SOURCES)), ('type', one_of(KINDS)),
+               ('sequence', '"%020d"' % dice.choice(numbers))]
+    for name, value, share in [
+            ('subject', one_of(SUBJECTS), 0.7), ('time', words(time(dice)), 0.7),
+            ('note', dice.choice(['true', '0', '"a"', 'null']), 0.2), ('data', '{"b":[1],"a":null}', 0.2)]:
+        if dice.random() < share:
+            members.insert(dice.randrange(len(members) + 1), (name, value))
+    return members
+
+
+def good_batch(dice):
+    """The JSON texts of good events that meet: the same ones again, some with members in another order, and others of
+    the same source and id."""
+    variety = dice.choice([1, 2, 3, 8])
+    drawn = [good_members(dice, variety) for _ in range(dice.choice([1, 2, 3, 5, 8, 13, 30]))]
+    for _ in range(dice.choice([0, 1, 3])):
+        again = list(dice.choice(drawn))
+        dice.shuffle(again)
+        drawn.append(again)
+    for _ in range(dice.choice([0, 0, 1, 3])):
+        drawn.append(dice.choice(drawn) + [('other', dice.choice(['1', '2', 'false', '"é"']))])
+    dice.shuffle(drawn)
+    if dice.random() < 0.1:
+        at = dice.randrange(len(drawn))
+        drawn[at] = changed(dice, list(drawn[at]))
+    return [written(dice, members) for members in drawn]
+
+
 def file(dice):
-    events = [event(dice) if dice.random() < 0.95 else dice.choice(VALUES) for _ in range(dice.choice([0, 1, 1, 2, 3]))]
+    if dice.random() < 0.5:
+        events = good_batch(dice)
+    else:
+        count = dice.choice([0, 1, 1, 2, 3])
+        events = [event(dice) if dice.random() < 0.95 else dice.choice(VALUES) for _ in range(count)]
     lone = len(events) == 1 and dice.random() < 0.5
     text = (events[0] if lone else '[' + ','.join(events) + ']').encode()
-    if dice.random() < 0.1:
+    if dice.random() < 0.05:
         at = dice.randrange(len(text) + 1)
         text = text[:at] if dice.random() < 0.5 else text[:at] + dice.choice(GARBLED) + text[at:]
     return text
@@ -105,29 +173,35 @@ def main():
     parser.add_argument('programs', nargs=2)
     parser.add_argument('--files', type=int, default=5_000)
     parser.add_argument('--seed', type=int, default=1)
+    parser.add_argument('--commands', nargs='+', default=['cover', 'shown'])
     options = parser.parse_args()
     dice = random.Random(options.seed)
     folder = tempfile.mkdtemp(prefix='second_opinion.')
-    ends, differences = {}, 0
+    ends, differences, kept, before = {}, 0, set(), None
     for number in range(options.files):
         path = os.path.join(folder, f'{number}.json')
         with open(path, 'wb') as out:
             out.write(file(dice))
+        paths = [before, path] if before and dice.random() < 0.25 else [path]
         differs = False
-        for query in ['cover', 'shown']:
-            one, other = (answer(program, [query, path]) for program in options.programs)
-            end = one[2].decode().split(': ')[-1].strip() if one[0] else 'answered'
+        for command in options.commands:
+            one, other = (answer(program, [command, *paths]) for program in options.programs)
+            end = one[2].decode().split(': ')[-1].strip() if one[0] else 'answered' if one[1] else 'answered, no line'
             ends[end] = ends.get(end, 0) + 1
             if one != other:
                 differs = True
-                print(f'{query} {path}: {one[0]} {one[2]!r} against {other[0]} {other[2]!r}')
+                print(f'{command} {" ".join(paths)}: {one[0]} {one[2]!r} against {other[0]} {other[2]!r}')
         differences += differs
-        if not differs:
-            os.remove(path)
+        kept.update(paths if differs else [])
+        if before and before not in kept:
+            os.remove(before)
+        before = path
+    if before and before not in kept:
+        os.remove(before)
     for end, count in sorted(ends.items(), key=lambda pair: -pair[1]):
         print(f'{count:7} {end}')
     print(f'{options.files} files, {differences} with a difference')
-    if not differences:
+    if not kept:
         os.rmdir(folder)
     sys.exit(differences > 0)
 

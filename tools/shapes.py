@@ -2,11 +2,13 @@
 """Looks for shapes of input that are dear: times the built program on files of odd shapes, each beside a friendly
 file of about its size, and prints how much more processor time a byte of it costs.
 
-usage: tools/shapes.py PROGRAM [--size BYTES] [--runs N] [--limit RATIO] [--only WORD]
+usage: tools/shapes.py PROGRAM [--size BYTES] [--runs N] [--limit RATIO] [--only WORD] [--commands COMMAND ..]
 
-The exit status is 1 where a shape costs more than RATIO times its friendly file. The shapes are the same for everybody.
+The commands are `cover` and `shown` where none is named. The exit status is 1 where a shape costs more than RATIO times
+its friendly file. The shapes are the same for everybody.
 """
 import argparse
+import datetime
 import os
 import random
 import resource
@@ -15,11 +17,11 @@ import sys
 import tempfile
 
 NUMBER = '"sequence":"%020d"'
-BASE = '"specversion":"1.0","id":"%s","source":"%s","type":"t",' + NUMBER
+BASE = '"specversion":"1.0","id":"%s","source":"%s","type":"%s",' + NUMBER
 
 
-def event(place, more="", source="/s", number=None, key=None):
-    return "{" + BASE % (key or f"e{place}", source, number or place + 1) + more + "}"
+def event(place, more="", source="/s", number=None, key=None, kind="t"):
+    return "{" + BASE % (key or f"e{place}", source, kind, number or place + 1) + more + "}"
 
 
 def batch(size, make):
@@ -74,6 +76,22 @@ def shapes(size):
     def by_number(place):
         return event(place, number=2 * place + 1, key="k")
 
+    def by_subject(subject):
+        return lambda place: event(place, f',"subject":"s{subject(place):07d}"')
+
+    def by_type(kind):
+        return lambda place: event(place, kind=f"t{kind(place):07d}")
+
+    def by_day(day):
+        return lambda place: event(
+            place, f',"time":"{datetime.date.min + datetime.timedelta(days=day(place))}T12:00:00Z"')
+
+    def its_own(place):
+        return place
+
+    def of_ten(place):
+        return place % 10
+
     sources = ordered(size, "ascending", by_source)
     numbers = ordered(size, "ascending", by_number)
     few = batch(size, with_attributes("ascending", 20))
@@ -96,16 +114,21 @@ def shapes(size):
     yield "members of data descending", batch(size, with_data(members("descending"))), object_
     yield "members of data shuffled", batch(size, with_data(members("shuffled"))), object_
     yield "one key, many texts", ordered(size, "shuffled", lambda place: event(place, key="k")), numbers
+    ten_subjects, ten_types = (ordered(size, "ascending", by(of_ten)) for by in (by_subject, by_type))
+    yield "one subject", ordered(size, "shuffled", by_subject(lambda place: 1)), ten_subjects
+    yield "a subject of its own", ordered(size, "shuffled", by_subject(its_own)), ten_subjects
+    yield "a type of its own", ordered(size, "shuffled", by_type(its_own)), ten_types
+    yield "a day of its own", ordered(size, "shuffled", by_day(its_own)), ordered(size, "ascending", by_day(of_ten))
     yield "keys that begin alike", batch(size, lambda place: event(place, key="k" * 180 + str(place))), plain
     yield "a name repeated", batch(size, lambda place: event(place, ',"x":1' * 30)), few
 
 
-def seconds(program, question, path, runs):
+def seconds(program, command, path, runs):
     """The least processor time of the runs."""
     least = None
     for _ in range(runs):
         before = resource.getrusage(resource.RUSAGE_CHILDREN)
-        subprocess.run([program, question, path], stdout=subprocess.DEVNULL, check=True)
+        subprocess.run([program, command, path], stdout=subprocess.DEVNULL, check=True)
         after = resource.getrusage(resource.RUSAGE_CHILDREN)
         spent = after.ru_utime + after.ru_stime - before.ru_utime - before.ru_stime
         least = spent if least is None else min(least, spent)
@@ -119,6 +142,7 @@ def main():
     parser.add_argument("--runs", type=int, default=3)
     parser.add_argument("--limit", type=float, default=2.0)
     parser.add_argument("--only", default="")
+    parser.add_argument("--commands", nargs="+", default=["cover", "shown"])
     options = parser.parse_args()
     dear = 0
     with tempfile.TemporaryDirectory() as folder:
@@ -130,13 +154,14 @@ def main():
                 with open(path, "w", encoding="utf-8") as file:
                     file.write(content)
             scale = os.path.getsize(odd) / os.path.getsize(friendly)
-            for question in ("cover", "shown"):
-                mine = seconds(options.program, question, odd, options.runs)
-                theirs = seconds(options.program, question, friendly, options.runs)
+            for command in options.commands:
+                mine = seconds(options.program, command, odd, options.runs)
+                theirs = seconds(options.program, command, friendly, options.runs)
                 ratio = mine / theirs / scale
                 mark = " DEAR" if ratio > options.limit else ""
                 dear += ratio > options.limit
-                print(f"{name:32} {question}  {mine:6.2f} s  friendly {theirs:6.2f} s  ratio a byte {ratio:5.2f}{mark}", flush=True)
+                times = f"{mine:6.2f} s  friendly {theirs:6.2f} s  ratio a byte {ratio:5.2f}{mark}"
+                print(f"{name:32} {command:9}  {times}", flush=True)
     print(f"{dear} shapes above {options.limit} times their friendly file")
     return 1 if dear else 0
 

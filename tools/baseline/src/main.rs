@@ -1,12 +1,11 @@
-//! What `site cover FILE..` and `site shown FILE..` answer, by a plain Rust program over `serde_json`: the measure for
-//! time and memory, and a second opinion on what is printed. It proves nothing.
+//! What `site` answers to its questions about files of events, by a plain Rust program over `serde_json`: the measure
+//! for time and memory, and a second opinion on what is printed. It proves nothing.
 
 mod event;
 mod interval;
+mod question;
 
 use event::{Event, Fault};
-use interval::Intervals;
-use std::collections::BTreeMap;
 use std::fs::File;
 use std::io::{Read, Write};
 use std::process::ExitCode;
@@ -62,42 +61,10 @@ fn events_of(bytes: &[u8]) -> Result<Vec<Event>, Refusal> {
     }
 }
 
-fn cover(lists: &[Vec<Event>]) -> String {
-    let mut sources: BTreeMap<&str, Intervals> = BTreeMap::new();
-    for event in lists.iter().flatten() {
-        if let Ok(number) = event.sequence {
-            sources.entry(&event.source).or_default().insert(number);
-        }
-    }
-    let mut text = String::from("{\"sources\":{");
-    for (index, (source, numbers)) in sources.iter().enumerate() {
-        if index > 0 {
-            text.push(',');
-        }
-        text.push_str(&serde_json::to_string(source).unwrap());
-        text.push(':');
-        numbers.write(&mut text);
-    }
-    text.push_str("},\"version\":1}\n");
-    text
-}
-
-fn shown(lists: &[Vec<Event>]) -> String {
-    let mut rows: Vec<&Event> = lists.iter().flatten().collect();
-    rows.sort_unstable_by_key(|event| (&event.source, &event.id, &event.text));
-    rows.dedup_by_key(|event| (&event.source, &event.id));
-    let mut text = String::with_capacity(rows.iter().map(|event| event.text.len() + 1).sum());
-    for event in rows {
-        text.push_str(&event.text);
-        text.push('\n');
-    }
-    text
-}
-
 fn main() -> ExitCode {
     let words: Vec<String> = std::env::args().skip(1).collect();
     let Some((query, paths)) = words.split_first() else {
-        eprintln!("usage: site-baseline cover|shown FILE..");
+        eprintln!("usage: site-baseline cover|shown|conflicts|latest|kinds|days|gaps FILE..");
         return ExitCode::from(2);
     };
     let mut files = Vec::new();
@@ -121,8 +88,13 @@ fn main() -> ExitCode {
         }
     }
     let text = match query.as_str() {
-        "cover" => cover(&lists),
-        _ => shown(&lists),
+        "cover" => question::cover(&lists),
+        "conflicts" => question::conflicts(&lists),
+        "latest" => question::latest(&lists),
+        "kinds" => question::kinds(&lists),
+        "days" => question::days(&lists),
+        "gaps" => question::gaps(&lists),
+        _ => question::shown(&lists),
     };
     match std::io::stdout().write_all(text.as_bytes()) {
         Ok(()) => ExitCode::SUCCESS,
