@@ -14,7 +14,7 @@ use Rattle.std.proofs.lemmas.List.Sums.{fold-append}
 use Rattle.std.proofs.lemmas.List.{append-nil}
 use mathlib.Core.Bool.{true≢false}
 use Rattle.inbox.specs.Ordered.{has, in_order}
-use Rattle.inbox.proofs.SetLemmas.{sorted-in_order, in_order-push, has-in_order}
+use Rattle.views.proofs.InOrderLemmas.{sorted-in_order, in_order-push, has-in_order}
 use Rattle.views.specs.Latest.{greater, greatest}
 use Rattle.views.proofs.TableLemmas.{with_values, insert_value, look_up, seen_insert, seen_lookup}
 

@@ -8,3 +8,4 @@ pub mod GapLemmas
 pub mod LineLemmas
 pub mod GreatestLemmas
 pub mod AnswerLemmas
+pub mod InOrderLemmas

@@ -19,7 +19,7 @@ use Rattle.serde_json.proofs.Texts.{print-outline}
 use Rattle.coverage.specs.Intervals.{Interval}
 use Rattle.coverage.specs.SummaryText.{intervals_items}
 use Rattle.coverage.specs.SummaryText.{intervals_tokens}
-use Rattle.inbox.proofs.ReadLemmas.{take_next}
+use Rattle.views.proofs.StepLemmas.{take_next}
 use Rattle.views.specs.Line.{AreDayLines, IsDayLine, day_data, gap_data, kind_data, line}
 
 pub print-kind : (kind : List ℕ) (count : ℕ) → print (begin_array ∷ string kind ∷ number (decimal count) ∷ end_array ∷ []) ≡ compact_text (kind_data kind count)

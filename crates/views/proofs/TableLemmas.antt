@@ -15,7 +15,7 @@ use Rattle.std.specs.BTreeSet.{insert_key}
 use Rattle.std.specs.BTreeMap.{insert_entry, is_at}
 use Rattle.std.proofs.lemmas.Cmp.{tied_itself}
 use Rattle.inbox.specs.Ordered.{has, in_order}
-use Rattle.inbox.proofs.SetLemmas.{sorted-in_order, in_order-push, has-in_order}
+use Rattle.views.proofs.InOrderLemmas.{sorted-in_order, in_order-push, has-in_order}
 use Rattle.views.specs.Tally.{tally}
 
 -- the keys, each with its value

@@ -25,6 +25,7 @@ kind_and_day e = option_map (λ day. (kind_of e, day)) (day_of e)
 abbrev pub day_cmp : List ℕ × ℤ → List ℕ × ℤ → Ordering
 day_cmp x y = ordering_then (byte_cmp x.0 y.0) (int_cmp x.1 y.1)
 
--- each type and day of a shown event that has a time, in order, with how many shown events have both
+-- each type and day of a shown event that has a time, in order, with how many shown events have
+-- both
 abbrev pub days : List EventValue → List ((List ℕ × ℤ) × ℕ)
 days E = tally day_cmp (filter_map kind_and_day (shown E))

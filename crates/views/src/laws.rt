@@ -11,9 +11,9 @@ pub fn latest_are_greatest()
     ensures { LatestAreGreatest }
 {}
 
-/// The lines of a true answer to a question answer it; a question has one text over a set of events;
-/// and where two lists have the same events, in whatever order and repetition, it has one text over
-/// the sets of both, byte for byte.
+/// The lines of a true answer to a question answer it; a question has one text over a set of
+/// events; and where two lists have the same events, in whatever order and repetition, it has one
+/// text over the sets of both, byte for byte.
 pub fn answers_are_alike()
     ensures written { LinesAreAnswers }
     ensures one { AnswersAreOne }

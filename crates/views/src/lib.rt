@@ -9,8 +9,6 @@ mod query;
 mod question;
 mod row;
 mod table;
-#[cfg(test)]
-mod tests;
 mod view;
 
 pub use day::Day;

@@ -13,8 +13,8 @@ use coverage::{Intervals, Summary};
 use inbox::Inbox;
 use std::alloc::{AllocError, Global};
 
-/// The numbers of all events, for each source. Time in proportion to the events, times the logarithm
-/// of the sources and of the intervals of a source; in key order a source is copied once.
+/// The numbers of all events, for each source. Time in proportion to the events, times the
+/// logarithm of the sources and of the intervals of a source; in key order a source is copied once.
 pub(crate) fn sum_numbers(alloc: Global, inbox: &Inbox) -> Result<Summary, AllocError>
     ensures { IfOk result (HasNumbers (events inbox.now)) }
 {
@@ -38,8 +38,8 @@ fn text_of(alloc: Global, at_hand: Text, words: &str) -> Result<Text, AllocError
     Text::of(alloc, words)
 }
 
-/// The numbers that are missing below the greatest of each source, for the sources that lack any, in
-/// byte order. Time as for `sum_numbers`.
+/// The numbers that are missing below the greatest of each source, for the sources that lack any,
+/// in byte order. Time as for `sum_numbers`.
 pub(crate) fn find_gaps(alloc: Global, inbox: &Inbox) -> Result<Gaps, AllocError>
     ensures { IfOk result (AreGaps (events inbox.now)) }
 {

@@ -13,8 +13,8 @@ use inbox::Inbox;
 use std::alloc::{AllocError, Global};
 
 /// The answer to a question about a set of events, from scratch. Time in proportion to the events,
-/// times a logarithm, and to what is copied into the answer; memory in proportion to the events, and
-/// to the answer. `AllocError` where memory is refused.
+/// times a logarithm, and to what is copied into the answer; memory in proportion to the events,
+/// and to the answer. `AllocError` where memory is refused.
 pub fn answer(alloc: Global, inbox: &Inbox, query: Query) -> Result<Answer, AllocError>
     ensures query { IfOk result (λ a. query_of a ≡ query) }
     ensures answer { IfOk result (IsTrueOf (events inbox.now)) }

@@ -1,5 +1,5 @@
 use Rattle.std.proofs.Common.{◌++◌, [], ◌∷◌, take, string_bytes, sym, subst}
-use Rattle.inbox.proofs.ReadLemmas.{take_next}
+use Rattle.views.proofs.StepLemmas.{take_next}
 use Rattle.views.specs.Line.{AreDayLines}
 use Rattle.views.proofs.LineLemmas.{day_lines_push}
 use Rattle.views.proofs.line.print_days.Goals as goal

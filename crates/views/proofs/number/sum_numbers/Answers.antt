@@ -3,7 +3,7 @@ use Rattle.std.specs.Prelude.{◌||◌}
 use Rattle.attributes.specs.Event.{source_of}
 use Rattle.coverage.specs.Summary.{holds_at}
 use Rattle.inbox.specs.Kept.{events}
-use Rattle.inbox.proofs.ReadLemmas.{take_next}
+use Rattle.views.proofs.StepLemmas.{take_next}
 use Rattle.views.specs.Number.{has_number, is_numbered}
 use Rattle.views.proofs.GapLemmas.{has_number-more, is_numbered-Some}
 use Rattle.views.proofs.number.sum_numbers.Goals as goal

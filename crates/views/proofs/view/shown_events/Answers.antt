@@ -2,7 +2,7 @@ use Rattle.std.proofs.Common.{◌≡◌, ◌<◌, ◌++◌, [], ◌∷◌, map, 
 use Rattle.std.proofs.lemmas.List.{map-append}
 use Rattle.inbox.specs.Shown.{is_shown}
 use Rattle.inbox.specs.Kept.{events}
-use Rattle.inbox.proofs.ReadLemmas.{filter_kept, filter_left_out, item_at}
+use Rattle.views.proofs.StepLemmas.{filter_kept, filter_left_out, item_at}
 use Rattle.views.proofs.view.shown_events.Goals.{then-is_shown+in_ok-push, else-is_shown}
 use Rattle.views.proofs.view.shown_events.Goals as goal
 

@@ -1,8 +1,8 @@
 //! What no contract says: that calls succeed with ample memory, and that the definitions mean what
 //! they are to mean.
 
-use crate::laws::{answers_are_alike, latest_are_greatest};
-use crate::{Answer, Query, answer, print};
+use views::laws::{answers_are_alike, latest_are_greatest};
+use views::{Answer, Query, answer, print};
 use attributes::{Event, Fault, Given, Parts, Sequenced, Text};
 use inbox::Inbox;
 use std::alloc::{AllocError, Global};
