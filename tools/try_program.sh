@@ -67,6 +67,18 @@ printf '%s' "$event" >-x.json
 run cover -- -x.json
 is 'a name with a dash in front' 0 "$line" ''
 
+# The examples that were worked out by hand: the block below each question's title.
+for question in cover shown conflicts latest kinds days gaps; do
+    awk -v title="## \`$question\`" '$0 == title { on = 1 } on && /^```/ { fences++; next } on && fences == 1 { print } fences == 2 { exit }' \
+        "$here/examples/README.md" >want.example
+    run "$question" "$here/examples/orders.json"
+    is "the example of $question" 0 "$(cat want.example)$lf" ''
+done
+run gaps empty.json
+is 'no event has no gap' 0 '' ''
+run conflicts f.json f.json
+is 'an event that stands again is no conflict' 0 '' ''
+
 # Status 1: one line, and nothing on standard output.
 run cover f.json missing.json
 is 'a file that is not there' 1 '' "site: missing.json: cannot read$lf"
