@@ -8,22 +8,53 @@ use inbox::Inbox;
 use std::alloc::{AllocError, Global};
 
 /// The id, the number, the type, the subject and the time of an event; an empty text is none.
-type Row = (&'static str, &'static str, &'static str, &'static str, &'static str);
+type Row = (
+    &'static str,
+    &'static str,
+    &'static str,
+    &'static str,
+    &'static str,
+);
 
 const A1: Row = ("a1", "00000000000000000001", "t.a", "x", "");
+
 const A2: Row = ("a2", "00000000000000000002", "t.b", "x", "");
+
 const A3: Row = ("a3", "00000000000000000003", "t.a", "y", "");
+
 const A4: Row = ("a4", "00000000000000000004", "t.a", "y", "");
+
 const A5: Row = ("a5", "00000000000000000005", "t.a", "y", "");
+
 const OTHER_A1: Row = ("a1", "00000000000000000001", "t.b", "y", "");
+
 const LAST: Row = ("a9", "09223372036854775807", "t.a", "", "");
+
 const B1: Row = ("b1", "00000000000000000001", "t.a", "x", "");
+
 const B2: Row = ("b2", "00000000000000000002", "t.b", "x", "");
+
 const OTHER_B2: Row = ("b2", "00000000000000000002", "t.c", "w", "");
+
 const P: Row = ("p", "00000000000000000001", "t.a", "x", "");
+
 const Q: Row = ("q", "00000000000000000001", "t.a", "x", "");
-const LEAP: Row = ("d1", "00000000000000000001", "t.a", "", "2024-02-29T23:59:60+00:00");
-const AHEAD: Row = ("d2", "00000000000000000002", "t.a", "", "2024-03-01T00:30:00+01:00");
+
+const LEAP: Row = (
+    "d1",
+    "00000000000000000001",
+    "t.a",
+    "",
+    "2024-02-29T23:59:60+00:00",
+);
+
+const AHEAD: Row = (
+    "d2",
+    "00000000000000000002",
+    "t.a",
+    "",
+    "2024-03-01T00:30:00+01:00",
+);
 
 /// Questions about the events of rows, with the lines that answer them.
 const ASKED: [(&[Row], Query, &str); 29] = [

@@ -138,8 +138,8 @@ gaps_from E summary rows has is gaps =
     subst (λ ps. Forms ps (IsMissing (numbers_of summary s))) (sym (ap (λ r. numbers_of r s) gaps.2 ∙ numbers_of-kept all s rise)) (all_missing summary all s gaps.1) in
     record {
       in_form = (
-          subst AreEntries (sym gaps.2) (rows_are_entries summary all gaps.1 is.0),
-          subst (λ r. IsStrictlySortedBy byte_cmp (keys_of r)) (sym gaps.2) (keys_rise has_gap all rise),
+        subst AreEntries (sym gaps.2) (rows_are_entries summary all gaps.1 is.0),
+        subst (λ r. IsStrictlySortedBy byte_cmp (keys_of r)) (sym gaps.2) (keys_rise has_gap all rise),
       );
       exact = λ s n. ((λ t. (missing_is s n).0 (((kept s).1 n).0 t)), (λ g. ((kept s).1 n).1 ((missing_is s n).1 g)));
     }

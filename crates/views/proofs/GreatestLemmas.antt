@@ -65,9 +65,9 @@ any_filtered p q [] h = refl
 any_filtered p q (x ∷ xs) h =
     elim (p x) as (λ b. list_any q (cond b (x ∷ filter p xs) (filter p xs)) ≡ false → ((b && q x) || list_any (λ x. p x && q x) xs) ≡ false) [
       | true ↦ λ h. elim (q x) as (λ c. (c || list_any q (filter p xs)) ≡ false → (c || list_any (λ x. p x && q x) xs) ≡ false) [
-          | true ↦ λ h. h
-          | false ↦ λ h. any_filtered p q xs h
-        ] h
+        | true ↦ λ h. h
+        | false ↦ λ h. any_filtered p q xs h
+      ] h
       | false ↦ λ h. any_filtered p q xs h
     ] h
 

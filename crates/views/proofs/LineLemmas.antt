@@ -98,10 +98,10 @@ pub conflict_pieces : (o a j b i c s d n : List ℕ)
     → ((((((((o ++ a) ++ j) ++ b) ++ i) ++ c) ++ s) ++ d) ++ n) ≡ o ++ ((a ++ (j ++ (b ++ (i ++ (c ++ (s ++ d)))))) ++ n)
 conflict_pieces o a j b i c s d n =
     ap (λ l. l ++ n) (
-      append_assoc ((((((o ++ a) ++ j) ++ b) ++ i) ++ c)) s d
-      ∙ append_assoc (((((o ++ a) ++ j) ++ b) ++ i)) c (s ++ d)
-      ∙ append_assoc ((((o ++ a) ++ j) ++ b)) i (c ++ (s ++ d))
-      ∙ append_assoc (((o ++ a) ++ j)) b (i ++ (c ++ (s ++ d)))
-      ∙ append_assoc ((o ++ a)) j (b ++ (i ++ (c ++ (s ++ d))))
-      ∙ append_assoc o a (j ++ (b ++ (i ++ (c ++ (s ++ d)))))
+    append_assoc ((((((o ++ a) ++ j) ++ b) ++ i) ++ c)) s d
+    ∙ append_assoc (((((o ++ a) ++ j) ++ b) ++ i)) c (s ++ d)
+    ∙ append_assoc ((((o ++ a) ++ j) ++ b)) i (c ++ (s ++ d))
+    ∙ append_assoc (((o ++ a) ++ j)) b (i ++ (c ++ (s ++ d)))
+    ∙ append_assoc ((o ++ a)) j (b ++ (i ++ (c ++ (s ++ d))))
+    ∙ append_assoc o a (j ++ (b ++ (i ++ (c ++ (s ++ d)))))
     ) ∙ append_assoc o (a ++ (j ++ (b ++ (i ++ (c ++ (s ++ d)))))) n

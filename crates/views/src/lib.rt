@@ -14,4 +14,4 @@ mod view;
 pub use day::Day;
 pub use query::{Answer, Query};
 pub use question::{answer, print};
-pub use row::{DayCount, Days, Gap, Gaps, KindCount, Kinds};
+pub use row::{DayCount, Days, Gaps, KindCount, Kinds, SourceGaps};

@@ -10,7 +10,7 @@ ghost use Rattle.views.specs.Line.{AreDayLines, IsCoverLine, IsDayLine, conflict
 ghost use Rattle.views.specs.steps.Joined.{separated};
 
 use crate::day::Day;
-use crate::row::{DayCount, Days, Gap, Gaps, KindCount, Kinds};
+use crate::row::{DayCount, Days, Gaps, KindCount, Kinds, SourceGaps};
 use attributes::{Batch, Text};
 use coverage::{Intervals, Summary};
 use inbox::{Conflict, Conflicts};
@@ -207,7 +207,7 @@ fn gap_text(alloc: Global, source: &str, missing: &Intervals) -> Result<Text, Al
 }
 
 /// Adds the line of a source with its gaps.
-fn add_gap(alloc: Global, out: &mut String, row: &Gap) -> Result<(), AllocError>
+fn add_gap(alloc: Global, out: &mut String, row: &SourceGaps) -> Result<(), AllocError>
     ensures { OnOk result (string_bytes out.new ≡ string_bytes out.old ++ gap_line row.now) }
 {
     let text = gap_text(alloc, row.0.as_str(), &row.1)?;

@@ -4,7 +4,9 @@ ghost use Rattle.std.specs.Prelude.{◌≡◌, IfOk};
 ghost use Rattle.inbox.specs.Kept.{events};
 ghost use Rattle.views.specs.Question.{AreLines, IsTrueOf, query_of};
 
-use crate::line::{print_conflicts, print_cover, print_days, print_events, print_gaps, print_kinds};
+use crate::line::{
+    print_conflicts, print_cover, print_days, print_events, print_gaps, print_kinds,
+};
 use crate::number::{find_gaps, sum_numbers};
 use crate::query::{Answer, Query};
 use crate::view::{count_days, count_kinds, find_latest};

@@ -17,7 +17,7 @@ pub type DayCount = ((Text, Day), u64);
 pub type Days = List<DayCount>;
 
 /// A source, and the numbers that are missing below its greatest.
-pub type Gap = (Text, Intervals);
+pub type SourceGaps = (Text, Intervals);
 
 /// Sources with their missing numbers, in an order.
-pub type Gaps = List<Gap>;
+pub type Gaps = List<SourceGaps>;
