@@ -115,4 +115,4 @@ report_alike one alike query files others inbox text other k a same s =
     let f = events_among one files others k.0 s.0 k.1 s.1 (λ e. (same e).0) in
     let g = events_among one others files s.0 k.0 s.1 k.1 (λ e. (same e).1) in
     sym (alike query here there text other k.2 (events_along here there g k.2) (has_alike here there f g)
-        (subst (λ E. IsAnswer query E text) k.3 a) s.2)
+    (subst (λ E. IsAnswer query E text) k.3 a) s.2)
