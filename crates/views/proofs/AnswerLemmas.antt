@@ -3,15 +3,11 @@ use Rattle.std.proofs.Common.{◌≡◌, ℕ, Bool, List, refl, sym, subst, ap, 
 use Rattle.attributes.specs.Event.{EventValue}
 use Rattle.coverage.specs.CoverText.{IsCoverText}
 use Rattle.coverage.specs.Summary.{Sources, IsSummary, holds_at}
-use Rattle.inbox.specs.Conflicts.{conflicts}
-use Rattle.inbox.specs.Shown.{shown}
-use Rattle.views.specs.Latest.{latest}
 use Rattle.views.specs.Line.{AreDayLines, conflict_lines, event_lines, gap_lines, kind_lines, line}
 use Rattle.views.specs.Law.{AnswersAreOne, LinesAreAnswers}
 use Rattle.views.specs.Number.{has_number}
 use Rattle.views.specs.Question.{AreLines, IsAnswer, IsTrueOf, query_of}
-use Rattle.views.specs.Tally.{days, kinds}
-use Rattle.views.specs.declared.query.Query.{Query}
+use Rattle.views.specs.Tally.{days}
 use Rattle.views.specs.declared.query.Query.TheVariants as query
 use Rattle.views.specs.declared.query.Answer.{Answer}
 use Rattle.views.specs.declared.query.Answer.TheVariants as answer

@@ -1,6 +1,6 @@
 -- The day of an event lies in the years 0000 to 9999.
 use Rattle.std.proofs.Common.{◌≡◌, Bool, true, false, refl, sym, ap, ◌∙◌, List, ℕ}
-use Rattle.std.specs.Prelude.{Option, Some, None, option_and_then, if◌then◌else◌, ℤ, pos, neg_ℤ, int_le, ◌&&◌, drop}
+use Rattle.std.specs.Prelude.{Option, Some, None, option_and_then, if◌then◌else◌, ℤ, ◌&&◌, drop}
 use Rattle.attributes.specs.Event.{EventValue, time_of, day_of}
 use Rattle.attributes.specs.Time.{time_day, if_in_range, has_shape, is_civil, day_at, offset_of, after_fraction}
 use Rattle.views.specs.Day.{is_day_number}

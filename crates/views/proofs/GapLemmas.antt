@@ -1,27 +1,23 @@
 -- From the gaps of a summary to those of the events whose numbers it holds.
-use Rattle.std.proofs.Common.{◌≡◌, ◌≢◌, ℕ, ◌<◌, ◌≤◌, List, [], ◌∷◌, ◌++◌, Bool, true, false, ◌&&◌, ◌||◌, map, refl, sym, subst, ap, ap₂, ◌∙◌, if◌then◌else◌}
-use Rattle.std.specs.Prelude.{bytes_eq, filter, cond, ◌↔◌, IsTrue, ◌==◌, Some}
+use Rattle.std.proofs.Common.{◌≡◌, ◌≢◌, ℕ, List, [], ◌∷◌, ◌++◌, Bool, true, false, ◌&&◌, ◌||◌, refl, sym, subst, ap, ap₂, ◌∙◌, if◌then◌else◌}
+use Rattle.std.specs.Prelude.{bytes_eq, filter, cond, ◌↔◌, ◌==◌, Some}
 use Rattle.std.specs.Map.{keys_of}
 use Rattle.std.specs.Str.{IsUtf8}
 use Rattle.std.proofs.lemmas.Cmp.{nat_list_cmp_total, tied_itself}
 use Rattle.attributes.specs.Bytes.{byte_cmp}
 use Rattle.attributes.specs.Character.{is_filled}
-use Rattle.std.specs.Ordering.{nat_cmp}
 use Rattle.std.specs.declared.cmp.Ordering.{Ordering}
 use Rattle.std.specs.declared.cmp.Ordering.TheVariants.{Less, Equal}
-use Rattle.std.specs.Cmp.Lexicographic.{slice_cmp}
-use Rattle.std.specs.List.{AllByRecursion, list_any}
+use Rattle.std.specs.List.{AllByRecursion}
 use Rattle.std.specs.List.Sorted.{IsStrictlySortedBy}
 use Rattle.std.proofs.lemmas.Slice.Eq.{bytes_eq-Decides}
 use mathlib.Core.Bool.{true≢false}
-use Rattle.std.proofs.lemmas.List.{map-append}
 use Rattle.std.proofs.lemmas.List.Elements.{filter-append}
 use Rattle.std.proofs.lemmas.List.Folds.{list_any-append}
 use Rattle.attributes.specs.Event.{EventValue, source_of}
 use Rattle.attributes.specs.Sequence.{number_of}
 use Rattle.coverage.specs.Intervals.{Interval, Forms, IsMissing, holds, rises_from}
 use Rattle.coverage.specs.Summary.{Entry, Sources, AreEntries, IsSummary, holds_at, numbers_of}
-use Rattle.attributes.specs.Bytes.{byte_cmp}
 use Rattle.views.specs.Number.{AreGaps, HasNumbers, IsGap, has_number, is_number, is_numbered}
 use Rattle.views.specs.steps.Gaps.{AreGapsOf, AreMissing, has_any, has_gap}
 
@@ -39,10 +35,6 @@ module _ {X : Type 0} (p : X → Bool) where
     | true ↦ λ e. (e, all_pass xs)
     | false ↦ λ e. all_pass xs
   ] refl
-
-pub all_both : {X : Type 0} (P Q R : X → Type 0) → ((x : X) → P x → Q x → R x) → (xs : List X) → AllByRecursion P xs → AllByRecursion Q xs → AllByRecursion R xs
-all_both P Q R f [] a b = tt
-all_both P Q R f (x ∷ xs) a b = (f x a.0 b.0, all_both P Q R f xs a.1 b.1)
 
 keys_kept : (P : List ℕ → Type 0) (p : Entry → Bool) (es : Sources) → AllByRecursion P (keys_of es) → AllByRecursion P (keys_of (filter p es))
 keys_kept P p [] a = tt

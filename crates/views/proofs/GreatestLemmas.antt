@@ -1,16 +1,16 @@
 -- The greatest of some items is one of them, and none is greater.
-use Rattle.std.proofs.Common.{◌≡◌, ℕ, zero, suc, ◌+◌, ◌<◌, List, [], ◌∷◌, Bool, true, false, ◌&&◌, ◌||◌, length, refl, sym, subst, ap, ◌∙◌, arith, if◌then◌else◌, Option, Some, None}
+use Rattle.std.proofs.Common.{◌≡◌, suc, List, [], ◌∷◌, Bool, true, false, ◌&&◌, ◌||◌, refl, sym, subst, ap, ◌∙◌, arith, if◌then◌else◌, Option, Some}
 use Rattle.std.specs.Prelude.{Contains, cond, filter, fold}
 use Rattle.std.specs.declared.cmp.Ordering.{Ordering}
 use Rattle.std.specs.declared.cmp.Ordering.TheVariants.{Less, Equal, Greater}
-use Rattle.std.specs.Ordering.{is_lt, nat_cmp, ordering_reverse}
+use Rattle.std.specs.Ordering.{is_lt, ordering_reverse}
 use Rattle.std.specs.Cmp.{IsTotalOrder}
 use Rattle.std.specs.List.{AllByRecursion, list_any}
 use Rattle.std.proofs.lemmas.Cmp.{tied_itself, alike_right, nat_list_cmp_total, nat_cmp_total, then_total, on_total}
 use mathlib.Core.Bool.{true≢false}
-use Rattle.attributes.specs.Event.{EventValue, id_of}
-use Rattle.views.specs.Latest.{greater, greatest, is_of, latest_of, number_cmp, number_or_0}
-use Rattle.views.specs.Law.{IsLatest, LatestAreGreatest}
+use Rattle.attributes.specs.Event.{id_of}
+use Rattle.views.specs.Latest.{greater, greatest, is_of, number_cmp, number_or_0}
+use Rattle.views.specs.Law.{LatestAreGreatest}
 use Rattle.views.proofs.GapLemmas.{all_kept, all_pass}
 
 number_cmp_total : IsTotalOrder number_cmp

@@ -11,7 +11,7 @@ use Rattle.views.specs.Day.{IsDayText}
 use Rattle.views.specs.steps.Joined.{separated}
 use Rattle.std.specs.Prelude.{decimal, flat_map, slice_get, Some}
 use Rattle.std.proofs.lemmas.Grind.{flat_map-append}
-use Rattle.json.specs.Token.{Token, begin_array, end_array, string, number}
+use Rattle.json.specs.Token.{begin_array, end_array, string, number}
 use Rattle.json.specs.Tree as tree
 use Rattle.json.specs.Print.{print}
 use Rattle.serde_json.specs.Written.{compact_text, items_outline}

@@ -2,7 +2,7 @@
 -- there are is this project's own.
 use Rattle.std.specs.Prelude.{◌≡◌, ℕ, ℤ, List, [], ◌∷◌, ◌++◌, codes, flat_map, map}
 use Rattle.std.specs.List.{join_with_byte}
-use Rattle.serde_json.specs.Data.{unsigned, Data, number, string, array, Items, no_items, item}
+use Rattle.serde_json.specs.Data.{unsigned, Data, number, string, array, no_items, item}
 use Rattle.serde_json.specs.Written.{compact_text}
 use Rattle.attributes.specs.Event.{EventValue, text}
 use Rattle.coverage.specs.CoverText.{IsCoverText}

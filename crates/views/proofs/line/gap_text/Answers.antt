@@ -1,6 +1,5 @@
 use Rattle.std.proofs.Common.{◌≡◌, [], ◌∷◌, ◌++◌, ap, ap₂, ◌∙◌, string_bytes}
-use Rattle.std.specs.Prelude.{decimal}
-use Rattle.json.specs.Token.{begin_array, end_array, string, number}
+use Rattle.json.specs.Token.{begin_array, end_array, string}
 use Rattle.json.specs.Print.{print}
 use Rattle.coverage.specs.SummaryText.{intervals_tokens}
 use Rattle.views.proofs.LineLemmas.{print-gap}

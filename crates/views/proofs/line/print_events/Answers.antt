@@ -1,4 +1,4 @@
-use Rattle.std.proofs.Common.{◌++◌, take, string_bytes, sym, ap, ◌∙◌}
+use Rattle.std.proofs.Common.{◌++◌, string_bytes, sym, ap, ◌∙◌}
 use Rattle.attributes.specs.Event.{text}
 use Rattle.views.specs.Line.{line}
 use Rattle.views.proofs.LineLemmas.{lines_more}

@@ -1,4 +1,4 @@
-use Rattle.std.proofs.Common.{◌++◌, take, sym, ap, ◌∙◌}
+use Rattle.std.proofs.Common.{◌++◌, sym, ap, ◌∙◌}
 use Rattle.views.specs.Line.{gap_line}
 use Rattle.views.proofs.LineLemmas.{lines_more}
 use Rattle.views.proofs.line.print_gaps.Goals as goal

@@ -1,10 +1,7 @@
-use Rattle.std.proofs.Common.{◌≡◌, ◌+◌, ◌^◌, rules, ◌<◌, ◌≤◌, ◌++◌, [], ◌∷◌, length, map, take, sym, ap, ◌∙◌, arith}
+use Rattle.std.proofs.Common.{◌≡◌, ◌+◌, ◌^◌, rules, ◌<◌, length, map, take, sym, ap, ◌∙◌, arith}
 use Rattle.std.specs.Prelude.{filter_map, Some, None}
-use Rattle.std.specs.List.{cons_option}
 use Rattle.std.specs.Option.{option_map}
-use Rattle.std.proofs.lemmas.List.{append-nil}
-use Rattle.std.proofs.lemmas.Cmp.{nat_list_cmp_total, int_cmp_total, then_total, on_total}
-use Rattle.attributes.specs.Event.{kind_of, day_of}
+use Rattle.attributes.specs.Event.{kind_of}
 use Rattle.views.specs.Tally.{day_cmp, kind_and_day, tally}
 use Rattle.views.proofs.TableLemmas.{before-le, count_step}
 use Rattle.views.proofs.OrderLemmas.{day_cmp_total}

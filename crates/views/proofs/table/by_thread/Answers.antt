@@ -1,7 +1,7 @@
-use Rattle.std.proofs.Common.{◌≡◌, ◌<◌, ◌++◌, [], ◌∷◌, map, take, sym, ap, ◌∙◌}
+use Rattle.std.proofs.Common.{◌≡◌, map, take, sym, ap, ◌∙◌}
 use Rattle.std.specs.Prelude.{Some, None}
 use Rattle.std.specs.Option.{option_map, option_copied}
-use Rattle.attributes.specs.Event.{source_of, subject_of}
+use Rattle.attributes.specs.Event.{source_of}
 use Rattle.views.specs.Latest.{greater, number_cmp, thread_of}
 use Rattle.views.specs.steps.Rows.{latest_rows}
 use Rattle.views.proofs.LatestLemmas.{best_step, rows-skip}

@@ -1,4 +1,4 @@
-use Rattle.std.proofs.Common.{◌≡◌, ◌∙◌, sym, ap, true, FitsSigned, w32, rules}
+use Rattle.std.proofs.Common.{◌∙◌, sym, ap, FitsSigned, w32, rules}
 use Rattle.std.proofs.lemmas.Int.{to_z-of_z}
 use Rattle.views.specs.Day.{is_day_number}
 use Rattle.views.proofs.DayLemmas.{day_of_is_day}
