@@ -1,11 +1,11 @@
 //! What no contract says: that calls succeed with ample memory, and that the definitions mean what
 //! they are to mean.
 
-use views::laws::{answers_are_alike, latest_are_greatest};
-use views::{Answer, Query, answer, print};
 use attributes::{Event, Fault, Given, Parts, Sequenced, Text};
 use inbox::Inbox;
 use std::alloc::{AllocError, Global};
+use views::laws::{answers_are_alike, latest_are_greatest};
+use views::{Answer, Query, answer, print};
 
 /// The id, the number, the type, the subject and the time of an event; an empty text is none.
 type Row = (

@@ -1,5 +1,5 @@
-use event_json::{ReadFault, read_events, write_batch, write_event, write_sequenced};
 use attributes::{Batch, Fault, Sequenced};
+use event_json::{ReadFault, read_events, write_batch, write_event, write_sequenced};
 use std::alloc::{AllocError, Global};
 use std::process::Abort;
 use std::test::Fail;
@@ -315,7 +315,9 @@ fn batch_of(alloc: Global, count: u64) -> Result<String, AllocError> {
 fn a_thousand_events_are_read(rt: HostRuntime) -> Result<(), Fail> {
     let alloc = rt.alloc();
     let text = batch_of(alloc, 1000)?;
-    let events = read_events(alloc, text.as_str().as_bytes()).ok().ok_or("refused")?;
+    let events = read_events(alloc, text.as_str().as_bytes())
+        .ok()
+        .ok_or("refused")?;
     assert_eq!(rt; events.len(), 1000);
     assert_eq!(rt; events.at(999).id(), "1");
     Ok(())

@@ -15,9 +15,16 @@ fn a_hundred_files_have_one_report(rt: HostRuntime) -> Result<(), Fail> {
     for _ in 0..100 {
         files.push(Octets::of(alloc, EVENT.as_bytes())?)?;
     }
-    let cover = report(alloc, Query::Cover, files.as_slice()).ok().ok_or("refused")?;
-    assert_eq!(rt; cover.as_str(), "{\"sources\":{\"/orders\":[[1,1]]},\"version\":1}\n");
-    let shown = report(alloc, Query::Shown, files.as_slice()).ok().ok_or("refused")?;
+    let cover = report(alloc, Query::Cover, files.as_slice())
+        .ok()
+        .ok_or("refused")?;
+    assert_eq!(rt;
+        cover.as_str(),
+        "{\"sources\":{\"/orders\":[[1,1]]},\"version\":1}\n"
+    );
+    let shown = report(alloc, Query::Shown, files.as_slice())
+        .ok()
+        .ok_or("refused")?;
     assert_eq!(rt; shown.as_str().len(), EVENT.len() + 1);
     Ok(())
 }

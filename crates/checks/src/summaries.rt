@@ -1,6 +1,6 @@
 //! Tests of what no clause says.
-use coverage::{Interval, Intervals, Summary, SummaryFault};
 use attributes::{Sequence, Text};
+use coverage::{Interval, Intervals, Summary, SummaryFault};
 use std::alloc::{AllocError, Global};
 use std::test::Fail;
 

@@ -8,8 +8,8 @@ mod program;
 mod request;
 mod words;
 
+pub use attributes::Texts;
 pub use command::Command;
 pub use fault::Faulty;
 pub use request::Plan;
-pub use attributes::Texts;
 pub use words::plan;
