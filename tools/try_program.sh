@@ -74,6 +74,11 @@ for question in cover shown conflicts latest kinds days gaps; do
     run "$question" "$here/examples/orders.json"
     is "the example of $question" 0 "$(cat want.example)$lf" ''
 done
+run --help
+for question in cover shown conflicts latest kinds days gaps; do
+    all=$((all + 1))
+    if grep -q "^ *$question  *[A-Z]" got.out; then right=$((right + 1)); else echo "wrong: help leaves out $question"; fi
+done
 run gaps empty.json
 is 'no event has no gap' 0 '' ''
 run conflicts f.json f.json
