@@ -1,16 +1,21 @@
 -- Files that spell events with numbers, one more at a time.
 use Rattle.std.proofs.Common.{◌≡◌, ℕ, List, [], ◌∷◌, ◌++◌, true, None, length, refl, sym, subst, ap, ap₂, ◌∙◌, ◌≢◌, ◌+◌, take, inl, inr, append_assoc}
 use Rattle.std.proofs.Math.Seq.{take-append_seam}
-use Rattle.std.specs.Prelude.{◌&&◌, Some, is_some, slice_get}
-use Rattle.std.specs.List.{list_all}
+use Rattle.std.specs.Prelude.{Bool, ◌&&◌, ◌||◌, Some, is_some, slice_get}
+use Rattle.std.specs.List.{list_all, list_any}
+use Rattle.std.specs.Ordering.{is_eq}
 use Rattle.std.proofs.lemmas.List.{flat_map_more}
-use Rattle.std.proofs.lemmas.List.Folds.{list_all-append}
+use Rattle.std.proofs.lemmas.List.Folds.{list_all-append, list_any-append}
+use Rattle.std.proofs.lemmas.List.Elements.{All-from_recursion, recursion_from_All}
+use Rattle.std.proofs.lemmas.List.Sorted.{All-permutation, list_any-IsPermutation}
+use Rattle.std.specs.List.Sorted.{IsPermutation}
 use Rattle.attributes.specs.Event.{EventValue}
 use Rattle.attributes.specs.Fault.{IsEvent}
 use Rattle.event_json.specs.Reading.{Reads}
 use Rattle.inbox.specs.Kept.{Adds, Kept}
 use Rattle.inbox.specs.KeyOrder.{key_cmp}
-use Rattle.inbox.specs.Ordered.{add_all}
+use Rattle.inbox.specs.Laws.{SetLaws}
+use Rattle.inbox.specs.Ordered.{add_all, has}
 use Rattle.inbox.specs.Sets.{AreEvents, set_of}
 use Rattle.std.specs.BTreeSet.{insert_key}
 use Rattle.attributes.specs.Sequence.{number_of, sequence_fault}
@@ -49,6 +54,25 @@ KeepsFiles-more files file L old new h r s are added = (
   subst AreEvents (sym (joined-more h.0 L)) (AreEvents-append (joined h.0) L h.2 are),
   added ∙ ap (λ E. add_all key_cmp E L) h.3 ∙ sym (add_all-append [] (joined h.0) L) ∙ ap (λ l. set_of l) (sym (joined-more h.0 L)),
 )
+
+AreEvents-permutation : (L M : List EventValue) → IsPermutation L M → AreEvents L → AreEvents M
+AreEvents-permutation L M p are = recursion_from_All IsEvent M (All-permutation IsEvent L M p (All-from_recursion IsEvent L are))
+
+has-permutation : (J L M : List EventValue) (e : EventValue) → IsPermutation L M → has key_cmp (J ++ M) e ≡ has key_cmp (J ++ L) e
+has-permutation J L M e p =
+    let test : EventValue → Bool = λ y. is_eq (key_cmp e y) in
+    list_any-append test J M ∙ ap (λ b. list_any test J || b) (sym (list_any-IsPermutation test L M p)) ∙ sym (list_any-append test J L)
+
+-- what was added in another order was added
+pub Adds-permutation : SetLaws → (files : List (List ℕ)) (L M : List EventValue) (old new : Kept) → KeepsFiles files old
+    → AreEvents L → IsPermutation L M → Adds M old new → Adds L old new
+Adds-permutation laws files L M old new h are p added =
+    let J : List EventValue = joined h.0 in
+    let events_with : (X : List EventValue) → add_all key_cmp (set_of J) X ≡ set_of (J ++ X) = λ X. sym (add_all-append [] J X) in
+    added ∙ ap (λ E. add_all key_cmp E M) h.3 ∙ events_with M
+    ∙ laws.same (J ++ M) (J ++ L) (AreEvents-append J M h.2 (AreEvents-permutation L M p are)) (AreEvents-append J L h.2 are)
+    (λ e. has-permutation J L M e p)
+    ∙ sym (events_with L) ∙ ap (λ E. add_all key_cmp E L) (sym h.3)
 
 -- an event more has a number
 pub AreSequenced-more : (events : List EventValue) (i : ℕ) (e : EventValue) (n : ℕ) → AreSequenced (take i events)

@@ -1,5 +1,6 @@
 //! The events of one file, each with its number.
 ghost use Rattle.std.specs.Prelude.{◌≡◌, ◌≢◌, IfErr, IfOk};
+ghost use Rattle.std.specs.List.Sorted.{IsPermutation};
 ghost use Rattle.event_json.specs.Reading.{Reads};
 ghost use Rattle.inbox.specs.Sets.{AreEvents};
 ghost use Rattle.file_reports.specs.Reports.{AreSequenced, IsFault, IsUnnumbered};
@@ -7,7 +8,8 @@ ghost use Rattle.file_reports.specs.Reports.{AreSequenced, IsFault, IsUnnumbered
 use crate::refusal::ReportFault;
 use attributes::{Batch, Events, Sequenced};
 use event_json::{ReadFault, read_events};
-use std::alloc::Global;
+use inbox::compare_keys;
+use std::alloc::{AllocError, Global};
 
 /// The events that a file's bytes spell, each with its number. The first fault of the file is
 /// answered.
@@ -44,4 +46,29 @@ fn sequenced(alloc: Global, events: Events) -> Result<Batch, ReportFault>
         }
     }
     Ok(batch)
+}
+
+/// The events in key order, in which an inbox takes them fastest: the search for a place then goes
+/// where the last one went, through memory that is at hand.
+pub fn in_key_order(alloc: Global, batch: Batch) -> Result<Batch, AllocError>
+    ensures { IfOk result (IsPermutation batch) }
+{
+    let mut events = moved(alloc, batch)?;
+    events.sort_unstable_by(|event, other| compare_keys(event, other));
+    let mut batch = Batch::empty(alloc);
+    for event in events {
+        batch.push(event)?;
+    }
+    Ok(batch)
+}
+
+/// The events of a batch, moved, in their order.
+fn moved(alloc: Global, mut batch: Batch) -> Result<Vec<Sequenced>, AllocError>
+    ensures { IfOk result (λ events. events.items ≡ batch) }
+{
+    let mut events = Vec::new(alloc);
+    while let Some(event) = batch.take_front() {
+        events.push(event)?;
+    }
+    Ok(events)
 }

@@ -9,3 +9,4 @@ mod search;
 
 pub use conflict::{Conflict, Conflicts};
 pub use inbox::{Back, Counts, Inbox, Short, Taken};
+pub use search::compare_keys;

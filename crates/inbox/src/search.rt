@@ -1,6 +1,6 @@
 //! Searches for a place in key order.
 
-ghost use Rattle.std.specs.Prelude.{◌≡◌, ◌+◌, ◌<◌, ℕ, length, slice_get, Some, IfErr, IfNone, IfOk, IfSome, is_ok};
+ghost use Rattle.std.specs.Prelude.{◌≡◌, ◌+◌, ◌<◌, ◌≤◌, ℕ, length, slice_get, Some, IfErr, IfNone, IfOk, IfSome, is_ok};
 ghost use Rattle.attributes.specs.Fault.{IsEvent};
 ghost use Rattle.inbox.specs.KeyOrder.{key_cmp, same_key};
 ghost use Rattle.inbox.specs.Ordered.{IsGapFor, has};
@@ -21,6 +21,20 @@ use std::cmp::Ordering;
 pub(crate) struct Gap {
     pub(crate) before: usize,
     pub(crate) late: usize,
+}
+
+/// How two events stand in key order: by source, then id, then canonical text.
+pub fn compare_keys(event: &Sequenced, other: &Sequenced) -> Ordering
+    ensures { result ≡ key_cmp event.now other.now }
+{
+    let (event, other) = (event.event(), other.event());
+    match event.source().cmp(other.source()) {
+        Ordering::Equal => match event.id().cmp(other.id()) {
+            Ordering::Equal => event.compare(other),
+            by_id => by_id,
+        },
+        by_source => by_source,
+    }
 }
 
 /// How an event stands to a source, an id and a text, in key order.
@@ -86,6 +100,20 @@ pub(crate) fn event_at<'a>(arrivals: &'a [Sequenced], places: &Places, i: usize)
     event_in(arrivals, places.at(i))
 }
 
+/// Where a search among places up to `len` looks next: at the last place first, since what comes in
+/// key order goes behind it, and then in the middle.
+fn next_probe(low: usize, high: usize, len: usize) -> usize
+    requires { low < high }
+    ensures low { low ≤ result }
+    ensures high { result < high }
+{
+    if high == len {
+        high - 1
+    } else {
+        low + (high - low) / 2
+    }
+}
+
 /// How many settled events are lesser.
 fn settled_before(
     arrivals: &[Sequenced],
@@ -97,10 +125,11 @@ fn settled_before(
     requires reads { ReadsInOrder key_cmp arrivals.now (order places.now) }
     ensures { SettledEnd (probe source.now id.now text.now) arrivals.now places.now result }
 {
+    let len = places.settled_len();
     let mut low = 0;
-    let mut high = places.settled_len();
+    let mut high = len;
     while low < high {
-        let mid = low + (high - low) / 2;
+        let mid = next_probe(low, high, len);
         match compare(settled_event(arrivals, places, mid), source, id, text) {
             Ordering::Less => low = mid + 1,
             _ => high = mid,
@@ -122,10 +151,11 @@ fn late_before(
     ensures rise { Rise 0 (length places.now.settled) places.now.late }
     ensures end { LateEnd (probe source.now id.now text.now) arrivals.now places.now before result }
 {
+    let len = places.late_len();
     let mut low = 0;
-    let mut high = places.late_len();
+    let mut high = len;
     while low < high {
-        let mid = low + (high - low) / 2;
+        let mid = next_probe(low, high, len);
         let late = places.late_at(mid);
         if late.before < before {
             low = mid + 1;

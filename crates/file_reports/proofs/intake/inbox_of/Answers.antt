@@ -3,7 +3,7 @@ use Rattle.std.specs.Prelude.{Some, slice_get}
 use Rattle.std.proofs.lemmas.Option.{slice_get_read}
 use Rattle.file_reports.specs.steps.Intake.{KeepsFiles}
 use Rattle.file_reports.proofs.ListLemmas.{take_next}
-use Rattle.file_reports.proofs.FileLemmas.{KeepsFiles-more, refusal_by}
+use Rattle.file_reports.proofs.FileLemmas.{Adds-permutation, KeepsFiles-more, refusal_by}
 use Rattle.file_reports.proofs.intake.inbox_of.Goals as goal
 
 pub returns-in-Err-clause-err : goal.returns-in-Err-clause-err
@@ -22,4 +22,6 @@ loop-file-preserved c =
     ∙ ap (λ (x : List ℕ). Some x) (sym c.as_bytes.ensures.value) in
     subst (λ (fs : List (List ℕ)). KeepsFiles fs c.take_all.new.inbox) (sym (take_next files c.loop-file.file c.as_bytes.result.now there))
     (KeepsFiles-more (take c.loop-file.file files) c.as_bytes.result.now c.in-Ok.batch c.loop-file.inbox c.take_all.new.inbox
-    c.loop-file.invariant c.in-Ok.ensures.reads c.in-Ok.ensures.numbered c.in-Ok.ensures.events c.in_ok-take_all-in-Ok.ensures)
+    c.loop-file.invariant c.in-Ok.ensures.reads c.in-Ok.ensures.numbered c.in-Ok.ensures.events
+    (Adds-permutation c.sets_are_members.ensures (take c.loop-file.file files) c.in-Ok.batch c.in_ok-in_key_order-in-Ok.field-0 c.loop-file.inbox c.take_all.new.inbox
+    c.loop-file.invariant c.in-Ok.ensures.events c.in_ok-in_key_order-in-Ok.ensures c.in_ok-take_all-in-Ok.ensures))
