@@ -8,7 +8,7 @@ use attributes::{Octets, Text};
 use event_json::readings_are_one;
 use std::alloc::Global;
 use views::laws::answers_are_alike;
-use views::{Query, answer, print};
+use views::{Query, answer_lines};
 
 /// The answer to a question about the set of the events of all files, in lines that end with LF.
 ///
@@ -27,7 +27,6 @@ pub fn report(alloc: Global, query: Query, files: &[Octets]) -> Result<Text, Ref
     readings_are_one();
     answers_are_alike();
     let inbox = inbox_of(alloc, files)?;
-    let found = answer(alloc, &inbox, query)?;
-    let text = print(alloc, &found)?;
+    let text = answer_lines(alloc, &inbox, query)?;
     Ok(text)
 }

@@ -13,5 +13,5 @@ mod view;
 
 pub use day::Day;
 pub use query::{Answer, Query};
-pub use question::{answer, print};
+pub use question::{answer, answer_lines, print};
 pub use row::{DayCount, Days, Gaps, KindCount, Kinds, SourceGaps};

@@ -11,7 +11,7 @@ ghost use Rattle.views.specs.steps.Joined.{separated};
 
 use crate::day::Day;
 use crate::row::{DayCount, Days, Gaps, KindCount, Kinds, SourceGaps};
-use attributes::{Batch, Text};
+use attributes::{Batch, Sequenced, Text};
 use coverage::{Intervals, Summary};
 use inbox::{Conflict, Conflicts};
 use jiff::civil;
@@ -43,6 +43,17 @@ pub(crate) fn print_events(alloc: Global, events: &Batch) -> Result<Text, AllocE
     let mut out = String::new(alloc);
     for i in 0..events.len() {
         end_line(&mut out, events.at(i).event().text())?;
+    }
+    Ok(Text::from_string(out))
+}
+
+/// The canonical texts of lent events, one a line. Time and memory in proportion to them.
+pub(crate) fn print_lent(alloc: Global, events: &[&Sequenced]) -> Result<Text, AllocError>
+    ensures { IfOk result (λ t. t ≡ event_lines (map (λ e. e.now) events.now)) }
+{
+    let mut out = String::new(alloc);
+    for event in events {
+        end_line(&mut out, event.event().text())?;
     }
     Ok(Text::from_string(out))
 }

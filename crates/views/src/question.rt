@@ -2,14 +2,15 @@
 
 ghost use Rattle.std.specs.Prelude.{◌≡◌, IfOk};
 ghost use Rattle.inbox.specs.Kept.{events};
-ghost use Rattle.views.specs.Question.{AreLines, IsTrueOf, query_of};
+ghost use Rattle.views.specs.Question.{AreLines, IsAnswer, IsTrueOf, query_of};
 
+use crate::laws::answers_are_alike;
 use crate::line::{
-    print_conflicts, print_cover, print_days, print_events, print_gaps, print_kinds,
+    print_conflicts, print_cover, print_days, print_events, print_gaps, print_kinds, print_lent,
 };
 use crate::number::{find_gaps, sum_numbers};
 use crate::query::{Answer, Query};
-use crate::view::{count_days, count_kinds, find_latest};
+use crate::view::{count_days, count_kinds, find_latest, shown_events};
 use attributes::Text;
 use inbox::Inbox;
 use std::alloc::{AllocError, Global};
@@ -45,5 +46,25 @@ pub fn print(alloc: Global, answer: &Answer) -> Result<Text, AllocError>
         Answer::Kinds(kinds) => print_kinds(alloc, kinds),
         Answer::Days(days) => print_days(alloc, days),
         Answer::Gaps(gaps) => print_gaps(alloc, gaps),
+    }
+}
+
+/// The lines of the answer to a question about a set of events: what `print` makes of `answer`, but
+/// the shown events are printed where they stand, without a copy of each. `AllocError` where memory
+/// is refused.
+pub fn answer_lines(alloc: Global, inbox: &Inbox, query: Query) -> Result<Text, AllocError>
+    ensures { IfOk result (IsAnswer query (events inbox.now)) }
+{
+    // A law that the clause rests on; the call does nothing.
+    answers_are_alike();
+    match query {
+        Query::Shown => {
+            let shown = shown_events(alloc, inbox)?;
+            print_lent(alloc, &shown)
+        }
+        _ => {
+            let found = answer(alloc, inbox, query)?;
+            print(alloc, &found)
+        }
     }
 }
