@@ -19,13 +19,13 @@ fn a_hundred_files_have_one_report(rt: HostRuntime) -> Result<(), Fail> {
         .ok()
         .ok_or("refused")?;
     assert_eq!(rt;
-        cover.as_str(),
+        cover.text.as_str(),
         "{\"sources\":{\"/orders\":[[1,1]]},\"version\":1}\n"
     );
     let shown = report(alloc, Query::Shown, files.as_slice())
         .ok()
         .ok_or("refused")?;
-    assert_eq!(rt; shown.as_str().len(), EVENT.len() + 1);
+    assert_eq!(rt; shown.text.as_str().len(), EVENT.len() + 1);
     Ok(())
 }
 

@@ -6,27 +6,37 @@ use crate::intake::inbox_of;
 use crate::refusal::Refused;
 use attributes::{Octets, Text};
 use event_json::readings_are_one;
+use inbox::Inbox;
 use std::alloc::Global;
 use views::laws::answers_are_alike;
 use views::{Query, answer_lines};
+
+/// An answer, in lines that end with LF, and the events that it is about. To give the memory of many
+/// events back, one after the other, can take longer than to ask about them, so the caller says
+/// when, and whether: a program that ends next may leave it.
+#[derive(Drop)]
+pub struct Reported {
+    pub text: Text,
+    pub events: Inbox,
+}
 
 /// The answer to a question about the set of the events of all files, in lines that end with LF.
 ///
 /// The files are judged in their order; in a file a fault of its text comes before an event without
 /// a number. Time in proportion to the files' bytes, and n log n in their events; the events of all
 /// files are held at once, each once.
-pub fn report(alloc: Global, query: Query, files: &[Octets]) -> Result<Text, Refused>
-    ensures ok { IfOk result (IsReport query files.now) }
+pub fn report(alloc: Global, query: Query, files: &[Octets]) -> Result<Reported, Refused>
+    ensures ok { IfOk result (λ r. IsReport query files.now r.text) }
     ensures err { IfErr result (IsRefusal files.now) }
 
     // Other files with the same events have the same report, byte for byte.
-    ensures alike { IfOk result (λ text. (others : List (List ℕ)) (other : List ℕ)
-        → HoldSameEvents files.now others → IsReport query others other → other ≡ text) }
+    ensures alike { IfOk result (λ r. (others : List (List ℕ)) (other : List ℕ)
+        → HoldSameEvents files.now others → IsReport query others other → other ≡ r.text) }
 {
     // Two laws that `alike` rests on; they do nothing.
     readings_are_one();
     answers_are_alike();
-    let inbox = inbox_of(alloc, files)?;
-    let text = answer_lines(alloc, &inbox, query)?;
-    Ok(text)
+    let events = inbox_of(alloc, files)?;
+    let text = answer_lines(alloc, &events, query)?;
+    Ok(Reported { text, events })
 }

@@ -8,7 +8,7 @@ mod intake;
 mod refusal;
 mod shelf;
 
-pub use answer::report;
+pub use answer::{Reported, report};
 pub use input::{Unread, read_all};
 pub use refusal::{Refused, ReportFault};
 pub use shelf::{Shelf, UnreadAt, contents_of};

@@ -6,8 +6,10 @@ use crate::line::Refusal;
 use attributes::Text;
 use file_reports::{Query, Shelf, contents_of, report};
 use std::alloc::Global;
+use std::mem;
 
-/// The answer to the query for the events of all files. All files are read before one is judged.
+/// The answer to the query for the events of all files. All files are read before one is judged. The
+/// memory of the events is left to the operating system, since the program ends next.
 pub fn ask<S: Shelf>(
     alloc: Global,
     shelf: &S,
@@ -20,7 +22,10 @@ pub fn ask<S: Shelf>(
 {
     match contents_of(alloc, shelf, files) {
         Ok(contents) => match report(alloc, query, contents.as_slice()) {
-            Ok(text) => Ok(text),
+            Ok(report) => {
+                mem::forget(report.events);
+                Ok(report.text)
+            }
             Err(refused) => Err(Refusal::File(refused)),
         },
         Err(at) => Err(Refusal::Unread(at)),
