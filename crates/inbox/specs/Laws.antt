@@ -12,6 +12,7 @@ use Rattle.inbox.specs.Sets.{AreEvents, set_of, union}
 pub record SetLaws : Type 0 where
   pub sorted : (A : List EventValue) → IsStrictlySortedBy key_cmp (set_of A)
   pub members : (A : List EventValue) (e : EventValue) → has key_cmp (set_of A) e ≡ has key_cmp A e
+  pub are_events : (A : List EventValue) → AreEvents A → AreEvents (set_of A)
   pub is_there : (A : List EventValue) (e : EventValue) → AreEvents A → IsEvent e
       → has key_cmp A e ≡ true → Contains A e
   pub is_found : (A : List EventValue) (e : EventValue) → Contains A e → has key_cmp A e ≡ true
