@@ -1,0 +1,93 @@
+//! What a peer lacks.
+
+ghost use Rattle.std.specs.Prelude.{◌≡◌, ◌≢◌, ◌≤◌, [], drop, length, take, IfOk, OnErr};
+ghost use Rattle.inbox.specs.Sets.{set_of};
+ghost use Rattle.site.specs.Delta.{delta, is_held};
+ghost use Rattle.site.specs.Page.{page};
+
+use super::Site;
+use attributes::{Batch, Sequenced};
+use coverage::Summary;
+use std::alloc::AllocError;
+
+/// Whether a summary holds the number of an event for its source.
+fn is_held(peer: &Summary, event: &Sequenced) -> bool
+    ensures { result ≡ is_held peer.now event.now }
+{
+    peer.contains(event.event().source(), event.number())
+}
+
+impl Site {
+    /// The place in key order behind which the events that the peer lacks are all but the first
+    /// `from`.
+    fn place_behind(&self, peer: &Summary, from: u64) -> u64
+        ensures within { result ≤ length (set_of self.now) }
+        ensures rest { delta (drop result (set_of self.now)) peer.now
+            ≡ drop from (delta (set_of self.now) peer.now) }
+    {
+        let mut left = from;
+        let len = self.len();
+        for i in 0..len {
+            if !is_held(peer, self.at(i)) {
+                if left == 0 {
+                    return i;
+                }
+                left -= 1;
+            }
+        }
+        len
+    }
+
+    /// Of the events from a place of key order on, those that the peer lacks, so many at most.
+    fn lacking_from(&self, peer: &Summary, place: u64, limit: u64) -> Result<Batch, AllocError>
+        requires { place ≤ length (set_of self.now) }
+        ensures page { IfOk result (λ batch. batch
+            ≡ take limit (delta (drop place (set_of self.now)) peer.now)) }
+        ensures err { OnErr result
+            (take limit (delta (drop place (set_of self.now)) peer.now) ≢ []) }
+    {
+        let mut batch = Batch::empty(self.alloc);
+        for i in place..self.len() {
+            if batch.len() == limit {
+                return Ok(batch);
+            }
+            let event = self.at(i);
+            if !is_held(peer, event) {
+                batch.push(event.copy()?)?;
+            }
+        }
+        Ok(batch)
+    }
+
+    /// The events whose number the peer's summary doesn't hold for their source, in key order. Goes
+    /// over all events, with a look-up in the summary for each; what is not lacking is not copied.
+    pub fn delta(&self, peer: &Summary) -> Result<Batch, AllocError>
+        ensures delta { IfOk result (λ batch. batch ≡ delta (set_of self.now) peer.now) }
+
+        // Memory is wanted for events alone.
+        ensures err { OnErr result (delta (set_of self.now) peer.now ≢ []) }
+    {
+        self.lacking_from(peer, 0, self.len())
+    }
+
+    /// The events at the places from `from` on of the peer's `delta`, `limit` of them at most: 1 to
+    /// 100. Goes over the events up to the last one that is answered, with a look-up in the summary
+    /// for each; nothing else is copied.
+    pub fn delta_page(
+        &self,
+        peer: &Summary,
+        from: u64,
+        limit: u64,
+    ) -> Result<Batch, AllocError>
+        requires low { 1 ≤ limit }
+        requires high { limit ≤ 100 }
+        ensures page { IfOk result (λ batch. batch
+            ≡ page (delta (set_of self.now) peer.now) from limit) }
+
+        // Memory is wanted for events alone.
+        ensures err { OnErr result (page (delta (set_of self.now) peer.now) from limit ≢ []) }
+    {
+        let place = self.place_behind(peer, from);
+        self.lacking_from(peer, place, limit)
+    }
+}
