@@ -28,6 +28,12 @@ module _ {K : Type 0} where
     page_has e =
         omega (arith, ap length (page ∙ e), length-append b (take (limit - length b) M), length-take (limit - length b) M, ap length first, less)
 
+  -- what is behind a page that gets an item more
+  pub rest_more : (limit : ℕ) (b M D : List K) (x : K) (rest : List K) → M ≡ x ∷ rest → length b < limit → drop (limit - length b) M ≡ D → drop (limit - length (b ++ x ∷ [])) rest ≡ D
+  rest_more limit b M D x rest first less behind =
+      let e : suc (limit - length (b ++ x ∷ [])) ≡ limit - length b = omega (arith, length-append b (x ∷ []), less) in
+      ap (λ n. drop n (x ∷ rest)) e ∙ ap (drop (limit - length b)) (sym first) ∙ behind
+
   -- the first item passed
   pub drop_first : (M : List K) (x : K) (rest : List K) (n : ℕ) → M ≡ x ∷ rest → 0 < n → drop (n - 1) rest ≡ drop n M
   drop_first M x rest n first more =

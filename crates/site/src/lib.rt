@@ -4,4 +4,4 @@
 pub mod laws;
 mod site;
 
-pub use site::Site;
+pub use site::{DeltaPart, Site};

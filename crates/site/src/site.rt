@@ -9,6 +9,8 @@ mod page;
 mod question;
 mod take;
 
+pub use delta::DeltaPart;
+
 use attributes::Sequenced;
 use coverage::Summary;
 use inbox::Inbox;

@@ -1,6 +1,6 @@
 //! What a peer lacks.
 
-ghost use Rattle.std.specs.Prelude.{◌≡◌, ◌≢◌, ◌≤◌, [], drop, length, take, IfOk, OnErr};
+ghost use Rattle.std.specs.Prelude.{◌≡◌, ◌≢◌, ◌+◌, ◌≤◌, [], drop, length, take, IfOk, OnErr};
 ghost use Rattle.inbox.specs.Sets.{set_of};
 ghost use Rattle.site.specs.Delta.{delta, is_held};
 ghost use Rattle.site.specs.Page.{page};
@@ -9,6 +9,13 @@ use super::Site;
 use attributes::{Batch, Sequenced};
 use coverage::Summary;
 use std::alloc::AllocError;
+
+/// Events that a peer lacks, and the place of key order to go on from.
+#[derive(Drop)]
+pub struct DeltaPart {
+    pub events: Batch,
+    pub next: u64,
+}
 
 /// Whether a summary holds the number of an event for its source.
 fn is_held(peer: &Summary, event: &Sequenced) -> bool
@@ -38,25 +45,40 @@ impl Site {
         len
     }
 
-    /// Of the events from a place of key order on, those that the peer lacks, so many at most.
-    fn lacking_from(&self, peer: &Summary, place: u64, limit: u64) -> Result<Batch, AllocError>
+    /// Of the events from a place of key order on, those that the peer lacks, `limit` of them at
+    /// most, and the place to go on from. Whoever goes on from there until no event comes has the
+    /// whole rest of the delta, and goes over each event once. Costs a look-up in the summary for
+    /// each event that is passed, and a copy of each that is answered.
+    pub fn delta_from(
+        &self,
+        peer: &Summary,
+        place: u64,
+        limit: u64,
+    ) -> Result<DeltaPart, AllocError>
         requires { place ≤ length (set_of self.now) }
-        ensures page { IfOk result (λ batch. batch
+        ensures events { IfOk result (λ part. part.events
             ≡ take limit (delta (drop place (set_of self.now)) peer.now)) }
+        ensures rest { IfOk result (λ part. delta (drop part.next (set_of self.now)) peer.now
+            ≡ drop limit (delta (drop place (set_of self.now)) peer.now)) }
+        ensures within { IfOk result (λ part. part.next ≤ length (set_of self.now)) }
+        ensures behind { IfOk result (λ part. place + length part.events ≤ part.next) }
+
+        // Memory is wanted for events alone.
         ensures err { OnErr result
             (take limit (delta (drop place (set_of self.now)) peer.now) ≢ []) }
     {
-        let mut batch = Batch::empty(self.alloc);
-        for i in place..self.len() {
-            if batch.len() == limit {
-                return Ok(batch);
+        let mut events = Batch::empty(self.alloc);
+        let len = self.len();
+        for i in place..len {
+            if events.len() == limit {
+                return Ok(DeltaPart { events, next: i });
             }
             let event = self.at(i);
             if !is_held(peer, event) {
-                batch.push(event.copy()?)?;
+                events.push(event.copy()?)?;
             }
         }
-        Ok(batch)
+        Ok(DeltaPart { events, next: len })
     }
 
     /// The events whose number the peer's summary doesn't hold for their source, in key order. Goes
@@ -67,7 +89,7 @@ impl Site {
         // Memory is wanted for events alone.
         ensures err { OnErr result (delta (set_of self.now) peer.now ≢ []) }
     {
-        self.lacking_from(peer, 0, self.len())
+        Ok(self.delta_from(peer, 0, self.len())?.events)
     }
 
     /// The events at the places from `from` on of the peer's `delta`, `limit` of them at most: 1 to
@@ -88,6 +110,6 @@ impl Site {
         ensures err { OnErr result (page (delta (set_of self.now) peer.now) from limit ≢ []) }
     {
         let place = self.place_behind(peer, from);
-        self.lacking_from(peer, place, limit)
+        Ok(self.delta_from(peer, place, limit)?.events)
     }
 }

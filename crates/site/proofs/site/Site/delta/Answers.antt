@@ -1,5 +1,4 @@
-use Rattle.std.proofs.Common.{◌≡◌, take, not, ◌∙◌, arith}
-use Rattle.std.proofs.lemmas.Result.{IfOk-weaker}
+use Rattle.std.proofs.Common.{not, ◌∙◌, arith}
 use Rattle.std.proofs.lemmas.List.{take_all}
 use Rattle.inbox.specs.Sets.{set_of}
 use Rattle.site.specs.Delta.{delta, is_held}
@@ -10,5 +9,4 @@ pub returns-clause-delta : goal.returns-clause-delta
 returns-clause-delta c =
     let E = set_of c.args.self.now in
     let peer = c.args.peer.now in
-    let all = take_all c.len.result (delta E peer) (omega (arith, length-filter (λ e. not (is_held peer e)) E, c.len.ensures)) in
-    IfOk-weaker c.lacking_from.result (λ batch. batch ≡ take c.len.result (delta E peer)) (λ batch. batch ≡ delta E peer) (λ batch same. same ∙ all) c.lacking_from.ensures.page
+    c.in_ok-delta_from.ensures.events ∙ take_all c.len.result (delta E peer) (omega (arith, length-filter (λ e. not (is_held peer e)) E, c.len.ensures))

@@ -2,10 +2,10 @@ use Rattle.std.proofs.Common.{◌≡◌, ◌≤◌, ◌<◌, ◌+◌, ◌-◌, �
 use Rattle.std.proofs.lemmas.Result.{err_from_is_err_and}
 use Rattle.inbox.specs.Sets.{set_of}
 use Rattle.site.specs.Delta.{delta, is_held}
-use Rattle.site.proofs.PageLemmas.{page_has, page_more}
+use Rattle.site.proofs.PageLemmas.{page_has, page_more, rest_more}
 use Rattle.site.proofs.DeltaLemmas.{filter_kept, filter_left_out}
-use Rattle.site.proofs.site.Site.lacking_from.Goals as goal
-use Rattle.site.proofs.site.Site.lacking_from.Goals.{then-not-is_held+in_ok-copy+in_ok-push, else-not-is_held}
+use Rattle.site.proofs.site.Site.delta_from.Goals as goal
+use Rattle.site.proofs.site.Site.delta_from.Goals.{then-not-is_held+in_ok-copy+in_ok-push, else-not-is_held}
 
 pub returns-in_err-copy-clause-err : goal.returns-in_err-copy-clause-err
 returns-in_err-copy-clause-err c =
@@ -13,8 +13,8 @@ returns-in_err-copy-clause-err c =
     let peer = c.args.peer.now in
     let exit = err_from_is_err_and c.from_residual.result c.from_residual.ensures.1 in
     let first = filter_kept (λ e. not (is_held peer e)) E c.loop-i.i c.at-event.result.now c.at-event.ensures (ap not (sym c.is_held.ensures ∙ c.if-not-is_held.true)) in
-    let less : length c.loop-i.batch < c.args.limit = omega (arith, c.loop-i.invariant.within, c.if-len-limit.false, c.len.ensures) in
-    rw exit.1 (page_has c.args.limit c.loop-i.batch (delta (drop c.loop-i.i E) peer) (take c.args.limit (delta (drop c.args.place E) peer)) c.at-event.result.now (delta (drop (c.loop-i.i + 1) E) peer) first less c.loop-i.invariant.page)
+    let less : length c.loop-i.events < c.args.limit = omega (arith, c.loop-i.invariant.within, c.if-len-limit.false, c.len.ensures) in
+    rw exit.1 (page_has c.args.limit c.loop-i.events (delta (drop c.loop-i.i E) peer) (take c.args.limit (delta (drop c.args.place E) peer)) c.at-event.result.now (delta (drop (c.loop-i.i + 1) E) peer) first less c.loop-i.invariant.page)
 
 pub returns-in_err-push-clause-err : goal.returns-in_err-push-clause-err
 returns-in_err-push-clause-err c =
@@ -22,30 +22,35 @@ returns-in_err-push-clause-err c =
     let peer = c.args.peer.now in
     let exit = err_from_is_err_and c.from_residual-in_err-push.result c.from_residual-in_err-push.ensures.1 in
     let first = filter_kept (λ e. not (is_held peer e)) E c.loop-i.i c.at-event.result.now c.at-event.ensures (ap not (sym c.is_held.ensures ∙ c.if-not-is_held.true)) in
-    let less : length c.loop-i.batch < c.args.limit = omega (arith, c.loop-i.invariant.within, c.if-len-limit.false, c.len.ensures) in
-    rw exit.1 (page_has c.args.limit c.loop-i.batch (delta (drop c.loop-i.i E) peer) (take c.args.limit (delta (drop c.args.place E) peer)) c.at-event.result.now (delta (drop (c.loop-i.i + 1) E) peer) first less c.loop-i.invariant.page)
+    let less : length c.loop-i.events < c.args.limit = omega (arith, c.loop-i.invariant.within, c.if-len-limit.false, c.len.ensures) in
+    rw exit.1 (page_has c.args.limit c.loop-i.events (delta (drop c.loop-i.i E) peer) (take c.args.limit (delta (drop c.args.place E) peer)) c.at-event.result.now (delta (drop (c.loop-i.i + 1) E) peer) first less c.loop-i.invariant.page)
 
 pub loop-i-preserved : goal.loop-i-preserved
 loop-i-preserved c =
     let E = set_of c.args.self.now in
     let peer = c.args.peer.now in
     let e = c.at-event.result.now in
-    let b = c.loop-i.batch in
+    let b = c.loop-i.events in
     let rest = delta (drop (c.loop-i.i + 1) E) peer in
     let T = take c.args.limit (delta (drop c.args.place E) peer) in
+    let D = drop c.args.limit (delta (drop c.args.place E) peer) in
     let less : length b < c.args.limit = omega (arith, c.loop-i.invariant.within, c.if-len-limit.false, c.len.ensures) in
     elim c.if-not-is_held.branch [
       | then-not-is_held+in_ok-copy+in_ok-push w ↦
           let first = filter_kept (λ e. not (is_held peer e)) E c.loop-i.i e c.at-event.ensures (ap not (sym c.is_held.ensures ∙ w.if-not-is_held.true)) in
-          let same : c.if-not-is_held.batch ≡ b ++ e ∷ [] = w.batch-is ∙ w.in_ok-push.ensures.ok ∙ ap (λ x. b ++ x ∷ []) w.in_ok-copy.ensures in
+          let same : c.if-not-is_held.events ≡ b ++ e ∷ [] = w.events-is ∙ w.in_ok-push.ensures.ok ∙ ap (λ x. b ++ x ∷ []) w.in_ok-copy.ensures in
           record {
             within = omega (arith, ap length same, length-append b (e ∷ []), less);
+            behind = omega (arith, ap length same, length-append b (e ∷ []), c.loop-i.invariant.behind);
             page = subst (λ l. l ++ take (c.args.limit - length l) rest ≡ T) (sym same) (page_more c.args.limit b (delta (drop c.loop-i.i E) peer) T e rest first less c.loop-i.invariant.page);
+            rest = subst (λ l. drop (c.args.limit - length l) rest ≡ D) (sym same) (rest_more c.args.limit b (delta (drop c.loop-i.i E) peer) D e rest first less c.loop-i.invariant.rest);
           }
       | else-not-is_held w ↦
           let first = filter_left_out (λ e. not (is_held peer e)) E c.loop-i.i e c.at-event.ensures (ap not (sym c.is_held.ensures ∙ w.if-not-is_held.false)) in
           record {
-            within = subst (λ l. length l ≤ c.args.limit) (sym w.batch-is) c.loop-i.invariant.within;
-            page = subst (λ l. l ++ take (c.args.limit - length l) rest ≡ T) (sym w.batch-is) (ap (λ m. b ++ take (c.args.limit - length b) m) (sym first) ∙ c.loop-i.invariant.page);
+            within = subst (λ l. length l ≤ c.args.limit) (sym w.events-is) c.loop-i.invariant.within;
+            behind = omega (arith, ap length w.events-is, c.loop-i.invariant.behind);
+            page = subst (λ l. l ++ take (c.args.limit - length l) rest ≡ T) (sym w.events-is) (ap (λ m. b ++ take (c.args.limit - length b) m) (sym first) ∙ c.loop-i.invariant.page);
+            rest = subst (λ l. drop (c.args.limit - length l) rest ≡ D) (sym w.events-is) (ap (drop (c.args.limit - length b)) (sym first) ∙ c.loop-i.invariant.rest);
           }
     ]
