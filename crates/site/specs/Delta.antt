@@ -7,10 +7,11 @@ use Rattle.attributes.specs.Event.{EventValue, source_of}
 use Rattle.attributes.specs.Sequence.{number_of}
 use Rattle.coverage.specs.Summary.{Sources, holds_at}
 
--- whether the summary holds the number of the event for its source
-abbrev pub is_held : Sources → EventValue → Bool
-is_held summary e = option_map_or (λ n. holds_at summary (source_of e) n) (number_of e) false
+-- whether the event has a number that the summary doesn't hold for its source
+abbrev pub is_lacking : Sources → EventValue → Bool
+is_lacking summary e =
+    option_map_or (λ n. not (holds_at summary (source_of e) n)) (number_of e) false
 
 -- the events of E whose number the summary doesn't hold for their source
 abbrev pub delta : List EventValue → Sources → List EventValue
-delta E summary = filter (λ e. not (is_held summary e)) E
+delta E summary = filter (is_lacking summary) E

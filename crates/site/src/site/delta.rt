@@ -2,7 +2,7 @@
 
 ghost use Rattle.std.specs.Prelude.{◌≡◌, ◌≢◌, ◌+◌, ◌≤◌, [], drop, length, take, IfOk, OnErr};
 ghost use Rattle.inbox.specs.Sets.{set_of};
-ghost use Rattle.site.specs.Delta.{delta, is_held};
+ghost use Rattle.site.specs.Delta.{delta, is_lacking};
 ghost use Rattle.site.specs.Page.{page};
 
 use super::Site;
@@ -17,11 +17,11 @@ pub struct DeltaPart {
     pub next: u64,
 }
 
-/// Whether a summary holds the number of an event for its source.
-fn is_held(peer: &Summary, event: &Sequenced) -> bool
-    ensures { result ≡ is_held peer.now event.now }
+/// Whether a summary doesn't hold the number of an event for its source.
+fn is_lacking(peer: &Summary, event: &Sequenced) -> bool
+    ensures { result ≡ is_lacking peer.now event.now }
 {
-    peer.contains(event.event().source(), event.number())
+    !peer.contains(event.event().source(), event.number())
 }
 
 impl Site {
@@ -35,7 +35,7 @@ impl Site {
         let mut left = from;
         let len = self.len();
         for i in 0..len {
-            if !is_held(peer, self.at(i)) {
+            if is_lacking(peer, self.at(i)) {
                 if left == 0 {
                     return i;
                 }
@@ -74,7 +74,7 @@ impl Site {
                 return Ok(DeltaPart { events, next: i });
             }
             let event = self.at(i);
-            if !is_held(peer, event) {
+            if is_lacking(peer, event) {
                 events.push(event.copy()?)?;
             }
         }

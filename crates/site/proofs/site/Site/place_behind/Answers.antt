@@ -1,10 +1,10 @@
-use Rattle.std.proofs.Common.{◌+◌, drop, not, sym, ap, ◌∙◌, arith}
+use Rattle.std.proofs.Common.{◌+◌, drop, sym, ap, ◌∙◌, arith}
 use Rattle.inbox.specs.Sets.{set_of}
-use Rattle.site.specs.Delta.{delta, is_held}
+use Rattle.site.specs.Delta.{delta, is_lacking}
 use Rattle.site.proofs.PageLemmas.{drop_first}
 use Rattle.site.proofs.DeltaLemmas.{filter_kept, filter_left_out}
 use Rattle.site.proofs.site.Site.place_behind.Goals as goal
-use Rattle.site.proofs.site.Site.place_behind.Goals.{then-not-is_held+else-left-eq0, else-not-is_held}
+use Rattle.site.proofs.site.Site.place_behind.Goals.{then-is_lacking+else-left-eq0, else-is_lacking}
 
 pub loop-i-preserved : goal.loop-i-preserved
 loop-i-preserved c =
@@ -12,11 +12,11 @@ loop-i-preserved c =
     let peer = c.args.peer.now in
     let e = c.at.result.now in
     let rest = delta (drop (c.loop-i.i + 1) E) peer in
-    elim c.if-not-is_held.branch [
-      | then-not-is_held+else-left-eq0 w ↦
-          let first = filter_kept (λ e. not (is_held peer e)) E c.loop-i.i e c.at.ensures (ap not (sym c.is_held.ensures ∙ w.if-not-is_held.true)) in
+    elim c.if-is_lacking.branch [
+      | then-is_lacking+else-left-eq0 w ↦
+          let first = filter_kept (is_lacking peer) E c.loop-i.i e c.at.ensures (sym c.is_lacking.ensures ∙ w.if-is_lacking.true) in
           ap (λ n. drop n rest) w.left-is ∙ drop_first (delta (drop c.loop-i.i E) peer) e rest c.loop-i.left first (omega (arith, w.if-left-eq0.false)) ∙ c.loop-i.invariant
-      | else-not-is_held w ↦
-          let first = filter_left_out (λ e. not (is_held peer e)) E c.loop-i.i e c.at.ensures (ap not (sym c.is_held.ensures ∙ w.if-not-is_held.false)) in
+      | else-is_lacking w ↦
+          let first = filter_left_out (is_lacking peer) E c.loop-i.i e c.at.ensures (sym c.is_lacking.ensures ∙ w.if-is_lacking.false) in
           ap (λ n. drop n rest) w.left-is ∙ ap (drop c.loop-i.left) (sym first) ∙ c.loop-i.invariant
     ]
