@@ -14,4 +14,6 @@ mod json;
 #[cfg(test)]
 mod reports;
 #[cfg(test)]
+mod sites;
+#[cfg(test)]
 mod summaries;

@@ -52,6 +52,9 @@ impl Intervals {
             → holds self.new m ≡ (holds self.old m || (m == number))) }
         ensures canonical { IsCanonical self.new }
         ensures err { OnErr result (self.new ≡ self.old) }
+
+        // A number that is held needs no memory.
+        ensures err_of_new { OnErr result (holds self.old number ≡ false) }
     {
         let n = number.number();
         let mut start = n;

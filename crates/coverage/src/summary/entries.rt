@@ -47,13 +47,30 @@ impl Summary {
             ≡ (holds_at self.old s m || (bytes_eq s source.now && (m == number)))) }
         ensures summary { IsSummary self.new }
         ensures err { OnErr result (self.new ≡ self.old) }
+
+        // A number that is held needs no memory.
+        ensures err_of_new { OnErr result (holds_at self.old source.now number ≡ false) }
     {
-        if let Some(numbers) = self.entries.get_mut(source.as_str()) {
+        self.insert_str(source.as_str(), number)
+    }
+
+    /// `insert` for a source that is lent.
+    pub fn insert_str(&mut self, source: &str, number: Sequence) -> Result<bool, AllocError>
+        requires { is_filled source.now ≡ true }
+        ensures new { IfOk result (λ b. b ≡ not (holds_at self.old source.now number)) }
+        ensures members { OnOk result ((s : List ℕ) (m : ℕ)
+            → holds_at self.new s m
+            ≡ (holds_at self.old s m || (bytes_eq s source.now && (m == number)))) }
+        ensures summary { IsSummary self.new }
+        ensures err { OnErr result (self.new ≡ self.old) }
+        ensures err_of_new { OnErr result (holds_at self.old source.now number ≡ false) }
+    {
+        if let Some(numbers) = self.entries.get_mut(source) {
             return numbers.insert(number);
         }
         let mut first = Intervals::empty(self.alloc);
         first.insert(number)?;
-        let key = String::from_str(self.alloc, source.as_str())?;
+        let key = String::from_str(self.alloc, source)?;
         self.entries.insert(key, first)?;
         Ok(true)
     }

@@ -1,4 +1,5 @@
 use Rattle.std.proofs.Common.{◌==◌, ◌||◌, not, List, ℕ, rules, sym, ap, ap₂, ◌∙◌, arith}
+use Rattle.std.proofs.lemmas.Result.{err_from_is_err_and}
 use Rattle.coverage.specs.Intervals.{Interval, holds}
 use Rattle.coverage.proofs.InsertLemmas.{StartsAt, EndsAt, Joins, starts_alone, starts_left, starts_apart, ends_at, joins_made, joins-canonical, joins-members, already}
 use Rattle.coverage.proofs.MapLemmas.{found-holds}
@@ -50,4 +51,18 @@ returns c =
           ∙ ap₂ (λ (l : List Interval) (k : ℕ). holds l m || (m == k)) c.self.view_is c.number-n.ensures.value;
       canonical = joins-canonical old _ n _ _ canonical joined;
       err = search rules;
+      err_of_new = search rules;
     }
+
+pub returns-in_err-insert-clause-err_of_new : goal.returns-in_err-insert-clause-err_of_new
+returns-in_err-insert-clause-err_of_new c =
+    let old = c.self.inside.starts.entries in
+    let n = c.number-n.result in
+    let canonical = c.self.invariant in
+    let starts : StartsAt old n c.match-last_up_to.start = elim c.match-last_up_to.branch [
+      | in-Some+else-n-last+then-last-n w ↦ rw w.start-is (starts_left old n (w.in-Some.first, w.in-Some.last) canonical w.in-Some.ensures (omega arith))
+      | in-Some+else-n-last+else-last-n w ↦ rw w.start-is (starts_apart old n (w.in-Some.first, w.in-Some.last) canonical c.number-n.ensures.low w.in-Some.ensures w.if-n-last.false w.if-last-n.false)
+      | in_default w ↦ rw w.start-is (starts_alone old n canonical c.number-n.ensures.low w.in_default.ensures)
+    ] in
+    let exit = err_from_is_err_and c.from_residual.result c.from_residual.ensures.1 in
+    rw exit.1 (sym (ap₂ holds c.self.view_is c.number-n.ensures.value) ∙ starts.absent)

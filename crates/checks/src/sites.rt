@@ -1,0 +1,275 @@
+//! What no contract says of sites: that calls succeed with ample memory, and that the definitions
+//! mean what they are to mean.
+
+use attributes::{Batch, Event, Fault, Given, Parts, Sequence, Sequenced, Text};
+use coverage::Summary;
+use inbox::{Counts, Short};
+use site::Site;
+use site::laws::{sites_answer_alike, taking_unites};
+use std::alloc::{AllocError, Global};
+use views::{Query, print};
+
+/// The id, the sequence number, the type and the subject of an event of the source `/orders`.
+type Row = (&'static str, u64, &'static str, &'static str);
+
+const A1: Row = ("a1", 1, "t.a", "x");
+
+const A2: Row = ("a2", 2, "t.b", "x");
+
+const A3: Row = ("a3", 3, "t.a", "y");
+
+const A4: Row = ("a4", 4, "t.a", "y");
+
+const OTHER_A1: Row = ("a1", 1, "t.b", "y");
+
+const P: Row = ("p", 1, "t.a", "x");
+
+const Q: Row = ("q", 1, "t.a", "x");
+
+/// Why a test has no answer.
+#[derive(Debug, Drop)]
+pub enum Failed {
+    Fault(Fault),
+    Short(Short),
+    OutOfMemory,
+}
+
+impl From<Fault> for Failed {
+    fn from(fault: Fault) -> Failed {
+        Failed::Fault(fault)
+    }
+}
+
+impl From<Short> for Failed {
+    fn from(short: Short) -> Failed {
+        Failed::Short(short)
+    }
+}
+
+impl From<AllocError> for Failed {
+    fn from(_error: AllocError) -> Failed {
+        Failed::OutOfMemory
+    }
+}
+
+/// Sets an attribute.
+fn set(alloc: Global, parts: &mut Parts, name: &str, text: &str) -> Result<(), AllocError> {
+    parts.set(name, Given::Words(Text::of(alloc, text)?))
+}
+
+/// The event of a row.
+fn event(alloc: Global, row: Row) -> Result<Sequenced, Failed> {
+    let number = row.1;
+    let digits = format!(in alloc; "{number:020}")?;
+    let mut parts = Parts::empty(alloc);
+    set(alloc, &mut parts, "specversion", "1.0")?;
+    set(alloc, &mut parts, "source", "/orders")?;
+    set(alloc, &mut parts, "id", row.0)?;
+    set(alloc, &mut parts, "sequence", digits.as_str())?;
+    set(alloc, &mut parts, "type", row.2)?;
+    set(alloc, &mut parts, "subject", row.3)?;
+    match Sequenced::of(Event::build(parts)?) {
+        Ok(event) => Ok(event),
+        Err(_) => Err(Failed::Fault(Fault::NoSequence)),
+    }
+}
+
+/// A batch of the events of rows.
+fn batch_of(alloc: Global, rows: &[Row]) -> Result<Batch, Failed> {
+    let mut batch = Batch::empty(alloc);
+    for row in rows {
+        if batch.push(event(alloc, *row)?).is_err() {
+            return Err(Failed::OutOfMemory);
+        }
+    }
+    Ok(batch)
+}
+
+/// Takes the events of rows, and tells how many were new.
+fn take(alloc: Global, site: &mut Site, rows: &[Row]) -> Result<Counts, Failed> {
+    let mut batch = batch_of(alloc, rows)?;
+    let counts = site.take_batch(&mut batch)?;
+    if batch.is_empty() {
+        Ok(counts)
+    } else {
+        Err(Failed::OutOfMemory)
+    }
+}
+
+/// A site that took the events of rows.
+fn site_of(alloc: Global, rows: &[Row]) -> Result<Site, Failed> {
+    let mut site = Site::empty(alloc);
+    let _counts = take(alloc, &mut site, rows)?;
+    Ok(site)
+}
+
+/// Whether a batch has the events of rows, in their order.
+fn has(batch: &Batch, rows: &[Row]) -> bool {
+    if batch.len() != rows.len() as u64 {
+        return false;
+    }
+    for i in 0..rows.len() {
+        let event = batch.at(i as u64).event();
+        if event.id() != rows[i].0 || event.kind() != rows[i].2 {
+            return false;
+        }
+    }
+    true
+}
+
+/// The summary of numbers of the source `/orders`.
+fn summary_of(alloc: Global, numbers: &[u64]) -> Result<Summary, Failed> {
+    let mut summary = Summary::empty(alloc);
+    for number in numbers {
+        if let Some(number) = Sequence::of_u64(*number) {
+            summary.insert_str("/orders", number)?;
+        }
+    }
+    Ok(summary)
+}
+
+/// The lines of the answer to a question.
+fn lines(alloc: Global, site: &Site, query: Query) -> Result<Text, Failed> {
+    Ok(print(alloc, &site.query(query)?)?)
+}
+
+#[test]
+fn a_peer_gets_what_it_lacks(rt: HostRuntime) -> Result<(), Failed> {
+    let site = site_of(rt.alloc(), &[A2, A1, A3])?;
+    let peer = summary_of(rt.alloc(), &[2])?;
+    assert_eq!(rt; site.arrived(), 3);
+    assert!(rt; has(&site.delta(&peer)?, &[A1, A3]));
+    assert!(rt; has(&site.delta_page(&peer, 1, 100)?, &[A3]));
+    assert!(rt; has(&site.delta_page(&peer, 0, 1)?, &[A1]));
+    assert!(rt; has(&site.delta_page(&peer, 2, 1)?, &[]));
+    let part = site.delta_from(&peer, 1, 1)?;
+    assert!(rt; has(&part.events, &[A3]));
+    assert_eq!(rt; part.next, 3);
+    Ok(())
+}
+
+#[test]
+fn pages_are_in_key_order_and_arrivals_as_they_came(rt: HostRuntime) -> Result<(), Failed> {
+    let site = site_of(rt.alloc(), &[A2, A1, A3, A2])?;
+    assert!(rt; has(&site.page(1, 1)?, &[A2]));
+    assert!(rt; has(&site.page(0, 100)?, &[A1, A2, A3]));
+    assert!(rt; has(&site.page(3, 100)?, &[]));
+    assert!(rt; has(&site.page(18_446_744_073_709_551_615, 100)?, &[]));
+    assert!(rt; has(&site.arrivals_after(1, 10)?, &[A1, A3]));
+    assert!(rt; has(&site.arrivals_after(0, 2)?, &[A2, A1]));
+    assert!(rt; has(&site.arrivals_after(4, 10)?, &[]));
+    Ok(())
+}
+
+#[test]
+fn a_batch_is_counted(rt: HostRuntime) -> Result<(), Failed> {
+    let mut site = Site::empty(rt.alloc());
+    let first = Counts {
+        fresh: 2,
+        repeated: 1,
+    };
+    let second = Counts {
+        fresh: 1,
+        repeated: 1,
+    };
+    assert_eq!(rt; take(rt.alloc(), &mut site, &[A1, A2, A1])?, first);
+    assert_eq!(rt; take(rt.alloc(), &mut site, &[A2, A3])?, second);
+    assert_eq!(rt;
+        site.summary()?.to_text()?.as_str(),
+        "{\"sources\":{\"/orders\":[[1,3]]},\"version\":1}"
+    );
+    Ok(())
+}
+
+#[test]
+fn merging_unites(rt: HostRuntime) -> Result<(), Failed> {
+    let mut one = site_of(rt.alloc(), &[A1])?;
+    let mut other = site_of(rt.alloc(), &[OTHER_A1, A4])?;
+    let two = Counts {
+        fresh: 2,
+        repeated: 0,
+    };
+    let one_more = Counts {
+        fresh: 1,
+        repeated: 2,
+    };
+    assert_eq!(rt; one.merge(&other)?, two);
+    assert_eq!(rt; other.merge(&one)?, one_more);
+    assert!(rt; has(&one.arrivals_after(0, 10)?, &[A1, OTHER_A1, A4]));
+    assert!(rt; has(&other.arrivals_after(0, 10)?, &[OTHER_A1, A4, A1]));
+    for query in [
+        Query::Cover,
+        Query::Shown,
+        Query::Conflicts,
+        Query::Latest,
+        Query::Kinds,
+        Query::Gaps,
+    ] {
+        let own = lines(rt.alloc(), &one, query)?;
+        let its = lines(rt.alloc(), &other, query)?;
+        assert_eq!(rt; own.as_str(), its.as_str());
+    }
+    Ok(())
+}
+
+#[test]
+fn a_site_answers_each_question(rt: HostRuntime) -> Result<(), Failed> {
+    sites_answer_alike();
+    taking_unites();
+    let site = site_of(rt.alloc(), &[A4, A1, A2])?;
+    let cover = "{\"sources\":{\"/orders\":[[1,2],[4,4]]},\"version\":1}\n";
+    assert_eq!(rt; lines(rt.alloc(), &site, Query::Cover)?.as_str(), cover);
+    assert_eq!(rt;
+        lines(rt.alloc(), &site, Query::Gaps)?.as_str(),
+        "[\"/orders\",[[3,3]]]\n"
+    );
+    assert_eq!(rt;
+        lines(rt.alloc(), &site, Query::Kinds)?.as_str(),
+        "[\"t.a\",2]\n[\"t.b\",1]\n"
+    );
+    assert_eq!(rt; lines(rt.alloc(), &site, Query::Days)?.as_str(), "");
+    assert_eq!(rt; lines(rt.alloc(), &site, Query::Conflicts)?.as_str(), "");
+    Ok(())
+}
+
+/// Takes 1,000 events in batches of 100, the numbers scattered, each event twice.
+fn take_scattered(alloc: Global, site: &mut Site) -> Result<bool, Failed> {
+    for round in 0..20u64 {
+        let mut batch = Batch::empty(alloc);
+        for k in 0..100u64 {
+            let number = (round * 100 + k) * 7 % 1000 + 1;
+            let id = format!(in alloc; "{number:06}")?;
+            let digits = format!(in alloc; "{number:020}")?;
+            let mut parts = Parts::empty(alloc);
+            set(alloc, &mut parts, "specversion", "1.0")?;
+            set(alloc, &mut parts, "source", "/orders")?;
+            set(alloc, &mut parts, "id", id.as_str())?;
+            set(alloc, &mut parts, "sequence", digits.as_str())?;
+            set(alloc, &mut parts, "type", "t.a")?;
+            if let Ok(event) = Sequenced::of(Event::build(parts)?) {
+                if batch.push(event).is_err() {
+                    return Ok(false);
+                }
+            }
+        }
+        let counts = site.take_batch(&mut batch)?;
+        if counts.fresh != (if round < 10 { 100 } else { 0 }) {
+            return Ok(false);
+        }
+    }
+    Ok(true)
+}
+
+#[test]
+fn a_thousand_events_are_paged(rt: HostRuntime) -> Result<(), Failed> {
+    let mut site = Site::empty(rt.alloc());
+    assert!(rt; take_scattered(rt.alloc(), &mut site)?);
+    assert_eq!(rt; site.arrived(), 1000);
+    let peer = summary_of(rt.alloc(), &[1, 2, 3, 1000])?;
+    assert_eq!(rt; site.delta(&peer)?.len(), 996);
+    let page = site.delta_page(&peer, 950, 100)?;
+    assert_eq!(rt; page.len(), 46);
+    assert_eq!(rt; page.at(0).number().number(), 954);
+    assert_eq!(rt; site.page(990, 100)?.len(), 10);
+    Ok(())
+}

@@ -1,0 +1,4 @@
+pub mod TakeLemmas
+pub mod SumLemmas
+pub mod PageLemmas
+pub mod DeltaLemmas

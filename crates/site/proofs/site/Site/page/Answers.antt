@@ -1,0 +1,15 @@
+use Rattle.std.proofs.Common.{◌∷◌, ◌++◌, [], sym, ap, ◌∙◌}
+use Rattle.std.proofs.lemmas.Result.{err_from_is_err_and}
+use Rattle.inbox.specs.Sets.{set_of}
+use Rattle.site.proofs.PageLemmas.{page_next, page_some}
+use Rattle.site.proofs.site.Site.page.Goals as goal
+
+pub returns-in_err-push-clause-err : goal.returns-in_err-push-clause-err
+returns-in_err-push-clause-err c =
+    let exit = err_from_is_err_and c.from_residual-in_err-push.result c.from_residual-in_err-push.ensures.1 in
+    rw exit.1 (page_some (set_of c.args.self.now) c.args.from c.loop-k.k c.args.limit c.at.result.now c.at.ensures c.requires.low)
+
+pub loop-k-preserved : goal.loop-k-preserved
+loop-k-preserved c =
+    c.in_ok-push.ensures.ok ∙ ap (λ e. c.loop-k.batch ++ e ∷ []) c.in_ok-copy.ensures ∙ ap (λ l. l ++ c.at.result.now ∷ []) c.loop-k.invariant
+    ∙ sym (page_next (set_of c.args.self.now) c.args.from c.loop-k.k c.at.result.now c.at.ensures)

@@ -1,0 +1,17 @@
+use Rattle.std.proofs.Common.{◌≡◌, sym, ap, ◌∙◌, subst}
+use Rattle.std.proofs.lemmas.Result.{IfOk-weaker}
+use Rattle.coverage.specs.Summary.{IsSummary, holds_at}
+use Rattle.inbox.specs.Sets.{AreEvents, set_of}
+use Rattle.views.specs.Number.{has_number}
+use Rattle.site.specs.Sum.{Sums}
+use Rattle.site.proofs.SumLemmas.{has_number-set_of}
+use Rattle.site.proofs.site.Site.summary.Goals as goal
+
+pub returns : goal.returns
+returns c =
+    let A = c.args.self.now in
+    let are : AreEvents A = subst AreEvents c.self.view_is c.arrived-arrived.ensures.events in
+    IfOk-weaker c.copy.result (λ s. s ≡ c.self.inside.summary) (Sums (set_of A)) (λ s same. record {
+      in_form = subst IsSummary (sym same) c.copy.ensures.summary;
+      exact = λ source n. ap (λ t. holds_at t source n) same ∙ c.self.invariant source n ∙ ap (λ l. has_number l source n) c.self.view_is ∙ sym (has_number-set_of c.sets_are_members.ensures A are source n);
+    }) c.copy.ensures.copied

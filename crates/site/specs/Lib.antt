@@ -1,0 +1,5 @@
+pub mod Arrival
+pub mod Page
+pub mod Delta
+pub mod Sum
+pub mod Law

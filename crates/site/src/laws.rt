@@ -1,0 +1,28 @@
+//! Laws of sites, each as the contract of a function that does nothing.
+
+ghost use Rattle.site.specs.Law.{SitesAnswerAlike, TakingUnites};
+
+use coverage::laws::{numbers_tell_cover_texts, numbers_tell_summaries};
+use inbox::laws::{arrivals_unite, sets_are_members, unions_are_sets};
+use views::laws::answers_are_alike;
+
+/// Sites that took the same events, in whatever order, grouping and repetition, answer every
+/// question with the same bytes, have equal summaries with equal texts, and answer `delta`,
+/// `delta_page` and `page` to equal arguments alike.
+pub fn sites_answer_alike()
+    ensures { SitesAnswerAlike }
+{
+    sets_are_members();
+    answers_are_alike();
+    numbers_tell_summaries();
+    numbers_tell_cover_texts();
+}
+
+/// A site that takes a list has what it had and what is in the list, and nothing else.
+pub fn taking_unites()
+    ensures { TakingUnites }
+{
+    sets_are_members();
+    unions_are_sets();
+    arrivals_unite();
+}

@@ -1,0 +1,89 @@
+//! The site and its arrivals.
+
+ghost use Rattle.std.specs.Prelude.{◌≡◌, ◌<◌, [], length, slice_get, Some};
+ghost use Rattle.inbox.specs.Sets.{AreEvents, set_of};
+
+mod delta;
+mod merge;
+mod page;
+mod question;
+mod take;
+
+pub use delta::DeltaPart;
+
+use attributes::Sequenced;
+use coverage::Summary;
+use inbox::Inbox;
+use std::alloc::Global;
+use std::marker::Model;
+
+/// What one region's site holds. Contracts see its arrivals: the events that it took, each once,
+/// in the order in which they came. `set_of` that is its set, in key order: by source, then id,
+/// then canonical text, all as bytes.
+#[derive(Drop)]
+pub struct Site {
+    inbox: Inbox,
+    summary: Summary,
+    alloc: Global,
+}
+
+impl Model for Site {
+    ghost use Rattle.std.specs.Prelude.{List};
+    ghost use Rattle.std.specs.Coded.{coded_list};
+    ghost use Rattle.attributes.specs.EventCode.{event_code};
+    ghost use Rattle.attributes.specs.Event.{EventValue};
+    ghost use Rattle.views.specs.Number.{HasNumbers};
+
+    ghost Value = { List EventValue };
+
+    ghost coded = { coded_list event_code };
+
+    ghost view = { λ s. s.inbox.arrivals };
+
+    ghost invariant = { λ s. HasNumbers s.inbox.arrivals s.summary };
+}
+
+impl Site {
+    /// A site without events. It takes no memory.
+    pub fn empty(alloc: Global) -> Site
+        ensures { result ≡ [] }
+    {
+        Site {
+            inbox: Inbox::empty(alloc),
+            summary: Summary::empty(alloc),
+            alloc,
+        }
+    }
+
+    /// How many events came, each counted once.
+    pub fn arrived(&self) -> u64
+        ensures count { result ≡ length self.now }
+        ensures events { AreEvents self.now }
+    {
+        self.inbox.arrived()
+    }
+
+    /// The event that came as the i-th, from 0.
+    fn arrived_at(&self, i: u64) -> &Sequenced
+        requires { i < length self.now }
+        ensures { slice_get self.now i ≡ Some result.now }
+    {
+        self.inbox.arrived_at(i)
+    }
+
+    /// How many events the set has.
+    fn len(&self) -> u64
+        ensures { result ≡ length (set_of self.now) }
+    {
+        self.inbox.len()
+    }
+
+    /// The event at place i of key order. The time grows with the logarithm of the number of
+    /// events.
+    fn at(&self, i: u64) -> &Sequenced
+        requires { i < length (set_of self.now) }
+        ensures { slice_get (set_of self.now) i ≡ Some result.now }
+    {
+        self.inbox.at(i)
+    }
+}

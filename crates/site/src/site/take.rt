@@ -1,0 +1,103 @@
+//! Events taken.
+
+ghost use Rattle.std.specs.Prelude.{◌≡◌, ◌+◌, ◌<◌, [], ◌∷◌, drop, false, length, take, IfErr, IfOk, OnErr, OnOk};
+ghost use Rattle.inbox.specs.KeyOrder.{key_cmp};
+ghost use Rattle.inbox.specs.Ordered.{append_new, has};
+ghost use Rattle.inbox.specs.Sets.{set_of, union};
+ghost use Rattle.views.specs.Number.{HasNumbers};
+ghost use Rattle.site.specs.Arrival.{LacksAt};
+
+use super::Site;
+use attributes::{Batch, Sequenced};
+use coverage::Summary;
+use inbox::laws::sets_are_members;
+use inbox::{Counts, Inbox, Short};
+use std::alloc::AllocError;
+
+/// Makes all that an event needs to grow: room for it, and its number in the summary.
+pub(super) fn grow(
+    inbox: &mut Inbox,
+    summary: &mut Summary,
+    event: &Sequenced,
+) -> Result<(), AllocError>
+    requires { HasNumbers inbox.old.arrivals summary.old }
+    ensures same { inbox.new.arrivals ≡ inbox.old.arrivals }
+    ensures room { OnOk result (0 < inbox.new.spare) }
+    ensures numbers { OnOk result (HasNumbers
+        (append_new key_cmp inbox.old.arrivals (event.now ∷ [])) summary.new) }
+    ensures err { OnErr result (summary.new ≡ summary.old) }
+
+    // Where there is room, memory is wanted for a new number alone.
+    ensures err_of_new { OnErr result (0 < inbox.old.spare
+        → has key_cmp inbox.old.arrivals event.now ≡ false) }
+{
+    // Only events are kept and taken, and what the set has of them is one of them.
+    let _arrived = inbox.arrived();
+    let _text = event.event().text();
+    sets_are_members();
+    inbox.reserve(1)?;
+    summary.insert_str(event.event().source(), event.number())?;
+    Ok(())
+}
+
+impl Site {
+    /// Takes the first event of a batch. What is there needs no memory.
+    fn take_next(&mut self, batch: &mut Batch) -> Result<(), AllocError>
+        requires { 0 < length batch.old }
+        ensures arrivals { OnOk result
+            (self.new ≡ append_new key_cmp self.old (take 1 batch.old)) }
+        ensures set { OnOk result
+            (set_of self.new ≡ union (set_of self.old) (take 1 batch.old)) }
+        ensures rest { OnOk result (batch.new ≡ drop 1 batch.old) }
+        ensures same { OnErr result (self.new ≡ self.old) }
+        ensures whole { OnErr result (batch.new ≡ batch.old) }
+        ensures err_of_new { OnErr result (LacksAt self.old batch.old 0) }
+    {
+        if self.inbox.spare() == 0 && self.inbox.place_of(batch.at(0)).is_ok() {
+            sets_are_members();
+            drop(batch.take_front());
+            return Ok(());
+        }
+        grow(&mut self.inbox, &mut self.summary, batch.at(0))?;
+        if let Some(event) = batch.take_front() {
+            let _taken = self.inbox.put(event);
+        }
+        Ok(())
+    }
+
+    /// Takes the events of a batch, from its front on. Those that are there change nothing and need
+    /// no memory. After want of memory the batch holds what was not taken; those before it stay.
+    /// The time is that of `Inbox::put` for each event, and for each new one that of a look-up of
+    /// its source and number in the summary.
+    pub fn take_batch(&mut self, batch: &mut Batch) -> Result<Counts, Short>
+        ensures arrivals { OnOk result (self.new ≡ append_new key_cmp self.old batch.old) }
+        ensures set { OnOk result (set_of self.new ≡ union (set_of self.old) batch.old) }
+        ensures emptied { OnOk result (batch.new ≡ []) }
+        ensures fresh { IfOk result (λ n. length self.old + n.fresh ≡ length self.new) }
+        ensures repeated { IfOk result (λ n. n.fresh + n.repeated ≡ length batch.old) }
+        ensures short { IfErr result (λ s. self.new
+            ≡ append_new key_cmp self.old (take s.taken batch.old)) }
+        ensures short_set { IfErr result (λ s. set_of self.new
+            ≡ union (set_of self.old) (take s.taken batch.old)) }
+        ensures rest { IfErr result (λ s. batch.new ≡ drop s.taken batch.old) }
+        ensures short_fresh { IfErr result (λ s. length self.old + s.fresh ≡ length self.new) }
+        ensures short_taken { IfErr result (λ s. s.taken < length batch.old) }
+
+        // Memory was wanted for a new event.
+        ensures short_of_new { IfErr result (λ s. LacksAt self.new batch.old s.taken) }
+    {
+        let before = self.arrived();
+        let len = batch.len();
+        for i in 0..len {
+            let Ok(_) = self.take_next(batch) else {
+                let fresh = self.arrived() - before;
+                return Err(Short { taken: i, fresh });
+            };
+        }
+        let fresh = self.arrived() - before;
+        Ok(Counts {
+            fresh,
+            repeated: len - fresh,
+        })
+    }
+}
