@@ -7,10 +7,9 @@ use Rattle.std.specs.Ordering.{is_eq}
 use Rattle.attributes.specs.Event.{EventValue}
 use Rattle.attributes.specs.Fault.{IsEvent}
 use Rattle.event_json.specs.Reading.{Reads}
-use Rattle.inbox.specs.Kept.{Kept, events}
 use Rattle.inbox.specs.KeyOrder.{key_cmp}
 use Rattle.inbox.specs.Ordered.{has}
-use Rattle.inbox.specs.Sets.{AreEvents}
+use Rattle.inbox.specs.Sets.{AreEvents, set_of}
 use Rattle.views.specs.Law.{AnswersAreAlike}
 use Rattle.views.specs.Question.{IsAnswer}
 use Rattle.views.specs.declared.query.Query.{Query}
@@ -107,9 +106,9 @@ events_among one files others ls ms r s hold e c =
     let held = hold e (ls, r, c) in
     subst (λ l. Contains (joined l) e) (lists_alike one others held.0 ms held.1 s) held.2
 
-pub report_alike : ReadingsAreOne → AnswersAreAlike → (query : Query) (files others : List (List ℕ)) (inbox : Kept) (text other : List ℕ)
-    → KeepsFiles files inbox → IsAnswer query (events inbox) text → HoldSameEvents files others → IsReport query others other → other ≡ text
-report_alike one alike query files others inbox text other k a same s =
+pub report_alike : ReadingsAreOne → AnswersAreAlike → (query : Query) (files others : List (List ℕ)) (site : List EventValue) (text other : List ℕ)
+    → KeepsFiles files site → IsAnswer query (set_of site) text → HoldSameEvents files others → IsReport query others other → other ≡ text
+report_alike one alike query files others site text other k a same s =
     let here : List EventValue = joined k.0 in
     let there : List EventValue = joined s.0 in
     let f = events_among one files others k.0 s.0 k.1 s.1 (λ e. (same e).0) in

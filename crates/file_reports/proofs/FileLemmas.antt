@@ -12,7 +12,6 @@ use Rattle.std.specs.List.Sorted.{IsPermutation}
 use Rattle.attributes.specs.Event.{EventValue}
 use Rattle.attributes.specs.Fault.{IsEvent}
 use Rattle.event_json.specs.Reading.{Reads}
-use Rattle.inbox.specs.Kept.{Adds, Kept}
 use Rattle.inbox.specs.KeyOrder.{key_cmp}
 use Rattle.inbox.specs.Laws.{SetLaws}
 use Rattle.inbox.specs.Ordered.{add_all, has}
@@ -23,7 +22,7 @@ use Rattle.attributes.specs.declared.fault.Fault.{Fault}
 use Rattle.file_reports.proofs.ListLemmas.{take_next}
 use Rattle.file_reports.specs.declared.refusal.ReportFault.{ReportFault}
 use Rattle.file_reports.specs.declared.refusal.ReportFault.TheVariants.{OutOfMemory, Read, Event}
-use Rattle.file_reports.specs.steps.Intake.{KeepsFiles}
+use Rattle.file_reports.specs.steps.Intake.{Gains, KeepsFiles}
 use Rattle.file_reports.specs.Reports.{AreSequenced, EachReads, IsFault, IsRefusal, IsUnnumberedAt, joined}
 
 pub EachReads-more : (files : List (List ℕ)) (lists : List (List EventValue)) (file : List ℕ) (events : List EventValue)
@@ -46,8 +45,8 @@ AreEvents-append [] ys h k = k
 AreEvents-append (x ∷ xs) ys h k = (h.0, AreEvents-append xs ys h.1 k)
 
 -- a file more was taken
-pub KeepsFiles-more : (files : List (List ℕ)) (file : List ℕ) (L : List EventValue) (old new : Kept) → KeepsFiles files old
-    → Reads file L → AreSequenced L → AreEvents L → Adds L old new → KeepsFiles (files ++ file ∷ []) new
+pub KeepsFiles-more : (files : List (List ℕ)) (file : List ℕ) (L : List EventValue) (old new : List EventValue) → KeepsFiles files old
+    → Reads file L → AreSequenced L → AreEvents L → Gains L old new → KeepsFiles (files ++ file ∷ []) new
 KeepsFiles-more files file L old new h r s are added = (
   h.0 ++ L ∷ [],
   EachReads-more files h.0 file L h.1 r s,
@@ -64,9 +63,9 @@ has-permutation J L M e p =
     list_any-append test J M ∙ ap (λ b. list_any test J || b) (sym (list_any-IsPermutation test L M p)) ∙ sym (list_any-append test J L)
 
 -- what was added in another order was added
-pub Adds-permutation : SetLaws → (files : List (List ℕ)) (L M : List EventValue) (old new : Kept) → KeepsFiles files old
-    → AreEvents L → IsPermutation L M → Adds M old new → Adds L old new
-Adds-permutation laws files L M old new h are p added =
+pub Gains-permutation : SetLaws → (files : List (List ℕ)) (L M : List EventValue) (old new : List EventValue) → KeepsFiles files old
+    → AreEvents L → IsPermutation L M → Gains M old new → Gains L old new
+Gains-permutation laws files L M old new h are p added =
     let J : List EventValue = joined h.0 in
     let events_with : (X : List EventValue) → add_all key_cmp (set_of J) X ≡ set_of (J ++ X) = λ X. sym (add_all-append [] J X) in
     added ∙ ap (λ E. add_all key_cmp E M) h.3 ∙ events_with M

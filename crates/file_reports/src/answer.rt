@@ -2,14 +2,14 @@
 ghost use Rattle.std.specs.Prelude.{◌≡◌, ℕ, List, IfErr, IfOk};
 ghost use Rattle.file_reports.specs.Reports.{HoldSameEvents, IsReport, IsRefusal};
 
-use crate::intake::inbox_of;
+use crate::intake::site_of;
 use crate::refusal::Refused;
 use attributes::{Octets, Text};
 use event_json::readings_are_one;
-use inbox::Inbox;
+use site::Site;
 use std::alloc::Global;
 use views::laws::answers_are_alike;
-use views::{Query, answer_lines};
+use views::Query;
 
 /// An answer, in lines that end with LF, and the events that it is about. To give the memory of many
 /// events back, one after the other, can take longer than to ask about them, so the caller says
@@ -17,7 +17,7 @@ use views::{Query, answer_lines};
 #[derive(Drop)]
 pub struct Reported {
     pub text: Text,
-    pub events: Inbox,
+    pub events: Site,
 }
 
 /// The answer to a question about the set of the events of all files, in lines that end with LF.
@@ -36,7 +36,7 @@ pub fn report(alloc: Global, query: Query, files: &[Octets]) -> Result<Reported,
     // Two laws that `alike` rests on; they do nothing.
     readings_are_one();
     answers_are_alike();
-    let events = inbox_of(alloc, files)?;
-    let text = answer_lines(alloc, &events, query)?;
+    let events = site_of(alloc, files)?;
+    let text = events.lines(query)?;
     Ok(Reported { text, events })
 }

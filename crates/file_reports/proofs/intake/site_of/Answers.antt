@@ -3,8 +3,8 @@ use Rattle.std.specs.Prelude.{Some, slice_get}
 use Rattle.std.proofs.lemmas.Option.{slice_get_read}
 use Rattle.file_reports.specs.steps.Intake.{KeepsFiles}
 use Rattle.file_reports.proofs.ListLemmas.{take_next}
-use Rattle.file_reports.proofs.FileLemmas.{Adds-permutation, KeepsFiles-more, refusal_by}
-use Rattle.file_reports.proofs.intake.inbox_of.Goals as goal
+use Rattle.file_reports.proofs.FileLemmas.{Gains-permutation, KeepsFiles-more, refusal_by}
+use Rattle.file_reports.proofs.intake.site_of.Goals as goal
 
 pub returns-in-Err-clause-err : goal.returns-in-Err-clause-err
 returns-in-Err-clause-err c =
@@ -20,8 +20,8 @@ loop-file-preserved c =
     let there : slice_get files c.loop-file.file ≡ Some c.as_bytes.result.now =
     slice_get_read files (length files) c.loop-file.file c.index-files-file.result refl (omega arith) c.index-files-file.is
     ∙ ap (λ (x : List ℕ). Some x) (sym c.as_bytes.ensures.value) in
-    subst (λ (fs : List (List ℕ)). KeepsFiles fs c.take_all.new.inbox) (sym (take_next files c.loop-file.file c.as_bytes.result.now there))
-    (KeepsFiles-more (take c.loop-file.file files) c.as_bytes.result.now c.in-Ok.batch c.loop-file.inbox c.take_all.new.inbox
+    subst (λ (fs : List (List ℕ)). KeepsFiles fs c.take_all.new.site) (sym (take_next files c.loop-file.file c.as_bytes.result.now there))
+    (KeepsFiles-more (take c.loop-file.file files) c.as_bytes.result.now c.in-Ok.batch c.loop-file.site c.take_all.new.site
     c.loop-file.invariant c.in-Ok.ensures.reads c.in-Ok.ensures.numbered c.in-Ok.ensures.events
-    (Adds-permutation c.sets_are_members.ensures (take c.loop-file.file files) c.in-Ok.batch c.in_ok-in_key_order-in-Ok.field-0 c.loop-file.inbox c.take_all.new.inbox
+    (Gains-permutation c.sets_are_members.ensures (take c.loop-file.file files) c.in-Ok.batch c.in_ok-in_key_order-in-Ok.field-0 c.loop-file.site c.take_all.new.site
     c.loop-file.invariant c.in-Ok.ensures.events c.in_ok-in_key_order-in-Ok.ensures c.in_ok-take_all-in-Ok.ensures))

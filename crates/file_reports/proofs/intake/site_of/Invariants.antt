@@ -1,6 +1,6 @@
 use Rattle.std.proofs.Common.{take}
 use Rattle.file_reports.specs.steps.Intake.{KeepsFiles}
-use Rattle.file_reports.proofs.intake.inbox_of.Given as goal
+use Rattle.file_reports.proofs.intake.site_of.Given as goal
 
 abbrev pub invariant-loop-file : goal.invariant-loop-file
-invariant-loop-file l = KeepsFiles (take l.file l.files) l.inbox
+invariant-loop-file l = KeepsFiles (take l.file l.files) l.site
