@@ -3,7 +3,7 @@ ghost use Rattle.std.specs.Prelude.{IfErr, IfOk, OnOk};
 ghost use Rattle.file_reports.specs.Reports.{IsRefusal};
 ghost use Rattle.file_reports.specs.steps.Intake.{Gains, KeepsFiles};
 
-use crate::batch::{batch_of_file, in_key_order};
+use crate::batch::{events_of_file, in_key_order};
 use crate::refusal::Refused;
 use attributes::{Batch, Octets};
 use inbox::laws::sets_are_members;
@@ -20,8 +20,8 @@ pub fn site_of(alloc: Global, files: &[Octets]) -> Result<Site, Refused>
     sets_are_members();
     let mut site = Site::empty(alloc);
     for (file, bytes) in files.iter().enumerate() {
-        match batch_of_file(alloc, bytes.as_bytes()) {
-            Ok(batch) => take_all(&mut site, in_key_order(alloc, batch)?)?,
+        match events_of_file(alloc, bytes.as_bytes()) {
+            Ok(events) => take_all(&mut site, in_key_order(alloc, events)?)?,
             Err(fault) => {
                 let file = file as u64;
                 return Err(Refused { file, fault });

@@ -5,7 +5,7 @@ use Rattle.file_reports.proofs.batch.sequenced.Given as goal
 
 abbrev pub invariant-loop-event : goal.invariant-loop-event
 invariant-loop-event l = record {
-  whole : l.batch ++ l.event-iterator.rest.items ≡ l.fn.events;
-  numbered : AreSequenced l.batch;
-  events : AreEvents l.batch;
+  whole : l.numbered.items ++ l.event-iterator.rest.items ≡ l.fn.events;
+  numbered : AreSequenced l.numbered.items;
+  events : AreEvents l.numbered.items;
 }

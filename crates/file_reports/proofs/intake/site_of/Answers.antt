@@ -21,7 +21,7 @@ loop-file-preserved c =
     slice_get_read files (length files) c.loop-file.file c.index-files-file.result refl (omega arith) c.index-files-file.is
     ∙ ap (λ (x : List ℕ). Some x) (sym c.as_bytes.ensures.value) in
     subst (λ (fs : List (List ℕ)). KeepsFiles fs c.take_all.new.site) (sym (take_next files c.loop-file.file c.as_bytes.result.now there))
-    (KeepsFiles-more (take c.loop-file.file files) c.as_bytes.result.now c.in-Ok.batch c.loop-file.site c.take_all.new.site
+    (KeepsFiles-more (take c.loop-file.file files) c.as_bytes.result.now c.in-Ok.events.items c.loop-file.site c.take_all.new.site
     c.loop-file.invariant c.in-Ok.ensures.reads c.in-Ok.ensures.numbered c.in-Ok.ensures.events
-    (Gains-permutation c.sets_are_members.ensures (take c.loop-file.file files) c.in-Ok.batch c.in_ok-in_key_order-in-Ok.field-0 c.loop-file.site c.take_all.new.site
+    (Gains-permutation c.sets_are_members.ensures (take c.loop-file.file files) c.in-Ok.events.items c.in_ok-in_key_order-in-Ok.field-0 c.loop-file.site c.take_all.new.site
     c.loop-file.invariant c.in-Ok.ensures.events c.in_ok-in_key_order-in-Ok.ensures c.in_ok-take_all-in-Ok.ensures))
