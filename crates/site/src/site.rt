@@ -72,7 +72,7 @@ impl Site {
     }
 
     /// How many events the set has.
-    fn len(&self) -> u64
+    pub fn len(&self) -> u64
         ensures { result ≡ length (set_of self.now) }
     {
         self.inbox.len()
