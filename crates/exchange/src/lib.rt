@@ -2,6 +2,12 @@
 #![tactic(auto)]
 
 pub mod laws;
+mod machine;
+mod step;
 mod transfer;
+mod world;
 
+pub use machine::{Stopped, run};
+pub use step::{Step, Steps};
 pub use transfer::{gossip, scrub};
+pub use world::{Hosted, World};

@@ -64,7 +64,7 @@ impl Site {
     }
 
     /// The event that came as the i-th, from 0.
-    fn arrived_at(&self, i: u64) -> &Sequenced
+    pub fn arrived_at(&self, i: u64) -> &Sequenced
         requires { i < length self.now }
         ensures { slice_get self.now i ≡ Some result.now }
     {
