@@ -1,12 +1,12 @@
 -- Running sites stand for places, step by step.
-use Rattle.std.proofs.Common.{◌≡◌, ℕ, zero, suc, ◌+◌, ◌<◌, ◌≤◌, List, [], ◌∷◌, ◌++◌, true, false, ◌||◌, length, get_or, set, take, Some, slice_get, if◌then◌else◌, refl, sym, ap, ap₂, ◌∙◌, subst, arith, length-append}
+use Rattle.std.proofs.Common.{◌≡◌, ◌≢◌, ℕ, zero, suc, ◌+◌, ◌<◌, ◌≤◌, List, [], ◌∷◌, ◌++◌, true, false, ◌||◌, length, get_or, set, take, Some, slice_get, if◌then◌else◌, refl, sym, ap, ◌∙◌, subst, arith, length-append}
 use Rattle.std.specs.declared.cmp.Ordering.{Ordering}
 use Rattle.std.specs.declared.cmp.Ordering.TheVariants.{Less, Equal, Greater}
 use Rattle.std.specs.Ordering.{is_eq, match_ordering}
 use Rattle.std.specs.List.{AllByRecursion, AllZip}
 use Rattle.std.specs.BTreeSet.{insert_key}
-use Rattle.std.proofs.lemmas.List.{take_all, take-append-le, take_more}
-use Rattle.std.proofs.lemmas.Option.{get_or_from_slice_get, slice_get_within}
+use Rattle.std.proofs.lemmas.List.{get_or_default, get_or-set_other, get_or-set_same, set-set, take_all, take-append-le, take_more}
+use Rattle.std.proofs.lemmas.Option.{get_or_from_slice_get, slice_get-get_or, slice_get_within}
 use mathlib.Core.Bool.{true≢false}
 use Rattle.attributes.specs.Event.{EventValue}
 use Rattle.inbox.specs.KeyOrder.{key_cmp}
@@ -15,7 +15,7 @@ use Rattle.inbox.specs.Ordered.{append_new, has}
 use Rattle.inbox.specs.Sets.{set_of, union}
 use Rattle.exchange.specs.declared.world.Hosted.{Hosted}
 use Rattle.exchange.specs.declared.step.Step.{Step}
-use Rattle.exchange.specs.Place.{Place, gains, nothing, place_at, start}
+use Rattle.exchange.specs.Place.{Place, gains, nothing, place_at}
 use Rattle.exchange.specs.Schedule.{FitsIn, after, world_after}
 use Rattle.exchange.specs.Standing.{Stands, StandsFor}
 use Rattle.exchange.specs.steps.Given.{GivesTo, site_at}
@@ -100,6 +100,28 @@ gives_stands sets old new w i L g s =
       within = let more = length-append_new key_cmp g.host.site L in omega (arith, ap length g.arrivals, one.within, more.0);
       once = subst (λ l. length (set_of l) ≡ length l) (sym g.arrivals) (once-append_new sets g.host.site L one.once);
     }))
+
+-- a site that is taken out and put back with events
+pub given_twice : (hosts : List Hosted) (to : ℕ) (h again : Hosted) (empty site L : List EventValue) → to < length hosts → h ≡ get_or hosts to h → again ≡ get_or (set hosts to (record { site = empty; kept = h.kept })) to again
+    → site ≡ append_new key_cmp h.site L → set_of site ≡ union (set_of h.site) L → GivesTo hosts (set (set hosts to (record { site = empty; kept = h.kept })) to (record { site = site; kept = again.kept })) to L
+given_twice hosts to h again empty site L l e f arrivals is =
+    let out : Hosted = record { site = empty; kept = h.kept } in
+    let same : again.kept ≡ h.kept = ap (λ x. x.kept) (f ∙ get_or-set_same hosts to out again l) in
+    record {
+      host = h;
+      there = slice_get-get_or hosts to h l ∙ ap Some (sym e);
+      site = site;
+      changed = set-set hosts to out (record { site = site; kept = again.kept }) ∙ ap (λ k. set hosts to (record { site = site; kept = k })) same;
+      arrivals = arrivals;
+      set = is;
+    }
+
+pub own_site : (hosts : List Hosted) (i : ℕ) (h : Hosted) → i < length hosts → h ≡ get_or hosts i h → h.site ≡ site_at hosts i
+own_site hosts i h l e = ap (λ x. x.site) (e ∙ get_or_default hosts i h (record { site = []; kept = 0 }) l)
+
+-- another site than the one that is taken out
+pub other_site : (hosts : List Hosted) (from to : ℕ) (h out : Hosted) → from < length hosts → from ≢ to → h ≡ get_or (set hosts to out) from h → h.site ≡ site_at hosts from
+other_site hosts from to h out l other e = own_site hosts from h l (e ∙ get_or-set_other hosts to from out h other)
 
 -- a flush
 pub flush_at : (hosts : List Hosted) (w : List Place) (i : ℕ) (h : Hosted) (n : ℕ) → i < length hosts → h ≡ get_or hosts i h → n ≡ length h.site → Stands hosts w

@@ -1,9 +1,10 @@
 -- Events that go a page at a time.
-use Rattle.std.proofs.Common.{◌≡◌, ℕ, suc, ◌+◌, ◌≤◌, List, [], ◌∷◌, ◌++◌, Bool, true, false, not, cond, filter, length, take, drop, if◌then◌else◌, Option, Some, None, refl, sym, ap, ap₂, ◌∙◌, arith, length-append}
+use Rattle.std.proofs.Common.{◌≡◌, ℕ, suc, ◌+◌, ◌≤◌, List, [], ◌∷◌, ◌++◌, Bool, true, false, not, cond, filter, length, take, drop, if◌then◌else◌, Option, Some, None, slice_get, refl, sym, ap, ap₂, ◌∙◌, arith, length-append}
 use Rattle.std.specs.Option.{option_map_or}
 use Rattle.std.specs.declared.cmp.Ordering.{Ordering}
 use Rattle.std.specs.BTreeSet.{insert_key}
-use Rattle.std.proofs.lemmas.List.{drop-take, length-take, take-append-drop, take-take, take_min}
+use Rattle.std.proofs.lemmas.List.{drop-take, length-take, take-append-drop, take-take, take_min, take_more}
+use Rattle.std.proofs.lemmas.Option.{get_or_from_slice_get, slice_get_within}
 use Rattle.attributes.specs.Event.{EventValue, source_of}
 use Rattle.attributes.specs.Sequence.{number_of}
 use Rattle.coverage.specs.Summary.{Sources, holds_at}
@@ -30,6 +31,10 @@ length-filter p (x ∷ xs) = elim (p x) as (λ b. length (cond b (x ∷ filter p
   | true ↦ omega (arith, length-filter p xs)
   | false ↦ omega (arith, length-filter p xs)
 ]
+
+-- a front and the item behind it
+pub take_next : {X : Type 0} (L : List X) (i : ℕ) (x : X) → slice_get L i ≡ Some x → take (i + 1) L ≡ take i L ++ x ∷ []
+take_next L i x h = take_more L i x (slice_get_within L i x h) ∙ ap (λ z. take i L ++ z ∷ []) (get_or_from_slice_get L i x x h)
 
 -- a page is as many of the first items as it has
 pub take_counted : {X : Type 0} (D events : List X) (limit n : ℕ) → events ≡ take limit D → n ≡ length events → events ≡ take n D

@@ -1,6 +1,6 @@
 -- Exchanges once each way unite.
-use Rattle.std.proofs.Common.{◌≡◌, ℕ, zero, suc, ◌+◌, List, [], ◌∷◌, ◌++◌, Bool, true, false, not, ◌||◌, ◌&&◌, cond, filter, length, Some, None, Option, refl, sym, ap, ap₂, ◌∙◌, subst, arith}
-use Rattle.std.specs.Prelude.{bytes_eq, ◌==◌, Contains}
+use Rattle.std.proofs.Common.{◌≡◌, ℕ, zero, suc, List, [], ◌∷◌, ◌++◌, Bool, true, false, not, ◌||◌, ◌&&◌, cond, filter, Some, None, Option, refl, sym, ap, ap₂, ◌∙◌, subst, arith}
+use Rattle.std.specs.Prelude.{bytes_eq, Contains}
 use Rattle.std.specs.List.{AllByRecursion, list_any}
 use Rattle.std.specs.Option.{option_map_or}
 use Rattle.std.specs.Ordering.{is_eq}
@@ -16,7 +16,7 @@ use Rattle.inbox.specs.Ordered.{has}
 use Rattle.inbox.specs.Sets.{AreEvents, set_of, union}
 use Rattle.views.specs.Number.{has_number, is_number, is_numbered}
 use Rattle.exchange.specs.Lacking.{is_missing, lacking}
-use Rattle.exchange.specs.Unite.{AreNumbered, GossipsUnite, HaveOwnNumbers, told}
+use Rattle.exchange.specs.Unite.{GossipsUnite, told}
 use Rattle.exchange.proofs.TransferLemmas.{add_all-append}
 
 same_tests : (a b : Bool) → (a ≡ true → b ≡ true) → (b ≡ true → a ≡ true) → a ≡ b

@@ -1,4 +1,4 @@
-use Rattle.std.proofs.Common.{◌≡◌, ◌+◌, ◌++◌, [], ◌∷◌, sym, subst}
+use Rattle.std.proofs.Common.{◌+◌, ◌++◌, [], ◌∷◌, sym, subst}
 use Rattle.std.proofs.lemmas.List.{replicate-append-replicate}
 use Rattle.exchange.specs.declared.world.Hosted.{Hosted}
 use Rattle.exchange.specs.Place.{nothing, start}

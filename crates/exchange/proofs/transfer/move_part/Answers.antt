@@ -1,6 +1,5 @@
-use Rattle.std.proofs.Common.{◌≡◌, ℕ, ◌≤◌, List, length, take, drop, min, sym, ap, ◌∙◌, arith}
-use Rattle.std.proofs.lemmas.List.{drop_min, length-take, take_min, take-take}
-use Rattle.attributes.specs.Event.{EventValue}
+use Rattle.std.proofs.Common.{◌≡◌, ◌≤◌, length, take, drop, min, sym, ap, ◌∙◌, arith}
+use Rattle.std.proofs.lemmas.List.{drop_min, length-take, take-take}
 use Rattle.inbox.specs.KeyOrder.{key_cmp}
 use Rattle.inbox.specs.Ordered.{append_new}
 use Rattle.inbox.specs.Sets.{set_of, union}
