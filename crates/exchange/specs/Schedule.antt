@@ -1,5 +1,6 @@
 -- A schedule of steps among sites.
 use Rattle.std.specs.Prelude.{◌<◌, ℕ, List, [], ◌∷◌, slice_set, take}
+use Rattle.attributes.specs.Event.{EventValue}
 use Rattle.exchange.specs.Lacking.{lacking}
 use Rattle.exchange.specs.Place.{Place, gains, place_at}
 use Rattle.exchange.specs.declared.step.Step.{Step}
@@ -12,6 +13,14 @@ after (Gossip i j) w = gains w j (lacking (place_at w i).taken (place_at w j).ta
 after (Scrub i j) w = gains w j (place_at w i).taken
 after (Flush i) w = slice_set w i (record (place_at w i) { kept = (place_at w i).taken })
 after (Restart i) w = slice_set w i (record (place_at w i) { taken = (place_at w i).kept })
+
+-- the events that a step gives its site
+abbrev pub given_by : Step → List Place → List EventValue
+given_by (Deliver i L) w = L
+given_by (Gossip i j) w = lacking (place_at w i).taken (place_at w j).taken
+given_by (Scrub i j) w = (place_at w i).taken
+given_by (Flush i) w = []
+given_by (Restart i) w = []
 
 -- the world after a step of which the site takes the first n events alone
 abbrev pub after_part : ℕ → Step → List Place → List Place

@@ -3,7 +3,7 @@ use Rattle.std.specs.Prelude.{◌≡◌, ◌≤◌, ◌⊎◌, ℕ, List, [], le
 use Rattle.std.specs.List.{AllZip}
 use Rattle.inbox.specs.Sets.{set_of}
 use Rattle.exchange.specs.Place.{Place, start}
-use Rattle.exchange.specs.Schedule.{after_part, world_after}
+use Rattle.exchange.specs.Schedule.{after_part, given_by, world_after}
 use Rattle.exchange.specs.declared.step.Step.{Step}
 use Rattle.exchange.specs.declared.world.Hosted.{Hosted}
 
@@ -26,4 +26,5 @@ abbrev pub StoppedAt : ℕ → List Step → List Hosted → ℕ → ℕ → Typ
 StoppedAt n steps hosts done part =
     ((hosts ≡ []) × (done ≡ 0) × (part ≡ 0))
     ⊎ ((step : Step) × (slice_get steps done ≡ Some step)
+    × (part ≤ length (given_by step (world_after (take done steps) (start n))))
     × Stands hosts (after_part part step (world_after (take done steps) (start n))))

@@ -1,9 +1,9 @@
 -- Two sites that exchange events once each way.
-use Rattle.std.specs.Prelude.{◌≡◌, ℕ, List, Some, Contains}
-use Rattle.std.specs.List.{AllByRecursion}
+use Rattle.std.specs.Prelude.{◌≡◌, List, Contains}
 use Rattle.attributes.specs.Event.{EventValue, source_of}
 use Rattle.attributes.specs.Sequence.{number_of}
 use Rattle.inbox.specs.Sets.{AreEvents, set_of, union}
+use Rattle.site.specs.Arrival.{AreNumbered}
 use Rattle.exchange.specs.Lacking.{lacking}
 
 -- after a scrub each way both sites have the union of their sets
@@ -11,10 +11,6 @@ abbrev pub ScrubsUnite : Type 0
 ScrubsUnite = (A B : List EventValue) → AreEvents A → AreEvents B
     → (union (set_of B) (set_of A) ≡ union (set_of A) (set_of B))
     × (union (set_of A) (union (set_of B) (set_of A)) ≡ union (set_of A) (set_of B))
-
--- each of the events has a number
-abbrev pub AreNumbered : List EventValue → Type 0
-AreNumbered A = AllByRecursion (λ e. (n : ℕ) × (number_of e ≡ Some n)) A
 
 -- no two different events, one of each list, have one source and number
 abbrev pub HaveOwnNumbers : List EventValue → List EventValue → Type 0

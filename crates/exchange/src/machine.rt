@@ -1,13 +1,13 @@
 //! Schedules, run.
 
-ghost use Rattle.std.specs.Prelude.{◌≡◌, ◌≢◌, ◌<◌, List, [], take, vec_len, IfErr, IfOk, OnOk};
+ghost use Rattle.std.specs.Prelude.{◌≡◌, ◌≢◌, ◌<◌, ◌≤◌, List, [], length, take, vec_len, IfErr, IfOk, OnOk};
 ghost use Rattle.std.specs.List.{AllByRecursion};
 ghost use Rattle.inbox.specs.KeyOrder.{key_cmp};
 ghost use Rattle.inbox.specs.Ordered.{append_new};
 ghost use Rattle.inbox.specs.Sets.{set_of};
 ghost use Rattle.exchange.specs.Lacking.{lacking};
 ghost use Rattle.exchange.specs.Place.{Place, start};
-ghost use Rattle.exchange.specs.Schedule.{FitsIn, after, after_part, world_after};
+ghost use Rattle.exchange.specs.Schedule.{FitsIn, after, after_part, given_by, world_after};
 ghost use Rattle.exchange.specs.Standing.{Stands, StoppedAt};
 ghost use Rattle.exchange.specs.steps.Given.{GivesTo, site_at};
 
@@ -47,6 +47,7 @@ fn deliver(hosts: &mut Vec<Hosted>, to: usize, mut batch: Batch) -> Result<(), u
     ensures ok { OnOk result (GivesTo hosts.old.items hosts.new.items to batch) }
     ensures err { IfErr result (λ part. GivesTo hosts.old.items hosts.new.items to
         (take part batch)) }
+    ensures taken { IfErr result (λ part. part ≤ length batch) }
 {
     let host = &mut hosts[to];
     match host.site.take_batch(&mut batch) {
@@ -67,6 +68,8 @@ fn gossip_between(alloc: Global, hosts: &mut Vec<Hosted>, from: usize, to: usize
     ensures err { IfErr result (λ part. GivesTo hosts.old.items hosts.new.items to
         (take part
         (lacking (set_of (site_at hosts.old.items from)) (set_of (site_at hosts.old.items to))))) }
+    ensures taken { IfErr result (λ part. part ≤ length
+        (lacking (set_of (site_at hosts.old.items from)) (set_of (site_at hosts.old.items to)))) }
 {
     let mut site = mem::replace(&mut hosts[to].site, Site::empty(alloc));
     let done = gossip(&hosts[from].site, &mut site);
@@ -87,6 +90,7 @@ fn scrub_between(alloc: Global, hosts: &mut Vec<Hosted>, from: usize, to: usize)
         (set_of (site_at hosts.old.items from))) }
     ensures err { IfErr result (λ part. GivesTo hosts.old.items hosts.new.items to
         (take part (set_of (site_at hosts.old.items from)))) }
+    ensures taken { IfErr result (λ part. part ≤ length (set_of (site_at hosts.old.items from))) }
 {
     let mut site = mem::replace(&mut hosts[to].site, Site::empty(alloc));
     let done = scrub(&hosts[from].site, &mut site);
@@ -122,6 +126,8 @@ fn make_step(alloc: Global, hosts: &mut Vec<Hosted>, step: &Step) -> Result<(), 
         → Stands hosts.new.items (after step.now w)) }
     ensures err { IfErr result (λ part. (w : List Place) → Stands hosts.old.items w
         → Stands hosts.new.items (after_part part step.now w)) }
+    ensures taken { IfErr result (λ part. (w : List Place) → Stands hosts.old.items w
+        → part ≤ length (given_by step.now w)) }
 {
     // A site keeps each event once, and what it has already adds nothing.
     sets_are_members();

@@ -1,9 +1,9 @@
-use Rattle.std.proofs.Common.{◌≡◌, ◌<◌, List, length, set, take, vec_len, sym, ap, ap₂, ◌∙◌, subst}
+use Rattle.std.proofs.Common.{◌≡◌, ◌<◌, ◌≤◌, List, length, set, take, vec_len, sym, ap, ap₂, ◌∙◌, subst}
 use Rattle.std.proofs.lemmas.Result.{IfErr-weaker, on_ok_weaker}
 use Rattle.inbox.specs.Sets.{set_of, union}
 use Rattle.exchange.specs.Lacking.{lacking}
 use Rattle.exchange.specs.Place.{Place, place_at}
-use Rattle.exchange.specs.Schedule.{FitsIn, after, after_part}
+use Rattle.exchange.specs.Schedule.{FitsIn, after, after_part, given_by}
 use Rattle.exchange.specs.Standing.{Stands}
 use Rattle.exchange.specs.steps.Given.{GivesTo, site_at}
 use Rattle.exchange.proofs.SelfLemmas.{lacking-self, union-self}
@@ -113,3 +113,32 @@ returns-in-Ok-restarted-clause-ok c w s =
     let i_in : i < length old = subst (λ n. i < n) c.args.hosts.now.ok.0 (subst (FitsIn (vec_len c.args.hosts.now)) c.in-Restart.is c.requires) in
     subst (λ st. Stands (set old i (record { site = c.in-Ok-restarted.again; kept = h.kept })) (after st w)) (sym c.in-Restart.is)
     (restart_at c.sets_are_members.ensures old w i h c.in-Ok-restarted.again i_in c.index_mut-host-in-Restart.ensures.value c.in-Ok-restarted.ensures.arrivals c.in-Ok-restarted.ensures.set s)
+
+pub returns-in-Ok-clause-taken : goal.returns-in-Ok-clause-taken
+returns-in-Ok-clause-taken c =
+    let old = c.args.hosts.now.items in
+    IfErr-weaker c.deliver.result (λ part. part ≤ length c.in-Ok.copy) (λ part. (w : List Place) → Stands old w → part ≤ length (given_by c.args.step.now w))
+    (λ part few w s. subst (λ st. part ≤ length (given_by st w)) (sym c.in-Deliver.is) (subst (λ b. part ≤ length b) c.in-Ok.ensures few))
+    c.deliver.ensures.taken
+
+pub returns-else-from-to-clause-taken : goal.returns-else-from-to-clause-taken
+returns-else-from-to-clause-taken c =
+    let old = c.args.hosts.now.items in
+    let from = c.in-Gossip.from in
+    let to = c.in-Gossip.to in
+    let fits = subst (FitsIn (vec_len c.args.hosts.now)) c.in-Gossip.is c.requires in
+    let from_in : from < length old = subst (λ n. from < n) c.args.hosts.now.ok.0 fits.0 in
+    let to_in : to < length old = subst (λ n. to < n) c.args.hosts.now.ok.0 fits.1 in
+    IfErr-weaker c.gossip_between.result (λ part. part ≤ length (lacking (set_of (site_at old from)) (set_of (site_at old to)))) (λ part. (w : List Place) → Stands old w → part ≤ length (given_by c.args.step.now w))
+    (λ part few w s. subst (λ st. part ≤ length (given_by st w)) (sym c.in-Gossip.is) (subst (λ L. part ≤ length L) (ap₂ lacking (site_taken old w from s from_in) (site_taken old w to s to_in)) few))
+    c.gossip_between.ensures.taken
+
+pub returns-else-from-to-2-clause-taken : goal.returns-else-from-to-2-clause-taken
+returns-else-from-to-2-clause-taken c =
+    let old = c.args.hosts.now.items in
+    let from = c.in-Scrub.from in
+    let fits = subst (FitsIn (vec_len c.args.hosts.now)) c.in-Scrub.is c.requires in
+    let from_in : from < length old = subst (λ n. from < n) c.args.hosts.now.ok.0 fits.0 in
+    IfErr-weaker c.scrub_between.result (λ part. part ≤ length (set_of (site_at old from))) (λ part. (w : List Place) → Stands old w → part ≤ length (given_by c.args.step.now w))
+    (λ part few w s. subst (λ st. part ≤ length (given_by st w)) (sym c.in-Scrub.is) (subst (λ L. part ≤ length L) (site_taken old w from s from_in) few))
+    c.scrub_between.ensures.taken
