@@ -2,6 +2,7 @@
 
 ghost use Rattle.std.specs.Prelude.{◌≡◌, ◌<◌, [], length, slice_get, Some};
 ghost use Rattle.inbox.specs.Sets.{AreEvents, set_of};
+ghost use Rattle.site.specs.Arrival.{AreNumbered};
 
 mod delta;
 mod merge;
@@ -9,10 +10,9 @@ mod page;
 mod question;
 mod take;
 
-pub use delta::DeltaPart;
-
 use attributes::Sequenced;
 use coverage::Summary;
+pub use delta::DeltaPart;
 use inbox::Inbox;
 use std::alloc::Global;
 use std::marker::Model;
@@ -33,6 +33,7 @@ impl Model for Site {
     ghost use Rattle.attributes.specs.EventCode.{event_code};
     ghost use Rattle.attributes.specs.Event.{EventValue};
     ghost use Rattle.views.specs.Number.{HasNumbers};
+    ghost use Rattle.site.specs.Arrival.{AreNumbered};
 
     ghost Value = { List EventValue };
 
@@ -40,7 +41,8 @@ impl Model for Site {
 
     ghost view = { λ s. s.inbox.arrivals };
 
-    ghost invariant = { λ s. HasNumbers s.inbox.arrivals s.summary };
+    ghost invariant = { λ s. HasNumbers s.inbox.arrivals s.summary
+        × AreNumbered s.inbox.arrivals };
 }
 
 impl Site {
@@ -59,12 +61,13 @@ impl Site {
     pub fn arrived(&self) -> u64
         ensures count { result ≡ length self.now }
         ensures events { AreEvents self.now }
+        ensures numbered { AreNumbered self.now }
     {
         self.inbox.arrived()
     }
 
     /// The event that came as the i-th, from 0.
-    fn arrived_at(&self, i: u64) -> &Sequenced
+    pub fn arrived_at(&self, i: u64) -> &Sequenced
         requires { i < length self.now }
         ensures { slice_get self.now i ≡ Some result.now }
     {
@@ -72,7 +75,7 @@ impl Site {
     }
 
     /// How many events the set has.
-    fn len(&self) -> u64
+    pub fn len(&self) -> u64
         ensures { result ≡ length (set_of self.now) }
     {
         self.inbox.len()

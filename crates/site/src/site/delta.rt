@@ -95,12 +95,7 @@ impl Site {
     /// The events at the places from `from` on of the peer's `delta`, `limit` of them at most: 1 to
     /// 100. Goes over the events up to the last one that is answered, with a look-up in the summary
     /// for each; nothing else is copied.
-    pub fn delta_page(
-        &self,
-        peer: &Summary,
-        from: u64,
-        limit: u64,
-    ) -> Result<Batch, AllocError>
+    pub fn delta_page(&self, peer: &Summary, from: u64, limit: u64) -> Result<Batch, AllocError>
         requires low { 1 ≤ limit }
         requires high { limit ≤ 100 }
         ensures page { IfOk result (λ batch. batch

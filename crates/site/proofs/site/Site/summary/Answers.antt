@@ -13,5 +13,5 @@ returns c =
     let are : AreEvents A = subst AreEvents c.self.view_is c.arrived-arrived.ensures.events in
     IfOk-weaker c.copy.result (λ s. s ≡ c.self.inside.summary) (Sums (set_of A)) (λ s same. record {
       in_form = subst IsSummary (sym same) c.copy.ensures.summary;
-      exact = λ source n. ap (λ t. holds_at t source n) same ∙ c.self.invariant source n ∙ ap (λ l. has_number l source n) c.self.view_is ∙ sym (has_number-set_of c.sets_are_members.ensures A are source n);
+      exact = λ source n. ap (λ t. holds_at t source n) same ∙ c.self.invariant.0 source n ∙ ap (λ l. has_number l source n) c.self.view_is ∙ sym (has_number-set_of c.sets_are_members.ensures A are source n);
     }) c.copy.ensures.copied

@@ -1,0 +1,4 @@
+pub mod TransferLemmas
+pub mod UniteLemmas
+pub mod StandingLemmas
+pub mod SelfLemmas

@@ -1,0 +1,144 @@
+use Rattle.std.proofs.Common.{◌≡◌, ◌<◌, ◌≤◌, List, length, set, take, vec_len, sym, ap, ap₂, ◌∙◌, subst}
+use Rattle.std.proofs.lemmas.Result.{IfErr-weaker, on_ok_weaker}
+use Rattle.inbox.specs.Sets.{set_of, union}
+use Rattle.exchange.specs.Lacking.{lacking}
+use Rattle.exchange.specs.Place.{Place, place_at}
+use Rattle.exchange.specs.Schedule.{FitsIn, after, after_part, given_by}
+use Rattle.exchange.specs.Standing.{Stands}
+use Rattle.exchange.specs.steps.Given.{GivesTo, site_at}
+use Rattle.exchange.proofs.SelfLemmas.{lacking-self, union-self}
+use Rattle.exchange.proofs.StandingLemmas.{flush_at, gives_stands, restart_at, same_stands, site_taken}
+use Rattle.exchange.proofs.machine.make_step.Goals as goal
+
+pub returns-in-Ok-clause-ok : goal.returns-in-Ok-clause-ok
+returns-in-Ok-clause-ok c =
+    let old = c.args.hosts.now.items in
+    let new = c.deliver.new.hosts.items in
+    let to = c.in-Deliver.site in
+    on_ok_weaker c.deliver.result (λ g w s. subst (λ st. Stands new (after st w)) (sym c.in-Deliver.is)
+    (gives_stands c.sets_are_members.ensures old new w to c.in-Deliver.batch (subst (GivesTo old new to) c.in-Ok.ensures g) s))
+    c.deliver.ensures.ok
+
+pub returns-in-Ok-clause-err : goal.returns-in-Ok-clause-err
+returns-in-Ok-clause-err c =
+    let old = c.args.hosts.now.items in
+    let new = c.deliver.new.hosts.items in
+    let to = c.in-Deliver.site in
+    IfErr-weaker c.deliver.result (λ part. GivesTo old new to (take part c.in-Ok.copy)) (λ part. (w : List Place) → Stands old w → Stands new (after_part part c.args.step.now w))
+    (λ part g w s. subst (λ st. Stands new (after_part part st w)) (sym c.in-Deliver.is)
+    (gives_stands c.sets_are_members.ensures old new w to (take part c.in-Deliver.batch) (subst (λ b. GivesTo old new to (take part b)) c.in-Ok.ensures g) s))
+    c.deliver.ensures.err
+
+pub returns-then-from-to-clause-ok : goal.returns-then-from-to-clause-ok
+returns-then-from-to-clause-ok c w s =
+    let old = c.args.hosts.now.items in
+    let from = c.in-Gossip.from in
+    let to = c.in-Gossip.to in
+    subst (λ st. Stands old (after st w)) (sym c.in-Gossip.is) (same_stands old w to (lacking (place_at w from).taken (place_at w to).taken)
+    (λ l. ap (union (place_at w to).taken) (ap (λ k. lacking (place_at w k).taken (place_at w to).taken) c.if-from-to.true ∙ lacking-self (place_at w to).taken)) s)
+
+pub returns-else-from-to-clause-ok : goal.returns-else-from-to-clause-ok
+returns-else-from-to-clause-ok c =
+    let old = c.args.hosts.now.items in
+    let new = c.gossip_between.new.hosts.items in
+    let from = c.in-Gossip.from in
+    let to = c.in-Gossip.to in
+    let fits = subst (FitsIn (vec_len c.args.hosts.now)) c.in-Gossip.is c.requires in
+    let from_in : from < length old = subst (λ n. from < n) c.args.hosts.now.ok.0 fits.0 in
+    let to_in : to < length old = subst (λ n. to < n) c.args.hosts.now.ok.0 fits.1 in
+    on_ok_weaker c.gossip_between.result (λ g w s. subst (λ st. Stands new (after st w)) (sym c.in-Gossip.is)
+    (gives_stands c.sets_are_members.ensures old new w to (lacking (place_at w from).taken (place_at w to).taken) (subst (GivesTo old new to) (ap₂ lacking (site_taken old w from s from_in) (site_taken old w to s to_in)) g) s))
+    c.gossip_between.ensures.ok
+
+pub returns-else-from-to-clause-err : goal.returns-else-from-to-clause-err
+returns-else-from-to-clause-err c =
+    let old = c.args.hosts.now.items in
+    let new = c.gossip_between.new.hosts.items in
+    let from = c.in-Gossip.from in
+    let to = c.in-Gossip.to in
+    let fits = subst (FitsIn (vec_len c.args.hosts.now)) c.in-Gossip.is c.requires in
+    let from_in : from < length old = subst (λ n. from < n) c.args.hosts.now.ok.0 fits.0 in
+    let to_in : to < length old = subst (λ n. to < n) c.args.hosts.now.ok.0 fits.1 in
+    IfErr-weaker c.gossip_between.result (λ part. GivesTo old new to (take part (lacking (set_of (site_at old from)) (set_of (site_at old to))))) (λ part. (w : List Place) → Stands old w → Stands new (after_part part c.args.step.now w))
+    (λ part g w s. subst (λ st. Stands new (after_part part st w)) (sym c.in-Gossip.is)
+    (gives_stands c.sets_are_members.ensures old new w to (take part (lacking (place_at w from).taken (place_at w to).taken)) (subst (λ L. GivesTo old new to (take part L)) (ap₂ lacking (site_taken old w from s from_in) (site_taken old w to s to_in)) g) s))
+    c.gossip_between.ensures.err
+
+pub returns-then-from-to-2-clause-ok : goal.returns-then-from-to-2-clause-ok
+returns-then-from-to-2-clause-ok c w s =
+    let old = c.args.hosts.now.items in
+    let from = c.in-Scrub.from in
+    let to = c.in-Scrub.to in
+    subst (λ st. Stands old (after st w)) (sym c.in-Scrub.is) (same_stands old w to (place_at w from).taken
+    (λ l. ap (λ k. union (place_at w to).taken (place_at w k).taken) c.if-from-to-2.true ∙ subst (λ E. union E E ≡ E) (site_taken old w to s l) (union-self c.sets_are_members.ensures (site_at old to))) s)
+
+pub returns-else-from-to-2-clause-ok : goal.returns-else-from-to-2-clause-ok
+returns-else-from-to-2-clause-ok c =
+    let old = c.args.hosts.now.items in
+    let new = c.scrub_between.new.hosts.items in
+    let from = c.in-Scrub.from in
+    let to = c.in-Scrub.to in
+    let fits = subst (FitsIn (vec_len c.args.hosts.now)) c.in-Scrub.is c.requires in
+    let from_in : from < length old = subst (λ n. from < n) c.args.hosts.now.ok.0 fits.0 in
+    on_ok_weaker c.scrub_between.result (λ g w s. subst (λ st. Stands new (after st w)) (sym c.in-Scrub.is)
+    (gives_stands c.sets_are_members.ensures old new w to (place_at w from).taken (subst (GivesTo old new to) (site_taken old w from s from_in) g) s))
+    c.scrub_between.ensures.ok
+
+pub returns-else-from-to-2-clause-err : goal.returns-else-from-to-2-clause-err
+returns-else-from-to-2-clause-err c =
+    let old = c.args.hosts.now.items in
+    let new = c.scrub_between.new.hosts.items in
+    let from = c.in-Scrub.from in
+    let to = c.in-Scrub.to in
+    let fits = subst (FitsIn (vec_len c.args.hosts.now)) c.in-Scrub.is c.requires in
+    let from_in : from < length old = subst (λ n. from < n) c.args.hosts.now.ok.0 fits.0 in
+    IfErr-weaker c.scrub_between.result (λ part. GivesTo old new to (take part (set_of (site_at old from)))) (λ part. (w : List Place) → Stands old w → Stands new (after_part part c.args.step.now w))
+    (λ part g w s. subst (λ st. Stands new (after_part part st w)) (sym c.in-Scrub.is)
+    (gives_stands c.sets_are_members.ensures old new w to (take part (place_at w from).taken) (subst (λ L. GivesTo old new to (take part L)) (site_taken old w from s from_in) g) s))
+    c.scrub_between.ensures.err
+
+pub returns-in-Flush-clause-ok : goal.returns-in-Flush-clause-ok
+returns-in-Flush-clause-ok c w s =
+    let old = c.args.hosts.now.items in
+    let i = c.in-Flush.site in
+    let i_in : i < length old = subst (λ n. i < n) c.args.hosts.now.ok.0 (subst (FitsIn (vec_len c.args.hosts.now)) c.in-Flush.is c.requires) in
+    subst (λ st. Stands (set old i (record { site = c.index_mut-host.result.now.site; kept = c.arrived-host.result })) (after st w)) (sym c.in-Flush.is)
+    (flush_at old w i c.index_mut-host.result.now c.arrived-host.result i_in c.index_mut-host.ensures.value c.arrived-host.ensures.count s)
+
+pub returns-in-Ok-restarted-clause-ok : goal.returns-in-Ok-restarted-clause-ok
+returns-in-Ok-restarted-clause-ok c w s =
+    let old = c.args.hosts.now.items in
+    let i = c.in-Restart.site in
+    let h = c.index_mut-host-in-Restart.result.now in
+    let i_in : i < length old = subst (λ n. i < n) c.args.hosts.now.ok.0 (subst (FitsIn (vec_len c.args.hosts.now)) c.in-Restart.is c.requires) in
+    subst (λ st. Stands (set old i (record { site = c.in-Ok-restarted.again; kept = h.kept })) (after st w)) (sym c.in-Restart.is)
+    (restart_at c.sets_are_members.ensures old w i h c.in-Ok-restarted.again i_in c.index_mut-host-in-Restart.ensures.value c.in-Ok-restarted.ensures.arrivals c.in-Ok-restarted.ensures.set s)
+
+pub returns-in-Ok-clause-taken : goal.returns-in-Ok-clause-taken
+returns-in-Ok-clause-taken c =
+    let old = c.args.hosts.now.items in
+    IfErr-weaker c.deliver.result (λ part. part ≤ length c.in-Ok.copy) (λ part. (w : List Place) → Stands old w → part ≤ length (given_by c.args.step.now w))
+    (λ part few w s. subst (λ st. part ≤ length (given_by st w)) (sym c.in-Deliver.is) (subst (λ b. part ≤ length b) c.in-Ok.ensures few))
+    c.deliver.ensures.taken
+
+pub returns-else-from-to-clause-taken : goal.returns-else-from-to-clause-taken
+returns-else-from-to-clause-taken c =
+    let old = c.args.hosts.now.items in
+    let from = c.in-Gossip.from in
+    let to = c.in-Gossip.to in
+    let fits = subst (FitsIn (vec_len c.args.hosts.now)) c.in-Gossip.is c.requires in
+    let from_in : from < length old = subst (λ n. from < n) c.args.hosts.now.ok.0 fits.0 in
+    let to_in : to < length old = subst (λ n. to < n) c.args.hosts.now.ok.0 fits.1 in
+    IfErr-weaker c.gossip_between.result (λ part. part ≤ length (lacking (set_of (site_at old from)) (set_of (site_at old to)))) (λ part. (w : List Place) → Stands old w → part ≤ length (given_by c.args.step.now w))
+    (λ part few w s. subst (λ st. part ≤ length (given_by st w)) (sym c.in-Gossip.is) (subst (λ L. part ≤ length L) (ap₂ lacking (site_taken old w from s from_in) (site_taken old w to s to_in)) few))
+    c.gossip_between.ensures.taken
+
+pub returns-else-from-to-2-clause-taken : goal.returns-else-from-to-2-clause-taken
+returns-else-from-to-2-clause-taken c =
+    let old = c.args.hosts.now.items in
+    let from = c.in-Scrub.from in
+    let fits = subst (FitsIn (vec_len c.args.hosts.now)) c.in-Scrub.is c.requires in
+    let from_in : from < length old = subst (λ n. from < n) c.args.hosts.now.ok.0 fits.0 in
+    IfErr-weaker c.scrub_between.result (λ part. part ≤ length (set_of (site_at old from))) (λ part. (w : List Place) → Stands old w → part ≤ length (given_by c.args.step.now w))
+    (λ part few w s. subst (λ st. part ≤ length (given_by st w)) (sym c.in-Scrub.is) (subst (λ L. part ≤ length L) (site_taken old w from s from_in) few))
+    c.scrub_between.ensures.taken

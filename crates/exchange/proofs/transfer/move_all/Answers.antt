@@ -1,0 +1,118 @@
+use Rattle.std.proofs.Common.{◌≡◌, ◌≤◌, [], length, take, drop, sym, ap, ◌∙◌, arith}
+use Rattle.std.proofs.lemmas.List.{drop_all, drop-drop, length-drop, length-take, take_all}
+use Rattle.inbox.specs.KeyOrder.{key_cmp}
+use Rattle.inbox.specs.Ordered.{append_new}
+use Rattle.inbox.specs.Sets.{set_of, union}
+use Rattle.site.specs.Delta.{delta, is_lacking}
+use Rattle.exchange.proofs.TransferLemmas.{arrivals_on, length-append_new, length-filter, set_on}
+use Rattle.exchange.proofs.transfer.move_all.Goals as goal
+
+pub loop-place-preserved : goal.loop-place-preserved
+loop-place-preserved c =
+    let E = set_of c.args.from.now in
+    let peer = c.args.peer.now in
+    let all = delta E peer in
+    let M = delta (drop c.loop-place.place E) peer in
+    let A = c.args.to.now in
+    let rest = c.loop-place.invariant.rest in
+    let n = c.in-Ok.moved.count in
+    let bounds = length-append_new key_cmp c.loop-place.to (take n M) in
+    let same = ap length c.in-Ok.ensures.arrivals in
+    record {
+      place_in = c.in-Ok.ensures.within;
+      taken_in = omega (arith, c.loop-place.invariant.taken_in, c.in-Ok.ensures.behind);
+      counted = omega (arith, c.in-Ok.ensures.counted, ap length rest, length-drop c.loop-place.taken all, c.loop-place.invariant.counted);
+      arrivals = arrivals_on key_cmp A c.loop-place.to all M c.loop-place.taken n c.move_part.new.to c.loop-place.invariant.arrivals rest c.in-Ok.ensures.arrivals;
+      set = set_on key_cmp (set_of A) (set_of c.loop-place.to) all M c.loop-place.taken n (set_of c.move_part.new.to) c.loop-place.invariant.set rest c.in-Ok.ensures.set;
+      rest = c.in-Ok.ensures.rest ∙ ap (drop n) rest ∙ drop-drop n c.loop-place.taken all;
+      no_fewer = omega (arith, same, bounds.0, c.loop-place.invariant.no_fewer);
+      no_more = omega (arith, same, bounds.1, length-take n M, c.loop-place.invariant.no_more);
+    }
+
+pub overflow_sub-fresh : goal.overflow_sub-fresh
+overflow_sub-fresh c =
+    let E = set_of c.args.from.now in
+    let peer = c.args.peer.now in
+    let all = delta E peer in
+    let M = delta (drop c.loop-place.place E) peer in
+    let A = c.args.to.now in
+    let rest = c.loop-place.invariant.rest in
+    let bounds = length-append_new key_cmp c.loop-place.to (take c.in-Err.part M) in
+    omega (arith, ap length c.in-Err.ensures.short, bounds.0, c.loop-place.invariant.no_fewer, c.arrived-before.ensures.count, c.arrived.ensures.count)
+
+pub overflow_add-taken-in-Err : goal.overflow_add-taken-in-Err
+overflow_add-taken-in-Err c =
+    let E = set_of c.args.from.now in
+    let peer = c.args.peer.now in
+    let all = delta E peer in
+    let M = delta (drop c.loop-place.place E) peer in
+    let A = c.args.to.now in
+    let rest = c.loop-place.invariant.rest in
+    omega (arith, c.in-Err.ensures.short_taken, ap length rest, length-drop c.loop-place.taken all, c.loop-place.invariant.counted, length-filter (is_lacking peer) E, c.len-len.ensures, c.len-len.type_inv)
+
+pub returns-in-Err-clause-short : goal.returns-in-Err-clause-short
+returns-in-Err-clause-short c =
+    let E = set_of c.args.from.now in
+    let peer = c.args.peer.now in
+    let all = delta E peer in
+    let M = delta (drop c.loop-place.place E) peer in
+    let A = c.args.to.now in
+    let rest = c.loop-place.invariant.rest in
+    arrivals_on key_cmp A c.loop-place.to all M c.loop-place.taken c.in-Err.part c.move_part.new.to c.loop-place.invariant.arrivals rest c.in-Err.ensures.short
+
+pub returns-in-Err-clause-short_set : goal.returns-in-Err-clause-short_set
+returns-in-Err-clause-short_set c =
+    let E = set_of c.args.from.now in
+    let peer = c.args.peer.now in
+    let all = delta E peer in
+    let M = delta (drop c.loop-place.place E) peer in
+    let A = c.args.to.now in
+    let rest = c.loop-place.invariant.rest in
+    set_on key_cmp (set_of A) (set_of c.loop-place.to) all M c.loop-place.taken c.in-Err.part (set_of c.move_part.new.to) c.loop-place.invariant.set rest c.in-Err.ensures.short_set
+
+pub returns-in-Err-clause-short_fresh : goal.returns-in-Err-clause-short_fresh
+returns-in-Err-clause-short_fresh c =
+    let E = set_of c.args.from.now in
+    let peer = c.args.peer.now in
+    let all = delta E peer in
+    let M = delta (drop c.loop-place.place E) peer in
+    let A = c.args.to.now in
+    let rest = c.loop-place.invariant.rest in
+    let bounds = length-append_new key_cmp c.loop-place.to (take c.in-Err.part M) in
+    omega (arith, ap length c.in-Err.ensures.short, bounds.0, c.loop-place.invariant.no_fewer, c.arrived-before.ensures.count, c.arrived.ensures.count)
+
+pub returns-clause-arrivals : goal.returns-clause-arrivals
+returns-clause-arrivals c =
+    let E = set_of c.args.from.now in
+    let peer = c.args.peer.now in
+    let all = delta E peer in
+    let M = delta (drop c.loop-place.place E) peer in
+    let A = c.args.to.now in
+    let rest = c.loop-place.invariant.rest in
+    let none : M ≡ [] = ap (λ l. delta l peer) (drop_all c.loop-place.place E (omega (arith, c.loop-place-test.false, c.len-len.ensures))) in
+    let done : length all ≤ c.loop-place.taken = omega (arith, ap length (sym rest ∙ none), length-drop c.loop-place.taken all) in
+    c.loop-place.invariant.arrivals ∙ ap (append_new key_cmp A) (take_all c.loop-place.taken all done)
+
+pub returns-clause-set : goal.returns-clause-set
+returns-clause-set c =
+    let E = set_of c.args.from.now in
+    let peer = c.args.peer.now in
+    let all = delta E peer in
+    let M = delta (drop c.loop-place.place E) peer in
+    let A = c.args.to.now in
+    let rest = c.loop-place.invariant.rest in
+    let none : M ≡ [] = ap (λ l. delta l peer) (drop_all c.loop-place.place E (omega (arith, c.loop-place-test.false, c.len-len.ensures))) in
+    let done : length all ≤ c.loop-place.taken = omega (arith, ap length (sym rest ∙ none), length-drop c.loop-place.taken all) in
+    c.loop-place.invariant.set ∙ ap (union (set_of A)) (take_all c.loop-place.taken all done)
+
+pub returns-clause-repeated : goal.returns-clause-repeated
+returns-clause-repeated c =
+    let E = set_of c.args.from.now in
+    let peer = c.args.peer.now in
+    let all = delta E peer in
+    let M = delta (drop c.loop-place.place E) peer in
+    let A = c.args.to.now in
+    let rest = c.loop-place.invariant.rest in
+    let none : M ≡ [] = ap (λ l. delta l peer) (drop_all c.loop-place.place E (omega (arith, c.loop-place-test.false, c.len-len.ensures))) in
+    let done : length all ≤ c.loop-place.taken = omega (arith, ap length (sym rest ∙ none), length-drop c.loop-place.taken all) in
+    omega (arith, done, c.loop-place.invariant.counted, c.loop-place.invariant.no_fewer, c.loop-place.invariant.no_more, c.arrived-before.ensures.count)

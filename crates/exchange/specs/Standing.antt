@@ -1,0 +1,30 @@
+-- Running sites, and what they have as sets.
+use Rattle.std.specs.Prelude.{◌≡◌, ◌≤◌, ◌⊎◌, ℕ, List, [], length, slice_get, take, Some}
+use Rattle.std.specs.List.{AllZip}
+use Rattle.inbox.specs.Sets.{set_of}
+use Rattle.exchange.specs.Place.{Place, start}
+use Rattle.exchange.specs.Schedule.{after_part, given_by, world_after}
+use Rattle.exchange.specs.declared.step.Step.{Step}
+use Rattle.exchange.specs.declared.world.Hosted.{Hosted}
+
+-- a running site has the sets of its place: what it took, and what outlasts a restart, of which the
+-- mark is the size; nothing stands twice among its arrivals
+pub record StandsFor (host : Hosted) (place : Place) : Type 0 where
+  pub taken : set_of host.site ≡ place.taken
+  pub kept : set_of (take host.kept host.site) ≡ place.kept
+  pub mark : host.kept ≡ length place.kept
+  pub within : host.kept ≤ length host.site
+  pub once : length (set_of host.site) ≡ length host.site
+
+-- each running site has the sets of its place
+abbrev pub Stands : List Hosted → List Place → Type 0
+Stands hosts w = AllZip StandsFor hosts w
+
+-- a run of n sites that was stopped: no site could be made, or so many steps were done and the next
+-- one took its first events alone
+abbrev pub StoppedAt : ℕ → List Step → List Hosted → ℕ → ℕ → Type 0
+StoppedAt n steps hosts done part =
+    ((hosts ≡ []) × (done ≡ 0) × (part ≡ 0))
+    ⊎ ((step : Step) × (slice_get steps done ≡ Some step)
+    × (part ≤ length (given_by step (world_after (take done steps) (start n))))
+    × Stands hosts (after_part part step (world_after (take done steps) (start n))))

@@ -1,0 +1,207 @@
+//! Schedules, run.
+
+ghost use Rattle.std.specs.Prelude.{◌≡◌, ◌≢◌, ◌<◌, ◌≤◌, List, [], length, take, vec_len, IfErr, IfOk, OnOk};
+ghost use Rattle.std.specs.List.{AllByRecursion};
+ghost use Rattle.inbox.specs.KeyOrder.{key_cmp};
+ghost use Rattle.inbox.specs.Ordered.{append_new};
+ghost use Rattle.inbox.specs.Sets.{set_of};
+ghost use Rattle.exchange.specs.Lacking.{lacking};
+ghost use Rattle.exchange.specs.Place.{Place, start};
+ghost use Rattle.exchange.specs.Schedule.{FitsIn, after, after_part, given_by, world_after};
+ghost use Rattle.exchange.specs.Standing.{Stands, StoppedAt};
+ghost use Rattle.exchange.specs.steps.Given.{GivesTo, site_at};
+
+use crate::step::{Step, Steps};
+use crate::transfer::{gossip, scrub};
+use crate::world::{Hosted, World};
+use attributes::Batch;
+use inbox::laws::sets_are_members;
+use site::Site;
+use std::alloc::{AllocError, Global};
+use std::mem;
+
+/// A run that was stopped for want of memory: the world as it then was, how many steps were done,
+/// and how many events of its list the next step took.
+#[derive(Drop)]
+pub struct Stopped {
+    pub world: World,
+    pub done: u64,
+    pub part: u64,
+}
+
+/// A copy of a batch.
+fn copy_of(alloc: Global, batch: &Batch) -> Result<Batch, AllocError>
+    ensures { IfOk result (λ copy. copy ≡ batch.now) }
+{
+    let mut copy = Batch::empty(alloc);
+    for i in 0..batch.len() {
+        copy.push(batch.at(i).copy()?)?;
+    }
+    Ok(copy)
+}
+
+/// A site takes a batch. After want of memory the answer is how many events it took.
+fn deliver(hosts: &mut Vec<Hosted>, to: usize, mut batch: Batch) -> Result<(), u64>
+    requires { to < vec_len hosts.old }
+    ensures sites { vec_len hosts.new ≡ vec_len hosts.old }
+    ensures ok { OnOk result (GivesTo hosts.old.items hosts.new.items to batch) }
+    ensures err { IfErr result (λ part. GivesTo hosts.old.items hosts.new.items to
+        (take part batch)) }
+    ensures taken { IfErr result (λ part. part ≤ length batch) }
+{
+    let host = &mut hosts[to];
+    match host.site.take_batch(&mut batch) {
+        Ok(_) => Ok(()),
+        Err(short) => Err(short.taken),
+    }
+}
+
+/// A site takes what it lacks of another. After want of memory the answer is how many events it
+/// took.
+fn gossip_between(alloc: Global, hosts: &mut Vec<Hosted>, from: usize, to: usize) -> Result<(), u64>
+    requires giver { from < vec_len hosts.old }
+    requires taker { to < vec_len hosts.old }
+    requires others { from ≢ to }
+    ensures sites { vec_len hosts.new ≡ vec_len hosts.old }
+    ensures ok { OnOk result (GivesTo hosts.old.items hosts.new.items to
+        (lacking (set_of (site_at hosts.old.items from)) (set_of (site_at hosts.old.items to)))) }
+    ensures err { IfErr result (λ part. GivesTo hosts.old.items hosts.new.items to
+        (take part
+        (lacking (set_of (site_at hosts.old.items from)) (set_of (site_at hosts.old.items to))))) }
+    ensures taken { IfErr result (λ part. part ≤ length
+        (lacking (set_of (site_at hosts.old.items from)) (set_of (site_at hosts.old.items to)))) }
+{
+    let mut site = mem::replace(&mut hosts[to].site, Site::empty(alloc));
+    let done = gossip(&hosts[from].site, &mut site);
+    hosts[to].site = site;
+    match done {
+        Ok(_) => Ok(()),
+        Err(short) => Err(short.taken),
+    }
+}
+
+/// A site takes all of another. After want of memory the answer is how many events it took.
+fn scrub_between(alloc: Global, hosts: &mut Vec<Hosted>, from: usize, to: usize) -> Result<(), u64>
+    requires giver { from < vec_len hosts.old }
+    requires taker { to < vec_len hosts.old }
+    requires others { from ≢ to }
+    ensures sites { vec_len hosts.new ≡ vec_len hosts.old }
+    ensures ok { OnOk result (GivesTo hosts.old.items hosts.new.items to
+        (set_of (site_at hosts.old.items from))) }
+    ensures err { IfErr result (λ part. GivesTo hosts.old.items hosts.new.items to
+        (take part (set_of (site_at hosts.old.items from)))) }
+    ensures taken { IfErr result (λ part. part ≤ length (set_of (site_at hosts.old.items from))) }
+{
+    let mut site = mem::replace(&mut hosts[to].site, Site::empty(alloc));
+    let done = scrub(&hosts[from].site, &mut site);
+    hosts[to].site = site;
+    match done {
+        Ok(_) => Ok(()),
+        Err(short) => Err(short.taken),
+    }
+}
+
+/// A site of the first arrivals that outlast a restart.
+fn restarted(alloc: Global, host: &Hosted) -> Result<Site, AllocError>
+    ensures arrivals { IfOk result (λ site. site
+        ≡ append_new key_cmp [] (take host.now.kept host.now.site)) }
+    ensures set { IfOk result (λ site. set_of site ≡ set_of (take host.now.kept host.now.site)) }
+{
+    let mut batch = Batch::empty(alloc);
+    for i in 0..host.kept.min(host.site.arrived()) {
+        batch.push(host.site.arrived_at(i).copy()?)?;
+    }
+    let mut site = Site::empty(alloc);
+    match site.take_batch(&mut batch) {
+        Ok(_) => Ok(site),
+        Err(_) => Err(AllocError),
+    }
+}
+
+/// One step. After want of memory the answer is how many of the step's events the site took.
+fn make_step(alloc: Global, hosts: &mut Vec<Hosted>, step: &Step) -> Result<(), u64>
+    requires { FitsIn (vec_len hosts.old) step.now }
+    ensures sites { vec_len hosts.new ≡ vec_len hosts.old }
+    ensures ok { OnOk result ((w : List Place) → Stands hosts.old.items w
+        → Stands hosts.new.items (after step.now w)) }
+    ensures err { IfErr result (λ part. (w : List Place) → Stands hosts.old.items w
+        → Stands hosts.new.items (after_part part step.now w)) }
+    ensures taken { IfErr result (λ part. (w : List Place) → Stands hosts.old.items w
+        → part ≤ length (given_by step.now w)) }
+{
+    // A site keeps each event once, and what it has already adds nothing.
+    sets_are_members();
+    match step {
+        Step::Deliver { site, batch } => {
+            let Ok(copy) = copy_of(alloc, batch) else {
+                return Err(0);
+            };
+            deliver(hosts, *site as usize, copy)
+        }
+        Step::Gossip { from, to } => {
+            if *from == *to {
+                return Ok(());
+            }
+            gossip_between(alloc, hosts, *from as usize, *to as usize)
+        }
+        Step::Scrub { from, to } => {
+            if *from == *to {
+                return Ok(());
+            }
+            scrub_between(alloc, hosts, *from as usize, *to as usize)
+        }
+        Step::Flush { site } => {
+            let host = &mut hosts[*site as usize];
+            host.kept = host.site.arrived();
+            Ok(())
+        }
+        Step::Restart { site } => {
+            let host = &mut hosts[*site as usize];
+            let Ok(again) = restarted(alloc, host) else {
+                return Err(0);
+            };
+            host.site = again;
+            Ok(())
+        }
+    }
+}
+
+/// So many sites that have nothing.
+fn empty_sites(alloc: Global, sites: u32) -> Result<Vec<Hosted>, AllocError>
+    ensures { IfOk result (λ hosts. Stands hosts.items (start sites)) }
+{
+    let mut hosts = Vec::new(alloc);
+    for i in 0..sites {
+        hosts.push(Hosted {
+            site: Site::empty(alloc),
+            kept: 0,
+        })?;
+    }
+    Ok(hosts)
+}
+
+/// Runs a schedule from so many sites that have nothing. Where want of memory stops it, the world
+/// stands after the steps that were done and the first events of the next one; where not even the
+/// sites could be made, it has none.
+pub fn run(alloc: Global, sites: u32, steps: &Steps) -> Result<World, Stopped>
+    requires { AllByRecursion (FitsIn sites) steps.now }
+    ensures done { IfOk result (λ world. Stands world (world_after steps.now (start sites))) }
+    ensures stopped { IfErr result (λ s. StoppedAt sites steps.now s.world s.done s.part) }
+{
+    let Ok(mut hosts) = empty_sites(alloc, sites) else {
+        return Err(Stopped {
+            world: World {
+                hosts: Vec::new(alloc),
+            },
+            done: 0,
+            part: 0,
+        });
+    };
+    for done in 0..steps.len() {
+        if let Err(part) = make_step(alloc, &mut hosts, steps.at(done)) {
+            let world = World { hosts };
+            return Err(Stopped { world, done, part });
+        }
+    }
+    Ok(World { hosts })
+}

@@ -1,0 +1,142 @@
+//! Events that go from one site to another.
+
+ghost use Rattle.std.specs.Prelude.{◌≡◌, ◌+◌, ◌<◌, ◌≤◌, [], drop, length, take, IfErr, IfOk, OnOk};
+ghost use Rattle.inbox.specs.KeyOrder.{key_cmp};
+ghost use Rattle.inbox.specs.Ordered.{append_new};
+ghost use Rattle.inbox.specs.Sets.{set_of, union};
+ghost use Rattle.site.specs.Delta.{delta};
+ghost use Rattle.exchange.specs.Lacking.{lacking};
+
+use coverage::Summary;
+use inbox::{Counts, Short};
+use site::Site;
+
+/// How many events go at a time.
+const PAGE: u64 = 100;
+
+/// How many events went, and the place of key order to go on from.
+#[derive(Clone, Copy)]
+struct Moved {
+    count: u64,
+    next: u64,
+}
+
+/// Moves the next events that the peer's summary lacks from a place of key order on, as many as go
+/// at a time. After want of memory the answer is how many of them were taken.
+fn move_part(from: &Site, to: &mut Site, peer: &Summary, place: u64) -> Result<Moved, u64>
+    requires { place ≤ length (set_of from.now) }
+    ensures arrivals { IfOk result (λ m. to.new ≡ append_new key_cmp to.old
+        (take m.count (delta (drop place (set_of from.now)) peer.now))) }
+    ensures set { IfOk result (λ m. set_of to.new ≡ union (set_of to.old)
+        (take m.count (delta (drop place (set_of from.now)) peer.now))) }
+    ensures all { IfOk result (λ m. m.count ≡ 0
+        → delta (drop place (set_of from.now)) peer.now ≡ []) }
+    ensures rest { IfOk result (λ m. delta (drop m.next (set_of from.now)) peer.now
+        ≡ drop m.count (delta (drop place (set_of from.now)) peer.now)) }
+    ensures within { IfOk result (λ m. m.next ≤ length (set_of from.now)) }
+    ensures behind { IfOk result (λ m. place + m.count ≤ m.next) }
+    ensures counted { IfOk result (λ m. m.count
+        ≤ length (delta (drop place (set_of from.now)) peer.now)) }
+    ensures short { IfErr result (λ part. to.new ≡ append_new key_cmp to.old
+        (take part (delta (drop place (set_of from.now)) peer.now))) }
+    ensures short_set { IfErr result (λ part. set_of to.new ≡ union (set_of to.old)
+        (take part (delta (drop place (set_of from.now)) peer.now))) }
+    ensures short_taken { IfErr result (λ part. part
+        < length (delta (drop place (set_of from.now)) peer.now)) }
+{
+    let Ok(mut part) = from.delta_from(peer, place, PAGE) else {
+        return Err(0);
+    };
+    let count = part.events.len();
+    match to.take_batch(&mut part.events) {
+        Ok(_) => Ok(Moved {
+            count,
+            next: part.next,
+        }),
+        Err(short) => Err(short.taken),
+    }
+}
+
+/// Moves all events of the first site that the peer's summary lacks.
+fn move_all(from: &Site, to: &mut Site, peer: &Summary) -> Result<Counts, Short>
+    ensures arrivals { OnOk result (to.new
+        ≡ append_new key_cmp to.old (delta (set_of from.now) peer.now)) }
+    ensures set { OnOk result (set_of to.new
+        ≡ union (set_of to.old) (delta (set_of from.now) peer.now)) }
+    ensures fresh { IfOk result (λ n. length to.old + n.fresh ≡ length to.new) }
+    ensures repeated { IfOk result (λ n. n.fresh + n.repeated
+        ≡ length (delta (set_of from.now) peer.now)) }
+    ensures short { IfErr result (λ s. to.new
+        ≡ append_new key_cmp to.old (take s.taken (delta (set_of from.now) peer.now))) }
+    ensures short_set { IfErr result (λ s. set_of to.new
+        ≡ union (set_of to.old) (take s.taken (delta (set_of from.now) peer.now))) }
+    ensures short_fresh { IfErr result (λ s. length to.old + s.fresh ≡ length to.new) }
+    ensures short_taken { IfErr result (λ s. s.taken
+        < length (delta (set_of from.now) peer.now)) }
+{
+    // The count of the first site's events bounds the sums below.
+    let len = from.len();
+    let before = to.arrived();
+    let mut place = 0;
+    let mut taken = 0;
+    while place < len {
+        match move_part(from, to, peer, place) {
+            Ok(moved) => {
+                taken += moved.count;
+                place = if moved.count == 0 { len } else { moved.next };
+            }
+            Err(part) => {
+                let fresh = to.arrived() - before;
+                let taken = taken + part;
+                return Err(Short { taken, fresh });
+            }
+        }
+    }
+    let fresh = to.arrived() - before;
+    let repeated = taken - fresh;
+    Ok(Counts { fresh, repeated })
+}
+
+/// Brings the second site the events of the first whose numbers it lacks, in key order. The summary
+/// of the second is taken once; then at most 100 events go at a time. After want of memory those
+/// that went before stay, and the refusal says how many. Costs a look-up in the summary for each
+/// event of the first, and for those that go a copy and a take.
+pub fn gossip(from: &Site, to: &mut Site) -> Result<Counts, Short>
+    ensures arrivals { OnOk result (to.new
+        ≡ append_new key_cmp to.old (lacking (set_of from.now) (set_of to.old))) }
+    ensures set { OnOk result (set_of to.new
+        ≡ union (set_of to.old) (lacking (set_of from.now) (set_of to.old))) }
+    ensures fresh { IfOk result (λ n. length to.old + n.fresh ≡ length to.new) }
+    ensures repeated { IfOk result (λ n. n.fresh + n.repeated
+        ≡ length (lacking (set_of from.now) (set_of to.old))) }
+    ensures short { IfErr result (λ s. to.new
+        ≡ append_new key_cmp to.old (take s.taken (lacking (set_of from.now) (set_of to.old)))) }
+    ensures short_set { IfErr result (λ s. set_of to.new
+        ≡ union (set_of to.old) (take s.taken (lacking (set_of from.now) (set_of to.old)))) }
+    ensures short_fresh { IfErr result (λ s. length to.old + s.fresh ≡ length to.new) }
+    ensures short_taken { IfErr result (λ s. s.taken
+        ≤ length (lacking (set_of from.now) (set_of to.old))) }
+{
+    let Ok(peer) = to.summary() else {
+        return Err(Short { taken: 0, fresh: 0 });
+    };
+    move_all(from, to, &peer)
+}
+
+/// Brings the second site all events of the first, in key order; those that are there are not
+/// copied. After want of memory those that went before stay, and the refusal says how many. Costs
+/// what `Site::merge` does.
+pub fn scrub(from: &Site, to: &mut Site) -> Result<Counts, Short>
+    ensures arrivals { OnOk result (to.new ≡ append_new key_cmp to.old (set_of from.now)) }
+    ensures set { OnOk result (set_of to.new ≡ union (set_of to.old) (set_of from.now)) }
+    ensures fresh { IfOk result (λ n. length to.old + n.fresh ≡ length to.new) }
+    ensures repeated { IfOk result (λ n. n.fresh + n.repeated ≡ length (set_of from.now)) }
+    ensures short { IfErr result (λ s. to.new
+        ≡ append_new key_cmp to.old (take s.taken (set_of from.now))) }
+    ensures short_set { IfErr result (λ s. set_of to.new
+        ≡ union (set_of to.old) (take s.taken (set_of from.now))) }
+    ensures short_fresh { IfErr result (λ s. length to.old + s.fresh ≡ length to.new) }
+    ensures short_taken { IfErr result (λ s. s.taken < length (set_of from.now)) }
+{
+    to.merge(from)
+}
