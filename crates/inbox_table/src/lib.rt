@@ -1,0 +1,8 @@
+//! Events in a table of a database: the rows are a list of distinct events, kept by place.
+#![tactic(auto)]
+
+mod fault;
+mod schema;
+mod statement;
+
+pub use fault::TableFault;
