@@ -1,5 +1,5 @@
 -- The turns of `keep`, and what a crash may find.
-use Rattle.std.proofs.Common.{◌≡◌, ◌⊎◌, inl, inr, ℕ, suc, ◌+◌, ◌<◌, ◌≤◌, ◌++◌, if◌then◌else◌, length, length-append, get_or, slice_get, drop, drop-cons, add-one, List, [], ◌∷◌, Bool, true, false, not, IsTrue, Some, refl, sym, ap, subst, ◌∙◌, arith}
+use Rattle.std.proofs.Common.{◌≡◌, ◌⊎◌, inl, inr, ℕ, zero, suc, ◌+◌, ◌<◌, ◌≤◌, ◌++◌, if◌then◌else◌, length, length-append, get_or, slice_get, drop, drop-cons, add-one, List, [], ◌∷◌, Bool, true, false, not, IsTrue, Some, refl, sym, ap, subst, ◌∙◌, arith}
 use Rattle.std.proofs.lemmas.List.{drop_all}
 use Rattle.sqlite_trees.specs.Tree.{Trees}
 use Rattle.sqlite_trees.specs.declared.store.Store.{Ghosts}
@@ -70,10 +70,13 @@ survives_same s P = record { clean = omega arith; shield = λ h. h; counts = ome
 pub survives_into : {S : Type 0} (g : Ghosts S) (old : Held S) (P : Trees → Type 0) → Survives (state g old) (state g (record old { in_transaction = true })) P
 survives_into g old P = record { clean = omega arith; shield = λ h. h; counts = omega arith; limit = refl; closes = λ clean h. inl h; crash = λ clean db h. inl h }
 
-pub left_is : (L : List EventValue) (i : ℕ) (e : EventValue) → i < length L → slice_get L i ≡ Some e → drop i L ≡ e ∷ drop (i + 1) L
-left_is (x ∷ L) Rattle.std.proofs.Common.zero e low is = (let same : x ≡ e = cc in ap (λ y. y ∷ L) same)
-left_is (x ∷ L) (suc i) e low is = left_is L i e (omega arith) is
-left_is [] i e low is = absurd (omega arith)
+left_from : (L : List EventValue) (i : ℕ) (e : EventValue) → slice_get L i ≡ Some e → drop i L ≡ e ∷ drop (suc i) L
+left_from [] i e is = absurd (cc)
+left_from (x ∷ L) zero e is = (let same : x ≡ e = cc in ap (λ y. y ∷ L) same)
+left_from (x ∷ L) (suc i) e is = left_from L i e is
+
+pub left_is : (L : List EventValue) (i : ℕ) (e : EventValue) → slice_get L i ≡ Some e → drop i L ≡ e ∷ drop (i + 1) L
+left_is L i e is = rw add-one (left_from L i e is)
 
 pub ends : (rows : ℕ) (L : List EventValue) (old mid last : State) (fresh : ℕ) → (HasCleanDisk mid → IsKeeping rows L [] old mid fresh) → Survives old mid (λ _. ⊥)
     → Survives mid last (λ db. db ≡ mid.now.trees) → Survives old last (λ db. Stands old.now rows → MayTake L old.now db)

@@ -5,3 +5,6 @@ pub mod EventLemmas
 pub mod RowLemmas
 pub mod InsertLemmas
 pub mod KeepLemmas
+pub mod SameLemmas
+pub mod LoadLemmas
+pub mod AdoptLemmas
