@@ -6,5 +6,6 @@ pub mod RowLemmas
 pub mod InsertLemmas
 pub mod KeepLemmas
 pub mod SameLemmas
+pub mod ReadLemmas
 pub mod LoadLemmas
 pub mod AdoptLemmas

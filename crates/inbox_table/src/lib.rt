@@ -2,6 +2,7 @@
 #![tactic(auto)]
 
 mod fault;
+mod row;
 mod schema;
 mod statement;
 
