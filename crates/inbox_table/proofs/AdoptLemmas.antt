@@ -64,7 +64,7 @@ first_of true rest h = refl
 first_of false rest h = absurd (cc)
 
 -- the rule of the database for our table
-rule_of : (l : Layout) (rule : Constraint) (db : Trees) → Keeps rule (schema_of l) db → AllByRecursion (λ r. passes rule (schema_of l) db (inbox (tree_of l)) r ≡ true) (db (tree_of l))
+pub rule_of : (l : Layout) (rule : Constraint) (db : Trees) → Keeps rule (schema_of l) db → AllByRecursion (λ r. passes rule (schema_of l) db (inbox (tree_of l)) r ≡ true) (db (tree_of l))
 rule_of Alone rule db h = h.0
 rule_of (Before a b c) rule db h = h.0
 rule_of (Behind a b c) rule db h = h.1.1.1.0

@@ -9,3 +9,4 @@ pub mod SameLemmas
 pub mod ReadLemmas
 pub mod LoadLemmas
 pub mod AdoptLemmas
+pub mod OnceLemmas

@@ -1,5 +1,5 @@
 -- A reading changes nothing.
-use Rattle.std.proofs.Common.{◌≡◌, ◌⊎◌, inl, inr, ℕ, ◌≤◌, List, [], Option, Some, None, Ok, Err, Result, IsTrue, refl, sym, ap, subst, ◌∙◌}
+use Rattle.std.proofs.Common.{◌≡◌, ◌⊎◌, inl, inr, ℕ, ◌≤◌, List, [], Option, Some, None, Ok, Err, Result, IsTrue, OnErr, true, false, refl, sym, ap, subst, ◌∙◌}
 use Rattle.sqlite_value.specs.Order.{Row}
 use Rattle.sqlite_trees.specs.Tree.{Trees}
 use Rattle.sqlite_trees.specs.View.{doubt}
@@ -7,7 +7,8 @@ use Rattle.sqlite_schema.specs.declared.command.Returning.{Returning}
 use Rattle.sqlite.specs.declared.error.Error.{Error}
 use Rattle.sqlite.specs.Clock.{timed}
 use Rattle.sqlite.specs.Listing.{understood}
-use Rattle.sqlite.specs.State.{State, HasCleanDisk, Survives, IsUnchanged, IsRolledBack, FailsToQuery, FailsToShow, IsNotRun, Shown, ShowsRows, CommitsShowing}
+use Rattle.sqlite.specs.State.{State, HasCleanDisk, Survives, IsUnchanged, IsRolledBack, FailsToQuery, FailsToShow, IsNotRun, Shown, ShowsRows, CommitsShowing, Executes, ExecutesIn, RunsCommand, shows_rows}
+use Rattle.std.proofs.lemmas.Bool.{cases_Bool}
 use Rattle.sqlite.proofs.Callers.{IsPlain, never_commits}
 use Rattle.sqlite.proofs.StateLemmas.{survives_weaker}
 use Rattle.inbox_table.specs.Schema.{IsOurs}
@@ -36,11 +37,11 @@ shown old new rows ours h =
     let bare = subst IsPlain h.1.is (plain_in old ours) in
     (rw bare.0 at h.2).3
 
-same_where : (old new : State) → old.now ≡ old.committed → IsUnchanged old new ⊎ IsRolledBack old new → IsTrue new.is_open → (new.now ≡ old.now) × (new.committed ≡ old.committed)
+pub same_where : (old new : State) → old.now ≡ old.committed → IsUnchanged old new ⊎ IsRolledBack old new → IsTrue new.is_open → (new.now ≡ old.now) × (new.committed ≡ old.committed)
 same_where old new settled (inl h) still = (h.0.now_is, h.0.committed_is)
 same_where old new settled (inr h) still = ((h.undone still).0 ∙ sym settled, (h.undone still).1)
 
-open_where : (old new : State) → IsUnchanged old new ⊎ IsRolledBack old new → IsTrue new.is_open → IsTrue old.is_open
+pub open_where : (old new : State) → IsUnchanged old new ⊎ IsRolledBack old new → IsTrue new.is_open → IsTrue old.is_open
 open_where old new (inl h) still = h.0.was_open
 open_where old new (inr h) still = h.was_open still
 
@@ -72,3 +73,22 @@ same_same s = record { clean = (let e : doubt s.is_clean ≤ doubt s.is_clean = 
 -- and commits nothing
 pub survives_reading : (old new : State) → IsOurs old.now.schema → Survives old new (CommitsShowing select_text [] old) → Survives old new (λ _. ⊥)
 survives_reading old new ours = survives_weaker old new _ _ (λ _ db may. never_commits select_text [] old db (plain_in old ours) may)
+
+-- ---- a statement that is refused
+
+pub refused : (sql : List ℕ) (params : Row) (old new : State) (e : Error) → Executes sql params old new (Err e) → IsUnchanged old new ⊎ IsRolledBack old new
+unfolding ExecutesIn IsNotRun
+refused sql params old new e (inl (inl h)) = inl h.1
+refused sql params old new e (inl (inr h)) = inr h.3
+refused sql params old new e (inr (c, it, ran)) = elim (cases_Bool (shows_rows false c)) [
+  | inl shows ↦ inl (rw shows at ran).1
+  | inr runs ↦ command (rw runs at ran)
+]
+  where
+    command : RunsCommand old new sql c (timed params c.formats it.now) (Err e) → IsUnchanged old new ⊎ IsRolledBack old new
+    command (inl h) = inl h.1
+    command (inr h) = inr h.3
+
+pub refused_same_now : (sql : List ℕ) (params : Row) (old new : State) (r : Result ℕ Error) → Executes sql params old new r → (IsTrue old.is_open → old.now ≡ old.committed) → IsTrue new.is_open → OnErr r (new.now ≡ old.now)
+refused_same_now sql params old new (Ok n) h settled still = tt
+refused_same_now sql params old new (Err e) h settled still = let how = refused sql params old new e h in (same_where old new (settled (open_where old new how still)) how still).0

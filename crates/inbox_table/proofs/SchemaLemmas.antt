@@ -5,7 +5,9 @@ use Rattle.sqlite_schema.specs.declared.schema.Index.{Index}
 use Rattle.sqlite_schema.specs.declared.schema.Table.{Table}
 use Rattle.sqlite_schema.specs.declared.schema.View.{View}
 use Rattle.sqlite_schema.specs.declared.schema.Schema.{Schema}
-use Rattle.inbox_table.specs.Schema.{AreOutbox, Layout, Room, Alone, Before, Behind, Empty, Outbox, IsOurs, IsRoom, LiesBefore, LiesBehind, beside, inbox, key_index, schema_of, tables_of}
+use Rattle.sqlite_schema.specs.Names.{same_name}
+use Rattle.sqlite_tied.specs.Compute.{everything}
+use Rattle.inbox_table.specs.Schema.{AreOutbox, HasForm, has_inbox, Layout, Room, Alone, Before, Behind, Empty, Outbox, IsOurs, IsRoom, LiesBefore, LiesBehind, beside, inbox, key_index, schema_of, tables_of}
 
 made : (s : Schema) (tables : List Table) (indexes : List Index) → s.tables ≡ tables → s.indexes ≡ indexes → s.views ≡ [] → s ≡ record { tables = tables; indexes = indexes; views = [] }
 made s tables indexes t i v = rw (← t, ← i, ← v) refl
@@ -53,3 +55,26 @@ room_empty s t i v = (Empty, made s [] [] t i v)
 
 pub room_outbox : (s : Schema) (a b c : Table) → s.tables ≡ a ∷ b ∷ c ∷ [] → AreOutbox 0 a b c → s.indexes ≡ [] → s.views ≡ [] → IsRoom s
 room_outbox s a b c t h i v = (Outbox a b c, made s _ [] (t ∙ ap₂ ◌∷◌ h.service (ap₂ ◌∷◌ h.orders (ap₂ ◌∷◌ h.outbox refl))) i v)
+
+-- ---- the name
+
+is_named : same_name (codes "inbox") (codes "inbox") ≡ true
+unfolding everything
+is_named = refl
+
+pub named : (l : Layout) → has_inbox (schema_of l) ≡ true
+unfolding everything
+named Alone = refl
+named (Before a b c) = refl
+named (Behind a b c) = refl
+
+or_true : (b : Bool) → (b || true) ≡ true
+or_true true = refl
+or_true false = refl
+
+pub form_named : (tables : List Table) → HasForm tables → list_any (λ t. same_name t.name (codes "inbox")) tables ≡ true
+form_named [] (x, h, form) = absurd h
+form_named (t ∷ tables) (x, inl is, form) =
+    let name : t.name ≡ codes "inbox" = ap (λ (y : Table). y.name) (sym is ∙ form) in
+    rw name (rw is_named refl)
+form_named (t ∷ tables) (x, inr h, form) = rw (form_named tables (x, h, form)) (or_true _)

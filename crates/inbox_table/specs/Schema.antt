@@ -4,6 +4,7 @@ use Rattle.std.specs.Prelude.{◌≡◌, ℕ, ◌+◌, Bool, true, false, List, 
 use Rattle.std.specs.List.{list_any}
 use Rattle.sqlite_value.specs.declared.keys.Collation.TheVariants.{Binary}
 use Rattle.sqlite_value.specs.declared.value.Value.TheVariants.{Null}
+use Rattle.sqlite_rules.specs.Lists.{Has}
 use Rattle.sqlite_schema.specs.Names.{same_name}
 use Rattle.sqlite_schema.specs.declared.schema.Column.{Column}
 use Rattle.sqlite_schema.specs.declared.schema.Index.{Index}
@@ -161,3 +162,7 @@ has_inbox schema = list_any (λ t. same_name t.name (codes "inbox")) schema.tabl
 -- the schema is that of a database in which the table can be made
 abbrev pub IsRoom : Schema → Type 0
 IsRoom schema = (r : Room) × (schema ≡ schema_before r)
+
+-- a table of our form is among them
+abbrev pub HasForm : List Table → Type 0
+HasForm tables = (t : Table) × Has tables t × (t ≡ inbox t.tree)

@@ -2,7 +2,7 @@
 
 ghost use Rattle.std.specs.Prelude.{◌≡◌, ◌↔◌, ◌<◌, ◌^◌, [], ◌∷◌, IsTrue};
 ghost use Rattle.sqlite_value.specs.declared.value.Value.TheVariants.{Null};
-ghost use Rattle.inbox_table.specs.Schema.{AreOutbox, IsBare, Alone, IsOurs, IsRoom, LiesBefore, LiesBehind, beside, columns, has_inbox, inbox, key_index, key_places, schema_of, strict};
+ghost use Rattle.inbox_table.specs.Schema.{AreOutbox, HasForm, IsBare, Alone, IsOurs, IsRoom, LiesBefore, LiesBehind, beside, columns, has_inbox, inbox, key_index, key_places, schema_of, strict};
 
 use sqlite_items::Items;
 use sqlite_schema::code::Terms;
@@ -102,7 +102,7 @@ fn is_bare(table: &Table) -> bool
 }
 
 /// Whether the table is ours, wherever its rows lie.
-pub(crate) fn is_inbox(table: &Table) -> bool
+fn is_inbox(table: &Table) -> bool
     ensures { IsTrue result ↔ (table.now ≡ inbox table.now.tree) }
 {
     table.name.as_slice() == "inbox".as_bytes()
@@ -177,18 +177,32 @@ fn are_outbox(service: &Table, orders: &Table, outbox: &Table, tree: u32) -> boo
         && is_beside(outbox, "outbox", tree + 2)
 }
 
-/// Whether the table can be made: there is nothing, or the tables of an outbox alone.
-#[tactic(auto, using(crate::proofs::SchemaLemmas::room_empty, crate::proofs::SchemaLemmas::room_outbox))]
-pub(crate) fn has_room(schema: &Schema) -> bool
+/// Whether there are the tables of an outbox, and nothing else.
+#[tactic(auto, using(crate::proofs::SchemaLemmas::room_outbox))]
+fn is_outbox(schema: &Schema) -> bool
     ensures { IsTrue result → IsRoom schema.now }
 {
     match schema.tables.as_slice() {
-        [] => schema.indexes.is_empty() && schema.views.is_empty(),
         [a, b, c] => {
             are_outbox(a, b, c, 0) && schema.indexes.is_empty() && schema.views.is_empty()
         }
         _ => false,
     }
+}
+
+/// Whether there is nothing.
+#[tactic(auto, using(crate::proofs::SchemaLemmas::room_empty))]
+fn is_blank(schema: &Schema) -> bool
+    ensures { IsTrue result → IsRoom schema.now }
+{
+    schema.tables.is_empty() && schema.indexes.is_empty() && schema.views.is_empty()
+}
+
+/// Whether the table can be made: there is nothing, or the tables of an outbox alone.
+pub(crate) fn has_room(schema: &Schema) -> bool
+    ensures { IsTrue result → IsRoom schema.now }
+{
+    is_blank(schema) || is_outbox(schema)
 }
 
 /// Whether our table is the only one.
@@ -241,4 +255,16 @@ pub(crate) fn is_ours(schema: &Schema) -> bool
     ensures { IsTrue result ↔ IsOurs schema.now }
 {
     is_alone(schema) || is_before(schema) || is_behind(schema)
+}
+
+/// Whether a table of our form is there, wherever its rows lie and whatever lies beside it.
+pub(crate) fn has_form(schema: &Schema) -> bool
+    ensures { IsTrue result ↔ HasForm schema.now.tables }
+{
+    for table in schema.tables.as_slice() {
+        if is_inbox(table) {
+            return true;
+        }
+    }
+    false
 }

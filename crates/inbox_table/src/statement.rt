@@ -21,6 +21,11 @@ pub(crate) fn make<S: Alter>(conn: &mut Connection<S>) -> Result<usize, Error>
     requires { IsRoom (state S.Store conn.old).now.schema }
     ensures made { HasCleanDisk (state S.Store conn.new)
         → OnOk result (IsInbox (state S.Store conn.new).now []) }
+    ensures same { HasCleanDisk (state S.Store conn.new)
+        → (IsTrue (state S.Store conn.old).is_open
+            → (state S.Store conn.old).now ≡ (state S.Store conn.old).committed)
+        → IsTrue (state S.Store conn.new).is_open
+        → OnErr result ((state S.Store conn.new).now ≡ (state S.Store conn.old).now) }
     ensures crash { Survives (state S.Store conn.old) (state S.Store conn.new) MayMake }
 {
     conn.execute(
