@@ -1,6 +1,9 @@
 -- In a database that keeps its rules no event stands twice.
 use Rattle.std.proofs.Common.{◌≡◌, ◌⊎◌, inl, inr, ℕ, suc, ◌+◌, ◌<◌, ◌≤◌, List, [], ◌∷◌, ◌++◌, append_assoc, append-nil, length, length-append, Bool, true, false, not, ◌&&◌, ◌||◌, eqb, if◌then◌else◌, is_eq, int_cmp, pos, ℤ, Some, refl, sym, ap, subst, ◌∙◌, arith, IsTrue, IsPermutation}
 use Rattle.std.specs.List.{AllByRecursion, list_any}
+use Rattle.std.specs.Ordering.{is_ne}
+use Rattle.std.specs.declared.cmp.Ordering.{Ordering}
+use Rattle.std.specs.declared.cmp.Ordering.TheVariants.{Less, Equal, Greater}
 use Rattle.std.proofs.lemmas.Bool.Decides.{nat_tests}
 use Rattle.std.proofs.lemmas.Int.{ints}
 use Rattle.sqlite_value.specs.declared.value.Value.{Value}
@@ -29,9 +32,14 @@ told : (b : Bool) → is_true (from_truth (Some b)) ≡ b
 told true = refl
 told false = refl
 
-differ_int : (m n : ℤ) → differ (Int m) (Int n) ≡ not (is_eq (int_cmp m n))
+differ_int : (m n : ℤ) → differ (Int m) (Int n) ≡ is_ne (int_cmp m n)
 unfolding binary
-differ_int m n = told _ ∙ ap (λ o. not (is_eq o)) (value_cmp-Int m n)
+differ_int m n = told _ ∙ ap is_ne (value_cmp-Int m n)
+
+not_equal : (o : Ordering) → is_eq o ≡ false → is_ne o ≡ true
+not_equal Less h = refl
+not_equal Equal h = absurd (cc)
+not_equal Greater h = refl
 
 apart : (p q : ℕ) → p < q → is_eq (int_cmp (pos p) (pos q)) ≡ false
 apart p q h = grind (arith, ints, nat_tests)
@@ -86,7 +94,7 @@ module _ (l : Layout) (db : Trees) (unique : AllByRecursion (λ r. passes Unique
       let rule = all_has (λ r. passes Unique (schema_of l) db (inbox (tree_of l)) r ≡ true) rows (row_of q e) unique second in
       let none : clashes (record { digits = 0 }) key_places rows (row_of q e) ≡ false = no_clash (eqb (tree_of l) (tree_of l)) _ (same_tree (tree_of l)) rule in
       let one = any_false (λ other. agree (record { digits = 0 }) key_places other key_places (row_of q e) && differ (Rattle.sqlite_trees.specs.Tree.rowid other) (Int (pos q))) rows (row_of p x) none first in
-      sym (agree_is p q x e) ∙ left_of _ _ (differ_int (pos p) (pos q) ∙ ap not (apart p q low)) one
+      sym (agree_is p q x e) ∙ left_of _ _ (differ_int (pos p) (pos q) ∙ not_equal (int_cmp (pos p) (pos q)) (apart p q low)) one
 
   none_before : (p q : ℕ) (A : List EventValue) (e : EventValue) → ((r : Row) → Has (rows_from p A) r → Has rows r) → Has rows (row_of q e) → p + length A ≤ q → has key_cmp A e ≡ false
   none_before p q [] e all last low = refl
@@ -114,7 +122,7 @@ module _ (l : Layout) (db : Trees) (unique : AllByRecursion (λ r. passes Unique
 -- ---- a table that is adopted
 
 pub adopted : (old last : State) (events : List EventValue) (rows : List Row) → IsOurs old.now.schema → IsLive old → Shown select_text [] old last rows → rows ≡ shown_from 1 events → AreNumbered events → IsInbox old.now events
-adopted old last events rows (l, is) live shows read numbered =
+adopted old last events found (l, is) live shows read numbered =
     let h = subst (Shown select_text [] old last) read shows in
     let sound : IsDatabase old.now = (live (shown old last (shown_from 1 events) (l, is) h).0.was_open).0 in
     let perm = stored old last l events is sound h in

@@ -131,7 +131,7 @@ tidy false a b c d h = absurd (cc)
 abbrev clash : ℕ → ℕ → EventValue → EventValue → Bool
 clash p n x e = is_eq (int_cmp (pos p) (pos n)) || is_eq (key_cmp e x)
 
-same_tree : (t : ℕ) → eqb t t ≡ true
+pub same_tree : (t : ℕ) → eqb t t ≡ true
 same_tree t = grind (arith, nat_tests)
 
 pub conflict_is : (tree p n : ℕ) (x e : EventValue) → conflicts None (key_index tree ∷ []) (inbox tree) (row_of n e) (row_of p x) ≡ clash p n x e

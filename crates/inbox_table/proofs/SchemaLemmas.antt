@@ -78,3 +78,12 @@ form_named (t ∷ tables) (x, inl is, form) =
     let name : t.name ≡ codes "inbox" = ap (λ (y : Table). y.name) (sym is ∙ form) in
     rw name (rw is_named refl)
 form_named (t ∷ tables) (x, inr h, form) = rw (form_named tables (x, h, form)) (or_true _)
+
+-- ---- three tables
+
+pub three : (xs : List Table) (a b c : Table) → length xs ≡ 3 → a ≡ get_or xs 0 a → b ≡ get_or xs 1 b → c ≡ get_or xs 2 c → xs ≡ a ∷ b ∷ c ∷ []
+three (x ∷ y ∷ z ∷ []) a b c n e f g = ap₂ ◌∷◌ (sym e) (ap₂ ◌∷◌ (sym f) (ap₂ ◌∷◌ (sym g) refl))
+three [] a b c n e f g = absurd (omega (arith, n))
+three (x ∷ []) a b c n e f g = absurd (omega (arith, n))
+three (x ∷ y ∷ []) a b c n e f g = absurd (omega (arith, n))
+three (x ∷ y ∷ z ∷ w ∷ xs) a b c n e f g = absurd (omega (arith, n))

@@ -113,6 +113,8 @@ pub(crate) fn keep<S: Alter>(
     ensures fresh { HasCleanDisk (state S.Store conn.new) → Stands (state S.Store conn.old).now rows
         → IfOk result (AreFresh batch.now (state S.Store conn.old).now) }
     ensures few { IfOk result (λ fresh. fresh ≤ length batch.now) }
+    ensures stays { HasCleanDisk (state S.Store conn.new)
+        → OnOk result (IsTrue (state S.Store conn.new).is_open) }
     ensures committed { HasCleanDisk (state S.Store conn.new)
         → OnOk result ((state S.Store conn.new).committed ≡ (state S.Store conn.new).now) }
     ensures same { HasCleanDisk (state S.Store conn.new) → IsTrue (state S.Store conn.new).is_open

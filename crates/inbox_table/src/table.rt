@@ -140,6 +140,90 @@ impl<S: Alter> Table<S> {
         }
     }
 
+    /// As [`Table::adopt_and_load`], without giving the events.
+    pub fn adopt(alloc: Global, conn: Connection<S>) -> Result<Table<S>, NotMade<S>>
+        ensures adopted { IfOk result (λ t. HasCleanDisk (state S.Store t.conn)
+            → Stands (state S.Store conn).now t.rows) }
+        ensures unchanged { IfOk result (λ t. HasCleanDisk (state S.Store t.conn)
+            → IsTrue (state S.Store t.conn).is_open
+            → (state S.Store t.conn).now ≡ (state S.Store conn).now) }
+        ensures missing { has_inbox (state S.Store conn).now.schema ≡ false
+            → IsErrAnd result (λ n. n.fault ≡ Foreign) }
+        ensures foreign { IfErr result (λ n. HasCleanDisk (state S.Store n.conn)
+            → n.fault ≡ Foreign
+            → (events : List EventValue) → IsInbox (state S.Store conn).now events → ⊥) }
+        ensures same { IfErr result (λ n. HasCleanDisk (state S.Store n.conn)
+            → IsTrue (state S.Store n.conn).is_open
+            → (state S.Store n.conn).now ≡ (state S.Store conn).now) }
+        ensures crash { IfOk result (λ t.
+            Survives (state S.Store conn) (state S.Store t.conn) (λ _. ⊥)) }
+        ensures crash_refused { IfErr result (λ n.
+            Survives (state S.Store conn) (state S.Store n.conn) (λ _. ⊥)) }
+    {
+        match Table::adopt_and_load(alloc, conn) {
+            Ok(loaded) => {
+                let Loaded { table, events: _ } = loaded;
+                Ok(table)
+            }
+            Err(refused) => Err(refused),
+        }
+    }
+
+    /// Adds in one transaction the events of the batch that aren't there, each in its turn behind
+    /// the last, and answers how many. The time grows with the batch, and for each event with the
+    /// logarithm of the number of rows.
+    ///
+    /// `Store` where a transaction is open, where the places would go past 2^63 - 1, or where the
+    /// database refuses. Then nothing is added.
+    pub fn keep(&mut self, batch: &Batch) -> Result<u64, TableFault>
+        ensures takes { HasCleanDisk (state S.Store self.new.conn) → OnOk result (Takes batch.now
+            (state S.Store self.old.conn).now (state S.Store self.new.conn).now) }
+        ensures fresh { HasCleanDisk (state S.Store self.new.conn)
+            → IfOk result (AreFresh batch.now (state S.Store self.old.conn).now) }
+        ensures rows { IfOk result (λ fresh. self.new.rows ≡ self.old.rows + fresh) }
+        ensures committed { HasCleanDisk (state S.Store self.new.conn) → OnOk result
+            ((state S.Store self.new.conn).committed ≡ (state S.Store self.new.conn).now) }
+        ensures same { HasCleanDisk (state S.Store self.new.conn)
+            → IsTrue (state S.Store self.new.conn).is_open
+            → OnErr result ((state S.Store self.new.conn).now
+                ≡ (state S.Store self.old.conn).now) }
+        ensures rows_same { OnErr result (self.new.rows ≡ self.old.rows) }
+        ensures fault { IfErr result IsOfStore }
+        ensures crash { Survives (state S.Store self.old.conn) (state S.Store self.new.conn)
+            (λ trees. Stands (state S.Store self.old.conn).now self.old.rows
+                → MayTake batch.now (state S.Store self.old.conn).now trees) }
+    {
+        if self.rows > MAX_PLACE || batch.len() > MAX_PLACE - self.rows {
+            return Err(TableFault::Store);
+        }
+        match keep(&mut self.conn, self.rows, batch) {
+            Ok(fresh) => {
+                self.rows = self.rows + fresh;
+                Ok(fresh)
+            }
+            Err(error) => Err(TableFault::from(error)),
+        }
+    }
+
+    /// The events in the order of their places. Time and memory in proportion to them.
+    ///
+    /// `Store` where a transaction is open or the database refuses. `Foreign`, where the rows
+    /// aren't those that the calls leave, comes only if the disk gives back what was not written.
+    pub fn load(&mut self) -> Result<Batch, TableFault>
+        ensures loaded { HasCleanDisk (state S.Store self.new.conn)
+            → IfOk result (IsInbox (state S.Store self.old.conn).now) }
+        ensures known { HasCleanDisk (state S.Store self.new.conn)
+            → IsTrue (state S.Store self.new.conn).is_open → result ≢ Err Foreign }
+        ensures same { HasCleanDisk (state S.Store self.new.conn)
+            → IsTrue (state S.Store self.new.conn).is_open
+            → (state S.Store self.new.conn).now ≡ (state S.Store self.old.conn).now }
+        ensures rows { self.new.rows ≡ self.old.rows }
+        ensures crash {
+            Survives (state S.Store self.old.conn) (state S.Store self.new.conn) (λ _. ⊥) }
+    {
+        events_in(self.alloc, &mut self.conn)
+    }
+
     /// How many events there are. Takes no time.
     pub fn rows(&self) -> u64
         ensures rows { result ≡ self.now.rows }
