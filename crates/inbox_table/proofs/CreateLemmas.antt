@@ -67,6 +67,12 @@ creates old new (Ok count) (room, has) h =
     let w = subst (λ t. Writes old new None CreateTable t [] count) (create_is room).1 (runs_as create_text [] old new (schema_before room) has CreateTable (create_is room).0 (create_plain room) count h) in
     made room old.step_limit (mode_of old) [] old.now new.now w.tally has w.changed
 
+pub creates_commit : (old new : State) (r : Result ℕ Error) → IsRoom old.now.schema → old.in_transaction ≡ false → Executes create_text [] old new r → OnOk r (new.committed ≡ new.now)
+creates_commit old new (Err e) has auto h = tt
+creates_commit old new (Ok count) (room, has) auto h =
+    let w = runs_as create_text [] old new (schema_before room) has CreateTable (create_is room).0 (create_plain room) count h in
+    rw auto at w.shown.committed_is
+
 -- what a crash may find of it
 pub commits_create : (s : State) (db : Trees) → IsRoom s.now.schema → CommitsBy create_text [] s db → (d : Database) × IsInbox d [] × (db ≡ d.trees)
 unfolding CommitsBy

@@ -21,6 +21,8 @@ use std::alloc::Global;
 pub(crate) fn create<S: Alter>(conn: &mut Connection<S>) -> Result<(), TableFault>
     ensures made { HasCleanDisk (state S.Store conn.new)
         → OnOk result (IsInbox (state S.Store conn.new).now []) }
+    ensures committed { HasCleanDisk (state S.Store conn.new)
+        → OnOk result ((state S.Store conn.new).committed ≡ (state S.Store conn.new).now) }
     ensures there { has_inbox (state S.Store conn.old).now.schema ≡ true → result ≡ Err Foreign }
     ensures foreign { IfErr result (λ f. f ≡ Foreign
         → has_inbox (state S.Store conn.old).now.schema ≡ true) }

@@ -1,6 +1,6 @@
 //! The statements on the table.
 
-ghost use Rattle.std.specs.Prelude.{◌≡◌, ◌<◌, ◌≤◌, ◌+◌, ◌^◌, pos, not, [], ◌∷◌, length, IsTrue, IfOk, IfErr, OnOk, OnErr, if◌then◌else◌};
+ghost use Rattle.std.specs.Prelude.{◌≡◌, ◌<◌, ◌≤◌, ◌+◌, ◌^◌, pos, not, false, [], ◌∷◌, length, IsTrue, IfOk, IfErr, OnOk, OnErr, if◌then◌else◌};
 ghost use Rattle.sqlite_value.specs.declared.value.Value.TheVariants.{Int, Text as Words};
 ghost use Rattle.sqlite.specs.Held.{state};
 ghost use Rattle.sqlite.specs.State.{HasCleanDisk, Survives, KeepsCommit, ExecutesInside, CommitsShowing, IsLive, Shown};
@@ -21,6 +21,9 @@ pub(crate) fn make<S: Alter>(conn: &mut Connection<S>) -> Result<usize, Error>
     requires { IsRoom (state S.Store conn.old).now.schema }
     ensures made { HasCleanDisk (state S.Store conn.new)
         → OnOk result (IsInbox (state S.Store conn.new).now []) }
+    ensures committed { HasCleanDisk (state S.Store conn.new)
+        → (state S.Store conn.old).in_transaction ≡ false
+        → OnOk result ((state S.Store conn.new).committed ≡ (state S.Store conn.new).now) }
     ensures same { HasCleanDisk (state S.Store conn.new)
         → (IsTrue (state S.Store conn.old).is_open
             → (state S.Store conn.old).now ≡ (state S.Store conn.old).committed)

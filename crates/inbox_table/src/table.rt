@@ -4,7 +4,7 @@ ghost use Rattle.std.specs.Prelude.{◌≡◌, ◌≢◌, ◌+◌, ◌≤◌, tr
 ghost use Rattle.sqlite.specs.Held.{state};
 ghost use Rattle.sqlite.specs.State.{HasCleanDisk, Survives};
 ghost use Rattle.attributes.specs.Event.{EventValue};
-ghost use Rattle.inbox_table.specs.Calls.{AreFresh, MayMake, MayTake, Stands, StandsFor, Takes};
+ghost use Rattle.inbox_table.specs.Calls.{AreFresh, IsSettled, MayMake, MayTake, Stands, StandsFor, Takes};
 ghost use Rattle.inbox_table.specs.Fault.{IsOfStore};
 ghost use Rattle.inbox_table.specs.Rows.{IsInbox};
 ghost use Rattle.inbox_table.specs.Schema.{HasForm, IsOurs, has_inbox};
@@ -78,6 +78,8 @@ impl<S: Alter> Table<S> {
         ensures made { IfOk result (λ t. HasCleanDisk (state S.Store t.conn)
             → IsInbox (state S.Store t.conn).now []) }
         ensures rows { IfOk result (λ t. t.rows ≡ 0) }
+        ensures settled { IfOk result (λ t. HasCleanDisk (state S.Store t.conn)
+            → IsSettled (state S.Store t.conn)) }
         ensures there { has_inbox (state S.Store conn).now.schema ≡ true
             → IsErrAnd result (λ n. n.fault ≡ Foreign) }
         ensures foreign { IfErr result (λ n. n.fault ≡ Foreign
@@ -121,6 +123,9 @@ impl<S: Alter> Table<S> {
         ensures foreign { IfErr result (λ n. HasCleanDisk (state S.Store n.conn)
             → n.fault ≡ Foreign
             → (events : List EventValue) → IsInbox (state S.Store conn).now events → ⊥) }
+        ensures strange { ¬ IsOurs (state S.Store conn).now.schema
+            → HasForm (state S.Store conn).now.schema.tables
+            → IfErr result (λ n. n.fault ≢ Foreign) }
         ensures same { IfErr result (λ n. HasCleanDisk (state S.Store n.conn)
             → IsTrue (state S.Store n.conn).is_open
             → (state S.Store n.conn).now ≡ (state S.Store conn).now) }
@@ -152,6 +157,9 @@ impl<S: Alter> Table<S> {
         ensures foreign { IfErr result (λ n. HasCleanDisk (state S.Store n.conn)
             → n.fault ≡ Foreign
             → (events : List EventValue) → IsInbox (state S.Store conn).now events → ⊥) }
+        ensures strange { ¬ IsOurs (state S.Store conn).now.schema
+            → HasForm (state S.Store conn).now.schema.tables
+            → IfErr result (λ n. n.fault ≢ Foreign) }
         ensures same { IfErr result (λ n. HasCleanDisk (state S.Store n.conn)
             → IsTrue (state S.Store n.conn).is_open
             → (state S.Store n.conn).now ≡ (state S.Store conn).now) }
@@ -181,8 +189,8 @@ impl<S: Alter> Table<S> {
         ensures fresh { HasCleanDisk (state S.Store self.new.conn)
             → IfOk result (AreFresh batch.now (state S.Store self.old.conn).now) }
         ensures rows { IfOk result (λ fresh. self.new.rows ≡ self.old.rows + fresh) }
-        ensures committed { HasCleanDisk (state S.Store self.new.conn) → OnOk result
-            ((state S.Store self.new.conn).committed ≡ (state S.Store self.new.conn).now) }
+        ensures settled { HasCleanDisk (state S.Store self.new.conn)
+            → OnOk result (IsSettled (state S.Store self.new.conn)) }
         ensures same { HasCleanDisk (state S.Store self.new.conn)
             → IsTrue (state S.Store self.new.conn).is_open
             → OnErr result ((state S.Store self.new.conn).now

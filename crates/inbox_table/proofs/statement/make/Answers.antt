@@ -1,6 +1,6 @@
 use Rattle.sqlite.specs.Held.{state}
 use Rattle.sqlite.proofs.StateLemmas.{survives_weaker}
-use Rattle.inbox_table.proofs.CreateLemmas.{creates, commits_create}
+use Rattle.inbox_table.proofs.CreateLemmas.{creates, creates_commit, commits_create}
 use Rattle.std.proofs.Common.{[]}
 use Rattle.inbox_table.specs.Texts.{create_text}
 use Rattle.inbox_table.proofs.SameLemmas.{refused_same_now}
@@ -15,3 +15,6 @@ returns-clause-crash g c =
 
 pub returns-clause-same : goal.returns-clause-same
 returns-clause-same g c clean settled still = refused_same_now create_text [] (state g.S.Store c.args.conn.now) (state g.S.Store c.execute.new.self) c.execute.result (c.execute.ensures.runs clean) settled still
+
+pub returns-clause-committed : goal.returns-clause-committed
+returns-clause-committed g c clean auto = creates_commit (state g.S.Store c.args.conn.now) (state g.S.Store c.execute.new.self) c.execute.result c.requires auto (c.execute.ensures.runs clean)
