@@ -38,6 +38,7 @@ pub struct NotMade<S: Alter> {
 }
 
 /// A table, and the events that it had when it was taken.
+#[derive(Drop)]
 pub struct Loaded<S: Alter> {
     pub table: Table<S>,
     pub events: Batch,
