@@ -1,31 +1,25 @@
 -- What rows that read as those of events say of the rows that are stored.
-use Rattle.std.proofs.Common.{◌≡◌, ◌⊎◌, inl, inr, ℕ, suc, ◌+◌, ◌<◌, ◌≤◌, List, [], ◌∷◌, ◌++◌, append_assoc, append-nil, length, length-append, map, flat_map, Bool, true, false, not, ◌&&◌, ◌||◌, eqb, if◌then◌else◌, is_eq, int_cmp, pos, Some, refl, sym, ap, ap₂, subst, ◌∙◌, arith, IsPermutation, IsTrue}
-use Rattle.std.specs.List.{AllByRecursion, list_any, list_all}
-use Rattle.std.proofs.lemmas.Bool.{and_parts, cases_Bool}
-use Rattle.std.proofs.lemmas.Bool.Decides.{nat_tests}
-use Rattle.std.proofs.lemmas.Int.{ints}
+use Rattle.std.proofs.Common.{◌≡◌, ℕ, suc, List, [], ◌∷◌, map, flat_map, Bool, true, false, not, ◌&&◌, refl, sym, ap, ap₂, subst, ◌∙◌, IsPermutation}
+use Rattle.std.specs.List.{AllByRecursion}
+use Rattle.std.proofs.lemmas.Bool.{and_parts}
 use Rattle.std.proofs.lemmas.List.Sorted.{IsPermutation-map, IsPermutation-sym}
 use Rattle.sqlite_value.specs.declared.value.Value.{Value}
 use Rattle.sqlite_value.specs.declared.value.Value.TheVariants.{Null, Int, Real, Text as Words, Blob}
-use Rattle.sqlite_value.specs.Keys.{first_key}
 use Rattle.sqlite_value.specs.Order.{Row, column}
-use Rattle.sqlite_trees.specs.Tree.{Trees, rowid}
+use Rattle.sqlite_trees.specs.Tree.{Trees}
 use Rattle.sqlite_schema.specs.declared.schema.Constraint.{Constraint}
-use Rattle.sqlite_schema.specs.declared.schema.Constraint.TheVariants.{Datatype, NotNull, Unique}
+use Rattle.sqlite_schema.specs.declared.schema.Constraint.TheVariants.{Datatype, NotNull}
 use Rattle.sqlite_schema.specs.Rules.{passes, is_of, Keeps, clashes, agree, differ}
 use Rattle.sqlite_schema.specs.declared.schema.Kind.TheVariants.{Integer, Text}
-use Rattle.sqlite_rules.specs.Lists.{Has}
-use Rattle.sqlite_sql.specs.Ops.{is_null, binary, is_true}
+use Rattle.sqlite_sql.specs.Ops.{is_null}
 use Rattle.sqlite_sql.specs.Program.{overlay}
-use Rattle.sqlite_sql.specs.Query.{Output, output, end, matches_as, page, IsAnswerAs}
-use Rattle.sqlite.specs.Effect.{Database, IsDatabase}
+use Rattle.sqlite_sql.specs.Query.{Output, output, end, matches_as, IsAnswerAs}
+use Rattle.sqlite.specs.Effect.{IsDatabase}
 use Rattle.sqlite.specs.State.{State, Shown}
 use Rattle.sqlite.proofs.Callers.{reads_as}
-use Rattle.attributes.specs.Event.{EventValue, id_of, source_of, text}
-use Rattle.inbox.specs.KeyOrder.{key_cmp}
-use Rattle.inbox.specs.Ordered.{append_new, has}
-use Rattle.inbox_table.specs.Schema.{Layout, Alone, Before, Behind, IsOurs, inbox, schema_of, tree_of}
-use Rattle.inbox_table.specs.Rows.{AreNumbered, IsEachOnce, IsInbox, row_of, rows_from, shown_of, shown_from}
+use Rattle.attributes.specs.Event.{EventValue}
+use Rattle.inbox_table.specs.Schema.{Layout, Alone, Before, Behind, inbox, schema_of, tree_of}
+use Rattle.inbox_table.specs.Rows.{rows_from, shown_of, shown_from}
 use Rattle.inbox_table.proofs.LoadLemmas.{gone_over}
 use Rattle.inbox_table.proofs.TextLemmas.{load_query, select_text, select_is, select_plain}
 

@@ -1,9 +1,8 @@
 -- What CREATE makes of a database that has room for the table.
-use Rattle.std.proofs.Common.{◌≡◌, ◌⊎◌, inl, inr, ℕ, List, [], ◌∷◌, Bool, true, false, Option, None, Ok, Err, Result, OnOk, refl, sym, ap, subst, ◌∙◌}
+use Rattle.std.proofs.Common.{◌≡◌, ◌⊎◌, inl, inr, ℕ, [], false, Option, None, Ok, Err, Result, OnOk, refl, sym, ap, subst, ◌∙◌}
 use Rattle.std.proofs.lemmas.List.Sorted.{IsPermutation-refl}
 use Rattle.std.specs.List.Sorted.{IsPermutation}
 use Rattle.sqlite_schema.specs.declared.command.Command.TheVariants.{CreateTable}
-use Rattle.sqlite_schema.specs.declared.schema.Schema.{Schema}
 use Rattle.sqlite_trees.specs.Tree.{Trees}
 use Rattle.sqlite_catalog.specs.Change.{created, next_tree}
 use Rattle.sqlite.specs.declared.error.Error.{Error}

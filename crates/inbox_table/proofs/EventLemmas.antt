@@ -1,8 +1,7 @@
 -- Events that are there, and those that come.
-use Rattle.std.proofs.Common.{◌≡◌, ◌⊎◌, inl, inr, ℕ, suc, ◌+◌, ◌≤◌, length, length-append, List, [], ◌∷◌, ◌++◌, append_assoc, append-nil, Bool, true, false, not, ◌&&◌, ◌||◌, if◌then◌else◌, Less, Equal, Greater, is_eq, nat_cmp, bytes_eq, Some, option_and_then, IsSome, refl, sym, ap, ap₂, subst, ◌∙◌, arith}
+use Rattle.std.proofs.Common.{◌≡◌, List, [], ◌∷◌, ◌++◌, Bool, true, false, ◌&&◌, if◌then◌else◌, Less, Equal, Greater, is_eq, bytes_eq, refl, ap, ◌∙◌}
 use Rattle.std.specs.Ordering.{ordering_then}
 use Rattle.std.specs.declared.cmp.Ordering.{Ordering}
-use Rattle.std.specs.List.{AllByRecursion, list_any}
 use Rattle.std.proofs.lemmas.Map.Text.{is_eq-slice_cmp}
 use Rattle.attributes.specs.Bytes.{byte_cmp}
 use Rattle.attributes.specs.Event.{EventValue, id_of, source_of, text}

@@ -1,5 +1,5 @@
 -- What one INSERT does.
-use Rattle.std.proofs.Common.{◌≡◌, ◌⊎◌, inl, inr, ℕ, zero, suc, ◌+◌, ◌≤◌, pos, ℤ, length, List, [], ◌∷◌, ◌++◌, Bool, true, false, if◌then◌else◌, unwrap_or, nat_lt, not, ◌&&◌, Option, Some, None, Ok, Err, Result, IfOk, refl, sym, ap, subst, ◌∙◌, arith, slice_get, IsPermutation, IsTrue}
+use Rattle.std.proofs.Common.{◌≡◌, inl, inr, ℕ, suc, pos, ℤ, length, List, [], ◌∷◌, ◌++◌, Bool, true, false, if◌then◌else◌, unwrap_or, nat_lt, not, ◌&&◌, Option, Some, None, Ok, Err, Result, IfOk, refl, sym, ap, subst, ◌∙◌, arith, slice_get, IsPermutation}
 use Rattle.std.proofs.lemmas.List.Sorted.{IsPermutation-trans, IsPermutation-sym}
 use Rattle.sqlite_value.specs.declared.value.Value.TheVariants.{Int, Text as Words}
 use Rattle.sqlite_value.specs.Order.{Row}
@@ -13,22 +13,18 @@ use Rattle.sqlite_schema.specs.declared.command.Command.TheVariants.{InsertOr}
 use Rattle.sqlite_rules.specs.declared.error.Rowids.TheVariants.{Chosen, Given}
 use Rattle.sqlite_rules.specs.Action.{works}
 use Rattle.sqlite_rules.specs.Cast.{cast_row}
-use Rattle.sqlite_rules.specs.Lists.{Has}
-use Rattle.sqlite_rules.specs.declared.error.Refusal.{Refusal}
-use Rattle.sqlite_rules.specs.Edit.{Edit, edit_of, edited, is_taken, taken_by, with_rowid}
-use Rattle.sqlite_rules.specs.Keys.{AreConflicts}
-use Rattle.sqlite_rules.specs.Steps.{IsJudged}
+use Rattle.sqlite_rules.specs.Edit.{edit_of, is_taken, taken_by, with_rowid}
 use Rattle.sqlite.specs.declared.error.Error.{Error}
 use Rattle.sqlite.specs.Effect.{Database}
 use Rattle.sqlite.specs.Rows.{Written, Task, Then, nothing, joined, higher, count_of, Puts, Clears, Upserts, Tries, TriesEach}
-use Rattle.sqlite.specs.Does.{Tally, Does, OnTable, AtPlace, OnRows}
+use Rattle.sqlite.specs.Does.{Tally, Does, AtPlace, OnRows}
 use Rattle.sqlite.specs.State.{State, mode_of, KeepsCommit, Executes, ExecutesInside}
 use Rattle.sqlite.specs.Listing.{understood}
 use Rattle.sqlite.proofs.Callers.{statement_of, runs_as, one_step}
 use Rattle.attributes.specs.Event.{EventValue, id_of, source_of, text}
 use Rattle.inbox.specs.KeyOrder.{key_cmp}
 use Rattle.inbox.specs.Ordered.{append_new, has}
-use Rattle.inbox_table.specs.Schema.{Layout, Alone, Before, Behind, inbox, key_index, schema_of, tables_of, tree_of}
+use Rattle.inbox_table.specs.Schema.{Layout, Alone, Before, Behind, inbox, schema_of, tables_of, tree_of}
 use Rattle.inbox_table.specs.Rows.{IsInbox, IsNumbered, number_in, row_of, rows_from}
 use Rattle.inbox_table.specs.steps.Turns.{Puts as PutsEvent}
 use Rattle.inbox_table.proofs.TextLemmas.{clauses, index_of, insert_text, insert_is, insert_plain, terms}

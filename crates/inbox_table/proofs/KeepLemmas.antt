@@ -1,6 +1,5 @@
 -- The turns of `keep`, and what a crash may find.
-use Rattle.std.proofs.Common.{◌≡◌, ◌⊎◌, inl, inr, ℕ, zero, suc, ◌+◌, ◌<◌, ◌≤◌, ◌++◌, if◌then◌else◌, length, length-append, get_or, slice_get, drop, drop-cons, add-one, List, [], ◌∷◌, Bool, true, false, not, IsTrue, Some, refl, sym, ap, subst, ◌∙◌, arith}
-use Rattle.std.proofs.lemmas.List.{drop_all}
+use Rattle.std.proofs.Common.{◌≡◌, inl, ℕ, zero, suc, ◌+◌, ◌++◌, if◌then◌else◌, length, length-append, slice_get, drop, add-one, List, [], ◌∷◌, Bool, true, false, not, Some, refl, sym, ap, subst, ◌∙◌, arith}
 use Rattle.sqlite_trees.specs.Tree.{Trees}
 use Rattle.sqlite_trees.specs.declared.store.Store.{Ghosts}
 use Rattle.sqlite.specs.Effect.{Database}

@@ -6,8 +6,7 @@ use Rattle.std.specs.declared.cmp.Ordering.{Ordering}
 use Rattle.std.specs.declared.cmp.Ordering.TheVariants.{Less, Equal, Greater}
 use Rattle.std.proofs.lemmas.Bool.Decides.{nat_tests}
 use Rattle.std.proofs.lemmas.Int.{ints}
-use Rattle.sqlite_value.specs.declared.value.Value.{Value}
-use Rattle.sqlite_value.specs.declared.value.Value.TheVariants.{Int, Text as Words}
+use Rattle.sqlite_value.specs.declared.value.Value.TheVariants.{Int}
 use Rattle.sqlite_value.specs.Keys.{first_key}
 use Rattle.sqlite_value.specs.Order.{Row}
 use Rattle.sqlite_value.proofs.OrderLemmas.{value_cmp-Int}
@@ -21,8 +20,8 @@ use Rattle.sqlite.specs.State.{State, IsLive, Shown}
 use Rattle.attributes.specs.Event.{EventValue, id_of, source_of, text}
 use Rattle.inbox.specs.KeyOrder.{key_cmp}
 use Rattle.inbox.specs.Ordered.{append_new, has}
-use Rattle.inbox_table.specs.Schema.{IsOurs, Layout, inbox, key_index, key_places, schema_of, tree_of}
-use Rattle.inbox_table.specs.Rows.{AreNumbered, IsEachOnce, IsInbox, row_of, rows_from, shown_from}
+use Rattle.inbox_table.specs.Schema.{IsOurs, Layout, inbox, key_places, schema_of, tree_of}
+use Rattle.inbox_table.specs.Rows.{AreNumbered, IsInbox, row_of, rows_from, shown_from}
 use Rattle.inbox_table.specs.Texts.{select_text}
 use Rattle.inbox_table.proofs.AdoptLemmas.{rule_of, stored}
 use Rattle.inbox_table.proofs.RowLemmas.{equal_text, has_permuted, key_columns, rows_snoc, same_tree}

@@ -1,13 +1,12 @@
 -- Tables that lie beside others.
-use Rattle.std.proofs.Common.{◌≡◌, ◌⊎◌, inl, inr, ◌+◌, ◌<◌, ◌||◌, Bool, true, false, ℕ, List, [], ◌∷◌, codes, drop, drop-cons, get_or, length, add-one, refl, sym, ap, ap₂, ◌∙◌, arith}
+use Rattle.std.proofs.Common.{◌≡◌, ◌⊎◌, inl, inr, ◌||◌, Bool, true, false, List, [], ◌∷◌, codes, get_or, length, refl, sym, ap, ap₂, ◌∙◌, arith}
 use Rattle.std.specs.List.{list_any}
 use Rattle.sqlite_schema.specs.declared.schema.Index.{Index}
 use Rattle.sqlite_schema.specs.declared.schema.Table.{Table}
-use Rattle.sqlite_schema.specs.declared.schema.View.{View}
 use Rattle.sqlite_schema.specs.declared.schema.Schema.{Schema}
 use Rattle.sqlite_schema.specs.Names.{same_name}
 use Rattle.sqlite_tied.specs.Compute.{everything}
-use Rattle.inbox_table.specs.Schema.{AreOutbox, HasForm, has_inbox, Layout, Room, Alone, Before, Behind, Empty, Outbox, IsOurs, IsRoom, LiesBefore, LiesBehind, beside, inbox, key_index, schema_of, tables_of}
+use Rattle.inbox_table.specs.Schema.{AreOutbox, HasForm, has_inbox, Layout, Alone, Before, Behind, Empty, Outbox, IsOurs, IsRoom, LiesBefore, LiesBehind, beside, inbox, key_index, schema_of, tables_of}
 
 made : (s : Schema) (tables : List Table) (indexes : List Index) → s.tables ≡ tables → s.indexes ≡ indexes → s.views ≡ [] → s ≡ record { tables = tables; indexes = indexes; views = [] }
 made s tables indexes t i v = rw (← t, ← i, ← v) refl

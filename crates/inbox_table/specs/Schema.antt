@@ -1,6 +1,6 @@
 -- The table of the inbox as the schema of a database has it, and what may lie beside it (SQLite,
 -- "CREATE TABLE": rowid tables, INTEGER PRIMARY KEY, UNIQUE; "STRICT Tables").
-use Rattle.std.specs.Prelude.{◌≡◌, ℕ, ◌+◌, Bool, true, false, List, [], ◌∷◌, codes, Option, Some, None}
+use Rattle.std.specs.Prelude.{◌≡◌, ℕ, ◌+◌, Bool, true, false, List, [], ◌∷◌, codes, Some}
 use Rattle.std.specs.List.{list_any}
 use Rattle.sqlite_value.specs.declared.keys.Collation.TheVariants.{Binary}
 use Rattle.sqlite_value.specs.declared.value.Value.TheVariants.{Null}

@@ -14,6 +14,7 @@ use crate::row::events_of;
 use crate::schema::{has_form, has_inbox, has_room, is_ours};
 use crate::statement::{make, rows_of};
 use attributes::Batch;
+use attributes::laws::text_tells_events;
 use sqlite::{Alter, Connection};
 use std::alloc::Global;
 
@@ -49,6 +50,8 @@ pub(crate) fn events_in<S: Alter>(
 ) -> Result<Batch, TableFault>
     ensures events { HasCleanDisk (state S.Store conn.new)
         → IfOk result (IsInbox (state S.Store conn.old).now) }
+    ensures exact { HasCleanDisk (state S.Store conn.new) → IfOk result (λ l.
+        (m : List EventValue) → IsInbox (state S.Store conn.old).now m → l ≡ m) }
     ensures missing { has_inbox (state S.Store conn.old).now.schema ≡ false
         → result ≡ Err Foreign }
     ensures foreign { HasCleanDisk (state S.Store conn.new) → IfErr result (λ f. f ≡ Foreign
@@ -62,6 +65,7 @@ pub(crate) fn events_in<S: Alter>(
     ensures survives {
         Survives (state S.Store conn.old) (state S.Store conn.new) (λ _. ⊥) }
 {
+    text_tells_events();
     if !has_inbox(conn.schema()) {
         return Err(TableFault::Foreign);
     }

@@ -115,6 +115,8 @@ impl<S: Alter> Table<S> {
     pub fn adopt_and_load(alloc: Global, conn: Connection<S>) -> Result<Loaded<S>, NotMade<S>>
         ensures adopted { IfOk result (λ l. HasCleanDisk (state S.Store l.table.conn)
             → IsInbox (state S.Store conn).now l.events) }
+        ensures exact { IfOk result (λ l. HasCleanDisk (state S.Store l.table.conn)
+            → (m : List EventValue) → IsInbox (state S.Store conn).now m → l.events ≡ m) }
         ensures rows { IfOk result (λ l. l.table.rows ≡ length l.events) }
         ensures unchanged { IfOk result (λ l. HasCleanDisk (state S.Store l.table.conn)
             → IsTrue (state S.Store l.table.conn).is_open
@@ -221,6 +223,11 @@ impl<S: Alter> Table<S> {
     pub fn load(&mut self) -> Result<Batch, TableFault>
         ensures loaded { HasCleanDisk (state S.Store self.new.conn)
             → IfOk result (IsInbox (state S.Store self.old.conn).now) }
+        ensures exact { HasCleanDisk (state S.Store self.new.conn) → IfOk result (λ l.
+            (m : List EventValue) → IsInbox (state S.Store self.old.conn).now m → l ≡ m) }
+        ensures count { HasCleanDisk (state S.Store self.new.conn)
+            → IsTrue (state S.Store self.new.conn).is_open
+            → IfOk result (λ l. self.old.rows ≡ length l) }
         ensures known { HasCleanDisk (state S.Store self.new.conn)
             → IsTrue (state S.Store self.new.conn).is_open → result ≢ Err Foreign }
         ensures same { HasCleanDisk (state S.Store self.new.conn)

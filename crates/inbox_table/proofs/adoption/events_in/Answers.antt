@@ -1,11 +1,8 @@
-use Rattle.std.proofs.Common.{◌≡◌, ◌∙◌, IsTrue, ap, sym, rules, refl, IfOk, IfErr, true, false}
+use Rattle.std.proofs.Common.{◌≡◌, ◌∙◌, ap, sym, rules, true}
 use Rattle.std.proofs.lemmas.Result.{IfOk-weaker, IfErr-weaker}
-use Rattle.sqlite_schema.specs.declared.schema.Schema.{Schema}
 use Rattle.sqlite.specs.Held.{state}
-use Rattle.sqlite.specs.State.{State}
-use Rattle.inbox_table.specs.Rows.{shown_from}
 use Rattle.inbox_table.specs.Schema.{IsOurs, has_inbox}
-use Rattle.inbox_table.proofs.LoadLemmas.{loads}
+use Rattle.inbox_table.proofs.LoadLemmas.{loads, tells}
 use Rattle.inbox_table.proofs.OnceLemmas.{adopted}
 use Rattle.inbox_table.proofs.SchemaLemmas.{form_named, named}
 use Rattle.inbox_table.proofs.adoption.events_in.Goals as goal
@@ -34,3 +31,9 @@ returns-in-Ok-clause-foreign g c clean =
     let old = state g.S.Store c.args.conn.now in
     let last = state g.S.Store c.rows_of.new.conn in
     IfErr-weaker c.events_of.result _ _ (λ f refuses is l box. refuses is l box.numbered (c.deref.ensures.value ∙ loads old last l c.in-Ok.rows.items box (c.in-Ok.ensures.shown clean))) c.events_of.ensures.foreign
+
+pub returns-in-Ok-clause-exact : goal.returns-in-Ok-clause-exact
+returns-in-Ok-clause-exact g c clean =
+    let old = state g.S.Store c.args.conn.now in
+    let last = state g.S.Store c.rows_of.new.conn in
+    IfOk-weaker c.events_of.result _ _ (λ l known m box. tells c.text_tells_events.ensures 1 l m known.0 box.numbered (sym known.1 ∙ (c.deref.ensures.value ∙ loads old last m c.in-Ok.rows.items box (c.in-Ok.ensures.shown clean)))) c.events_of.ensures.events

@@ -1,7 +1,6 @@
-use Rattle.std.proofs.Common.{◌≡◌, ◌∙◌, ap, subst, sym, rules, refl, IsSome, Some}
+use Rattle.std.proofs.Common.{◌≡◌, ◌∙◌, ap, subst, sym, rules, refl, IsSome}
 use Rattle.attributes.specs.Event.{text}
 use Rattle.attributes.specs.Sequence.{number_of}
-use Rattle.inbox_table.specs.Rows.{IsNumbered}
 use Rattle.inbox_table.proofs.row.event_in.Goals as goal
 
 pub returns-in-Ok-of-clause-event : goal.returns-in-Ok-of-clause-event

@@ -1,5 +1,5 @@
-use Rattle.std.proofs.Common.{◌≡◌, ◌≢◌, ◌+◌, ◌<◌, ◌∙◌, ap, length, refl, sym, arith, rules}
-use Rattle.inbox_table.specs.Rows.{IsNumbered, shown_of}
+use Rattle.std.proofs.Common.{◌≡◌, ◌+◌, ◌<◌, ◌∙◌, ap, length, arith}
+use Rattle.inbox_table.specs.Rows.{shown_of}
 use Rattle.inbox_table.proofs.ReadLemmas.{read_on, refuses}
 use Rattle.inbox_table.proofs.row.events_of.Goals as goal
 

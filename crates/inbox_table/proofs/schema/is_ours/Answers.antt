@@ -1,4 +1,4 @@
-use Rattle.std.proofs.Common.{◌≡◌, inl, inr, rules}
+use Rattle.std.proofs.Common.{inl, inr, rules}
 use Rattle.inbox_table.proofs.SchemaLemmas.{ours_is, ours_behind}
 use Rattle.inbox_table.proofs.schema.is_ours.Goals as goal
 

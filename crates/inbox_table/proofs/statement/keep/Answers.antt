@@ -1,11 +1,9 @@
-use Rattle.std.proofs.Common.{◌≡◌, ◌+◌, ◌<◌, ◌≤◌, [], ◌∷◌, length, drop, refl, sym, ap, subst, ◌∙◌, arith, rules, if◌then◌else◌, IsTrue}
+use Rattle.std.proofs.Common.{◌≡◌, ◌+◌, ◌≤◌, length, drop, refl, sym, subst, ◌∙◌, arith, rules}
 use Rattle.std.proofs.lemmas.List.{drop_all}
-use Rattle.sqlite_trees.specs.Tree.{Trees}
-use Rattle.sqlite.specs.Effect.{Database}
-use Rattle.sqlite.specs.State.{State, HasCleanDisk, Shows, Survives}
+use Rattle.sqlite.specs.State.{HasCleanDisk, Survives}
 use Rattle.sqlite.specs.Held.{state}
 use Rattle.sqlite.proofs.StateLemmas.{survives_then}
-use Rattle.inbox_table.specs.Calls.{AreFresh, MayTake, Stands, Takes}
+use Rattle.inbox_table.specs.Calls.{MayTake, Stands, Takes}
 use Rattle.inbox_table.specs.steps.Turns.{IsKeeping}
 use Rattle.inbox_table.proofs.KeepLemmas.{at_next, ends, fresh_are, left_is, taken}
 use Rattle.inbox_table.proofs.statement.keep.Goals as goal

@@ -8,7 +8,7 @@ use Rattle.attributes.specs.Fault.{IsEvent}
 use Rattle.attributes.specs.Sequence.{number_of}
 use Rattle.inbox_table.specs.Rows.{IsNumbered, number_in}
 use Rattle.inbox_table.specs.Texts.{insert_text}
-use Rattle.inbox_table.proofs.InsertLemmas.{params_of, puts_inside, fails_inside}
+use Rattle.inbox_table.proofs.InsertLemmas.{puts_inside, fails_inside}
 use Rattle.inbox_table.proofs.statement.put.Goals as goal
 
 pub returns-clause-put : goal.returns-clause-put

@@ -1,8 +1,6 @@
-use Rattle.std.proofs.Common.{◌≡◌, IsTrue, rules}
+use Rattle.std.proofs.Common.{IsTrue, rules}
 use Rattle.sqlite.specs.Held.{state}
 use Rattle.inbox_table.proofs.SameLemmas.{refused_same, answered_same, survives_reading}
-use Rattle.inbox_table.proofs.LoadLemmas.{loads}
-use Rattle.inbox_table.proofs.AdoptLemmas.{stored}
 use Rattle.inbox_table.proofs.statement.rows_of.Goals as goal
 
 pub returns-in_err-query_all-clause-same : goal.returns-in_err-query_all-clause-same
