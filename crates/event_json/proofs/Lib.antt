@@ -6,4 +6,5 @@ pub mod PartsLemmas
 pub mod WalkLemmas
 pub mod FaultLemmas
 pub mod WriteLemmas
+pub mod TextLemmas
 pub mod BatchTextLemmas

@@ -9,5 +9,6 @@ mod write;
 pub use fault::ReadFault;
 pub use read::{MAX_INPUT, read_events, readings_are_one};
 pub use write::{
-    batch_texts_read_back, batch_texts_tell_lists, write_batch, write_event, write_sequenced,
+    batch_texts_read_back, batch_texts_tell_lists, texts_read_back, write_batch, write_event,
+    write_sequenced,
 };

@@ -1,5 +1,5 @@
 //! Events written as JSON.
-ghost use Rattle.std.specs.Prelude.{◌≡◌, ◌≤◌, ◌<◌, Some, List, ◌++◌, length, slice_get, IfOk, IfSome, OnOk, string_bytes};
+ghost use Rattle.std.specs.Prelude.{◌≡◌, ◌≤◌, ◌<◌, Some, List, [], ◌∷◌, ◌++◌, length, slice_get, IfOk, IfSome, OnOk, string_bytes};
 ghost use Rattle.std.specs.List.{AllByRecursion};
 ghost use Rattle.attributes.specs.Event.{EventValue, text};
 ghost use Rattle.attributes.specs.Fault.{IsEvent};
@@ -8,7 +8,8 @@ ghost use Rattle.event_json.specs.BatchText.{batch_text};
 ghost use Rattle.event_json.specs.steps.Joined.{separated};
 
 use attributes::laws::{
-    exact_json_reads_back, objects_hold_attributes, parts_make_events, text_tells_events,
+    exact_json_reads_back, objects_hold_attributes, parts_make_events, text_reads_back,
+    text_tells_events,
 };
 use attributes::{Batch, Event, Events, Text};
 use std::alloc::{AllocError, Global};
@@ -56,6 +57,16 @@ pub fn batch_texts_read_back()
     objects_hold_attributes();
     exact_json_reads_back();
     parts_make_events();
+}
+
+/// The canonical text of an event spells that event.
+pub fn texts_read_back()
+    ensures { (e : EventValue) → IsEvent e → Reads (text e) (e ∷ []) }
+{
+    objects_hold_attributes();
+    exact_json_reads_back();
+    parts_make_events();
+    text_reads_back();
 }
 
 /// A list whose members are events.

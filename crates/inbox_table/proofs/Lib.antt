@@ -1,0 +1,12 @@
+pub mod TextLemmas
+pub mod SchemaLemmas
+pub mod CreateLemmas
+pub mod EventLemmas
+pub mod RowLemmas
+pub mod InsertLemmas
+pub mod KeepLemmas
+pub mod SameLemmas
+pub mod ReadLemmas
+pub mod LoadLemmas
+pub mod AdoptLemmas
+pub mod OnceLemmas

@@ -1,0 +1,136 @@
+-- In a database that keeps its rules no event stands twice.
+use Rattle.std.proofs.Common.{◌≡◌, ◌⊎◌, inl, inr, ℕ, suc, ◌+◌, ◌<◌, ◌≤◌, List, [], ◌∷◌, ◌++◌, append_assoc, append-nil, length, length-append, Bool, true, false, not, ◌&&◌, ◌||◌, eqb, if◌then◌else◌, is_eq, int_cmp, pos, ℤ, Some, refl, sym, ap, subst, ◌∙◌, arith, IsTrue, IsPermutation}
+use Rattle.std.specs.List.{AllByRecursion, list_any}
+use Rattle.std.specs.Ordering.{is_ne}
+use Rattle.std.specs.declared.cmp.Ordering.{Ordering}
+use Rattle.std.specs.declared.cmp.Ordering.TheVariants.{Less, Equal, Greater}
+use Rattle.std.proofs.lemmas.Bool.Decides.{nat_tests}
+use Rattle.std.proofs.lemmas.Int.{ints}
+use Rattle.sqlite_value.specs.declared.value.Value.TheVariants.{Int}
+use Rattle.sqlite_value.specs.Keys.{first_key}
+use Rattle.sqlite_value.specs.Order.{Row}
+use Rattle.sqlite_value.proofs.OrderLemmas.{value_cmp-Int}
+use Rattle.sqlite_trees.specs.Tree.{Trees}
+use Rattle.sqlite_schema.specs.declared.schema.Constraint.TheVariants.{Unique}
+use Rattle.sqlite_schema.specs.Rules.{agree, clashes, differ, passes}
+use Rattle.sqlite_rules.specs.Lists.{Has}
+use Rattle.sqlite_sql.specs.Ops.{binary, from_truth, is_true}
+use Rattle.sqlite.specs.Effect.{IsDatabase}
+use Rattle.sqlite.specs.State.{State, IsLive, Shown}
+use Rattle.attributes.specs.Event.{EventValue, id_of, source_of, text}
+use Rattle.inbox.specs.KeyOrder.{key_cmp}
+use Rattle.inbox.specs.Ordered.{append_new, has}
+use Rattle.inbox_table.specs.Schema.{IsOurs, Layout, inbox, key_places, schema_of, tree_of}
+use Rattle.inbox_table.specs.Rows.{AreNumbered, IsInbox, row_of, rows_from, shown_from}
+use Rattle.inbox_table.specs.Texts.{select_text}
+use Rattle.inbox_table.proofs.AdoptLemmas.{rule_of, stored}
+use Rattle.inbox_table.proofs.RowLemmas.{equal_text, has_permuted, key_columns, rows_snoc, same_tree}
+use Rattle.inbox_table.proofs.SameLemmas.{shown}
+
+told : (b : Bool) → is_true (from_truth (Some b)) ≡ b
+told true = refl
+told false = refl
+
+differ_int : (m n : ℤ) → differ (Int m) (Int n) ≡ is_ne (int_cmp m n)
+unfolding binary
+differ_int m n = told _ ∙ ap is_ne (value_cmp-Int m n)
+
+not_equal : (o : Ordering) → is_eq o ≡ false → is_ne o ≡ true
+not_equal Less h = refl
+not_equal Equal h = absurd (cc)
+not_equal Greater h = refl
+
+apart : (p q : ℕ) → p < q → is_eq (int_cmp (pos p) (pos q)) ≡ false
+apart p q h = grind (arith, ints, nat_tests)
+
+trim : (a b c : Bool) → (a && (b && (c && true))) ≡ (a && (b && c))
+trim true true true = refl
+trim true true false = refl
+trim true false c = refl
+trim false b c = refl
+
+agree_is : (p q : ℕ) (x e : EventValue) → agree (record { digits = 0 }) key_places (row_of p x) key_places (row_of q e) ≡ is_eq (key_cmp e x)
+unfolding first_key
+agree_is p q x e =
+    rw (equal_text (source_of x) (source_of e), equal_text (id_of x) (id_of e), equal_text (text x) (text e))
+    (trim (Rattle.std.proofs.Common.bytes_eq (source_of x) (source_of e)) (Rattle.std.proofs.Common.bytes_eq (id_of x) (id_of e)) (Rattle.std.proofs.Common.bytes_eq (text x) (text e)))
+    ∙ key_columns e x
+
+any_false : {X : Type 0} (f : X → Bool) (xs : List X) (x : X) → list_any f xs ≡ false → Has xs x → f x ≡ false
+any_false f (y ∷ xs) x none (inl is) = ap f is ∙ left_false (f y) (list_any f xs) none
+  where
+    left_false : (a b : Bool) → (a || b) ≡ false → a ≡ false
+    left_false true b h = absurd (cc)
+    left_false false b h = refl
+any_false f (y ∷ xs) x none (inr h) = any_false f xs x (right_false (f y) (list_any f xs) none) h
+  where
+    right_false : (a b : Bool) → (a || b) ≡ false → b ≡ false
+    right_false true b h = absurd (cc)
+    right_false false b h = h
+any_false f [] x none h = absurd h
+
+all_has : {X : Type 0} (P : X → Type 0) (xs : List X) (x : X) → AllByRecursion P xs → Has xs x → P x
+all_has P (y ∷ xs) x all (inl is) = subst P (sym is) all.0
+all_has P (y ∷ xs) x all (inr h) = all_has P xs x all.1 h
+all_has P [] x all h = absurd h
+
+no_clash : (g c : Bool) → g ≡ true → (not ((true && g) && c) && true) ≡ true → c ≡ false
+no_clash true true is h = absurd (cc)
+no_clash true false is h = refl
+no_clash false c is h = absurd (cc)
+
+left_of : (a b : Bool) → b ≡ true → (a && b) ≡ false → a ≡ false
+left_of true true is h = absurd (cc)
+left_of true false is h = absurd (cc)
+left_of false b is h = refl
+
+module _ (l : Layout) (db : Trees) (unique : AllByRecursion (λ r. passes Unique (schema_of l) db (inbox (tree_of l)) r ≡ true) (db (tree_of l))) where
+  abbrev rows : List Row
+  rows = db (tree_of l)
+
+  pair : (p q : ℕ) (x e : EventValue) → Has rows (row_of p x) → Has rows (row_of q e) → p < q → is_eq (key_cmp e x) ≡ false
+  pair p q x e first second low =
+      let rule = all_has (λ r. passes Unique (schema_of l) db (inbox (tree_of l)) r ≡ true) rows (row_of q e) unique second in
+      let none : clashes (record { digits = 0 }) key_places rows (row_of q e) ≡ false = no_clash (eqb (tree_of l) (tree_of l)) _ (same_tree (tree_of l)) rule in
+      let one = any_false (λ other. agree (record { digits = 0 }) key_places other key_places (row_of q e) && differ (Rattle.sqlite_trees.specs.Tree.rowid other) (Int (pos q))) rows (row_of p x) none first in
+      sym (agree_is p q x e) ∙ left_of _ _ (differ_int (pos p) (pos q) ∙ not_equal (int_cmp (pos p) (pos q)) (apart p q low)) one
+
+  none_before : (p q : ℕ) (A : List EventValue) (e : EventValue) → ((r : Row) → Has (rows_from p A) r → Has rows r) → Has rows (row_of q e) → p + length A ≤ q → has key_cmp A e ≡ false
+  none_before p q [] e all last low = refl
+  none_before p q (x ∷ A) e all last low =
+      let one = pair p q x e (all (row_of p x) (inl refl)) last (omega arith) in
+      rw one (none_before (suc p) q A e (λ r h. all r (inr h)) last (omega arith))
+
+  pub once_from : (A B : List EventValue) → ((r : Row) → Has (rows_from 1 A) r → Has rows r) → ((r : Row) → Has (rows_from (1 + length A) B) r → Has rows r) → append_new key_cmp A B ≡ A ++ B
+  once_from A [] all more = sym (append-nil A)
+  once_from A (e ∷ B) all more =
+      let none = none_before 1 (1 + length A) A e all (more (row_of (1 + length A) e) (inl refl)) (omega arith) in
+      let both : (r : Row) → Has (rows_from 1 (A ++ e ∷ [])) r → Has rows r = λ r h. either r (has_either (rows_from 1 A) (row_of (1 + length A) e) r (subst (λ xs. Has xs r) (rows_snoc 1 A e) h)) in
+      let rest : (r : Row) → Has (rows_from (1 + length (A ++ e ∷ [])) B) r → Has rows r = λ r h. more r (inr (subst (λ n. Has (rows_from n B) r) (let n : 1 + length (A ++ e ∷ []) ≡ suc (1 + length A) = omega (arith, length-append A (e ∷ [])) in n) h)) in
+      ap (λ b. append_new key_cmp (if b then A else A ++ e ∷ []) B) none ∙ once_from (A ++ e ∷ []) B both rest ∙ append_assoc A (e ∷ []) B
+    where
+      has_either : (xs : List Row) (y r : Row) → Has (xs ++ y ∷ []) r → Has xs r ⊎ (r ≡ y)
+      has_either [] y r (inl is) = inr is
+      has_either [] y r (inr h) = absurd h
+      has_either (x ∷ xs) y r (inl is) = inl (inl is)
+      has_either (x ∷ xs) y r (inr h) = elim (has_either xs y r h) [ inl k ↦ inl (inr k) | inr k ↦ inr k ]
+      either : (r : Row) → Has (rows_from 1 A) r ⊎ (r ≡ row_of (1 + length A) e) → Has rows r
+      either r (inl h) = all r h
+      either r (inr is) = subst (Has rows) (sym is) (more (row_of (1 + length A) e) (inl refl))
+
+-- ---- a table that is adopted
+
+pub adopted : (old last : State) (events : List EventValue) (rows : List Row) → IsOurs old.now.schema → IsLive old → Shown select_text [] old last rows → rows ≡ shown_from 1 events → AreNumbered events → IsInbox old.now events
+adopted old last events found (l, is) live shows read numbered =
+    let h = subst (Shown select_text [] old last) read shows in
+    let sound : IsDatabase old.now = (live (shown old last (shown_from 1 events) (l, is) h).0.was_open).0 in
+    let perm = stored old last l events is sound h in
+    let db = old.now.trees in
+    let unique = rule_of l Unique db ((subst (λ s. Rattle.sqlite_schema.specs.Rules.Obeys s db) is sound.obeys).rules Unique) in
+    record {
+      layout = l;
+      schema = is;
+      rows = perm;
+      numbered = numbered;
+      once = once_from l db unique [] events (λ r none. absurd none) (λ r have. has_permuted _ _ perm r have);
+    }

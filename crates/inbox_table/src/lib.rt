@@ -1,0 +1,12 @@
+//! Events in a table of a database: the rows are a list of distinct events, kept by place.
+#![tactic(auto)]
+
+mod adoption;
+mod fault;
+mod row;
+mod schema;
+mod statement;
+mod table;
+
+pub use fault::TableFault;
+pub use table::{Loaded, NotMade, Table};

@@ -1,0 +1,145 @@
+//! Rows that are shown, read as events.
+
+ghost use Rattle.std.specs.Prelude.{◌≡◌, ◌≢◌, ◌↔◌, ◌⊎◌, ◌<◌, ℕ, List, [], ◌∷◌, pos, length, IsTrue, IsSome, IfOk, IfErr, IfSome, IfNone, Some};
+ghost use Rattle.sqlite_value.specs.declared.value.Value.TheVariants.{Int, Text as Words};
+ghost use Rattle.sqlite_value.specs.Order.{column};
+ghost use Rattle.attributes.specs.Event.{EventValue, id_of, source_of, text};
+ghost use Rattle.attributes.specs.Fault.{IsEvent};
+ghost use Rattle.attributes.specs.Sequence.{number_of};
+ghost use Rattle.inbox_table.specs.Rows.{AreNumbered, IsNumbered, shown_from, shown_of};
+ghost use Rattle.inbox_table.specs.declared.fault.TableFault.TheVariants.{OutOfMemory, Store, Foreign};
+
+use crate::fault::TableFault;
+use attributes::laws::text_tells_events;
+use attributes::{Batch, Event, Events, Sequenced};
+use event_json::{ReadFault, read_events, readings_are_one, texts_read_back};
+use sqlite::types::ValueRef;
+use sqlite::Row;
+use std::alloc::Global;
+
+/// Whether the row has this number there.
+fn is_whole(row: &Row, at: usize, number: u64) -> bool
+    ensures { IsTrue result ↔ ((at < length row.now) × (column row.now at ≡ Int (pos number))) }
+{
+    match row.get_ref(at) {
+        Ok(ValueRef::Int(n)) => n >= 0 && n as u64 == number,
+        _ => false,
+    }
+}
+
+/// Whether the row has this text there.
+fn is_text(row: &Row, at: usize, text: &str) -> bool
+    ensures { IsTrue result ↔ ((at < length row.now) × (column row.now at ≡ Words text.now)) }
+{
+    match row.get_ref(at) {
+        Ok(ValueRef::Text(bytes)) => bytes == text.as_bytes(),
+        _ => false,
+    }
+}
+
+/// Whether the row is that of the event at the place.
+fn is_row(row: &Row, place: u64, event: &Sequenced) -> bool
+    ensures { IsTrue result ↔ (row.now ≡ shown_of place event.now) }
+{
+    let number = event.number().number();
+    let event = event.event();
+    row.column_count() == 5
+        && is_whole(row, 0, place)
+        && is_text(row, 1, event.source())
+        && is_text(row, 2, event.id())
+        && is_whole(row, 3, number)
+        && is_text(row, 4, event.text())
+}
+
+/// The last text of the row, where it has five values.
+fn body_of(row: &Row) -> Option<&[u8]>
+    ensures some { IfSome result (λ body. column row.now 4 ≡ Words body.now) }
+    ensures none { IfNone result ((t : List ℕ) → 4 < length row.now → column row.now 4 ≢ Words t) }
+{
+    match row.get_ref(4) {
+        Ok(ValueRef::Text(bytes)) => Some(bytes),
+        _ => None,
+    }
+}
+
+/// The one event of a list.
+fn single(events: Events) -> Option<Event>
+    ensures some { IfSome result (λ e. events ≡ e ∷ []) }
+    ensures none { IfNone result ((e : EventValue) → events ≢ e ∷ []) }
+{
+    let mut events = events.into_vec();
+    if events.len() == 1 { events.pop() } else { None }
+}
+
+/// Whether the bytes are the event's canonical text.
+fn is_text_of(event: &Event, body: &[u8]) -> bool
+    ensures value { IsTrue result ↔ (text event.now ≡ body.now) }
+    ensures event { IsEvent event.now }
+{
+    event.text().as_bytes() == body
+}
+
+/// The event that has a number and whose canonical text these bytes are; else `Foreign`.
+fn event_in(alloc: Global, body: &[u8]) -> Result<Sequenced, TableFault>
+    ensures event { IfOk result (λ e. IsNumbered e × (text e ≡ body.now)) }
+    ensures foreign { IfErr result (λ f. f ≡ Foreign
+        → (e : EventValue) → IsNumbered e → text e ≢ body.now) }
+    ensures fault { IfErr result (λ f. (f ≡ OutOfMemory) ⊎ (f ≡ Foreign)) }
+{
+    readings_are_one();
+    texts_read_back();
+    let events = match read_events(alloc, body) {
+        Ok(events) => events,
+        Err(ReadFault::OutOfMemory) => return Err(TableFault::OutOfMemory),
+        Err(_) => return Err(TableFault::Foreign),
+    };
+    let Some(event) = single(events) else {
+        return Err(TableFault::Foreign);
+    };
+    if !is_text_of(&event, body) {
+        return Err(TableFault::Foreign);
+    }
+    match Sequenced::of(event) {
+        Ok(event) => Ok(event),
+        Err(_) => Err(TableFault::Foreign),
+    }
+}
+
+/// The event of the row, where it is that of one at this place; else `Foreign`.
+fn event_of(alloc: Global, row: &Row, place: u64) -> Result<Sequenced, TableFault>
+    ensures event { IfOk result (λ e. IsNumbered e × (row.now ≡ shown_of place e)) }
+    ensures foreign { IfErr result (λ f. f ≡ Foreign
+        → (e : EventValue) → IsNumbered e → row.now ≢ shown_of place e) }
+    ensures fault { IfErr result (λ f. (f ≡ OutOfMemory) ⊎ (f ≡ Foreign)) }
+{
+    text_tells_events();
+    let Some(body) = body_of(row) else {
+        return Err(TableFault::Foreign);
+    };
+    let event = event_in(alloc, body)?;
+    if is_row(row, place, &event) {
+        Ok(event)
+    } else {
+        Err(TableFault::Foreign)
+    }
+}
+
+#[tactic(auto, using(crate::proofs::ReadLemmas::read_none, crate::proofs::ReadLemmas::read_on, crate::proofs::ReadLemmas::read_all, crate::proofs::ReadLemmas::refuses))]
+/// The events of the rows, where these are those of events at the places 1, 2 and so on; else
+/// `Foreign`.
+pub(crate) fn events_of(alloc: Global, rows: &[Row]) -> Result<Batch, TableFault>
+    ensures events { IfOk result (λ l. AreNumbered l × (rows.now ≡ shown_from 1 l)) }
+    ensures foreign { IfErr result (λ f. f ≡ Foreign
+        → (l : List EventValue) → AreNumbered l → rows.now ≢ shown_from 1 l) }
+    ensures fault { IfErr result (λ f. (f ≡ OutOfMemory) ⊎ (f ≡ Foreign)) }
+{
+    let mut events = Batch::empty(alloc);
+    for row in rows {
+        let event = match event_of(alloc, row, events.len() + 1) {
+            Ok(event) => event,
+            Err(fault) => return Err(fault),
+        };
+        events.push(event)?;
+    }
+    Ok(events)
+}
