@@ -3,6 +3,8 @@
 
 use attributes::{Batch, Event, Fault, Given, Parts, Sequence, Sequenced, Text};
 use coverage::Summary;
+use exchange::laws::exchanges_unite;
+use exchange::{Step, Steps, World, gossip, run, scrub};
 use inbox::{Counts, Short};
 use site::Site;
 use site::laws::{sites_answer_alike, taking_unites};
@@ -271,5 +273,172 @@ fn a_thousand_events_are_paged(rt: HostRuntime) -> Result<(), Failed> {
     assert_eq!(rt; page.len(), 46);
     assert_eq!(rt; page.at(0).number().number(), 954);
     assert_eq!(rt; site.page(990, 100)?.len(), 10);
+    Ok(())
+}
+
+#[test]
+fn two_texts_of_one_key_are_a_conflict_at_both_sites(rt: HostRuntime) -> Result<(), Failed> {
+    let mut p = site_of(rt.alloc(), &[A1])?;
+    let mut q = site_of(rt.alloc(), &[OTHER_A1])?;
+    let _counts = scrub(&p, &mut q)?;
+    let _counts = scrub(&q, &mut p)?;
+    let first =
+        "{\"id\":\"a1\",\"sequence\":\"00000000000000000001\",\"source\":\"/orders\",\"specversion\":\"1.0\",\"subject\":\"x\",\"type\":\"t.a\"}";
+    let second =
+        "{\"id\":\"a1\",\"sequence\":\"00000000000000000001\",\"source\":\"/orders\",\"specversion\":\"1.0\",\"subject\":\"y\",\"type\":\"t.b\"}";
+    let shown = format!(in rt.alloc(); "{first}\n")?;
+    let conflicts = format!(in rt.alloc();
+        "{{\"events\":[{first},{second}],\"id\":\"a1\",\"source\":\"/orders\"}}\n"
+    )?;
+    for site in [&p, &q] {
+        assert_eq!(rt;
+            lines(rt.alloc(), site, Query::Shown)?.as_str(),
+            shown.as_str()
+        );
+        assert_eq!(rt;
+            lines(rt.alloc(), site, Query::Conflicts)?.as_str(),
+            conflicts.as_str()
+        );
+    }
+    Ok(())
+}
+
+/// Counts of new and repeated events.
+fn counts(fresh: u64, repeated: u64) -> Counts {
+    Counts { fresh, repeated }
+}
+
+#[test]
+fn gossip_goes_by_numbers_and_scrub_by_events(rt: HostRuntime) -> Result<(), Failed> {
+    exchanges_unite();
+    let mut p = site_of(rt.alloc(), &[P])?;
+    let mut q = site_of(rt.alloc(), &[Q])?;
+    assert_eq!(rt; gossip(&p, &mut q)?, counts(0, 0));
+    assert_eq!(rt; gossip(&q, &mut p)?, counts(0, 0));
+    assert_eq!(rt; scrub(&p, &mut q)?, counts(1, 0));
+    assert_eq!(rt; scrub(&q, &mut p)?, counts(1, 1));
+    let cover = "{\"sources\":{\"/orders\":[[1,1]]},\"version\":1}\n";
+    for site in [&p, &q] {
+        assert_eq!(rt; lines(rt.alloc(), site, Query::Cover)?.as_str(), cover);
+        assert!(rt; has(&site.page(0, 10)?, &[P, Q]));
+    }
+    Ok(())
+}
+
+#[test]
+fn gossip_brings_a_thousand_events(rt: HostRuntime) -> Result<(), Failed> {
+    let mut from = Site::empty(rt.alloc());
+    assert!(rt; take_scattered(rt.alloc(), &mut from)?);
+    let mut to = site_of(rt.alloc(), &[A2])?;
+    assert_eq!(rt; gossip(&from, &mut to)?, counts(999, 0));
+    assert_eq!(rt; gossip(&from, &mut to)?, counts(0, 0));
+    assert_eq!(rt; gossip(&to, &mut from)?, counts(0, 0));
+    assert_eq!(rt; to.len(), 1000);
+    Ok(())
+}
+
+/// Adds a step.
+fn then(steps: &mut Steps, step: Step) -> Result<(), Failed> {
+    match steps.push(step) {
+        Ok(_) => Ok(()),
+        Err(_) => Err(Failed::OutOfMemory),
+    }
+}
+
+/// The world after the steps.
+fn world_of(alloc: Global, sites: u32, steps: &Steps) -> Result<World, Failed> {
+    if !steps.fits(sites) {
+        return Err(Failed::Fault(Fault::Id));
+    }
+    match run(alloc, sites, steps) {
+        Ok(world) => Ok(world),
+        Err(_) => Err(Failed::OutOfMemory),
+    }
+}
+
+/// The summary text of a site of a world, and how many of its arrivals outlast a restart.
+fn standing(world: &World, i: u64) -> Result<(Text, u64), Failed> {
+    if i >= world.sites() {
+        return Err(Failed::Fault(Fault::Id));
+    }
+    Ok((world.site(i).summary()?.to_text()?, world.kept(i)))
+}
+
+/// Two sites take events, and tell others.
+fn three_sites(alloc: Global) -> Result<Steps, Failed> {
+    let mut steps = Steps::empty(alloc);
+    let batch = batch_of(alloc, &[A1, A2])?;
+    then(&mut steps, Step::Deliver { site: 0, batch })?;
+    let batch = batch_of(alloc, &[A2, A3])?;
+    then(&mut steps, Step::Deliver { site: 1, batch })?;
+    then(&mut steps, Step::Gossip { from: 0, to: 2 })?;
+    then(&mut steps, Step::Gossip { from: 1, to: 2 })?;
+    then(&mut steps, Step::Gossip { from: 2, to: 0 })?;
+    Ok(steps)
+}
+
+#[test]
+fn three_sites_exchange(rt: HostRuntime) -> Result<(), Failed> {
+    let steps = three_sites(rt.alloc())?;
+    assert_eq!(rt; steps.len(), 5);
+    assert!(rt; !steps.fits(2));
+    let world = world_of(rt.alloc(), 3, &steps)?;
+    let all = "{\"sources\":{\"/orders\":[[1,3]]},\"version\":1}";
+    let last_two = "{\"sources\":{\"/orders\":[[2,3]]},\"version\":1}";
+    assert_eq!(rt; standing(&world, 0)?.0.as_str(), all);
+    assert_eq!(rt; standing(&world, 1)?.0.as_str(), last_two);
+    assert_eq!(rt; standing(&world, 2)?.0.as_str(), all);
+    Ok(())
+}
+
+/// A site takes an event, flushes, takes another and restarts; then it takes both.
+fn one_site(alloc: Global) -> Result<Steps, Failed> {
+    let mut steps = Steps::empty(alloc);
+    let batch = batch_of(alloc, &[A1])?;
+    then(&mut steps, Step::Deliver { site: 0, batch })?;
+    then(&mut steps, Step::Flush { site: 0 })?;
+    let batch = batch_of(alloc, &[A2])?;
+    then(&mut steps, Step::Deliver { site: 0, batch })?;
+    then(&mut steps, Step::Restart { site: 0 })?;
+    Ok(steps)
+}
+
+#[test]
+fn a_restart_keeps_what_was_flushed(rt: HostRuntime) -> Result<(), Failed> {
+    let mut steps = one_site(rt.alloc())?;
+    let world = world_of(rt.alloc(), 1, &steps)?;
+    let first = standing(&world, 0)?;
+    assert_eq!(rt;
+        first.0.as_str(),
+        "{\"sources\":{\"/orders\":[[1,1]]},\"version\":1}"
+    );
+    assert_eq!(rt; first.1, 1);
+    let batch = batch_of(rt.alloc(), &[A1, A2])?;
+    then(&mut steps, Step::Deliver { site: 0, batch })?;
+    let world = world_of(rt.alloc(), 1, &steps)?;
+    let second = standing(&world, 0)?;
+    assert_eq!(rt;
+        second.0.as_str(),
+        "{\"sources\":{\"/orders\":[[1,2]]},\"version\":1}"
+    );
+    assert_eq!(rt; second.1, 1);
+    Ok(())
+}
+
+#[test]
+fn a_site_exchanges_with_itself(rt: HostRuntime) -> Result<(), Failed> {
+    let mut steps = three_sites(rt.alloc())?;
+    then(&mut steps, Step::Scrub { from: 1, to: 1 })?;
+    then(&mut steps, Step::Gossip { from: 1, to: 1 })?;
+    then(&mut steps, Step::Scrub { from: 0, to: 1 })?;
+    let world = world_of(rt.alloc(), 3, &steps)?;
+    assert_eq!(rt;
+        standing(&world, 1)?.0.as_str(),
+        "{\"sources\":{\"/orders\":[[1,3]]},\"version\":1}"
+    );
+    assert_eq!(rt;
+        world_of(rt.alloc(), 0, &Steps::empty(rt.alloc()))?.sites(),
+        0
+    );
     Ok(())
 }

@@ -71,6 +71,7 @@ fn gossip_between(alloc: Global, hosts: &mut Vec<Hosted>, from: usize, to: usize
     ensures taken { IfErr result (λ part. part ≤ length
         (lacking (set_of (site_at hosts.old.items from)) (set_of (site_at hosts.old.items to)))) }
 {
+    // Both sites are lent at once, so the second is taken out meanwhile.
     let mut site = mem::replace(&mut hosts[to].site, Site::empty(alloc));
     let done = gossip(&hosts[from].site, &mut site);
     hosts[to].site = site;
@@ -92,6 +93,7 @@ fn scrub_between(alloc: Global, hosts: &mut Vec<Hosted>, from: usize, to: usize)
         (take part (set_of (site_at hosts.old.items from)))) }
     ensures taken { IfErr result (λ part. part ≤ length (set_of (site_at hosts.old.items from))) }
 {
+    // Both sites are lent at once, so the second is taken out meanwhile.
     let mut site = mem::replace(&mut hosts[to].site, Site::empty(alloc));
     let done = scrub(&hosts[from].site, &mut site);
     hosts[to].site = site;

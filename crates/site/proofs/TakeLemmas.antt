@@ -36,13 +36,6 @@ module _ {K : Type 0} where
   pub take_next : (L : List K) (i : ℕ) (x : K) → slice_get L i ≡ Some x → take (i + 1) L ≡ take i L ++ x ∷ []
   take_next L i x h = take_more L i x (slice_get_within L i x h) ∙ ap (λ z. take i L ++ z ∷ []) (get_or_from_slice_get L i x x h)
 
-  -- the first item of what is left
-  pub get_dropped : (L : List K) (i : ℕ) → slice_get (drop i L) 0 ≡ slice_get L i
-  get_dropped [] zero = refl
-  get_dropped [] (suc i) = refl
-  get_dropped (x ∷ xs) zero = refl
-  get_dropped (x ∷ xs) (suc i) = get_dropped xs i
-
   -- the item at a place of what is left
   pub get_further : (L : List K) (i k : ℕ) → slice_get (drop i L) k ≡ slice_get L (i + k)
   get_further L zero k = let e : k ≡ 0 + k = omega arith in ap (slice_get L) e
