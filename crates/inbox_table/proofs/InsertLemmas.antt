@@ -79,7 +79,7 @@ module _ (l : Layout) (limit : Option ℕ) (keys : Keys) (params : Row) (db : Tr
       let all : now one.trees ≡ put_row new (now db) = ap (λ (w : Written). now w.trees) (same_value it.2) ∙ row in
       record {
         rows = subst (λ b. IsPermutation (rows_from 1 (if b then events else events ++ e ∷ [])) (now one.trees)) (sym none)
-        (subst (IsPermutation (rows_from 1 (events ++ e ∷ []))) (sym all) (IsPermutation-trans _ _ _ (put_behind events e (now db) holds) (put_new new (now db) free)));
+            (subst (IsPermutation (rows_from 1 (events ++ e ∷ []))) (sym all) (IsPermutation-trans _ _ _ (put_behind events e (now db) holds) (put_new new (now db) free)));
         count = ap (λ (w : Written). length w.rows) (same_value it.2) ∙ ap one_if (sym none);
       }
 

@@ -114,6 +114,7 @@ module _ (l : Layout) (db : Trees) (unique : AllByRecursion (λ r. passes Unique
       has_either [] y r (inr h) = absurd h
       has_either (x ∷ xs) y r (inl is) = inl (inl is)
       has_either (x ∷ xs) y r (inr h) = elim (has_either xs y r h) [ inl k ↦ inl (inr k) | inr k ↦ inr k ]
+
       either : (r : Row) → Has (rows_from 1 A) r ⊎ (r ≡ row_of (1 + length A) e) → Has rows r
       either r (inl h) = all r h
       either r (inr is) = subst (Has rows) (sym is) (more (row_of (1 + length A) e) (inl refl))

@@ -88,6 +88,7 @@ put_new new (r ∷ rows) free = go (put_new new rows) (value_cmp (rowid r) (rowi
   where
     turn : IsPermutation (new ∷ r ∷ rows) (r ∷ new ∷ rows)
     turn = Rattle.std.proofs.lemmas.List.Sorted.IsPermutation-sym _ _ (Rattle.std.proofs.lemmas.List.Sorted.IsPermutation-append_left rows (r ∷ new ∷ []) (new ∷ r ∷ []) (IsPermutation-append_comm (r ∷ []) (new ∷ [])))
+
     go : (is_taken rows new ≡ false → IsPermutation (new ∷ rows) (put_row new rows)) → (o : Rattle.std.specs.declared.cmp.Ordering.Ordering) → value_cmp (rowid r) (rowid new) ≡ o → IsPermutation (new ∷ r ∷ rows) (put_row new (r ∷ rows))
     go more Less is =
         let rest : is_taken rows new ≡ false = rw is at free in

@@ -71,7 +71,6 @@ abbrev pub beside : List ℕ → ℕ → Table → Table
 beside name tree t =
     record t { name = name; tree = tree; references = []; is_counted = false }
 
-
 -- nothing but its name, columns and keys says what the table is
 pub record IsBare (t : Table) : Type 0 where
   pub checks : t.checks ≡ []

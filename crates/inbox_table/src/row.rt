@@ -13,8 +13,8 @@ use crate::fault::TableFault;
 use attributes::laws::text_tells_events;
 use attributes::{Batch, Event, Events, Sequenced};
 use event_json::{ReadFault, read_events, readings_are_one, texts_read_back};
-use sqlite::types::ValueRef;
 use sqlite::Row;
+use sqlite::types::ValueRef;
 use std::alloc::Global;
 
 /// Whether the row has this number there.
@@ -68,7 +68,11 @@ fn single(events: Events) -> Option<Event>
     ensures none { IfNone result ((e : EventValue) → events ≢ e ∷ []) }
 {
     let mut events = events.into_vec();
-    if events.len() == 1 { events.pop() } else { None }
+    if events.len() == 1 {
+        events.pop()
+    } else {
+        None
+    }
 }
 
 /// Whether the bytes are the event's canonical text.

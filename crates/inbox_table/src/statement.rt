@@ -26,7 +26,7 @@ pub(crate) fn make<S: Alter>(conn: &mut Connection<S>) -> Result<usize, Error>
         → OnOk result ((state S.Store conn.new).committed ≡ (state S.Store conn.new).now) }
     ensures same { HasCleanDisk (state S.Store conn.new)
         → (IsTrue (state S.Store conn.old).is_open
-            → (state S.Store conn.old).now ≡ (state S.Store conn.old).committed)
+        → (state S.Store conn.old).now ≡ (state S.Store conn.old).committed)
         → IsTrue (state S.Store conn.new).is_open
         → OnErr result ((state S.Store conn.new).now ≡ (state S.Store conn.old).now) }
     ensures crash { Survives (state S.Store conn.old) (state S.Store conn.new) MayMake }
@@ -58,10 +58,9 @@ fn insert<S: Alter>(
     ensures runs { HasCleanDisk (state S.Store tx.new.conn.now)
         → IsTrue (state S.Store tx.old.conn.now).in_transaction
         → ExecutesInside 0 insert_text
-            (Int place ∷ Words source.now ∷ Words id.now ∷ Int number ∷ Words body.now ∷ [])
-            (state S.Store tx.old.conn.now) (state S.Store tx.new.conn.now) result }
-    ensures survives {
-        Survives (state S.Store tx.old.conn.now) (state S.Store tx.new.conn.now) (λ _. ⊥) }
+        (Int place ∷ Words source.now ∷ Words id.now ∷ Int number ∷ Words body.now ∷ [])
+        (state S.Store tx.old.conn.now) (state S.Store tx.new.conn.now) result }
+    ensures survives { Survives (state S.Store tx.old.conn.now) (state S.Store tx.new.conn.now) (λ _. ⊥) }
 {
     tx.execute(
         "INSERT INTO inbox (place, source, id, number, body) VALUES (?1, ?2, ?3, ?4, ?5) ON CONFLICT DO NOTHING",
@@ -70,27 +69,29 @@ fn insert<S: Alter>(
 }
 
 /// Puts the event in at the place, unless it is there, and answers whether it was not there.
-fn put<S: Alter>(
-    tx: &mut Transaction<'_, S>,
-    place: u64,
-    event: &Sequenced,
-) -> Result<bool, Error>
+fn put<S: Alter>(tx: &mut Transaction<'_, S>, place: u64, event: &Sequenced) -> Result<bool, Error>
     requires { place < 2 ^ 63 }
     ensures same_reference { tx.new.conn.ghost_name ≡ tx.old.conn.ghost_name }
     ensures put { HasCleanDisk (state S.Store tx.new.conn.now)
         → IsTrue (state S.Store tx.old.conn.now).in_transaction
         → IfOk result (Puts place event.now
-            (state S.Store tx.old.conn.now) (state S.Store tx.new.conn.now)) }
+        (state S.Store tx.old.conn.now) (state S.Store tx.new.conn.now)) }
     ensures failed { HasCleanDisk (state S.Store tx.new.conn.now)
         → IsTrue (state S.Store tx.old.conn.now).in_transaction
         → OnErr result (KeepsCommit
-            (state S.Store tx.old.conn.now) (state S.Store tx.new.conn.now)) }
-    ensures survives {
-        Survives (state S.Store tx.old.conn.now) (state S.Store tx.new.conn.now) (λ _. ⊥) }
+        (state S.Store tx.old.conn.now) (state S.Store tx.new.conn.now)) }
+    ensures survives { Survives (state S.Store tx.old.conn.now) (state S.Store tx.new.conn.now) (λ _. ⊥) }
 {
     let number = signed(event.number().number());
     let event = event.event();
-    let count = insert(tx, signed(place), event.source(), event.id(), number, event.text())?;
+    let count = insert(
+        tx,
+        signed(place),
+        event.source(),
+        event.id(),
+        number,
+        event.text(),
+    )?;
     Ok(count > 0)
 }
 
@@ -112,7 +113,7 @@ pub(crate) fn keep<S: Alter>(
     requires { rows + length batch.now < 2 ^ 63 }
     ensures takes { HasCleanDisk (state S.Store conn.new) → Stands (state S.Store conn.old).now rows
         → OnOk result (Takes batch.now
-            (state S.Store conn.old).now (state S.Store conn.new).now) }
+        (state S.Store conn.old).now (state S.Store conn.new).now) }
     ensures fresh { HasCleanDisk (state S.Store conn.new) → Stands (state S.Store conn.old).now rows
         → IfOk result (AreFresh batch.now (state S.Store conn.old).now) }
     ensures few { IfOk result (λ fresh. fresh ≤ length batch.now) }
@@ -122,7 +123,7 @@ pub(crate) fn keep<S: Alter>(
         → OnOk result ((state S.Store conn.new).committed ≡ (state S.Store conn.new).now) }
     ensures same { HasCleanDisk (state S.Store conn.new) → IsTrue (state S.Store conn.new).is_open
         → OnErr result (((state S.Store conn.new).now ≡ (state S.Store conn.old).now)
-            × ((state S.Store conn.new).committed ≡ (state S.Store conn.old).committed)) }
+        × ((state S.Store conn.new).committed ≡ (state S.Store conn.old).committed)) }
     ensures was_open { HasCleanDisk (state S.Store conn.new)
         → IsTrue (state S.Store conn.new).is_open → IsTrue (state S.Store conn.old).is_open }
     ensures crash { Survives (state S.Store conn.old) (state S.Store conn.new) (λ trees.
@@ -149,8 +150,7 @@ pub(crate) fn rows_of<S: Alter>(conn: &mut Connection<S>) -> Result<Vec<Row>, Ta
         Shown select_text [] (state S.Store conn.old) (state S.Store conn.new) rows.items) }
     ensures same { IsSame (state S.Store conn.old) (state S.Store conn.new) }
     ensures live { IsLive (state S.Store conn.old) }
-    ensures survives {
-        Survives (state S.Store conn.old) (state S.Store conn.new) (λ _. ⊥) }
+    ensures survives { Survives (state S.Store conn.old) (state S.Store conn.new) (λ _. ⊥) }
     ensures fault { IfErr result IsOfStore }
 {
     let _schema = conn.schema();

@@ -197,12 +197,12 @@ impl<S: Alter> Table<S> {
         ensures same { HasCleanDisk (state S.Store self.new.conn)
             → IsTrue (state S.Store self.new.conn).is_open
             → OnErr result ((state S.Store self.new.conn).now
-                ≡ (state S.Store self.old.conn).now) }
+            ≡ (state S.Store self.old.conn).now) }
         ensures rows_same { OnErr result (self.new.rows ≡ self.old.rows) }
         ensures fault { IfErr result IsOfStore }
         ensures crash { Survives (state S.Store self.old.conn) (state S.Store self.new.conn)
             (λ trees. Stands (state S.Store self.old.conn).now self.old.rows
-                → MayTake batch.now (state S.Store self.old.conn).now trees) }
+            → MayTake batch.now (state S.Store self.old.conn).now trees) }
     {
         if self.rows > MAX_PLACE || batch.len() > MAX_PLACE - self.rows {
             return Err(TableFault::Store);
@@ -234,8 +234,7 @@ impl<S: Alter> Table<S> {
             → IsTrue (state S.Store self.new.conn).is_open
             → (state S.Store self.new.conn).now ≡ (state S.Store self.old.conn).now }
         ensures rows { self.new.rows ≡ self.old.rows }
-        ensures crash {
-            Survives (state S.Store self.old.conn) (state S.Store self.new.conn) (λ _. ⊥) }
+        ensures crash { Survives (state S.Store self.old.conn) (state S.Store self.new.conn) (λ _. ⊥) }
     {
         events_in(self.alloc, &mut self.conn)
     }

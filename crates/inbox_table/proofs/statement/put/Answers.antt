@@ -26,6 +26,6 @@ returns-clause-put g c clean inside =
     puts_inside old last c.args.place e c.in_ok-count.count _ refl numbered told
 
 pub returns-in_err-count-clause-failed : goal.returns-in_err-count-clause-failed
-returns-in_err-count-clause-failed g c clean inside = 
+returns-in_err-count-clause-failed g c clean inside =
     let fails : KeepsCommit (state g.S.Store c.args.tx.now.conn.now) (state g.S.Store c.insert.new.tx.conn.now) = fails_inside _ _ _ _ _ (rw c.in_err-count.was at (c.insert.ensures.runs clean inside)) in
     search rules
