@@ -6,3 +6,9 @@ pub mod PutLemmas
 pub mod InsertLemmas
 pub mod NoteLemmas
 pub mod WriteLemmas
+pub mod LoadLemmas
+pub mod SameLemmas
+pub mod ServiceLemmas
+pub mod AdoptLemmas
+pub mod ReplayLemmas
+pub mod FoundLemmas

@@ -4,7 +4,7 @@ use Rattle.sqlite_trees.specs.Tree.{Trees}
 use Rattle.sqlite.specs.Effect.{Database}
 use Rattle.sqlite.specs.State.{State, HasCleanDisk, Survives, ExecutesInside}
 use Rattle.sqlite.proofs.StateLemmas.{survives_then}
-use Rattle.outbox.specs.Order.{Accepted, IsCommand}
+use Rattle.outbox.specs.Order.{Accepted}
 use Rattle.outbox.specs.Schema.{first_tree}
 use Rattle.outbox.specs.Service.{IsService, AreOrders, outbox_row}
 use Rattle.outbox.specs.steps.Change.{Adds, MayAdd}
@@ -13,9 +13,9 @@ use Rattle.outbox.proofs.NoteLemmas.{note_params, notes}
 use Rattle.outbox.proofs.InsertLemmas.{append_params, appends}
 use Rattle.outbox.proofs.TextLemmas.{note_text, append_text}
 
-pub both : (old mid last : State) (number : ℕ) (c : Accepted) (m n : ℕ) → IsCommand c → ExecutesInside 0 note_text (note_params c) old mid (Ok m) → ExecutesInside 0 append_text (append_params number c) mid last (Ok n)
+pub both : (old mid last : State) (number : ℕ) (c : Accepted) (m n : ℕ) → ExecutesInside 0 note_text (note_params c) old mid (Ok m) → ExecutesInside 0 append_text (append_params number c) mid last (Ok n)
     → Adds number c old.now last.now
-both old mid last number c m n command one two source base commands is ok box =
+both old mid last number c m n one two source base commands is command ok box =
     let a = notes old mid box.layout commands c m box.schema box.orders one.0 in
     let b = appends mid last box.layout number c n a.0 two.0 in
     let tree = first_tree box.layout in

@@ -5,7 +5,7 @@ ghost use Rattle.sqlite_value.specs.declared.value.Value.TheVariants.{Int, Text 
 ghost use Rattle.sqlite.specs.Effect.{Database};
 ghost use Rattle.sqlite.specs.State.{HasCleanDisk, Survives, CommitsShowing, ExecutesInside, Shown, FailsToQuery};
 ghost use Rattle.sqlite.specs.Held.{state};
-ghost use Rattle.outbox.specs.Order.{Accepted, IsCommand};
+ghost use Rattle.outbox.specs.Order.{Accepted};
 ghost use Rattle.outbox.specs.Service.{IsService};
 ghost use Rattle.outbox.specs.Call.{IsSame};
 ghost use Rattle.outbox.specs.steps.Change.{Adds, MayAdd, TellsStatus, shown_rows};
@@ -71,7 +71,7 @@ pub(crate) fn write<S: Alter>(
     at: &str,
 ) -> Result<(), Error>
     requires number { number < 2 ^ 63 }
-    requires command { IsCommand (record { status = status; order = order; at = at.now }) }
+    requires order { order < 2 ^ 63 }
     ensures added { HasCleanDisk (state S.Store conn.new)
         → OnOk result (Adds number (record { status = status; order = order; at = at.now })
         (state S.Store conn.old).now (state S.Store conn.new).now) }

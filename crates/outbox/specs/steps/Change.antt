@@ -17,7 +17,8 @@ use Rattle.outbox.specs.declared.layout.Layout.TheVariants.{Alone, BehindInbox, 
 -- the database of a service has one more command
 abbrev pub Adds : ℕ → Accepted → Database → Database → Type 0
 Adds number c old new = (source : List ℕ) (base : ℕ) (commands : List Accepted)
-    → number ≡ suc (base + length commands) → refusal base commands c.status c.order ≡ None
+    → number ≡ suc (base + length commands) → IsCommand c
+    → refusal base commands c.status c.order ≡ None
     → IsService old source base commands → IsService new source base (commands ++ c ∷ [])
 
 -- what a crash may find in place of the old commit
