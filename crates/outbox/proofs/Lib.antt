@@ -12,3 +12,4 @@ pub mod ServiceLemmas
 pub mod AdoptLemmas
 pub mod ReplayLemmas
 pub mod FoundLemmas
+pub mod CreateLemmas

@@ -56,7 +56,7 @@ same_count db source base one two a b =
     let trees : length (db.trees (suc (suc (first_tree a.layout)))) ≡ length (db.trees (suc (suc (first_tree b.layout)))) = ap (λ l. length (db.trees (suc (suc (first_tree l))))) same in
     sym (length_rows (suc base) one) ∙ sym (length_permutation _ _ a.outbox) ∙ trees ∙ length_permutation _ _ b.outbox ∙ length_rows (suc base) two
 
-pub after_write : (old mid new : State) (source : List ℕ) (base last number : ℕ) (c : Accepted) → number ≡ last + 1 → IsSame old mid → HasCleanDisk mid → IsTrue mid.is_open
+pub after_write : (old mid new : State) (source : List ℕ) (base last number : ℕ) (c : Accepted) → IsCommand c → number ≡ last + 1 → IsSame old mid → HasCleanDisk mid → IsTrue mid.is_open
     → (HasCleanDisk old → IsTrue old.is_open → Stands old.now source base last)
     → ((source : List ℕ) (base : ℕ) (commands : List Accepted) → last ≡ base + length commands → IsService old.now source base commands → refusal base commands c.status c.order ≡ None) → Adds number c mid.now new.now
     → (commands : List Accepted) → IsService old.now source base commands → (refusal base commands c.status c.order ≡ None) × IsService new.now source base (commands ++ c ∷ []) × (number ≡ suc (base + length commands))
@@ -68,7 +68,7 @@ after_write old mid new source base last number c command next same clean still 
     let number_is : number ≡ suc (base + length commands) = omega arith in
     (none, adds source base commands number_is command none (subst (λ (d : Database). IsService d source base commands) (sym (same.same clean still box.layout box.schema).0) box), number_is)
 
-pub stands_after : (old mid new : State) (source : List ℕ) (base last number : ℕ) (c : Accepted) → number ≡ last + 1 → IsSame old mid → HasCleanDisk mid → IsTrue mid.is_open
+pub stands_after : (old mid new : State) (source : List ℕ) (base last number : ℕ) (c : Accepted) → IsCommand c → number ≡ last + 1 → IsSame old mid → HasCleanDisk mid → IsTrue mid.is_open
     → (HasCleanDisk old → IsTrue old.is_open → Stands old.now source base last)
     → ((source : List ℕ) (base : ℕ) (commands : List Accepted) → last ≡ base + length commands → IsService old.now source base commands → refusal base commands c.status c.order ≡ None) → Adds number c mid.now new.now
     → Stands new.now source base (last + 1)

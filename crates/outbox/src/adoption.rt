@@ -82,7 +82,7 @@ fn status_at(statuses: &BTreeMap<u64, Status>, order: u64) -> Option<Status>
 }
 
 /// The commands whose rows these are, where each is accepted after those before it; else none.
-//TAC #[tactic(auto, using(crate::proofs::ReplayLemmas::replay_on, crate::proofs::ReplayLemmas::replay_all))]
+#[tactic(auto, using(crate::proofs::ReplayLemmas::replay_on, crate::proofs::ReplayLemmas::replay_all))]
 pub(crate) fn replay(
     alloc: Global,
     base: u64,
@@ -135,7 +135,7 @@ fn order_in(row: &Row) -> Result<Option<(u64, Status)>, OutboxFault>
 }
 
 /// Whether the rows of `orders` are just those of the orders and their statuses.
-//TAC #[tactic(auto, using(crate::proofs::ReplayLemmas::match_none))]
+#[tactic(auto, using(crate::proofs::ReplayLemmas::match_none))]
 pub(crate) fn are_orders(
     rows: &[Row],
     statuses: BTreeMap<u64, Status>,
@@ -211,7 +211,7 @@ fn all_of<S: Alter>(conn: &mut Connection<S>, sql: &str) -> Result<Vec<Row>, Out
 }
 
 /// What the tables say, where they are those of a service.
-//TAC #[tactic(auto, using(crate::proofs::FoundLemmas::all_same, crate::proofs::FoundLemmas::two_same, crate::proofs::FoundLemmas::one_same))]
+#[tactic(auto, using(crate::proofs::FoundLemmas::all_same, crate::proofs::FoundLemmas::two_same, crate::proofs::FoundLemmas::one_same))]
 pub(crate) fn found_in<S: Alter>(
     alloc: Global,
     conn: &mut Connection<S>,
