@@ -12,7 +12,6 @@ use Rattle.sqlite_schema.specs.declared.schema.Schema.{Schema}
 use Rattle.sqlite_schema.specs.declared.schema.Kind.{Kind}
 use Rattle.sqlite_schema.specs.declared.schema.Kind.TheVariants.{Integer, Text}
 use Rattle.sqlite_schema.specs.Names.{table_named}
-use Rattle.sqlite_catalog.specs.Listing.{automatic}
 use Rattle.outbox.specs.declared.layout.Layout.{Layout}
 use Rattle.outbox.specs.declared.layout.Layout.TheVariants.{Alone, BehindInbox, BeforeInbox}
 
@@ -89,7 +88,14 @@ inbox tree = record (table (codes "inbox") tree
 
 -- the index that SQLite makes for its UNIQUE (source, id, body)
 abbrev pub inbox_index : ℕ → Index
-inbox_index tree = automatic (inbox tree) 0 (2 ∷ 3 ∷ 5 ∷ []) (suc tree)
+inbox_index tree = record {
+  name = codes "sqlite_autoindex_inbox_1";
+  tree = suc tree;
+  table = tree;
+  columns = 2 ∷ 3 ∷ 5 ∷ [];
+  order = record { digits = 0 };
+  is_unique = true;
+}
 
 -- the three tables, in trees that follow one another
 abbrev pub service_tables : ℕ → List Table

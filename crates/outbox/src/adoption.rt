@@ -40,8 +40,11 @@ fn is_time(alloc: Global, text: &str) -> Result<bool, OutboxFault>
     ensures time { IfOk result (λ b. IsTrue b → (time_day text.now ≢ None) × (length text.now ≤ 64)) }
     ensures fault { IfErr result (λ f. f ≡ OutOfMemory) }
 {
+    if text.len() > 64 {
+        return Ok(false);
+    }
     match Moment::of_text(alloc, text) {
-        Ok(_) => Ok(text.len() <= 64),
+        Ok(_) => Ok(true),
         Err(Fault::OutOfMemory) => Err(OutboxFault::OutOfMemory),
         Err(_) => Ok(false),
     }

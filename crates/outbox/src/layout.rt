@@ -44,41 +44,95 @@ fn is_number(ops: &[Op], at: usize, number: i64) -> bool
     }
 }
 
-/// Whether the term at a place compares a column with a number.
-fn is_compare(ops: &[Op], at: usize, op: CompareOp, place: usize, number: i64) -> bool
-    ensures { IsTrue result → (depth : ℕ) → term_to ops.now (2 + depth) at
-        ≡ op2 (Compare op Binary) (col 1 place) (lit (Int number)) }
+/// A node with two operands, by their places.
+#[derive(Clone, Copy)]
+struct Operands {
+    op: BinaryOp,
+    left: usize,
+    right: usize,
+}
+
+/// The operands of the term at a place, where it has two.
+fn binary_at(ops: &[Op], at: usize) -> Option<Operands>
+    ensures { IfSome result (λ n. (depth : ℕ) → term_to ops.now (suc depth) at
+        ≡ op2 n.op (term_to ops.now depth n.left) (term_to ops.now depth n.right)) }
 {
     match ops.get(at) {
-        Some(Op::Binary(BinaryOp::Compare(found, Collation::Binary), a, b)) => {
-            *found == op && is_place(ops, *a, place) && is_number(ops, *b, number)
-        }
-        _ => false,
+        Some(Op::Binary(op, left, right)) => Some(Operands {
+            op: *op,
+            left: *left,
+            right: *right,
+        }),
+        _ => None,
     }
+}
+
+/// The one place of a list.
+fn single(places: &[usize]) -> Option<usize>
+    ensures { IfSome result (λ at. places.now ≡ at ∷ []) }
+{
+    match places {
+        [at] => Some(*at),
+        _ => None,
+    }
+}
+
+/// The two places of a list.
+fn pair(places: &[usize]) -> Option<(usize, usize)>
+    ensures { IfSome result (λ p. places.now ≡ p.0 ∷ p.1 ∷ []) }
+{
+    match places {
+        [first, second] => Some((*first, *second)),
+        _ => None,
+    }
+}
+
+/// Whether the term at a place compares a column with a number.
+fn is_compare(ops: &[Op], at: usize, op: CompareOp, place: usize, number: i64) -> bool
+    ensures { IsTrue result → (depth : ℕ) → term_to ops.now (suc (suc depth)) at
+        ≡ op2 (Compare op Binary) (col 1 place) (lit (Int number)) }
+{
+    let Some(node) = binary_at(ops, at) else {
+        return false;
+    };
+    if node.op != BinaryOp::Compare(op, Collation::Binary) {
+        return false;
+    }
+    if !is_place(ops, node.left, place) {
+        return false;
+    }
+    is_number(ops, node.right, number)
 }
 
 /// Whether the term at a place says that a column holds 1, 2 or 3.
 fn is_status(ops: &[Op], at: usize, place: usize) -> bool
-    ensures { IsTrue result → (depth : ℕ) → term_to ops.now (3 + depth) at ≡ is_status place }
+    ensures { IsTrue result → (depth : ℕ) → term_to ops.now (suc (suc (suc depth))) at
+        ≡ is_status place }
 {
-    match ops.get(at) {
-        Some(Op::Binary(BinaryOp::And, a, b)) => {
-            is_compare(ops, *a, CompareOp::Ge, place, 1)
-                && is_compare(ops, *b, CompareOp::Le, place, 3)
-        }
-        _ => false,
+    let Some(node) = binary_at(ops, at) else {
+        return false;
+    };
+    if node.op != BinaryOp::And {
+        return false;
     }
+    if !is_compare(ops, node.left, CompareOp::Ge, place, 1) {
+        return false;
+    }
+    is_compare(ops, node.right, CompareOp::Le, place, 3)
 }
 
 /// Whether the one CHECK says that the second column holds 1, 2 or 3.
 fn checks_status(terms: &Terms) -> bool
     ensures { IsTrue result → terms.now ≡ is_status 2 ∷ [] }
 {
+    let Some(at) = single(terms.roots.as_slice()) else {
+        return false;
+    };
     let ops = terms.nodes.as_slice();
-    match terms.roots.as_slice() {
-        [at] => ops.len() >= 3 && is_status(ops, *at, 2),
-        _ => false,
+    if ops.len() < 3 {
+        return false;
     }
+    is_status(ops, at, 2)
 }
 
 /// Whether the two CHECKs are those of `service`.
@@ -86,15 +140,17 @@ fn checks_service(terms: &Terms) -> bool
     ensures { IsTrue result → terms.now ≡ op2 (Compare CompareOp.Eq Binary) (col 1 0) (lit (Int (pos 1)))
         ∷ op2 (Compare CompareOp.Ge Binary) (col 1 3) (lit (Int (pos 0))) ∷ [] }
 {
+    let Some((one, base)) = pair(terms.roots.as_slice()) else {
+        return false;
+    };
     let ops = terms.nodes.as_slice();
-    match terms.roots.as_slice() {
-        [one, base] => {
-            ops.len() >= 3
-                && is_compare(ops, *one, CompareOp::Eq, 0, 1)
-                && is_compare(ops, *base, CompareOp::Ge, 3, 0)
-        }
-        _ => false,
+    if ops.len() < 3 {
+        return false;
     }
+    if !is_compare(ops, one, CompareOp::Eq, 0, 1) {
+        return false;
+    }
+    is_compare(ops, base, CompareOp::Ge, 3, 0)
 }
 
 /// Whether there is no CHECK.
@@ -142,36 +198,64 @@ fn is_table(found: &Table, name: &[u8], tree: u32) -> bool
         && !found.is_counted
 }
 
+/// Whether a table has no UNIQUE.
+fn has_no_unique(found: &Table) -> bool
+    ensures { IsTrue result → (found.now.uniques ≡ []) × (found.now.orders ≡ []) }
+{
+    found.uniques.is_empty() && found.orders.is_empty()
+}
+
 /// Whether it is the table `service` in this tree.
 fn is_service(found: &Table, tree: u32) -> bool
     ensures { IsTrue result → found.now ≡ service tree }
 {
-    match found.columns.as_slice() {
-        [one, source, base] => {
-            is_table(found, b"service", tree)
-                && found.uniques.is_empty()
-                && found.orders.is_empty()
-                && is_column(one, b"one", Kind::Integer, false)
-                && is_column(source, b"source", Kind::Text, true)
-                && is_column(base, b"base", Kind::Integer, true)
-                && checks_service(&found.checks)
-        }
-        _ => false,
+    let [one, source, base] = found.columns.as_slice() else {
+        return false;
+    };
+    if !is_table(found, b"service", tree) || !has_no_unique(found) {
+        return false;
     }
+    if !is_column(one, b"one", Kind::Integer, false) {
+        return false;
+    }
+    if !is_column(source, b"source", Kind::Text, true) {
+        return false;
+    }
+    if !is_column(base, b"base", Kind::Integer, true) {
+        return false;
+    }
+    checks_service(&found.checks)
 }
 
 /// Whether it is the table `orders` in this tree.
 fn is_orders(found: &Table, tree: u32) -> bool
     ensures { IsTrue result → found.now ≡ orders tree }
 {
-    match found.columns.as_slice() {
-        [number, state] => {
-            is_table(found, b"orders", tree)
-                && found.uniques.is_empty()
-                && found.orders.is_empty()
-                && is_column(number, b"number", Kind::Integer, false)
-                && is_column(state, b"state", Kind::Integer, true)
-                && checks_status(&found.checks)
+    let [number, state] = found.columns.as_slice() else {
+        return false;
+    };
+    if !is_table(found, b"orders", tree) || !has_no_unique(found) {
+        return false;
+    }
+    if !is_column(number, b"number", Kind::Integer, false) {
+        return false;
+    }
+    if !is_column(state, b"state", Kind::Integer, true) {
+        return false;
+    }
+    checks_status(&found.checks)
+}
+
+/// Whether the columns are those of `outbox`.
+fn are_outbox_columns(columns: &[Column]) -> bool
+    ensures { IsTrue result → columns.now ≡ (outbox 0).columns }
+{
+    match columns {
+        [number, kind, order, at] => {
+            is_column(number, b"number", Kind::Integer, false)
+                && is_column(kind, b"kind", Kind::Integer, true)
+                && is_column(order, b"order_number", Kind::Integer, true)
+                && is_column(at, b"at", Kind::Text, true)
         }
         _ => false,
     }
@@ -181,19 +265,13 @@ fn is_orders(found: &Table, tree: u32) -> bool
 fn is_outbox(found: &Table, tree: u32) -> bool
     ensures { IsTrue result → found.now ≡ outbox tree }
 {
-    match found.columns.as_slice() {
-        [number, kind, order, at] => {
-            is_table(found, b"outbox", tree)
-                && found.uniques.is_empty()
-                && found.orders.is_empty()
-                && is_column(number, b"number", Kind::Integer, false)
-                && is_column(kind, b"kind", Kind::Integer, true)
-                && is_column(order, b"order_number", Kind::Integer, true)
-                && is_column(at, b"at", Kind::Text, true)
-                && checks_status(&found.checks)
-        }
-        _ => false,
+    if !is_table(found, b"outbox", tree) || !has_no_unique(found) {
+        return false;
     }
+    if !are_outbox_columns(found.columns.as_slice()) {
+        return false;
+    }
+    checks_status(&found.checks)
 }
 
 /// Whether the columns are those of the table of an inbox.
@@ -216,29 +294,37 @@ fn are_inbox_columns(columns: &[Column]) -> bool
 fn is_inbox(found: &Table, tree: u32) -> bool
     ensures { IsTrue result → found.now ≡ inbox tree }
 {
-    match (found.uniques.as_slice(), found.orders.as_slice()) {
-        ([unique], [order]) => {
-            is_table(found, b"inbox", tree)
-                && are_places(unique.as_slice(), &[2, 3, 5])
-                && order.digits == 0
-                && are_inbox_columns(found.columns.as_slice())
-                && checks_nothing(&found.checks)
-        }
-        _ => false,
+    let [unique] = found.uniques.as_slice() else {
+        return false;
+    };
+    let [order] = found.orders.as_slice() else {
+        return false;
+    };
+    if !is_table(found, b"inbox", tree) || !are_inbox_columns(found.columns.as_slice()) {
+        return false;
     }
+    if !are_places(unique.as_slice(), &[2, 3, 5]) || order.digits != 0 {
+        return false;
+    }
+    checks_nothing(&found.checks)
 }
 
 /// Whether it is the index of an inbox whose table has this tree.
+#[tactic(auto, using(crate::proofs::TermLemmas::index_is))]
 fn is_inbox_index(found: &Index, tree: u32) -> bool
     requires { tree < 100 }
     ensures { IsTrue result → found.now ≡ inbox_index tree }
 {
-    found.name.as_slice() == b"sqlite_autoindex_inbox_1".as_slice()
-        && found.tree == tree + 1
-        && found.table == tree
-        && are_places(found.columns.as_slice(), &[2, 3, 5])
-        && found.order.digits == 0
-        && found.is_unique
+    if found.name.as_slice() != b"sqlite_autoindex_inbox_1".as_slice() {
+        return false;
+    }
+    if found.tree != tree + 1 || found.table != tree {
+        return false;
+    }
+    if !are_places(found.columns.as_slice(), &[2, 3, 5]) {
+        return false;
+    }
+    found.order.digits == 0 && found.is_unique
 }
 
 /// Where the tables of a service stand in this schema, where it has them and at most an inbox's

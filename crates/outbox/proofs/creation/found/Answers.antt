@@ -1,4 +1,4 @@
-use Rattle.std.proofs.Common.{◌≡◌, refl, sym, ap, ◌∙◌, rules, arith, w64, FitsSigned, subst, Ok, List}
+use Rattle.std.proofs.Common.{◌≡◌, refl, sym, ap, ◌∙◌, rules, arith, w64, FitsSigned, subst, Ok, List, []}
 use Rattle.std.proofs.lemmas.Int.{to_z-of_z}
 use Rattle.sqlite.specs.Effect.{Database}
 use Rattle.sqlite.specs.State.{HasCleanDisk, ExecutesInside}
@@ -22,6 +22,6 @@ returns-clause-made g c clean =
     let made = rw c.transaction-tx.ensures.begun at (c.in_ok-make_tables.ensures.made clean1 (rw c.transaction-tx.ensures.begun refl)) in
     let two : ExecutesInside 0 found_text (found_params c.args.source.now c.args.base) mid last (Ok c.in_ok-fill.field-0) =
     rw (c.in_ok-fill.was, to_z-of_z w64 c.signed.result fits, c.signed.ensures) at (c.fill.ensures.runs clean2 made.mode) in
-    let new : IsService last.now c.args.source.now c.args.base _ = new_service c.args.layout start mid last c.args.source.now c.args.base _ made two in
+    let new : IsService last.now c.args.source.now c.args.base [] = new_service c.args.layout start mid last c.args.source.now c.args.base _ made two in
     let shown = c.in_ok-commit.ensures.ok clean3 in
-    subst (λ h. IsService (state g.S.Store h).now c.args.source.now c.args.base _) same (subst (λ (d : Database). IsService d c.args.source.now c.args.base _) (sym shown.1.now_is) new)
+    subst (λ h. IsService (state g.S.Store h).now c.args.source.now c.args.base []) same (subst (λ (d : Database). IsService d c.args.source.now c.args.base []) (sym shown.1.now_is) new)
