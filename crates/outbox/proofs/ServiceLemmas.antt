@@ -18,7 +18,7 @@ use Rattle.outbox.specs.Shown.{Stands}
 use Rattle.outbox.specs.Call.{IsSame}
 use Rattle.outbox.specs.steps.Change.{Adds, TellsStatus, shown_row, shown_rows}
 use Rattle.outbox.specs.declared.fault.OutboxFault.{OutboxFault}
-use Rattle.outbox.specs.declared.fault.OutboxFault.TheVariants.{Full}
+use Rattle.outbox.specs.declared.fault.OutboxFault.TheVariants.{Foreign, Full}
 use Rattle.outbox.specs.declared.layout.Layout.{Layout}
 use Rattle.outbox.specs.declared.status.Status.{Status}
 use Rattle.outbox.specs.declared.status.Status.TheVariants.{Placed, Shipped, Cancelled}
@@ -43,6 +43,18 @@ refused_none base commands status order is room =
 -- what the calls ask for makes a command
 pub commanded : (status : Status) (order : ℕ) (at : List ℕ) (day : ℤ) → (1 ≤ order) × (order ≤ max_sequence) → length at ≤ 64 → time_day at ≡ Some day → IsCommand (record { status = status; order = order; at = at })
 commanded status order at day range short is = record { low = range.0; high = range.1; time = λ none. let no : ◌≡◌ {A = Option ℤ} None (Some day) = sym none ∙ is in cc; short = short }
+
+pub not_foreign : (s : Status) (old : Option Status) (f : OutboxFault) → status_fault s old ≡ Some f → f ≢ Foreign
+not_foreign Placed None f h = absurd (cc)
+not_foreign Placed (Some o) f h = λ e. let no = e in cc
+not_foreign Shipped None f h = λ e. let no = e in cc
+not_foreign Shipped (Some Placed) f h = absurd (cc)
+not_foreign Shipped (Some Shipped) f h = λ e. let no = e in cc
+not_foreign Shipped (Some Cancelled) f h = λ e. let no = e in cc
+not_foreign Cancelled None f h = λ e. let no = e in cc
+not_foreign Cancelled (Some Placed) f h = absurd (cc)
+not_foreign Cancelled (Some Shipped) f h = λ e. let no = e in cc
+not_foreign Cancelled (Some Cancelled) f h = λ e. let no = e in cc
 
 -- ---- the count of commands is that of the rows
 

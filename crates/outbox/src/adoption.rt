@@ -1,6 +1,6 @@
 //! A service of the tables that a database has.
 
-ghost use Rattle.std.specs.Prelude.{◌≡◌, ◌⊎◌, IsTrue, true, [], ◌∷◌, ◌≤◌, ◌≢◌, ℕ, List, None, length, IfOk, IfErr, IfSome, string_bytes};
+ghost use Rattle.std.specs.Prelude.{◌≡◌, ◌⊎◌, IsTrue, true, [], ◌∷◌, ◌≤◌, ◌≢◌, ℕ, List, None, Err, length, IfOk, IfErr, IfSome, string_bytes};
 ghost use Rattle.std.specs.BTreeMap.{get};
 ghost use Rattle.std.specs.Ordering.{nat_cmp};
 ghost use Rattle.sqlite.specs.Given.{IsPlain};
@@ -258,6 +258,8 @@ fn read<S: Alter>(alloc: Global, conn: &mut Connection<S>) -> Result<Found, Outb
     ensures range { IfOk result (λ f. (is_filled f.source ≡ true)
         × (length f.source ≤ max_source) × (f.base ≤ f.last) × (f.last ≤ max_sequence)) }
     ensures same { IsAsItWas (state S.Store conn.old) (state S.Store conn.new) }
+    ensures missing { lacks_name (state S.Store conn.old).now.schema ≡ true → result ≡ Err Foreign }
+    ensures fault { IfErr result (λ f. (f ≡ OutOfMemory) ⊎ ((f ≡ Store) ⊎ (f ≡ Foreign))) }
 {
     if lacks_name(conn.schema()) {
         return Err(OutboxFault::Foreign);
@@ -283,6 +285,10 @@ impl<S: Alter + Drop> Service<S> {
         ensures stands { IfOk result (λ s. StandsFor (state S.Store s.conn) s.source s.base s.last) }
         ensures same { IfOk result (λ s. IsAsItWas (state S.Store conn) (state S.Store s.conn)) }
         ensures back { IfErr result (λ e. IsAsItWas (state S.Store conn) (state S.Store e.conn)) }
+        ensures missing { lacks_name (state S.Store conn).now.schema ≡ true
+            → IfErr result (λ e. e.fault ≡ Foreign) }
+        ensures fault { IfErr result (λ e.
+            (e.fault ≡ OutOfMemory) ⊎ ((e.fault ≡ Store) ⊎ (e.fault ≡ Foreign))) }
     {
         let mut conn = conn;
         match read(alloc, &mut conn) {

@@ -145,6 +145,7 @@ fn found_where_free<S: Alter>(
     ensures made { HasCleanDisk (state S.Store conn.new)
         → OnOk result (IsService (state S.Store conn.new).now source.now base []) }
     ensures same { OnErr result (IsAsItWas (state S.Store conn.old) (state S.Store conn.new)) }
+    ensures fault { IfErr result (λ f. (f ≡ OutOfMemory) ⊎ ((f ≡ Store) ⊎ (f ≡ Foreign))) }
     ensures foreign { (result ≡ Err Foreign) ↔ (has_name (state S.Store conn.old).now.schema ≡ true) }
 {
     if has_name(conn.schema()) {
@@ -182,6 +183,8 @@ impl<S: Alter + Drop> Service<S> {
         ensures back { IfErr result (λ e. IsAsItWas (state S.Store conn) (state S.Store e.conn)) }
         ensures foreign { IfErr result (λ e.
             e.fault ≡ Foreign → has_name (state S.Store conn).now.schema ≡ true) }
+        ensures fault { IfErr result (λ e.
+            (e.fault ≡ OutOfMemory) ⊎ ((e.fault ≡ Store) ⊎ (e.fault ≡ Foreign))) }
         ensures there { has_name (state S.Store conn).now.schema ≡ true → IfErr result (λ e.
             (e.fault ≡ OutOfMemory) ⊎ (e.fault ≡ Foreign)) }
     {

@@ -12,7 +12,7 @@ ghost use Rattle.outbox.specs.Service.{code, IsService};
 ghost use Rattle.outbox.specs.Shown.{StandsFor};
 ghost use Rattle.outbox.specs.Call.{Accepts, Refuses, ShowsAfter, IsAsItWas, IsSame};
 ghost use Rattle.outbox.specs.steps.Change.{shown_row, shown_rows};
-ghost use Rattle.outbox.specs.declared.fault.OutboxFault.TheVariants.{OutOfMemory, Store};
+ghost use Rattle.outbox.specs.declared.fault.OutboxFault.TheVariants.{OutOfMemory, Store, Foreign};
 ghost use Rattle.outbox.specs.declared.status.Status.TheVariants.{Placed, Shipped, Cancelled};
 
 use crate::fault::OutboxFault;
@@ -160,6 +160,7 @@ fn status_in<S: Alter>(conn: &mut Connection<S>, order: u64) -> Result<Option<St
 }
 
 /// Whether the command is accepted, after the rows up to `last`.
+#[tactic(auto, using(crate::proofs::ServiceLemmas::not_foreign))]
 fn decide<S: Alter>(
     conn: &mut Connection<S>,
     last: u64,
@@ -178,6 +179,7 @@ fn decide<S: Alter>(
         → (source : List ℕ) (base : ℕ) (commands : List Accepted) → last ≡ base + length commands
         → IsService (state S.Store conn.old).now source base commands
         → refusal base commands status order ≡ Some f) }
+    ensures fault { IfErr result (λ f. f ≢ Foreign) }
     ensures same { IsSame (state S.Store conn.old) (state S.Store conn.new) }
 {
     let found = status_in(conn, order)?;
@@ -243,6 +245,7 @@ impl<S: Alter> Service<S> {
             → IsTrue (state S.Store self.new.conn).is_open
             → IfErr result (λ f. f ≢ OutOfMemory → f ≢ Store
             → Refuses self.old.source self.old.base status order (state S.Store self.old.conn).now f) }
+        ensures fault { IfErr result (λ f. f ≢ Foreign) }
         ensures same { OnErr result ((self.new.last ≡ self.old.last)
             × IsAsItWas (state S.Store self.old.conn) (state S.Store self.new.conn)) }
     {
@@ -286,6 +289,7 @@ impl<S: Alter> Service<S> {
             → IsTrue (state S.Store self.new.conn).is_open
             → IfErr result (λ f. f ≢ OutOfMemory → f ≢ Store
             → Refuses self.old.source self.old.base Placed order (state S.Store self.old.conn).now f) }
+        ensures fault { IfErr result (λ f. f ≢ Foreign) }
         ensures same { OnErr result ((self.new.last ≡ self.old.last)
             × IsAsItWas (state S.Store self.old.conn) (state S.Store self.new.conn)) }
     {
@@ -309,6 +313,7 @@ impl<S: Alter> Service<S> {
             → IsTrue (state S.Store self.new.conn).is_open
             → IfErr result (λ f. f ≢ OutOfMemory → f ≢ Store
             → Refuses self.old.source self.old.base Shipped order (state S.Store self.old.conn).now f) }
+        ensures fault { IfErr result (λ f. f ≢ Foreign) }
         ensures same { OnErr result ((self.new.last ≡ self.old.last)
             × IsAsItWas (state S.Store self.old.conn) (state S.Store self.new.conn)) }
     {
@@ -332,6 +337,7 @@ impl<S: Alter> Service<S> {
             → IsTrue (state S.Store self.new.conn).is_open
             → IfErr result (λ f. f ≢ OutOfMemory → f ≢ Store
             → Refuses self.old.source self.old.base Cancelled order (state S.Store self.old.conn).now f) }
+        ensures fault { IfErr result (λ f. f ≢ Foreign) }
         ensures same { OnErr result ((self.new.last ≡ self.old.last)
             × IsAsItWas (state S.Store self.old.conn) (state S.Store self.new.conn)) }
     {
