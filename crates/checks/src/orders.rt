@@ -1,8 +1,12 @@
-//! What no contract says of an outbox: that calls succeed with ample memory, what their events look
-//! like, and which tables are taken for those of a service.
+//! What no contract says of an outbox and its relays: that calls succeed with ample memory, what the
+//! events look like, which tables are taken for those of a service, and that rows are sent again to
+//! a route that failed.
+
+ghost use Rattle.std.specs.Prelude.{◌≡◌, ◌⊎◌, true, false};
 
 use attributes::{Batch, Moment, Sequenced, Text};
 use outbox::{NotMade, OutboxFault, Service};
+use relay::{MemoryRoute, Outcome, Relay, RelayFault, Route, RouteFailed, carry};
 use sqlite::{Connection, FileStore, Files, MemStore, Options};
 use sqlite_disk::Memory;
 use std::alloc::Global;
@@ -294,5 +298,118 @@ fn closed_files_are_opened_again(rt: HostRuntime) -> Result<(), OutboxFault> {
         return Err(OutboxFault::Foreign);
     };
     assert_eq!(rt; service.rows_after(0, 100)?.len(), 1);
+    Ok(())
+}
+
+#[test]
+fn faults_have_numbers_and_names(rt: HostRuntime) -> Result<(), OutboxFault> {
+    let alloc = rt.alloc();
+    let faults = [
+        OutboxFault::OutOfMemory,
+        OutboxFault::OrderExists,
+        OutboxFault::NoOrder,
+        OutboxFault::WrongState,
+        OutboxFault::Full,
+        OutboxFault::Store,
+        OutboxFault::Foreign,
+    ];
+    for i in 0..7 {
+        assert_eq!(rt; faults[i].number() as usize, i + 1);
+    }
+    let name = format!(in alloc; "{} {}", faults[3], RelayFault::RouteFailed)?;
+    assert_eq!(rt; name.as_str(), "WrongState RouteFailed");
+    assert_eq!(rt; RelayFault::GateShut.number(), 6);
+    Ok(())
+}
+
+/// A route whose first send fails.
+#[derive(Drop)]
+struct FailsFirst {
+    route: MemoryRoute,
+    has_failed: bool,
+}
+
+impl Route for FailsFirst {
+    ghost use Rattle.std.specs.Prelude.{◌≡◌, ◌⊎◌, true, false};
+    ghost use Rattle.relay.specs.Route.{CountRises};
+
+    ghost accepted = { λ r. r.route.events };
+
+    ghost has_failed = { λ old new. ((old.has_failed ≡ false) × (new.has_failed ≡ true))
+        ⊎ CountRises old.route.failures new.route.failures };
+
+    fn send(&mut self, batch: &Batch) -> Result<(), RouteFailed> {
+        if !self.has_failed {
+            self.has_failed = true;
+            return Err(RouteFailed);
+        }
+        self.route.send(batch)
+    }
+}
+
+/// Whether a step answers this, and the mark is then that.
+fn steps(
+    relay: &mut Relay,
+    service: &mut Service<MemStore>,
+    route: &mut FailsFirst,
+    want: Result<u64, RelayFault>,
+    mark: u64,
+) -> bool {
+    let answer = relay.step(service, route);
+    answer == want && relay.mark() == mark
+}
+
+#[test]
+fn rows_are_sent_again_after_a_failure(rt: HostRuntime) -> Result<(), OutboxFault> {
+    let alloc = rt.alloc();
+    let mut service = shipped(alloc)?;
+    let mut relay = Relay::at(1, 0);
+    let mut route = FailsFirst {
+        route: MemoryRoute::empty(alloc),
+        has_failed: false,
+    };
+    let failed = Err(RelayFault::RouteFailed);
+    assert!(rt; steps(&mut relay, &mut service, &mut route, failed, 0));
+    assert!(rt; steps(&mut relay, &mut service, &mut route, Ok(2), 2));
+    assert!(rt; steps(&mut relay, &mut service, &mut route, Ok(0), 2));
+    assert_eq!(rt; route.route.accepted().len(), 2);
+    assert_eq!(rt; relay.site(), 1);
+    Ok(())
+}
+
+/// What a relay at mark 2 of site 1 answers to a sent outcome.
+fn settled(site: u32, first: u64, last: u64) -> Option<RelayFault> {
+    if first > last {
+        return None;
+    }
+    let mut relay = Relay::at(1, 2);
+    relay.settle(Outcome { site, first, last, sent: true }).err()
+}
+
+/// Carries the next rows as a job, and answers the mark after it.
+fn mark_after(
+    alloc: Global,
+    service: &mut Service<MemStore>,
+) -> Result<u64, RelayFault> {
+    let mut relay = Relay::at(1, 0);
+    let mut route = MemoryRoute::empty(alloc);
+    let Some(job) = relay.job(service)? else {
+        return Ok(0);
+    };
+    let outcome = carry(job, &mut route);
+    if outcome.first > outcome.last {
+        return Ok(0);
+    }
+    relay.settle(outcome)?;
+    Ok(relay.mark())
+}
+
+#[test]
+fn outcomes_of_the_next_rows_are_settled(rt: HostRuntime) -> Result<(), OutboxFault> {
+    let mut service = shipped(rt.alloc())?;
+    assert_eq!(rt; settled(1, 1, 2), Some(RelayFault::Stranger));
+    assert_eq!(rt; settled(9, 3, 3), Some(RelayFault::Stranger));
+    assert_eq!(rt; settled(1, 3, 4), None);
+    assert_eq!(rt; mark_after(rt.alloc(), &mut service), Ok(2));
     Ok(())
 }

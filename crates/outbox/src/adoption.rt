@@ -2,6 +2,7 @@
 
 ghost use Rattle.std.specs.Prelude.{◌≡◌, ◌⊎◌, IsTrue, true, [], ◌∷◌, ◌≤◌, ◌≢◌, ℕ, List, None, Err, length, IfOk, IfErr, IfSome, string_bytes};
 ghost use Rattle.std.specs.BTreeMap.{get};
+ghost use Rattle.std.specs.Result.{IsErrAnd};
 ghost use Rattle.std.specs.Ordering.{nat_cmp};
 ghost use Rattle.sqlite.specs.Given.{IsPlain};
 ghost use Rattle.sqlite.specs.Listing.{understood};
@@ -37,7 +38,8 @@ pub(crate) struct Replayed {
 
 /// Whether it is a time of at most 64 bytes.
 fn is_time(alloc: Global, text: &str) -> Result<bool, OutboxFault>
-    ensures time { IfOk result (λ b. IsTrue b → (time_day text.now ≢ None) × (length text.now ≤ 64)) }
+    ensures time { IfOk result (λ b. IsTrue b → (time_day text.now ≢ None)
+        × (length text.now ≤ 64)) }
     ensures fault { IfErr result (λ f. f ≡ OutOfMemory) }
 {
     if text.len() > 64 {
@@ -282,11 +284,14 @@ impl<S: Alter + Drop> Service<S> {
     /// has tables beside them that aren't an inbox's, or want of memory; the connection comes back.
     /// Reads all rows once; time and memory in proportion to them.
     pub fn adopt(alloc: Global, conn: Connection<S>) -> Result<Service<S>, NotMade<S>>
-        ensures stands { IfOk result (λ s. StandsFor (state S.Store s.conn) s.source s.base s.last) }
+        ensures stands { IfOk result (λ s.
+            StandsFor (state S.Store s.conn) s.source s.base s.last) }
         ensures same { IfOk result (λ s. IsAsItWas (state S.Store conn) (state S.Store s.conn)) }
         ensures back { IfErr result (λ e. IsAsItWas (state S.Store conn) (state S.Store e.conn)) }
+
+        // A table that is missing is found before any memory is asked for.
         ensures missing { lacks_name (state S.Store conn).now.schema ≡ true
-            → IfErr result (λ e. e.fault ≡ Foreign) }
+            → IsErrAnd result (λ e. e.fault ≡ Foreign) }
         ensures fault { IfErr result (λ e.
             (e.fault ≡ OutOfMemory) ⊎ ((e.fault ≡ Store) ⊎ (e.fault ≡ Foreign))) }
     {

@@ -1,6 +1,7 @@
 //! The tables of a new service.
 
-ghost use Rattle.std.specs.Prelude.{◌≡◌, ◌<◌, ◌≤◌, ◌^◌, ◌⊎◌, ◌↔◌, ◌∷◌, [], IsTrue, true, List, ℕ, length, pos, Err, OnOk, OnErr, IfOk, IfErr};
+ghost use Rattle.std.specs.Prelude.{◌≡◌, ◌<◌, ◌≤◌, ◌^◌, ◌⊎◌, ◌∷◌, [], IsTrue, true, List, ℕ, length, pos, OnOk, OnErr, IfOk, IfErr};
+ghost use Rattle.std.specs.Result.{IsErrAnd};
 ghost use Rattle.sqlite_value.specs.declared.value.Value.TheVariants.{Int, Text as Words};
 ghost use Rattle.sqlite.specs.State.{HasCleanDisk, ExecutesInside, KeepsCommit, Survives};
 ghost use Rattle.sqlite.specs.Held.{state};
@@ -134,9 +135,9 @@ fn found<S: Alter>(
     Ok(())
 }
 
-/// Makes the tables where there is room for them. `Foreign` where one of the names is taken,
-/// `Store` where the file has other tables than an inbox's.
-fn found_where_free<S: Alter>(
+/// Makes the tables where there is room for them; `Store` where the file has other tables than an
+/// inbox's.
+fn found_in_room<S: Alter>(
     conn: &mut Connection<S>,
     source: &Text,
     base: u64,
@@ -145,12 +146,8 @@ fn found_where_free<S: Alter>(
     ensures made { HasCleanDisk (state S.Store conn.new)
         → OnOk result (IsService (state S.Store conn.new).now source.now base []) }
     ensures same { OnErr result (IsAsItWas (state S.Store conn.old) (state S.Store conn.new)) }
-    ensures fault { IfErr result (λ f. (f ≡ OutOfMemory) ⊎ ((f ≡ Store) ⊎ (f ≡ Foreign))) }
-    ensures foreign { (result ≡ Err Foreign) ↔ (has_name (state S.Store conn.old).now.schema ≡ true) }
+    ensures fault { IfErr result (λ f. (f ≡ OutOfMemory) ⊎ (f ≡ Store)) }
 {
-    if has_name(conn.schema()) {
-        return Err(OutboxFault::Foreign);
-    }
     let Some(layout) = layout_for(conn.schema()) else {
         return Err(OutboxFault::Store);
     };
@@ -165,8 +162,8 @@ impl<S: Alter + Drop> Service<S> {
     /// row; a new service has 0) in a database that has none of them.
     ///
     /// The fault is `Foreign` where a table of one of their names is there, `Store` where the
-    /// database stands inside a transaction or has tables that aren't an inbox's, or want of memory;
-    /// the connection comes back, and the database is as it was. The tables are made in one
+    /// database stands inside a transaction or has tables that aren't an inbox's, or want of
+    /// memory; the connection comes back, and the database is as it was. The tables are made in one
     /// transaction.
     pub fn create(
         alloc: Global,
@@ -185,10 +182,18 @@ impl<S: Alter + Drop> Service<S> {
             e.fault ≡ Foreign → has_name (state S.Store conn).now.schema ≡ true) }
         ensures fault { IfErr result (λ e.
             (e.fault ≡ OutOfMemory) ⊎ ((e.fault ≡ Store) ⊎ (e.fault ≡ Foreign))) }
-        ensures there { has_name (state S.Store conn).now.schema ≡ true → IfErr result (λ e.
-            (e.fault ≡ OutOfMemory) ⊎ (e.fault ≡ Foreign)) }
+
+        // A name that is taken is found before any memory is asked for.
+        ensures there { has_name (state S.Store conn).now.schema ≡ true
+            → IsErrAnd result (λ e. e.fault ≡ Foreign) }
     {
         let mut conn = conn;
+        if has_name(conn.schema()) {
+            return Err(NotMade {
+                conn,
+                fault: OutboxFault::Foreign,
+            });
+        }
         let copy = match source.copy() {
             Ok(copy) => copy,
             Err(_) => {
@@ -198,7 +203,7 @@ impl<S: Alter + Drop> Service<S> {
                 });
             }
         };
-        match found_where_free(&mut conn, source, base) {
+        match found_in_room(&mut conn, source, base) {
             Ok(()) => Ok(Service {
                 conn,
                 source: copy,

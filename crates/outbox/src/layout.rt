@@ -137,7 +137,8 @@ fn checks_status(terms: &Terms) -> bool
 
 /// Whether the two CHECKs are those of `service`.
 fn checks_service(terms: &Terms) -> bool
-    ensures { IsTrue result → terms.now ≡ op2 (Compare CompareOp.Eq Binary) (col 1 0) (lit (Int (pos 1)))
+    ensures { IsTrue result → terms.now
+        ≡ op2 (Compare CompareOp.Eq Binary) (col 1 0) (lit (Int (pos 1)))
         ∷ op2 (Compare CompareOp.Ge Binary) (col 1 3) (lit (Int (pos 0))) ∷ [] }
 {
     let Some((one, base)) = pair(terms.roots.as_slice()) else {

@@ -244,7 +244,8 @@ impl<S: Alter> Service<S> {
         ensures refused { HasCleanDisk (state S.Store self.new.conn)
             → IsTrue (state S.Store self.new.conn).is_open
             → IfErr result (λ f. f ≢ OutOfMemory → f ≢ Store
-            → Refuses self.old.source self.old.base status order (state S.Store self.old.conn).now f) }
+            → Refuses self.old.source self.old.base status order
+            (state S.Store self.old.conn).now f) }
         ensures fault { IfErr result (λ f. f ≢ Foreign) }
         ensures same { OnErr result ((self.new.last ≡ self.old.last)
             × IsAsItWas (state S.Store self.old.conn) (state S.Store self.new.conn)) }
@@ -274,9 +275,9 @@ impl<S: Alter> Service<S> {
 
     /// Places an order, and answers the event of its row.
     ///
-    /// The fault is `OrderExists`, `Full`, `Store` or want of memory, in this order but for the last two,
-    /// which may come at any statement; nothing is then written. One order and one row are written
-    /// in one transaction; the time doesn't grow with the rows, but for the logarithm of the tables.
+    /// The fault is `OrderExists`, `Full`, in this order; `Store` or want of
+    /// memory may come at any statement. Nothing is then written. One order and one row are
+    /// written in one transaction; the time grows with the logarithm of the tables.
     pub fn place(&mut self, order: u64, at: &Moment) -> Result<Sequenced, OutboxFault>
         requires order { (1 ≤ order) × (order ≤ max_sequence) }
         requires short { length at.now ≤ 64 }
@@ -288,7 +289,8 @@ impl<S: Alter> Service<S> {
         ensures refused { HasCleanDisk (state S.Store self.new.conn)
             → IsTrue (state S.Store self.new.conn).is_open
             → IfErr result (λ f. f ≢ OutOfMemory → f ≢ Store
-            → Refuses self.old.source self.old.base Placed order (state S.Store self.old.conn).now f) }
+            → Refuses self.old.source self.old.base Placed order
+            (state S.Store self.old.conn).now f) }
         ensures fault { IfErr result (λ f. f ≢ Foreign) }
         ensures same { OnErr result ((self.new.last ≡ self.old.last)
             × IsAsItWas (state S.Store self.old.conn) (state S.Store self.new.conn)) }
@@ -298,9 +300,9 @@ impl<S: Alter> Service<S> {
 
     /// Ships an order that was placed, and answers the event of its row.
     ///
-    /// The fault is `NoOrder`, `WrongState`, `Full`, `Store` or want of memory, in this order but for the last two,
-    /// which may come at any statement; nothing is then written. One order and one row are written
-    /// in one transaction; the time doesn't grow with the rows, but for the logarithm of the tables.
+    /// The fault is `NoOrder`, `WrongState`, `Full`, in this order; `Store` or want of
+    /// memory may come at any statement. Nothing is then written. One order and one row are
+    /// written in one transaction; the time grows with the logarithm of the tables.
     pub fn ship(&mut self, order: u64, at: &Moment) -> Result<Sequenced, OutboxFault>
         requires order { (1 ≤ order) × (order ≤ max_sequence) }
         requires short { length at.now ≤ 64 }
@@ -312,7 +314,8 @@ impl<S: Alter> Service<S> {
         ensures refused { HasCleanDisk (state S.Store self.new.conn)
             → IsTrue (state S.Store self.new.conn).is_open
             → IfErr result (λ f. f ≢ OutOfMemory → f ≢ Store
-            → Refuses self.old.source self.old.base Shipped order (state S.Store self.old.conn).now f) }
+            → Refuses self.old.source self.old.base Shipped order
+            (state S.Store self.old.conn).now f) }
         ensures fault { IfErr result (λ f. f ≢ Foreign) }
         ensures same { OnErr result ((self.new.last ≡ self.old.last)
             × IsAsItWas (state S.Store self.old.conn) (state S.Store self.new.conn)) }
@@ -322,9 +325,9 @@ impl<S: Alter> Service<S> {
 
     /// Cancels an order that was placed, and answers the event of its row.
     ///
-    /// The fault is `NoOrder`, `WrongState`, `Full`, `Store` or want of memory, in this order but for the last two,
-    /// which may come at any statement; nothing is then written. One order and one row are written
-    /// in one transaction; the time doesn't grow with the rows, but for the logarithm of the tables.
+    /// The fault is `NoOrder`, `WrongState`, `Full`, in this order; `Store` or want of
+    /// memory may come at any statement. Nothing is then written. One order and one row are
+    /// written in one transaction; the time grows with the logarithm of the tables.
     pub fn cancel(&mut self, order: u64, at: &Moment) -> Result<Sequenced, OutboxFault>
         requires order { (1 ≤ order) × (order ≤ max_sequence) }
         requires short { length at.now ≤ 64 }
@@ -336,7 +339,8 @@ impl<S: Alter> Service<S> {
         ensures refused { HasCleanDisk (state S.Store self.new.conn)
             → IsTrue (state S.Store self.new.conn).is_open
             → IfErr result (λ f. f ≢ OutOfMemory → f ≢ Store
-            → Refuses self.old.source self.old.base Cancelled order (state S.Store self.old.conn).now f) }
+            → Refuses self.old.source self.old.base Cancelled order
+            (state S.Store self.old.conn).now f) }
         ensures fault { IfErr result (λ f. f ≢ Foreign) }
         ensures same { OnErr result ((self.new.last ≡ self.old.last)
             × IsAsItWas (state S.Store self.old.conn) (state S.Store self.new.conn)) }
@@ -352,7 +356,8 @@ impl<S: Alter> Service<S> {
         ensures kept { (self.new.source ≡ self.old.source) × (self.new.base ≡ self.old.base)
             × (self.new.last ≡ self.old.last) }
         ensures rows { HasCleanDisk (state S.Store self.new.conn) → IfOk result
-            (ShowsAfter self.old.source self.old.base after limit (state S.Store self.old.conn).now) }
+            (ShowsAfter self.old.source self.old.base after limit
+            (state S.Store self.old.conn).now) }
         ensures same { IsSame (state S.Store self.old.conn) (state S.Store self.new.conn) }
         ensures fault { IfErr result (λ f. (f ≡ OutOfMemory) ⊎ (f ≡ Store)) }
     {

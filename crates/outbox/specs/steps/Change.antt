@@ -33,7 +33,8 @@ TellsStatus commands order (row ∷ more) =
 
 -- a row of `outbox` as it is read, and those whose numbers run from this one on
 abbrev pub shown_row : ℕ → Accepted → Row
-shown_row number c = Int (pos number) ∷ Int (pos (code c.status)) ∷ Int (pos c.order) ∷ Words c.at ∷ []
+shown_row number c =
+    Int (pos number) ∷ Int (pos (code c.status)) ∷ Int (pos c.order) ∷ Words c.at ∷ []
 
 abbrev pub shown_rows : ℕ → List Accepted → List Row
 shown_rows number [] = []
@@ -49,8 +50,11 @@ shown_service source base = Int (pos 1) ∷ Words source ∷ Int (pos base) ∷ 
 
 -- the rows that are shown are those of each order and its status
 pub record ShowOrders (rows : List Row) (commands : List Accepted) : Type 0 where
-  pub sound : (r : Row) → Has rows r → (order : ℕ) × (status : Status) × (r ≡ shown_order order status) × (status_of commands order ≡ Some status)
-  pub complete : (order : ℕ) (status : Status) → status_of commands order ≡ Some status → Has rows (shown_order order status)
+  pub sound : (r : Row) → Has rows r
+      → (order : ℕ) × (status : Status)
+      × (r ≡ shown_order order status) × (status_of commands order ≡ Some status)
+  pub complete : (order : ℕ) (status : Status) → status_of commands order ≡ Some status
+      → Has rows (shown_order order status)
 
 -- the schema before the tables of a service are made; after them comes no inbox yet
 abbrev pub IsRoomFor : Layout → Schema → Type 0
