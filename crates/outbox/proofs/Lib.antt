@@ -1,0 +1,16 @@
+pub mod TextLemmas
+pub mod LayoutLemmas
+pub mod StepLemmas
+pub mod ListLemmas
+pub mod PutLemmas
+pub mod InsertLemmas
+pub mod NoteLemmas
+pub mod WriteLemmas
+pub mod LoadLemmas
+pub mod SameLemmas
+pub mod ServiceLemmas
+pub mod AdoptLemmas
+pub mod ReplayLemmas
+pub mod FoundLemmas
+pub mod CreateLemmas
+pub mod TermLemmas

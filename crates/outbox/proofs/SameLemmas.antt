@@ -1,0 +1,65 @@
+-- A reading changes nothing.
+use Rattle.std.proofs.Common.{◌≡◌, ◌⊎◌, inl, inr, ℕ, ◌≤◌, List, Option, Some, None, Ok, Err, Result, IsTrue, refl, sym, ap, subst, ◌∙◌}
+use Rattle.sqlite_value.specs.Order.{Row}
+use Rattle.sqlite_trees.specs.Tree.{Trees}
+use Rattle.sqlite_trees.specs.View.{doubt}
+use Rattle.sqlite_resolve.specs.declared.compiled.Compiled.{Compiled}
+use Rattle.sqlite_schema.specs.declared.command.Returning.{Returning}
+use Rattle.sqlite.specs.declared.error.Error.{Error}
+use Rattle.sqlite.specs.Effect.{Database}
+use Rattle.sqlite.specs.Clock.{timed}
+use Rattle.sqlite.specs.Listing.{understood}
+use Rattle.sqlite.specs.State.{State, HasCleanDisk, Survives, IsUnchanged, IsRolledBack, FailsToQuery, FailsToShow, IsNotRun, Shown, ShowsRows, CommitsShowing}
+use Rattle.sqlite.proofs.Callers.{IsPlain}
+use Rattle.outbox.specs.Schema.{schema_in}
+use Rattle.outbox.specs.Call.{IsSame}
+use Rattle.outbox.specs.declared.layout.Layout.{Layout}
+
+pub not_shown : (sql : List ℕ) (params : Row) (old new : State) (e : Error) → FailsToQuery sql params old new e → IsUnchanged old new ⊎ IsRolledBack old new
+unfolding FailsToQuery IsNotRun
+not_shown sql params old new e (inl (inl h)) = inl h.1
+not_shown sql params old new e (inl (inr h)) = inr h.3
+not_shown sql params old new e (inr (c, it, shows)) = go c.returning shows
+  where
+    go : (r : Option Returning) → FailsToShow old new sql c (timed params c.formats it.now) e r → IsUnchanged old new ⊎ IsRolledBack old new
+    go None h = inl h.3
+    go (Some what) (inl h) = inl h.1
+    go (Some what) (inr h) = inr h.3
+
+-- the answer of a query that writes nothing
+pub shown : (l : Layout) (sql : List ℕ) (params : Row) (old new : State) (rows : List Row) → IsPlain (understood (schema_in l) sql) → old.now.schema ≡ schema_in l → Shown sql params old new rows → IsUnchanged old new
+unfolding Shown
+shown l sql params old new rows plain has h =
+    let known = sym h.1.is ∙ ap (λ s. understood s sql) has in
+    let bare = subst IsPlain (sym known) plain in
+    (rw bare.0 at h.2).3
+
+pub same_where : (old new : State) → old.now ≡ old.committed → IsUnchanged old new ⊎ IsRolledBack old new → IsTrue new.is_open → (new.now ≡ old.now) × (new.committed ≡ old.committed)
+same_where old new settled (inl h) still = (h.0.now_is, h.0.committed_is)
+same_where old new settled (inr h) still = ((h.undone still).0 ∙ sym settled, (h.undone still).1)
+
+open_where : (old new : State) → IsUnchanged old new ⊎ IsRolledBack old new → IsTrue new.is_open → IsTrue old.is_open
+open_where old new (inl h) still = h.0.was_open
+open_where old new (inr h) still = h.was_open still
+
+pub refused_same : (sql : List ℕ) (params : Row) (old new : State) (e : Error) (P : Trees → Type 0) → Survives old new P → (IsTrue old.is_open → old.now ≡ old.committed) → (HasCleanDisk new → FailsToQuery sql params old new e) → IsSame old new
+refused_same sql params old new e P survives settled fails = record {
+  clean = survives.clean;
+  was_open = λ clean still. open_where old new (not_shown sql params old new e (fails clean)) still;
+  same = λ clean still l has. let how = not_shown sql params old new e (fails clean) in same_where old new (settled (open_where old new how still)) how still;
+}
+
+shown_open : (sql : List ℕ) (params : Row) (old new : State) (rows : List Row) → Shown sql params old new rows → IsTrue old.is_open
+unfolding Shown
+shown_open sql params old new rows h = go h.0.returning h.2
+  where
+    go : (r : Option Returning) → ShowsRows old new sql h.0 (timed params h.0.formats h.1.now) rows r → IsTrue old.is_open
+    go None k = k.3.0.was_open
+    go (Some what) k = k.1.shown.was_open
+
+pub answered_same : (sql : List ℕ) (params : Row) (old new : State) (rows : List Row) (P : Trees → Type 0) → ((l : Layout) → IsPlain (understood (schema_in l) sql)) → Survives old new P → (HasCleanDisk new → Shown sql params old new rows) → IsSame old new
+answered_same sql params old new rows P plain survives shows = record {
+  clean = survives.clean;
+  was_open = λ clean still. shown_open sql params old new rows (shows clean);
+  same = λ clean still l has. let is = shown l sql params old new rows (plain l) has (shows clean) in (is.0.now_is, is.0.committed_is);
+}

@@ -1,0 +1,12 @@
+use Rattle.std.proofs.Common.{◌≡◌, IsTrue, rules}
+use Rattle.sqlite.specs.Held.{state}
+use Rattle.outbox.proofs.SameLemmas.{refused_same, answered_same}
+use Rattle.outbox.proofs.adoption.all_of.Goals as goal
+
+pub returns-in_err-query_all-clause-same : goal.returns-in_err-query_all-clause-same
+returns-in_err-query_all-clause-same g c =
+    let auto : IsTrue c.is_autocommit.result = search rules in
+    refused_same c.args.sql.now _ (state g.S.Store c.args.conn.now) (state g.S.Store c.query_all.new.self) _ _ c.query_all.ensures.survives (c.is_autocommit.ensures.settled auto) c.in_err-query_all.ensures.err
+
+pub returns-clause-same : goal.returns-clause-same
+returns-clause-same g c = answered_same c.args.sql.now _ (state g.S.Store c.args.conn.now) (state g.S.Store c.query_all.new.self) _ _ c.requires.plain c.query_all.ensures.survives c.in_ok-query_all.ensures.ok

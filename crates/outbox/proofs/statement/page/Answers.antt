@@ -1,0 +1,22 @@
+use Rattle.std.proofs.Common.{◌≡◌, refl, rules, arith, w64, FitsSigned, IsTrue}
+use Rattle.std.proofs.lemmas.Int.{to_z-of_z}
+use Rattle.sqlite.specs.Held.{state}
+use Rattle.outbox.proofs.SameLemmas.{refused_same, answered_same}
+use Rattle.outbox.proofs.LoadLemmas.{pages}
+use Rattle.outbox.proofs.TextLemmas.{page_text, page_plain}
+use Rattle.outbox.proofs.statement.page.Goals as goal
+
+pub returns-in_err-page_asked-clause-same : goal.returns-in_err-page_asked-clause-same
+returns-in_err-page_asked-clause-same g c =
+    let auto : IsTrue c.is_autocommit.result = search rules in
+    refused_same page_text _ (state g.S.Store c.args.conn.now) (state g.S.Store c.page_asked.new.conn) _ _ c.page_asked.ensures.survives (c.is_autocommit.ensures.settled auto) c.in_err-page_asked.ensures.err
+
+pub returns-clause-same : goal.returns-clause-same
+returns-clause-same g c = answered_same page_text _ (state g.S.Store c.args.conn.now) (state g.S.Store c.page_asked.new.conn) _ _ page_plain c.page_asked.ensures.survives c.in_ok-page_asked.ensures.ok
+
+pub returns-clause-rows : goal.returns-clause-rows
+returns-clause-rows g c clean source base commands box =
+    let fits : FitsSigned w64 c.signed.result = search rules in
+    let fits2 : FitsSigned w64 c.signed-2.result = search rules in
+    pages (state g.S.Store c.args.conn.now) (state g.S.Store c.page_asked.new.conn) box.layout base commands c.args.after c.args.limit _ box.schema box.outbox
+    (rw (to_z-of_z w64 c.signed.result fits, c.signed.ensures, to_z-of_z w64 c.signed-2.result fits2, c.signed-2.ensures) at (c.in_ok-page_asked.ensures.ok clean))

@@ -1,0 +1,43 @@
+-- What a `Service` shows, and what holds of it.
+use Rattle.std.specs.Prelude.{◌≡◌, ◌≤◌, ℕ, ◌+◌, List, length, true, IsTrue, refl}
+use Rattle.std.specs.Coded.{Coded, code_by, coded×, coded_ℕ, coded_list}
+use Rattle.sqlite.specs.Effect.{Database}
+use Rattle.sqlite.specs.State.{State, HasCleanDisk}
+use Rattle.sqlite.specs.Held.{Held, held_code}
+use Rattle.attributes.specs.Character.{is_filled}
+use Rattle.attributes.specs.Sequence.{max_sequence}
+use Rattle.outbox.specs.Order.{Accepted}
+use Rattle.outbox.specs.Service.{IsService}
+
+-- what a `Service` shows: its connection, source and base, and the number of its last row, which
+-- is the base where there is none
+pub record Shown (S : Type 0) : Type 0 where
+  pub conn : Held S
+  pub source : List ℕ
+  pub base : ℕ
+  pub last : ℕ
+
+abbrev pub shown_code : {S : Type 0} → Coded S → Coded (Shown S)
+shown_code {S} store = code_by (Held S × (List ℕ × (ℕ × ℕ)))
+    (coded× (held_code store) (coded× (coded_list coded_ℕ) (coded× coded_ℕ coded_ℕ)))
+    (λ s. (s.conn, (s.source, (s.base, s.last))))
+    (λ p. record { conn = p.0; source = p.1.0; base = p.1.1.0; last = p.1.1.1 }) (λ _. refl)
+
+-- the most bytes that a source may have
+abbrev pub max_source : ℕ
+max_source = 1024
+
+-- the database is that of a service with so many rows
+pub record Stands (db : Database) (source : List ℕ) (base last : ℕ) : Type 0 where
+  pub commands : List Accepted
+  pub table : IsService db source base commands
+  pub count : last ≡ base + length commands
+
+-- the source is allowed and the numbers are in range; and while the disk is honest and the
+-- database open, it is that of the service
+pub record StandsFor (s : State) (source : List ℕ) (base last : ℕ) : Type 0 where
+  pub filled : is_filled source ≡ true
+  pub short : length source ≤ max_source
+  pub low : base ≤ last
+  pub high : last ≤ max_sequence
+  pub stands : HasCleanDisk s → IsTrue s.is_open → Stands s.now source base last

@@ -1,0 +1,41 @@
+-- Rows that are those of accepted commands.
+use Rattle.std.specs.Prelude.{◌≡◌, ◌⊎◌, Some, ◌≤◌, ℕ, suc, ◌+◌, List, [], length, take, Option}
+use Rattle.std.specs.BTreeMap.{get}
+use Rattle.std.specs.BTreeMap.{BTreeMap}
+use Rattle.std.specs.Ordering.{nat_cmp}
+use Rattle.sqlite_value.specs.Order.{Row}
+use Rattle.attributes.specs.Sequence.{max_sequence}
+use Rattle.outbox.specs.Order.{Accepted, status_of, AreAccepted}
+use Rattle.outbox.specs.declared.status.Status.{Status}
+use Rattle.outbox.specs.steps.Change.{shown_rows, shown_order}
+use Rattle.sqlite_rules.specs.Lists.{Has}
+use Rattle.outbox.specs.declared.adoption.Replayed.{Replayed}
+
+-- the rows are those of commands, each accepted after those before it, and these are the statuses
+-- and the last number
+pub record IsReplay (base : ℕ) (rows : List Row) (r : Replayed) : Type 0 where
+  pub commands : List Accepted
+  pub rows_are : rows ≡ shown_rows (suc base) commands
+  pub accepted : AreAccepted base [] commands
+  pub statuses : (order : ℕ) → get nat_cmp r.statuses order ≡ status_of commands order
+  pub last : r.last ≡ base + length commands
+
+-- the same of the first rows
+pub record HasReplayed (base : ℕ) (rows : List Row) (at : ℕ) (m : BTreeMap ℕ Status) (last : ℕ)
+    : Type 0 where
+  pub commands : List Accepted
+  pub rows_are : take at rows ≡ shown_rows (suc base) commands
+  pub accepted : AreAccepted base [] commands
+  pub statuses : (order : ℕ) → get nat_cmp m order ≡ status_of commands order
+  pub last_is : last ≡ base + length commands
+  pub high : last ≤ max_sequence
+
+-- of the statuses, these are left, and the others have their rows among the first
+pub record HasMatched (rows : List Row) (at : ℕ) (all left : BTreeMap ℕ Status) : Type 0 where
+  pub sound : (r : Row) → Has (take at rows) r
+      → (order : ℕ) × (status : Status)
+      × (r ≡ shown_order order status) × (get nat_cmp all order ≡ Some status)
+  pub rest : (order : ℕ) (status : Status) → get nat_cmp all order ≡ Some status
+      → (get nat_cmp left order ≡ Some status) ⊎ Has (take at rows) (shown_order order status)
+  pub within : (order : ℕ) (status : Status) → get nat_cmp left order ≡ Some status
+      → get nat_cmp all order ≡ Some status

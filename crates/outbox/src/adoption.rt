@@ -1,0 +1,313 @@
+//! A service of the tables that a database has.
+
+ghost use Rattle.std.specs.Prelude.{◌≡◌, ◌⊎◌, IsTrue, true, [], ◌∷◌, ◌≤◌, ◌≢◌, ℕ, List, None, Err, length, IfOk, IfErr, IfSome, string_bytes};
+ghost use Rattle.std.specs.BTreeMap.{get};
+ghost use Rattle.std.specs.Result.{IsErrAnd};
+ghost use Rattle.std.specs.Ordering.{nat_cmp};
+ghost use Rattle.sqlite.specs.Given.{IsPlain};
+ghost use Rattle.sqlite.specs.Listing.{understood};
+ghost use Rattle.sqlite.specs.State.{HasCleanDisk, IsLive, Shown};
+ghost use Rattle.sqlite.specs.Held.{state};
+ghost use Rattle.attributes.specs.Character.{is_filled};
+ghost use Rattle.attributes.specs.Sequence.{max_sequence};
+ghost use Rattle.attributes.specs.Time.{time_day};
+ghost use Rattle.outbox.specs.Order.{Accepted, IsCommand, status_of};
+ghost use Rattle.outbox.specs.Schema.{lacks_name, schema_in};
+ghost use Rattle.outbox.specs.Shown.{Stands, StandsFor, max_source};
+ghost use Rattle.outbox.specs.Call.{IsAsItWas, IsSame};
+ghost use Rattle.outbox.specs.steps.Change.{ShowOrders, shown_order, shown_row, shown_service};
+ghost use Rattle.outbox.specs.steps.Replay.{IsReplay};
+ghost use Rattle.outbox.specs.declared.fault.OutboxFault.TheVariants.{OutOfMemory, Store, Foreign};
+ghost use Rattle.outbox.specs.declared.layout.Layout.{Layout};
+
+use crate::fault::OutboxFault;
+use crate::layout::{Layout, lacks_name, layout_of};
+use crate::service::{MAX, NotMade, Service, Stored, read_row};
+use crate::status::Status;
+use attributes::{Fault, Moment, Text};
+use sqlite::{Alter, Connection, Row};
+use std::alloc::Global;
+use std::collections::BTreeMap;
+
+/// The status of each order, and the number of the last row.
+#[derive(Drop)]
+pub(crate) struct Replayed {
+    pub(crate) statuses: BTreeMap<u64, Status>,
+    pub(crate) last: u64,
+}
+
+/// Whether it is a time of at most 64 bytes.
+fn is_time(alloc: Global, text: &str) -> Result<bool, OutboxFault>
+    ensures time { IfOk result (λ b. IsTrue b → (time_day text.now ≢ None)
+        × (length text.now ≤ 64)) }
+    ensures fault { IfErr result (λ f. f ≡ OutOfMemory) }
+{
+    if text.len() > 64 {
+        return Ok(false);
+    }
+    match Moment::of_text(alloc, text) {
+        Ok(_) => Ok(true),
+        Err(Fault::OutOfMemory) => Err(OutboxFault::OutOfMemory),
+        Err(_) => Ok(false),
+    }
+}
+
+/// The command of a row that has this number, where a call can have left the row so.
+fn command_in(alloc: Global, row: &Row, number: u64) -> Result<Option<Stored>, OutboxFault>
+    ensures row { IfOk result (λ o. IfSome o (λ s. row.now ≡ shown_row number
+        (record { status = s.status; order = s.order; at = string_bytes s.at }))) }
+    ensures command { IfOk result (λ o. IfSome o (λ s. IsCommand
+        (record { status = s.status; order = s.order; at = string_bytes s.at }))) }
+    ensures fault { IfErr result (λ f. f ≡ OutOfMemory) }
+{
+    let stored = match read_row(row) {
+        Ok(stored) => stored,
+        Err(OutboxFault::OutOfMemory) => return Err(OutboxFault::OutOfMemory),
+        Err(_) => return Ok(None),
+    };
+    if row.column_count() != 4 || stored.number != number || stored.order == 0 || stored.order > MAX
+    {
+        return Ok(None);
+    }
+    if is_time(alloc, stored.at.as_str())? {
+        Ok(Some(stored))
+    } else {
+        Ok(None)
+    }
+}
+
+/// The status that an order has so far.
+fn status_at(statuses: &BTreeMap<u64, Status>, order: u64) -> Option<Status>
+    ensures { result ≡ get nat_cmp statuses.now order }
+{
+    match statuses.get(&order) {
+        Some(status) => Some(*status),
+        None => None,
+    }
+}
+
+/// The commands whose rows these are, where each is accepted after those before it; else none.
+#[tactic(auto, using(crate::proofs::ReplayLemmas::replay_on, crate::proofs::ReplayLemmas::replay_all))]
+pub(crate) fn replay(
+    alloc: Global,
+    base: u64,
+    rows: &[Row],
+) -> Result<Option<Replayed>, OutboxFault>
+    requires { base ≤ max_sequence }
+    ensures replay { IfOk result (λ o. IfSome o (IsReplay base rows.now)) }
+    ensures range { IfOk result (λ o. IfSome o (λ r. (base ≤ r.last) × (r.last ≤ max_sequence))) }
+    ensures fault { IfErr result (λ f. f ≡ OutOfMemory) }
+{
+    let mut statuses = BTreeMap::new(alloc);
+    let mut last = base;
+    for row in rows {
+        if last == MAX {
+            return Ok(None);
+        }
+        let Some(stored) = command_in(alloc, row, last + 1)? else {
+            return Ok(None);
+        };
+        match stored
+            .status
+            .fault_after(status_at(&statuses, stored.order))
+        {
+            Some(_) => return Ok(None),
+            None => {}
+        }
+        match statuses.insert(stored.order, stored.status) {
+            Ok(_) => {}
+            Err(_) => return Err(OutboxFault::OutOfMemory),
+        }
+        last = last + 1;
+    }
+    Ok(Some(Replayed { statuses, last }))
+}
+
+/// The order and status of a row of `orders`, where a call can have left it so.
+fn order_in(row: &Row) -> Result<Option<(u64, Status)>, OutboxFault>
+    ensures row { IfOk result (λ o. IfSome o (λ p. row.now ≡ shown_order p.0 p.1)) }
+    ensures fault { IfErr result (λ f. (f ≡ OutOfMemory) ⊎ (f ≡ Store)) }
+{
+    if row.column_count() != 2 {
+        return Ok(None);
+    }
+    let order: u64 = row.get(0)?;
+    let code: i64 = row.get(1)?;
+    match Status::of_code(code) {
+        Some(status) => Ok(Some((order, status))),
+        None => Ok(None),
+    }
+}
+
+/// Whether the rows of `orders` are just those of the orders and their statuses.
+#[tactic(auto, using(crate::proofs::ReplayLemmas::match_none))]
+pub(crate) fn are_orders(
+    rows: &[Row],
+    statuses: BTreeMap<u64, Status>,
+) -> Result<bool, OutboxFault>
+    ensures orders { IfOk result (λ b. IsTrue b → (commands : List Accepted)
+        → ((order : ℕ) → get nat_cmp statuses order ≡ status_of commands order)
+        → ShowOrders rows.now commands) }
+    ensures fault { IfErr result (λ f. (f ≡ OutOfMemory) ⊎ (f ≡ Store)) }
+{
+    let mut left = statuses;
+    for row in rows {
+        let Some((order, status)) = order_in(row)? else {
+            return Ok(false);
+        };
+        match left.remove(&order) {
+            Some(found) => {
+                if found != status {
+                    return Ok(false);
+                }
+            }
+            None => return Ok(false),
+        }
+    }
+    Ok(left.is_empty())
+}
+
+/// What the tables say of a service.
+#[derive(Drop)]
+pub(crate) struct Found {
+    pub(crate) source: Text,
+    pub(crate) base: u64,
+    pub(crate) last: u64,
+}
+
+/// The source and base in the one row of `service`, where a call can have left them so.
+fn service_in(rows: &[Row]) -> Result<Option<(Text, u64)>, OutboxFault>
+    ensures row { IfOk result (λ o. IfSome o (λ p. rows.now ≡ shown_service p.0 p.1 ∷ [])) }
+    ensures range { IfOk result (λ o. IfSome o (λ p. (is_filled p.0 ≡ true)
+        × (length p.0 ≤ max_source) × (p.1 ≤ max_sequence))) }
+    ensures fault { IfErr result (λ f. (f ≡ OutOfMemory) ⊎ (f ≡ Store)) }
+{
+    if rows.len() != 1 || rows[0].column_count() != 3 {
+        return Ok(None);
+    }
+    let one: u64 = rows[0].get(0)?;
+    let source: String = rows[0].get(1)?;
+    let base: u64 = rows[0].get(2)?;
+    if one != 1 || base > MAX || source.as_str().len() > 1024 {
+        return Ok(None);
+    }
+    let source = Text::from_string(source);
+    if source.is_source() {
+        Ok(Some((source, base)))
+    } else {
+        Ok(None)
+    }
+}
+
+/// The rows that a question with no parameter shows.
+fn all_of<S: Alter>(conn: &mut Connection<S>, sql: &str) -> Result<Vec<Row>, OutboxFault>
+    requires plain { (layout : Layout) → IsPlain (understood (schema_in layout) sql.now) }
+    ensures shown { HasCleanDisk (state S.Store conn.new) → IfOk result (λ rows.
+        Shown sql.now [] (state S.Store conn.old) (state S.Store conn.new) rows.items) }
+    ensures same { IsSame (state S.Store conn.old) (state S.Store conn.new) }
+    ensures live { IsLive (state S.Store conn.old) }
+    ensures fault { IfErr result (λ f. (f ≡ OutOfMemory) ⊎ (f ≡ Store)) }
+{
+    let _schema = conn.schema();
+    if !conn.is_autocommit() {
+        return Err(OutboxFault::Store);
+    }
+    Ok(conn.query_all(sql, &[])?)
+}
+
+/// What the tables say, where they are those of a service.
+#[tactic(auto, using(crate::proofs::FoundLemmas::all_same, crate::proofs::FoundLemmas::two_same, crate::proofs::FoundLemmas::one_same))]
+pub(crate) fn found_in<S: Alter>(
+    alloc: Global,
+    conn: &mut Connection<S>,
+    layout: Layout,
+) -> Result<Option<Found>, OutboxFault>
+    requires { (state S.Store conn.old).now.schema ≡ schema_in layout }
+    ensures stands { HasCleanDisk (state S.Store conn.new) → IfOk result (λ o. IfSome o (λ f.
+        IsTrue (state S.Store conn.new).is_open
+        → Stands (state S.Store conn.new).now f.source f.base f.last)) }
+    ensures range { IfOk result (λ o. IfSome o (λ f. (is_filled f.source ≡ true)
+        × (length f.source ≤ max_source) × (f.base ≤ f.last) × (f.last ≤ max_sequence))) }
+    ensures same { IsAsItWas (state S.Store conn.old) (state S.Store conn.new) }
+    ensures fault { IfErr result (λ f. (f ≡ OutOfMemory) ⊎ (f ≡ Store)) }
+{
+    let services = all_of(conn, "SELECT one, source, base FROM service ORDER BY one")?;
+    let Some((source, base)) = service_in(&services)? else {
+        return Ok(None);
+    };
+    let rows = all_of(
+        conn,
+        "SELECT number, kind, order_number, at FROM outbox ORDER BY number",
+    )?;
+    let Some(replayed) = replay(alloc, base, &rows)? else {
+        return Ok(None);
+    };
+    let orders = all_of(conn, "SELECT number, state FROM orders ORDER BY number")?;
+    let Replayed { statuses, last } = replayed;
+    if are_orders(&orders, statuses)? {
+        Ok(Some(Found { source, base, last }))
+    } else {
+        Ok(None)
+    }
+}
+
+/// What the schema and the tables say, where they are those of a service. `Foreign` where a table
+/// is missing or the rows are others, `Store` where the file has other tables.
+fn read<S: Alter>(alloc: Global, conn: &mut Connection<S>) -> Result<Found, OutboxFault>
+    ensures stands { HasCleanDisk (state S.Store conn.new) → IfOk result (λ f.
+        IsTrue (state S.Store conn.new).is_open
+        → Stands (state S.Store conn.new).now f.source f.base f.last) }
+    ensures range { IfOk result (λ f. (is_filled f.source ≡ true)
+        × (length f.source ≤ max_source) × (f.base ≤ f.last) × (f.last ≤ max_sequence)) }
+    ensures same { IsAsItWas (state S.Store conn.old) (state S.Store conn.new) }
+    ensures missing { lacks_name (state S.Store conn.old).now.schema ≡ true → result ≡ Err Foreign }
+    ensures fault { IfErr result (λ f. (f ≡ OutOfMemory) ⊎ ((f ≡ Store) ⊎ (f ≡ Foreign))) }
+{
+    if lacks_name(conn.schema()) {
+        return Err(OutboxFault::Foreign);
+    }
+    let Some(layout) = layout_of(conn.schema()) else {
+        return Err(OutboxFault::Store);
+    };
+    match found_in(alloc, conn, layout) {
+        Ok(Some(found)) => Ok(found),
+        Ok(None) => Err(OutboxFault::Foreign),
+        Err(fault) => Err(fault),
+    }
+}
+
+impl<S: Alter + Drop> Service<S> {
+    /// The service whose tables the database has: its commands are those of the rows.
+    ///
+    /// The fault is `Foreign` where one of the three tables is missing or the rows aren't those
+    /// that the calls of a service leave, `Store` where the database stands inside a transaction or
+    /// has tables beside them that aren't an inbox's, or want of memory; the connection comes back.
+    /// Reads all rows once; time and memory in proportion to them.
+    pub fn adopt(alloc: Global, conn: Connection<S>) -> Result<Service<S>, NotMade<S>>
+        ensures stands { IfOk result (λ s.
+            StandsFor (state S.Store s.conn) s.source s.base s.last) }
+        ensures same { IfOk result (λ s. IsAsItWas (state S.Store conn) (state S.Store s.conn)) }
+        ensures back { IfErr result (λ e. IsAsItWas (state S.Store conn) (state S.Store e.conn)) }
+
+        // A table that is missing is found before any memory is asked for.
+        ensures missing { lacks_name (state S.Store conn).now.schema ≡ true
+            → IsErrAnd result (λ e. e.fault ≡ Foreign) }
+        ensures fault { IfErr result (λ e.
+            (e.fault ≡ OutOfMemory) ⊎ ((e.fault ≡ Store) ⊎ (e.fault ≡ Foreign))) }
+    {
+        let mut conn = conn;
+        match read(alloc, &mut conn) {
+            Ok(found) => {
+                let Found { source, base, last } = found;
+                Ok(Service {
+                    conn,
+                    source,
+                    base,
+                    last,
+                    alloc,
+                })
+            }
+            Err(fault) => Err(NotMade { conn, fault }),
+        }
+    }
+}

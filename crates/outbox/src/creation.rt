@@ -1,0 +1,217 @@
+//! The tables of a new service.
+
+ghost use Rattle.std.specs.Prelude.{◌≡◌, ◌<◌, ◌≤◌, ◌^◌, ◌⊎◌, ◌∷◌, [], IsTrue, true, List, ℕ, length, pos, OnOk, OnErr, IfOk, IfErr};
+ghost use Rattle.std.specs.Result.{IsErrAnd};
+ghost use Rattle.sqlite_value.specs.declared.value.Value.TheVariants.{Int, Text as Words};
+ghost use Rattle.sqlite.specs.State.{HasCleanDisk, ExecutesInside, KeepsCommit, Survives};
+ghost use Rattle.sqlite.specs.Held.{state};
+ghost use Rattle.attributes.specs.Character.{is_filled};
+ghost use Rattle.attributes.specs.Sequence.{max_sequence};
+ghost use Rattle.outbox.specs.Schema.{has_name};
+ghost use Rattle.outbox.specs.Service.{IsService};
+ghost use Rattle.outbox.specs.Shown.{max_source};
+ghost use Rattle.outbox.specs.Call.{IsAsItWas};
+ghost use Rattle.outbox.specs.steps.Change.{IsRoomFor, MakesTables};
+ghost use Rattle.outbox.specs.steps.Statement.{create_orders, create_outbox, create_service, found_text};
+ghost use Rattle.outbox.specs.declared.fault.OutboxFault.TheVariants.{OutOfMemory, Store, Foreign};
+
+use crate::fault::OutboxFault;
+use crate::layout::{Layout, has_name, layout_for};
+use crate::service::{NotMade, Service};
+use crate::statement::signed;
+use attributes::Text;
+use sqlite::{Alter, Connection, Error, ErrorCode, Transaction, params};
+use std::alloc::Global;
+
+/// CREATE TABLE service.
+fn make_service<S: Alter>(tx: &mut Transaction<'_, S>) -> Result<usize, Error>
+    ensures same_reference { tx.new.conn.ghost_name ≡ tx.old.conn.ghost_name }
+    ensures runs { HasCleanDisk (state S.Store tx.new.conn.now)
+        → IsTrue (state S.Store tx.old.conn.now).in_transaction
+        → ExecutesInside 0 create_service []
+        (state S.Store tx.old.conn.now) (state S.Store tx.new.conn.now) result }
+    ensures survives { Survives
+        (state S.Store tx.old.conn.now) (state S.Store tx.new.conn.now) (λ _. ⊥) }
+{
+    tx.execute(
+        "CREATE TABLE service (one INTEGER PRIMARY KEY CHECK (one = 1), source TEXT NOT NULL, base INTEGER NOT NULL CHECK (base >= 0)) STRICT",
+        &[],
+    )
+}
+
+/// CREATE TABLE orders.
+fn make_orders<S: Alter>(tx: &mut Transaction<'_, S>) -> Result<usize, Error>
+    ensures same_reference { tx.new.conn.ghost_name ≡ tx.old.conn.ghost_name }
+    ensures runs { HasCleanDisk (state S.Store tx.new.conn.now)
+        → IsTrue (state S.Store tx.old.conn.now).in_transaction
+        → ExecutesInside 0 create_orders []
+        (state S.Store tx.old.conn.now) (state S.Store tx.new.conn.now) result }
+    ensures survives { Survives
+        (state S.Store tx.old.conn.now) (state S.Store tx.new.conn.now) (λ _. ⊥) }
+{
+    tx.execute(
+        "CREATE TABLE orders (number INTEGER PRIMARY KEY, state INTEGER NOT NULL CHECK (state >= 1 AND state <= 3)) STRICT",
+        &[],
+    )
+}
+
+/// CREATE TABLE outbox.
+fn make_outbox<S: Alter>(tx: &mut Transaction<'_, S>) -> Result<usize, Error>
+    ensures same_reference { tx.new.conn.ghost_name ≡ tx.old.conn.ghost_name }
+    ensures runs { HasCleanDisk (state S.Store tx.new.conn.now)
+        → IsTrue (state S.Store tx.old.conn.now).in_transaction
+        → ExecutesInside 0 create_outbox []
+        (state S.Store tx.old.conn.now) (state S.Store tx.new.conn.now) result }
+    ensures survives { Survives
+        (state S.Store tx.old.conn.now) (state S.Store tx.new.conn.now) (λ _. ⊥) }
+{
+    tx.execute(
+        "CREATE TABLE outbox (number INTEGER PRIMARY KEY, kind INTEGER NOT NULL CHECK (kind >= 1 AND kind <= 3), order_number INTEGER NOT NULL, at TEXT NOT NULL) STRICT",
+        &[],
+    )
+}
+
+/// INSERT INTO service.
+fn fill<S: Alter>(
+    tx: &mut Transaction<'_, S>,
+    one: i64,
+    source: &str,
+    base: i64,
+) -> Result<usize, Error>
+    ensures same_reference { tx.new.conn.ghost_name ≡ tx.old.conn.ghost_name }
+    ensures runs { HasCleanDisk (state S.Store tx.new.conn.now)
+        → IsTrue (state S.Store tx.old.conn.now).in_transaction
+        → ExecutesInside 0 found_text (Int one ∷ Words source.now ∷ Int base ∷ [])
+        (state S.Store tx.old.conn.now) (state S.Store tx.new.conn.now) result }
+    ensures survives { Survives
+        (state S.Store tx.old.conn.now) (state S.Store tx.new.conn.now) (λ _. ⊥) }
+{
+    tx.execute(
+        "INSERT INTO service (one, source, base) VALUES (?1, ?2, ?3)",
+        params![one, source, base],
+    )
+}
+
+/// Makes the three tables, where there is room for them.
+fn make_tables<S: Alter>(tx: &mut Transaction<'_, S>, layout: Layout) -> Result<(), Error>
+    requires { IsRoomFor layout (state S.Store tx.old.conn.now).now.schema }
+    ensures same_reference { tx.new.conn.ghost_name ≡ tx.old.conn.ghost_name }
+    ensures made { HasCleanDisk (state S.Store tx.new.conn.now)
+        → IsTrue (state S.Store tx.old.conn.now).in_transaction → OnOk result (MakesTables layout
+        (state S.Store tx.old.conn.now) (state S.Store tx.new.conn.now)) }
+    ensures failed { HasCleanDisk (state S.Store tx.new.conn.now)
+        → IsTrue (state S.Store tx.old.conn.now).in_transaction → OnErr result (KeepsCommit
+        (state S.Store tx.old.conn.now) (state S.Store tx.new.conn.now)) }
+    ensures survives { Survives
+        (state S.Store tx.old.conn.now) (state S.Store tx.new.conn.now) (λ _. ⊥) }
+{
+    make_service(tx)?;
+    make_orders(tx)?;
+    make_outbox(tx)?;
+    Ok(())
+}
+
+/// Makes the tables of a service with this source and base in one transaction.
+fn found<S: Alter>(
+    conn: &mut Connection<S>,
+    layout: Layout,
+    source: &str,
+    base: u64,
+) -> Result<(), Error>
+    requires room { IsRoomFor layout (state S.Store conn.old).now.schema }
+    requires base { base < 2 ^ 63 }
+    ensures made { HasCleanDisk (state S.Store conn.new)
+        → OnOk result (IsService (state S.Store conn.new).now source.now base []) }
+    ensures same { HasCleanDisk (state S.Store conn.new) → IsTrue (state S.Store conn.new).is_open
+        → OnErr result ((state S.Store conn.new).now ≡ (state S.Store conn.old).now) }
+{
+    if !conn.is_autocommit() {
+        return Err(Error::SqliteFailure(ErrorCode::TransactionState));
+    }
+    let mut tx = conn.transaction();
+    make_tables(&mut tx, layout)?;
+    fill(&mut tx, 1, source, signed(base))?;
+    tx.commit()?;
+    Ok(())
+}
+
+/// Makes the tables where there is room for them; `Store` where the file has other tables than an
+/// inbox's.
+fn found_in_room<S: Alter>(
+    conn: &mut Connection<S>,
+    source: &Text,
+    base: u64,
+) -> Result<(), OutboxFault>
+    requires { base ≤ max_sequence }
+    ensures made { HasCleanDisk (state S.Store conn.new)
+        → OnOk result (IsService (state S.Store conn.new).now source.now base []) }
+    ensures same { OnErr result (IsAsItWas (state S.Store conn.old) (state S.Store conn.new)) }
+    ensures fault { IfErr result (λ f. (f ≡ OutOfMemory) ⊎ (f ≡ Store)) }
+{
+    let Some(layout) = layout_for(conn.schema()) else {
+        return Err(OutboxFault::Store);
+    };
+    match found(conn, layout, source.as_str(), base) {
+        Ok(()) => Ok(()),
+        Err(error) => Err(OutboxFault::from(error)),
+    }
+}
+
+impl<S: Alter + Drop> Service<S> {
+    /// Makes the tables of a service with this source and base (the number before that of its first
+    /// row; a new service has 0) in a database that has none of them.
+    ///
+    /// The fault is `Foreign` where a table of one of their names is there, `Store` where the
+    /// database stands inside a transaction or has tables that aren't an inbox's, or want of
+    /// memory; the connection comes back, and the database is as it was. The tables are made in one
+    /// transaction.
+    pub fn create(
+        alloc: Global,
+        conn: Connection<S>,
+        source: &Text,
+        base: u64,
+    ) -> Result<Service<S>, NotMade<S>>
+        requires source { (is_filled source.now ≡ true) × (length source.now ≤ max_source) }
+        requires base { base ≤ max_sequence }
+        ensures made { IfOk result (λ s. HasCleanDisk (state S.Store s.conn)
+            → IsService (state S.Store s.conn).now source.now base []) }
+        ensures given { IfOk result (λ s. (s.source ≡ source.now) × (s.base ≡ base)
+            × (s.last ≡ base)) }
+        ensures back { IfErr result (λ e. IsAsItWas (state S.Store conn) (state S.Store e.conn)) }
+        ensures foreign { IfErr result (λ e.
+            e.fault ≡ Foreign → has_name (state S.Store conn).now.schema ≡ true) }
+        ensures fault { IfErr result (λ e.
+            (e.fault ≡ OutOfMemory) ⊎ ((e.fault ≡ Store) ⊎ (e.fault ≡ Foreign))) }
+
+        // A name that is taken is found before any memory is asked for.
+        ensures there { has_name (state S.Store conn).now.schema ≡ true
+            → IsErrAnd result (λ e. e.fault ≡ Foreign) }
+    {
+        let mut conn = conn;
+        if has_name(conn.schema()) {
+            return Err(NotMade {
+                conn,
+                fault: OutboxFault::Foreign,
+            });
+        }
+        let copy = match source.copy() {
+            Ok(copy) => copy,
+            Err(_) => {
+                return Err(NotMade {
+                    conn,
+                    fault: OutboxFault::OutOfMemory,
+                });
+            }
+        };
+        match found_in_room(&mut conn, source, base) {
+            Ok(()) => Ok(Service {
+                conn,
+                source: copy,
+                base,
+                last: base,
+                alloc,
+            }),
+            Err(fault) => Err(NotMade { conn, fault }),
+        }
+    }
+}

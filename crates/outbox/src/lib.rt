@@ -1,0 +1,15 @@
+//! Orders of a service, and the outbox of their events, in a database.
+#![tactic(auto)]
+
+mod adoption;
+mod creation;
+mod fault;
+mod layout;
+mod row;
+mod service;
+mod statement;
+mod status;
+
+pub use fault::OutboxFault;
+pub use service::{NotMade, Service};
+pub use status::Status;

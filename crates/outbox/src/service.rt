@@ -1,0 +1,367 @@
+//! A service: its orders, and the rows of its outbox.
+
+ghost use Rattle.std.specs.Prelude.{◌≡◌, ◌≢◌, ◌⊎◌, ◌<◌, ◌≤◌, ◌^◌, ◌+◌, ℕ, pos, List, length, string_bytes, Some, None, IsTrue, OnOk, OnErr, IfOk, IfErr};
+ghost use Rattle.sqlite_value.specs.declared.value.Value.TheVariants.{Int, Text as Words};
+ghost use Rattle.sqlite_value.specs.Order.{column};
+ghost use Rattle.sqlite.specs.State.{HasCleanDisk};
+ghost use Rattle.sqlite.specs.Held.{state};
+ghost use Rattle.attributes.specs.Sequence.{max_sequence};
+ghost use Rattle.outbox.specs.Order.{Accepted, status_of, refusal};
+ghost use Rattle.outbox.specs.Row.{row_event, events_from};
+ghost use Rattle.outbox.specs.Service.{code, IsService};
+ghost use Rattle.outbox.specs.Shown.{StandsFor};
+ghost use Rattle.outbox.specs.Call.{Accepts, Refuses, ShowsAfter, IsAsItWas, IsSame};
+ghost use Rattle.outbox.specs.steps.Change.{shown_row, shown_rows};
+ghost use Rattle.outbox.specs.declared.fault.OutboxFault.TheVariants.{OutOfMemory, Store, Foreign};
+ghost use Rattle.outbox.specs.declared.status.Status.TheVariants.{Placed, Shipped, Cancelled};
+
+use crate::fault::OutboxFault;
+use crate::row::event;
+use crate::statement::{page, status_rows, write};
+use crate::status::Status;
+use attributes::{Batch, Moment, Sequenced, Text};
+use sqlite::{Alter, Connection, Row};
+use std::alloc::Global;
+use std::marker::Model;
+
+/// The greatest number of an order or a row.
+pub(crate) const MAX: u64 = 9_223_372_036_854_775_807;
+
+/// The orders of a service and the outbox of their events, in a database.
+///
+/// Each accepted command writes the order and a row of the outbox in one transaction, so that no
+/// event is lost and none is made up. Rows are numbered from the base on, without a gap.
+pub struct Service<S: Alter> {
+    pub(crate) conn: Connection<S>,
+    pub(crate) source: Text,
+    pub(crate) base: u64,
+    pub(crate) last: u64,
+    pub(crate) alloc: Global,
+}
+
+impl<S: Alter> Model for Service<S> {
+    ghost use Rattle.sqlite.specs.Held.{state};
+    ghost use Rattle.outbox.specs.Shown.{Shown, shown_code, StandsFor};
+
+    ghost Value = { Shown S };
+
+    ghost coded = { shown_code S.code };
+
+    ghost view = { λ t. record { conn = t.conn; source = t.source; base = t.base; last = t.last } };
+
+    ghost invariant = { λ t. StandsFor (state S.Store t.conn) t.source t.base t.last };
+}
+
+impl<S: Alter + Drop> Drop for Service<S> {
+    fn drop(self) {
+        let Service {
+            conn: _,
+            source: _,
+            base: _,
+            last: _,
+            alloc: _,
+        } = self;
+    }
+}
+
+/// A connection that no service was made of, and why.
+#[derive(Drop)]
+pub struct NotMade<S: Alter + Drop> {
+    pub conn: Connection<S>,
+    pub fault: OutboxFault,
+}
+
+/// What a row of `outbox` holds.
+#[derive(Drop)]
+pub(crate) struct Stored {
+    pub(crate) number: u64,
+    pub(crate) status: Status,
+    pub(crate) order: u64,
+    pub(crate) at: String,
+}
+
+/// Reads a row of `outbox`.
+pub(crate) fn read_row(row: &Row) -> Result<Stored, OutboxFault>
+    ensures number { IfOk result (λ s. column row.now 0 ≡ Int (pos s.number)) }
+    ensures status { IfOk result (λ s. column row.now 1 ≡ Int (pos (code s.status))) }
+    ensures order { IfOk result (λ s. column row.now 2 ≡ Int (pos s.order)) }
+    ensures at { IfOk result (λ s. column row.now 3 ≡ Words (string_bytes s.at)) }
+    ensures fault { IfErr result (λ f. (f ≡ OutOfMemory) ⊎ (f ≡ Store)) }
+{
+    let number: u64 = row.get(0)?;
+    let kind: i64 = row.get(1)?;
+    let order: u64 = row.get(2)?;
+    let at: String = row.get(3)?;
+    match Status::of_code(kind) {
+        Some(status) => Ok(Stored {
+            number,
+            status,
+            order,
+            at,
+        }),
+        None => Err(OutboxFault::Store),
+    }
+}
+
+/// The event of a row of `outbox`.
+fn stored_event(alloc: Global, source: &str, row: &Row) -> Result<Sequenced, OutboxFault>
+    ensures event { IfOk result (λ e. (number : ℕ) (c : Accepted)
+        → row.now ≡ shown_row number c → e ≡ row_event source.now number c) }
+    ensures fault { IfErr result (λ f. (f ≡ OutOfMemory) ⊎ (f ≡ Store)) }
+{
+    let stored = read_row(row)?;
+    event(
+        alloc,
+        source,
+        stored.number,
+        stored.status,
+        stored.order,
+        stored.at.as_str(),
+    )
+}
+
+/// The events of rows of `outbox`.
+fn stored_events(alloc: Global, source: &str, rows: &[Row]) -> Result<Batch, OutboxFault>
+    ensures events { IfOk result (λ batch. (number : ℕ) (commands : List Accepted)
+        → rows.now ≡ shown_rows number commands
+        → batch ≡ events_from source.now number commands) }
+    ensures fault { IfErr result (λ f. (f ≡ OutOfMemory) ⊎ (f ≡ Store)) }
+{
+    let mut batch = Batch::empty(alloc);
+    for row in rows {
+        let event = stored_event(alloc, source, row)?;
+        match batch.push(event) {
+            Ok(()) => {}
+            Err(_) => return Err(OutboxFault::OutOfMemory),
+        }
+    }
+    Ok(batch)
+}
+
+/// The status of an order, where it is there.
+fn status_in<S: Alter>(conn: &mut Connection<S>, order: u64) -> Result<Option<Status>, OutboxFault>
+    requires { order < 2 ^ 63 }
+    ensures status { HasCleanDisk (state S.Store conn.new) → IfOk result (λ s.
+        (source : List ℕ) (base : ℕ) (commands : List Accepted)
+        → IsService (state S.Store conn.old).now source base commands
+        → s ≡ status_of commands order) }
+    ensures same { IsSame (state S.Store conn.old) (state S.Store conn.new) }
+    ensures fault { IfErr result (λ f. (f ≡ OutOfMemory) ⊎ (f ≡ Store)) }
+{
+    let rows = status_rows(conn, order)?;
+    if rows.is_empty() {
+        return Ok(None);
+    }
+    let kind: i64 = rows[0].get(0)?;
+    match Status::of_code(kind) {
+        Some(status) => Ok(Some(status)),
+        None => Err(OutboxFault::Store),
+    }
+}
+
+/// Whether the command is accepted, after the rows up to `last`.
+#[tactic(auto, using(crate::proofs::ServiceLemmas::not_foreign))]
+fn decide<S: Alter>(
+    conn: &mut Connection<S>,
+    last: u64,
+    status: Status,
+    order: u64,
+) -> Result<(), OutboxFault>
+    requires order { order < 2 ^ 63 }
+    requires last { last ≤ max_sequence }
+    ensures accepted { HasCleanDisk (state S.Store conn.new) → OnOk result (
+        (source : List ℕ) (base : ℕ) (commands : List Accepted) → last ≡ base + length commands
+        → IsService (state S.Store conn.old).now source base commands
+        → refusal base commands status order ≡ None) }
+    ensures room { OnOk result (last < max_sequence) }
+    ensures refused { HasCleanDisk (state S.Store conn.new) → IfErr result (λ f.
+        f ≢ OutOfMemory → f ≢ Store
+        → (source : List ℕ) (base : ℕ) (commands : List Accepted) → last ≡ base + length commands
+        → IsService (state S.Store conn.old).now source base commands
+        → refusal base commands status order ≡ Some f) }
+    ensures fault { IfErr result (λ f. f ≢ Foreign) }
+    ensures same { IsSame (state S.Store conn.old) (state S.Store conn.new) }
+{
+    let found = status_in(conn, order)?;
+    match status.fault_after(found) {
+        Some(fault) => return Err(fault),
+        None => {}
+    }
+    if last == MAX {
+        return Err(OutboxFault::Full);
+    }
+    Ok(())
+}
+
+impl<S: Alter> Service<S> {
+    /// The source of its events: at least one character, no control character, and at most 1,024
+    /// bytes.
+    pub fn source(&self) -> &Text
+        ensures source { result.now ≡ self.now.source }
+        ensures stands { StandsFor (state S.Store self.now.conn)
+            self.now.source self.now.base self.now.last }
+    {
+        &self.source
+    }
+
+    /// The number before that of its first row, in 0..=2^63-1.
+    pub fn base(&self) -> u64
+        ensures base { result ≡ self.now.base }
+        ensures stands { StandsFor (state S.Store self.now.conn)
+            self.now.source self.now.base self.now.last }
+    {
+        self.base
+    }
+
+    /// Gives the connection back, with its tables as they are.
+    pub fn into_connection(self) -> Connection<S>
+        ensures { result ≡ self.conn }
+    {
+        let Service {
+            conn,
+            source: _,
+            base: _,
+            last: _,
+            alloc: _,
+        } = self;
+        conn
+    }
+
+    /// Decides on a command, makes its event, and only then writes.
+    fn accept(
+        &mut self,
+        status: Status,
+        order: u64,
+        at: &Moment,
+    ) -> Result<Sequenced, OutboxFault>
+        requires order { (1 ≤ order) × (order ≤ max_sequence) }
+        requires short { length at.now ≤ 64 }
+        ensures kept { (self.new.source ≡ self.old.source) × (self.new.base ≡ self.old.base) }
+        ensures accepted { HasCleanDisk (state S.Store self.new.conn) → IfOk result
+            (Accepts self.old.source self.old.base
+            (record { status = status; order = order; at = at.now })
+            (state S.Store self.old.conn).now (state S.Store self.new.conn).now) }
+        ensures refused { HasCleanDisk (state S.Store self.new.conn)
+            → IsTrue (state S.Store self.new.conn).is_open
+            → IfErr result (λ f. f ≢ OutOfMemory → f ≢ Store
+            → Refuses self.old.source self.old.base status order
+            (state S.Store self.old.conn).now f) }
+        ensures fault { IfErr result (λ f. f ≢ Foreign) }
+        ensures same { OnErr result ((self.new.last ≡ self.old.last)
+            × IsAsItWas (state S.Store self.old.conn) (state S.Store self.new.conn)) }
+    {
+        // The day tells that the time is one.
+        let _day = at.day();
+        match decide(&mut self.conn, self.last, status, order) {
+            Ok(()) => {}
+            Err(fault) => return Err(fault),
+        }
+        let number = self.last + 1;
+        let event = event(
+            self.alloc,
+            self.source.as_str(),
+            number,
+            status,
+            order,
+            at.as_str(),
+        )?;
+        match write(&mut self.conn, number, status, order, at.as_str()) {
+            Ok(()) => {}
+            Err(error) => return Err(OutboxFault::from(error)),
+        }
+        self.last = number;
+        Ok(event)
+    }
+
+    /// Places an order, and answers the event of its row.
+    ///
+    /// The fault is `OrderExists`, `Full`, in this order; `Store` or want of
+    /// memory may come at any statement. Nothing is then written. One order and one row are
+    /// written in one transaction; the time grows with the logarithm of the tables.
+    pub fn place(&mut self, order: u64, at: &Moment) -> Result<Sequenced, OutboxFault>
+        requires order { (1 ≤ order) × (order ≤ max_sequence) }
+        requires short { length at.now ≤ 64 }
+        ensures kept { (self.new.source ≡ self.old.source) × (self.new.base ≡ self.old.base) }
+        ensures accepted { HasCleanDisk (state S.Store self.new.conn) → IfOk result
+            (Accepts self.old.source self.old.base
+            (record { status = Placed; order = order; at = at.now })
+            (state S.Store self.old.conn).now (state S.Store self.new.conn).now) }
+        ensures refused { HasCleanDisk (state S.Store self.new.conn)
+            → IsTrue (state S.Store self.new.conn).is_open
+            → IfErr result (λ f. f ≢ OutOfMemory → f ≢ Store
+            → Refuses self.old.source self.old.base Placed order
+            (state S.Store self.old.conn).now f) }
+        ensures fault { IfErr result (λ f. f ≢ Foreign) }
+        ensures same { OnErr result ((self.new.last ≡ self.old.last)
+            × IsAsItWas (state S.Store self.old.conn) (state S.Store self.new.conn)) }
+    {
+        self.accept(Status::Placed, order, at)
+    }
+
+    /// Ships an order that was placed, and answers the event of its row.
+    ///
+    /// The fault is `NoOrder`, `WrongState`, `Full`, in this order; `Store` or want of
+    /// memory may come at any statement. Nothing is then written. One order and one row are
+    /// written in one transaction; the time grows with the logarithm of the tables.
+    pub fn ship(&mut self, order: u64, at: &Moment) -> Result<Sequenced, OutboxFault>
+        requires order { (1 ≤ order) × (order ≤ max_sequence) }
+        requires short { length at.now ≤ 64 }
+        ensures kept { (self.new.source ≡ self.old.source) × (self.new.base ≡ self.old.base) }
+        ensures accepted { HasCleanDisk (state S.Store self.new.conn) → IfOk result
+            (Accepts self.old.source self.old.base
+            (record { status = Shipped; order = order; at = at.now })
+            (state S.Store self.old.conn).now (state S.Store self.new.conn).now) }
+        ensures refused { HasCleanDisk (state S.Store self.new.conn)
+            → IsTrue (state S.Store self.new.conn).is_open
+            → IfErr result (λ f. f ≢ OutOfMemory → f ≢ Store
+            → Refuses self.old.source self.old.base Shipped order
+            (state S.Store self.old.conn).now f) }
+        ensures fault { IfErr result (λ f. f ≢ Foreign) }
+        ensures same { OnErr result ((self.new.last ≡ self.old.last)
+            × IsAsItWas (state S.Store self.old.conn) (state S.Store self.new.conn)) }
+    {
+        self.accept(Status::Shipped, order, at)
+    }
+
+    /// Cancels an order that was placed, and answers the event of its row.
+    ///
+    /// The fault is `NoOrder`, `WrongState`, `Full`, in this order; `Store` or want of
+    /// memory may come at any statement. Nothing is then written. One order and one row are
+    /// written in one transaction; the time grows with the logarithm of the tables.
+    pub fn cancel(&mut self, order: u64, at: &Moment) -> Result<Sequenced, OutboxFault>
+        requires order { (1 ≤ order) × (order ≤ max_sequence) }
+        requires short { length at.now ≤ 64 }
+        ensures kept { (self.new.source ≡ self.old.source) × (self.new.base ≡ self.old.base) }
+        ensures accepted { HasCleanDisk (state S.Store self.new.conn) → IfOk result
+            (Accepts self.old.source self.old.base
+            (record { status = Cancelled; order = order; at = at.now })
+            (state S.Store self.old.conn).now (state S.Store self.new.conn).now) }
+        ensures refused { HasCleanDisk (state S.Store self.new.conn)
+            → IsTrue (state S.Store self.new.conn).is_open
+            → IfErr result (λ f. f ≢ OutOfMemory → f ≢ Store
+            → Refuses self.old.source self.old.base Cancelled order
+            (state S.Store self.old.conn).now f) }
+        ensures fault { IfErr result (λ f. f ≢ Foreign) }
+        ensures same { OnErr result ((self.new.last ≡ self.old.last)
+            × IsAsItWas (state S.Store self.old.conn) (state S.Store self.new.conn)) }
+    {
+        self.accept(Status::Cancelled, order, at)
+    }
+
+    /// At most `limit` rows (1 to 100) with a greater number than `after`, in order. The fault is
+    /// `Store` or want of memory. Time and memory in proportion to those rows, and the logarithm of
+    /// all.
+    pub fn rows_after(&mut self, after: u64, limit: u64) -> Result<Batch, OutboxFault>
+        requires limit { (1 ≤ limit) × (limit ≤ 100) }
+        ensures kept { (self.new.source ≡ self.old.source) × (self.new.base ≡ self.old.base)
+            × (self.new.last ≡ self.old.last) }
+        ensures rows { HasCleanDisk (state S.Store self.new.conn) → IfOk result
+            (ShowsAfter self.old.source self.old.base after limit
+            (state S.Store self.old.conn).now) }
+        ensures same { IsSame (state S.Store self.old.conn) (state S.Store self.new.conn) }
+        ensures fault { IfErr result (λ f. (f ≡ OutOfMemory) ⊎ (f ≡ Store)) }
+    {
+        let rows = page(&mut self.conn, after.min(MAX), limit)?;
+        stored_events(self.alloc, self.source.as_str(), &rows)
+    }
+}

@@ -1,0 +1,54 @@
+//! The statuses of orders.
+
+ghost use Rattle.std.specs.Prelude.{◌≡◌, pos, IfSome};
+ghost use Rattle.outbox.specs.Order.{status_fault};
+ghost use Rattle.outbox.specs.Service.{code};
+
+use crate::fault::OutboxFault;
+
+/// The status of an order, and the command that gives it. An order is placed, and then shipped or
+/// cancelled, which are final.
+#[derive(Clone, Copy, PartialEq, Eq, Debug)]
+pub enum Status {
+    Placed,
+    Shipped,
+    Cancelled,
+}
+
+impl Status {
+    /// Its number in the tables.
+    pub(crate) fn code(self) -> i64
+        ensures { result ≡ pos (code self) }
+    {
+        match self {
+            Status::Placed => 1,
+            Status::Shipped => 2,
+            Status::Cancelled => 3,
+        }
+    }
+
+    /// The status with this number, where there is one.
+    pub(crate) fn of_code(number: i64) -> Option<Status>
+        ensures { IfSome result (λ s. number ≡ pos (code s)) }
+    {
+        match number {
+            1 => Some(Status::Placed),
+            2 => Some(Status::Shipped),
+            3 => Some(Status::Cancelled),
+            _ => None,
+        }
+    }
+
+    /// Why an order that had this status, or none, can't get this one.
+    pub(crate) fn fault_after(self, old: Option<Status>) -> Option<OutboxFault>
+        ensures { result ≡ status_fault self old }
+    {
+        match (self, old) {
+            (Status::Placed, None) => None,
+            (Status::Placed, Some(_)) => Some(OutboxFault::OrderExists),
+            (_, None) => Some(OutboxFault::NoOrder),
+            (_, Some(Status::Placed)) => None,
+            (_, Some(_)) => Some(OutboxFault::WrongState),
+        }
+    }
+}

@@ -1,0 +1,2 @@
+pub mod LastLemmas
+pub mod RouteLemmas

@@ -1,0 +1,3 @@
+pub mod Route
+pub mod Relay
+pub mod Fault

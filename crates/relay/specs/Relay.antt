@@ -1,0 +1,49 @@
+-- What relays send.
+use Rattle.std.specs.Prelude.{◌≡◌, ◌≢◌, ℕ, ◌+◌, List, [], ◌∷◌, length, Some, Option, MatchOption, refl}
+use Rattle.std.specs.Coded.{Coded, code_by, coded×, coded_ℕ, coded_list}
+use Rattle.sqlite.specs.Effect.{Database}
+use Rattle.attributes.specs.Event.{EventValue}
+use Rattle.attributes.specs.EventCode.{event_code}
+use Rattle.attributes.specs.Sequence.{number_of}
+use Rattle.outbox.specs.Order.{Accepted}
+use Rattle.outbox.specs.Row.{rows_after}
+use Rattle.outbox.specs.Service.{IsService}
+use Rattle.relay.specs.Route.{AreIn, AreOf, Kept}
+use Rattle.relay.specs.declared.relay.Job.{Job}
+
+-- the most rows that are sent at once
+abbrev pub max_page : ℕ
+max_page = 100
+
+-- the number of the last event, or this one where there is none
+abbrev pub IsLast : ℕ → List EventValue → ℕ → Type 0
+IsLast mark [] last = last ≡ mark
+IsLast mark (e ∷ []) last = number_of e ≡ Some last
+IsLast mark (e ∷ f ∷ events) last = IsLast mark (f ∷ events) last
+
+-- the next rows after the mark, at most a page, of a service with this source and base
+abbrev pub ForNextRows : List ℕ → ℕ → ℕ → Database → (List EventValue → Type 0) → Type 0
+ForNextRows source base mark db Holds = (commands : List Accepted)
+    → IsService db source base commands → Holds (rows_after source base commands mark max_page)
+
+-- the next rows, so many, are among those that the route has accepted, and this is the last number
+abbrev pub Sends : List EventValue → ℕ → ℕ → ℕ → List EventValue → Type 0
+Sends accepted mark count last rows =
+    (count ≡ length rows) × AreIn rows accepted × IsLast mark rows last
+
+-- the job has the rows, and there is none exactly where there are no rows
+abbrev pub HasRows : Option Job → List EventValue → Type 0
+HasRows job rows = MatchOption job (rows ≡ []) (λ j. (j.rows ≢ []) × (j.rows ≡ rows))
+
+-- the site and the mark of a relay
+pub record Marked : Type 0 where
+  pub site : ℕ
+  pub mark : ℕ
+
+abbrev pub marked_code : Coded Marked
+marked_code = code_by (ℕ × ℕ) (coded× coded_ℕ coded_ℕ) (λ m. (m.site, m.mark))
+    (λ p. record { site = p.0; mark = p.1 }) (λ _. refl)
+
+abbrev pub kept_code : Coded Kept
+kept_code = code_by (List EventValue × ℕ) (coded× (coded_list event_code) coded_ℕ)
+    (λ k. (k.events, k.failures)) (λ p. record { events = p.0; failures = p.1 }) (λ _. refl)

@@ -1,0 +1,25 @@
+-- What routes have accepted.
+use Rattle.std.specs.Prelude.{◌≡◌, ◌⊎◌, ◌<◌, ℕ, List, [], ◌∷◌}
+use Rattle.attributes.specs.Event.{EventValue}
+
+-- an event is one of these
+abbrev pub Has : List EventValue → EventValue → Type 0
+Has [] e = ⊥
+Has (f ∷ events) e = (e ≡ f) ⊎ Has events e
+
+-- each of these events is one of those
+abbrev pub AreIn : List EventValue → List EventValue → Type 0
+AreIn events all = (e : EventValue) → Has events e → Has all e
+
+-- each of these events is one of those, or of these others
+abbrev pub AreOf : List EventValue → List EventValue → List EventValue → Type 0
+AreOf events all others = (e : EventValue) → Has events e → Has all e ⊎ Has others e
+
+-- what a `MemoryRoute` is: the events in the order of their arrival, and a count of failures
+pub record Kept : Type 0 where
+  pub events : List EventValue
+  pub failures : ℕ
+
+-- the count is higher, or at the end of its range, 2^64 - 1, where it stays
+abbrev pub CountRises : ℕ → ℕ → Type 0
+CountRises old new = (old < new) ⊎ ((old ≡ 18446744073709551615) × (new ≡ 18446744073709551615))
