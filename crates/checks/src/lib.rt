@@ -12,12 +12,8 @@ mod inboxes;
 #[cfg(test)]
 mod json;
 #[cfg(test)]
-mod orders;
-#[cfg(test)]
 mod reports;
 #[cfg(test)]
 mod sites;
 #[cfg(test)]
 mod summaries;
-#[cfg(test)]
-mod tables;
