@@ -17,3 +17,5 @@ mod reports;
 mod sites;
 #[cfg(test)]
 mod summaries;
+#[cfg(test)]
+mod worlds;

@@ -12,7 +12,7 @@ use std::alloc::{AllocError, Global};
 use views::{Query, print};
 
 /// The id, the sequence number, the type and the subject of an event of the source `/orders`.
-type Row = (&'static str, u64, &'static str, &'static str);
+pub type Row = (&'static str, u64, &'static str, &'static str);
 
 const A1: Row = ("a1", 1, "t.a", "x");
 
@@ -60,7 +60,7 @@ fn set(alloc: Global, parts: &mut Parts, name: &str, text: &str) -> Result<(), A
 }
 
 /// The event of a row.
-fn event(alloc: Global, row: Row) -> Result<Sequenced, Failed> {
+pub fn event(alloc: Global, row: Row) -> Result<Sequenced, Failed> {
     let number = row.1;
     let digits = format!(in alloc; "{number:020}")?;
     let mut parts = Parts::empty(alloc);
