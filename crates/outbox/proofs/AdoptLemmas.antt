@@ -1,8 +1,7 @@
 -- What rows that read as those of a service say of the rows that are stored.
-use Rattle.std.proofs.Common.{◌≡◌, ◌≢◌, ◌⊎◌, inl, inr, ℕ, suc, pos, List, [], ◌∷◌, map, flat_map, Bool, true, false, not, ◌&&◌, Some, None, Option, refl, sym, ap, ap₂, subst, ◌∙◌, IsPermutation, IsTrue}
+use Rattle.std.proofs.Common.{◌≡◌, ℕ, suc, List, [], ◌∷◌, map, flat_map, Bool, true, false, not, ◌&&◌, refl, sym, ap, ap₂, subst, ◌∙◌, IsPermutation}
 use Rattle.std.specs.List.{AllByRecursion}
-use Rattle.std.proofs.lemmas.Bool.{and_parts}
-use Rattle.std.proofs.lemmas.List.Sorted.{IsPermutation-map, IsPermutation-sym, IsPermutation-trans}
+use Rattle.std.proofs.lemmas.List.Sorted.{IsPermutation-map, IsPermutation-sym}
 use Rattle.sqlite_value.specs.declared.value.Value.{Value}
 use Rattle.sqlite_value.specs.declared.value.Value.TheVariants.{Null, Int, Real, Text as Words, Blob}
 use Rattle.sqlite_value.specs.Order.{Row, column}
@@ -12,19 +11,17 @@ use Rattle.sqlite_schema.specs.Rules.{passes, is_of, Obeys}
 use Rattle.sqlite_schema.specs.declared.schema.Kind.TheVariants.{Integer, Text}
 use Rattle.sqlite_sql.specs.Ops.{is_null}
 use Rattle.sqlite_sql.specs.Program.{overlay}
-use Rattle.sqlite_sql.specs.Query.{Output, output, end, matches_as, page, IsAnswerAs}
-use Rattle.sqlite_rules.specs.Lists.{Has}
+use Rattle.sqlite_sql.specs.Query.{Output, output, end, matches_as, IsAnswerAs}
 use Rattle.sqlite_rules.proofs.ProbeLemmas.{has_mapped, mapped_has}
 use Rattle.sqlite.specs.Effect.{IsDatabase}
 use Rattle.sqlite.specs.State.{State, Shown}
 use Rattle.sqlite.proofs.Callers.{reads_as, one_permutation}
 use Rattle.sqlite_schema.specs.declared.schema.Schema.{Schema}
-use Rattle.outbox.specs.Order.{Accepted, status_of}
+use Rattle.outbox.specs.Order.{Accepted}
 use Rattle.outbox.specs.Schema.{service, orders, outbox, schema_in, first_tree}
-use Rattle.outbox.specs.Service.{code, service_row, order_row, outbox_rows, AreOrders}
+use Rattle.outbox.specs.Service.{service_row, order_row, outbox_rows, AreOrders}
 use Rattle.outbox.specs.steps.Change.{shown_row, shown_rows, shown_service, ShowOrders}
 use Rattle.outbox.specs.declared.layout.Layout.{Layout}
-use Rattle.outbox.specs.declared.status.Status.{Status}
 use Rattle.outbox.proofs.StepLemmas.{has_permuted}
 use Rattle.outbox.proofs.LayoutLemmas.{service_passes, orders_passes, outbox_passes, no_overlay}
 use Rattle.outbox.proofs.TextLemmas.{all_rows_text, all_rows_is, all_rows_plain, all_rows_query, all_orders_text, all_orders_is, all_orders_plain, all_orders_query, service_row_text, service_row_is, service_row_plain, service_query}

@@ -1,5 +1,5 @@
 -- What the statements of `create` make of a database that has room for the tables.
-use Rattle.std.proofs.Common.{◌≡◌, ◌⊎◌, inl, inr, ℕ, suc, List, [], ◌∷◌, Bool, true, false, Option, Some, None, Ok, Err, Result, IsTrue, IsPermutation, refl, sym, ap, subst, ◌∙◌}
+use Rattle.std.proofs.Common.{◌≡◌, ◌⊎◌, inl, inr, ℕ, List, [], ◌∷◌, false, Option, Some, None, Ok, Err, IsPermutation, refl, sym, ap, subst, ◌∙◌}
 use Rattle.std.proofs.lemmas.List.Sorted.{IsPermutation-refl}
 use Rattle.sqlite_schema.specs.declared.command.Command.TheVariants.{CreateTable}
 use Rattle.sqlite_schema.specs.declared.schema.Schema.{Schema}
@@ -11,11 +11,10 @@ use Rattle.sqlite_catalog.specs.Change.{created, next_tree, KeepsRows}
 use Rattle.sqlite.specs.declared.error.Error.{Error}
 use Rattle.sqlite.specs.Effect.{Database}
 use Rattle.sqlite.specs.Listing.{understood}
-use Rattle.sqlite.specs.Does.{Tally, Does, lacks_sequence}
-use Rattle.sqlite.specs.State.{State, Writes, Executes, ExecutesInside, IsUnchanged, IsRolledBack, KeepsCommit, mode_of}
+use Rattle.sqlite.specs.Does.{Tally, lacks_sequence}
+use Rattle.sqlite.specs.State.{State, Writes, Executes, ExecutesInside, IsUnchanged, IsRolledBack, KeepsCommit}
 use Rattle.sqlite.proofs.Callers.{IsPlain, command_of, statement_of, runs_as, one_permutation}
-use Rattle.outbox.specs.Order.{status_of}
-use Rattle.outbox.specs.Schema.{service, orders, outbox, inbox, inbox_index, schema_of, schema_in, first_tree}
+use Rattle.outbox.specs.Schema.{service, orders, outbox, inbox, inbox_index, schema_of, first_tree}
 use Rattle.outbox.specs.Service.{IsService, AreOrders, service_row}
 use Rattle.outbox.specs.steps.Change.{IsRoomFor, MakesTables}
 use Rattle.outbox.specs.steps.Statement.{create_service, create_orders, create_outbox, found_text}

@@ -1,6 +1,5 @@
 -- The tables that were found are those of a service.
-use Rattle.std.proofs.Common.{◌≡◌, ◌≤◌, ℕ, suc, ◌+◌, pos, List, [], ◌∷◌, length, IsTrue, refl, sym, ap, subst, ◌∙◌, arith, IsPermutation}
-use Rattle.sqlite_value.specs.declared.value.Value.TheVariants.{Int, Text as Words}
+use Rattle.std.proofs.Common.{◌≡◌, ℕ, suc, List, [], ◌∷◌, IsTrue, sym, ap, subst, ◌∙◌, arith, IsPermutation}
 use Rattle.sqlite_value.specs.Order.{Row}
 use Rattle.sqlite.specs.Effect.{Database}
 use Rattle.sqlite.specs.State.{State, HasCleanDisk, IsLive, Shown}
@@ -8,7 +7,7 @@ use Rattle.std.specs.BTreeMap.{get}
 use Rattle.std.proofs.Common.{nat_cmp}
 use Rattle.outbox.specs.Order.{Accepted, status_of}
 use Rattle.outbox.specs.Schema.{schema_in, first_tree}
-use Rattle.outbox.specs.Service.{service_row, outbox_rows, AreOrders, IsService}
+use Rattle.outbox.specs.Service.{service_row, outbox_rows, AreOrders}
 use Rattle.outbox.specs.Shown.{Stands}
 use Rattle.outbox.specs.Call.{IsSame}
 use Rattle.outbox.specs.steps.Change.{ShowOrders, shown_service}

@@ -1,5 +1,5 @@
 -- What the schemas that a service may have say of its three tables.
-use Rattle.std.proofs.Common.{◌≡◌, ◌≢◌, ℕ, zero, suc, ◌-◌, List, [], ◌∷◌, length, Bool, true, false, Option, Some, None, slice_get, unwrap_or, if◌then◌else◌, nat_le, ◌^◌, refl, sym, ap, arith}
+use Rattle.std.proofs.Common.{◌≡◌, ℕ, suc, ◌-◌, List, [], length, Bool, true, false, Some, None, slice_get, unwrap_or, if◌then◌else◌, nat_le, ◌^◌, refl, ap}
 use Rattle.std.specs.List.{AllByRecursion}
 use Rattle.sqlite_value.specs.Order.{Row}
 use Rattle.sqlite_trees.specs.Tree.{Trees}

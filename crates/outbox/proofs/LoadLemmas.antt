@@ -1,24 +1,23 @@
 -- What the queries show.
-use Rattle.std.proofs.Common.{◌≡◌, ◌⊎◌, inl, inr, ℕ, zero, suc, ◌+◌, ◌-◌, ◌<◌, ◌≤◌, ◌++◌, eqb, length, take, drop, pos, ℤ, List, [], ◌∷◌, map, flat_map, cond, Bool, true, false, ◌&&◌, Option, Some, None, if◌then◌else◌, Less, Greater, is_eq, is_gt, int_cmp, refl, sym, ap, subst, ◌∙◌, arith, IsPermutation, IsSorted}
+use Rattle.std.proofs.Common.{◌≡◌, inl, inr, ℕ, zero, suc, ◌+◌, ◌-◌, ◌<◌, ◌≤◌, eqb, take, drop, pos, List, [], ◌∷◌, map, flat_map, Bool, true, false, ◌&&◌, Option, Some, None, if◌then◌else◌, Less, is_eq, is_gt, int_cmp, refl, sym, ap, subst, ◌∙◌, arith, IsPermutation}
 use Rattle.std.specs.List.{AllByRecursion, list_all}
-use Rattle.std.proofs.lemmas.Bool.{cases_Bool}
 use Rattle.std.proofs.lemmas.Bool.Decides.{nat_tests}
 use Rattle.std.proofs.lemmas.Int.{ints}
 use Rattle.std.proofs.lemmas.List.Sorted.{IsPermutation-map, IsPermutation-trans, IsPermutation-sym}
 use Rattle.sqlite_keyed.proofs.ListLemmas.{IsPermutation-flat_map}
 use Rattle.sqlite_keyed.proofs.SortLemmas.{sorted_unique}
 use Rattle.sqlite_value.specs.declared.value.Value.{Value}
-use Rattle.sqlite_value.specs.declared.value.Value.TheVariants.{Null, Int, Text as Words}
+use Rattle.sqlite_value.specs.declared.value.Value.TheVariants.{Null, Int}
 use Rattle.sqlite_value.specs.declared.keys.Collation.TheVariants.{Binary}
 use Rattle.sqlite_value.specs.Order.{Row, column, value_cmp}
 use Rattle.sqlite_value.proofs.OrderLemmas.{value_cmp-Int}
 use Rattle.sqlite_trees.specs.Tree.{Trees, IsAscending}
 use Rattle.sqlite_sql.specs.declared.ops.BinaryOp.TheVariants.{Compare}
 use Rattle.sqlite_sql.specs.declared.ops.CompareOp.TheVariants.{Eq, Gt}
-use Rattle.sqlite_sql.specs.Term.{Env, holds, lit, col, op2}
+use Rattle.sqlite_sql.specs.Term.{Env, holds}
 use Rattle.sqlite_sql.specs.Ops.{binary, is_true, from_truth}
 use Rattle.sqlite_sql.specs.Program.{overlay}
-use Rattle.sqlite_sql.specs.Query.{Query, Output, output, output_cmp, end, matches_as, page, IsAnswerAs}
+use Rattle.sqlite_sql.specs.Query.{Query, Output, output, output_cmp, end, matches_as, IsAnswerAs}
 use Rattle.sqlite_sql.proofs.QueryLemmas.{output_cmp_total}
 use Rattle.sqlite_rules.specs.Lists.{Has}
 use Rattle.sqlite_rules.proofs.ProbeLemmas.{has_mapped, mapped_has}
@@ -32,7 +31,7 @@ use Rattle.outbox.specs.declared.layout.Layout.{Layout}
 use Rattle.outbox.specs.declared.status.Status.{Status}
 use Rattle.outbox.proofs.StepLemmas.{has_permuted}
 use Rattle.outbox.proofs.PutLemmas.{same_int}
-use Rattle.outbox.proofs.ListLemmas.{has_flat, flat_has, drop_none}
+use Rattle.outbox.proofs.ListLemmas.{has_flat, flat_has}
 use Rattle.outbox.proofs.LayoutLemmas.{no_overlay}
 use Rattle.outbox.proofs.TextLemmas.{status_text, status_is, status_plain, status_query, page_text, page_is, page_plain, page_query}
 
@@ -79,10 +78,13 @@ tells_status old last l commands order rows has olds h =
   where
     db : Trees
     db = overlay old.now.trees []
+
     params : Row
     params = Int (pos order) ∷ []
+
     outs : List Output
     outs = map (output (status_query (suc (first_tree l)))) (flat_map (matched Null db params) (old.now.trees (suc (first_tree l))))
+
     first : (o : Output) → Has outs o → (s : Status) × (o.1 ≡ Int (pos (code s)) ∷ []) × (status_of commands order ≡ Some s)
     first o h =
         let e = has_mapped (output (status_query (suc (first_tree l)))) (flat_map (matched Null db params) (old.now.trees (suc (first_tree l)))) o h in
@@ -93,6 +95,7 @@ tells_status old last l commands order rows has olds h =
         let same : eqb was.0 order ≡ true = sym (eq_is was.0 order) ∙ subst (λ (q : Row). is_true (binary (Compare Eq Binary) (column q 0) (Int (pos order))) ≡ true) was.2 test in
         let is : was.0 ≡ order = grind (arith, nat_tests, same) in
         (was.1, ap (λ (o : Output). o.1) e.2 ∙ ap (λ (x : Env). (output (status_query (suc (first_tree l))) x).1) hit.1 ∙ ap (λ (q : Row). column q 2 ∷ []) was.2, subst (λ n. status_of commands n ≡ Some was.1) is was.3)
+
     none : (o : Option Status) → status_of commands order ≡ o → ((x : Output) → Has outs x → ⊥) → status_of commands order ≡ None
     none None is empty = is
     none (Some s) is empty =
@@ -101,6 +104,7 @@ tells_status old last l commands order rows has olds h =
         let hit : Has (matched Null db params (order_row order s)) (params ∷ order_row order s ∷ []) =
         subst (λ b. Has (if b then (params ∷ order_row order s ∷ []) ∷ [] else []) (params ∷ order_row order s ∷ [])) (sym test) (inl refl) in
         absurd (empty _ (mapped_has (output (status_query (suc (first_tree l)))) _ _ (flat_has (matched Null db params) (old.now.trees (suc (first_tree l))) (order_row order s) (params ∷ order_row order s ∷ []) r hit)))
+
     go : (rows : List Row) (ordered : List Output) → rows ≡ map (λ (o : Output). o.1) ordered → IsPermutation outs ordered → TellsStatus commands order rows
     go rows [] is same = subst (TellsStatus commands order) (sym is) (none (status_of commands order) refl (λ x k. has_permuted outs [] same x k))
     go rows (o ∷ more) is same = subst (TellsStatus commands order) (sym is) (first o (has_permuted (o ∷ more) outs (IsPermutation-sym _ _ same) o (inl refl)))

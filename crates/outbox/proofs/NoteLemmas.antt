@@ -1,9 +1,8 @@
 -- What noting a status does: INSERT OR REPLACE INTO orders.
-use Rattle.std.proofs.Common.{◌≡◌, ◌⊎◌, inl, inr, ℕ, zero, suc, pos, ℤ, length, List, [], ◌∷◌, ◌++◌, Bool, true, false, not, ◌&&◌, eqb, Option, Some, None, Ok, Err, Result, is_eq, refl, sym, ap, subst, ◌∙◌, arith, IsPermutation}
+use Rattle.std.proofs.Common.{◌≡◌, inl, inr, ℕ, suc, pos, ℤ, List, [], ◌∷◌, ◌++◌, Bool, true, false, not, ◌&&◌, eqb, Option, Some, None, Ok, is_eq, refl, sym, ap, subst, ◌∙◌, arith, IsPermutation}
 use Rattle.std.proofs.lemmas.Bool.Decides.{nat_tests}
-use Rattle.std.proofs.lemmas.Int.{ints}
 use Rattle.sqlite_value.specs.declared.value.Value.TheVariants.{Null, Int}
-use Rattle.sqlite_value.specs.Order.{Row, value_cmp}
+use Rattle.sqlite_value.specs.Order.{Row}
 use Rattle.sqlite_value.proofs.OrderLemmas.{value_cmp-Int}
 use Rattle.sqlite_trees.specs.Tree.{Trees, put_row, rowid, has_rowid}
 use Rattle.sqlite_sql.specs.Ops.{unary}
@@ -12,21 +11,17 @@ use Rattle.sqlite_schema.specs.declared.command.Source.TheVariants.{Values}
 use Rattle.sqlite_schema.specs.declared.command.Conflict.TheVariants.{Replace}
 use Rattle.sqlite_schema.specs.declared.command.Command.TheVariants.{InsertOr}
 use Rattle.sqlite_rules.specs.declared.error.Rowids.TheVariants.{Chosen, Given}
-use Rattle.sqlite_rules.specs.declared.error.Refusal.{Refusal}
 use Rattle.sqlite_rules.specs.Cast.{cast_row}
 use Rattle.sqlite_rules.specs.Lists.{Has}
 use Rattle.sqlite_rules.specs.Calls.{ids_of}
-use Rattle.sqlite_rules.specs.Edit.{Edit, edit_of, edited, with_rowid, is_taken, taken_by, are_fresh, without_all, id_in}
+use Rattle.sqlite_rules.specs.Edit.{edit_of, with_rowid, is_taken, taken_by, without_all, id_in}
 use Rattle.sqlite_rules.specs.Keys.{AreConflicts, conflicts}
-use Rattle.sqlite_rules.specs.Steps.{IsJudged}
-use Rattle.sqlite.specs.declared.error.Error.{Error}
 use Rattle.sqlite.specs.Effect.{Database}
-use Rattle.sqlite.specs.Rows.{Written, Task, Then, nothing, joined, higher, count_of, Puts, Clears, Upserts, Tries, TriesEach, mended}
+use Rattle.sqlite.specs.Rows.{Written, Task, Then, nothing, joined, higher, count_of, Puts, Clears, Tries, TriesEach, mended}
 use Rattle.sqlite.specs.Does.{Tally, Does, AtPlace, OnRows}
 use Rattle.sqlite.specs.State.{State, mode_of, Executes}
 use Rattle.sqlite.specs.Listing.{understood}
 use Rattle.sqlite.proofs.Callers.{statement_of, runs_as, one_step}
-
 use Rattle.outbox.specs.Order.{Accepted}
 use Rattle.outbox.specs.Schema.{orders, schema_in, first_tree}
 use Rattle.outbox.specs.Service.{code, order_row, AreOrders}

@@ -1,7 +1,5 @@
 -- What a row that is noted or appended does to what the tables stand for.
 use Rattle.std.proofs.Common.{◌≡◌, ◌≢◌, ◌⊎◌, inl, inr, ℕ, suc, ◌+◌, ◌<◌, ◌==◌, eqb, pos, ℤ, length, fold, List, [], ◌∷◌, ◌++◌, Bool, true, false, not, ◌&&◌, ◌||◌, Option, Some, None, if◌then◌else◌, cond, Less, Equal, is_eq, int_cmp, refl, sym, ap, subst, ◌∙◌, arith, IsPermutation}
-use Rattle.std.specs.List.{list_any}
-use Rattle.std.proofs.lemmas.Bool.{or_parts, false_from_ne_true}
 use Rattle.std.proofs.lemmas.Bool.Decides.{nat_tests}
 use Rattle.std.proofs.lemmas.Int.{ints}
 use Rattle.std.proofs.lemmas.List.Sums.{fold-append}
@@ -12,18 +10,18 @@ use Rattle.sqlite_value.specs.declared.keys.Collation.TheVariants.{Binary}
 use Rattle.sqlite_value.specs.Order.{Row, value_cmp}
 use Rattle.sqlite_value.specs.Keys.{first_key}
 use Rattle.sqlite_value.proofs.OrderLemmas.{value_cmp-Int}
-use Rattle.sqlite_trees.specs.Tree.{rowid, put_row, has_rowid, without_rowid}
+use Rattle.sqlite_trees.specs.Tree.{rowid, has_rowid, without_rowid}
 use Rattle.sqlite_sql.specs.Ops.{unary, binary, is_true, from_truth}
 use Rattle.sqlite_schema.specs.Rules.{equal}
 use Rattle.sqlite_schema.specs.declared.schema.Kind.TheVariants.{Integer}
 use Rattle.sqlite_rules.specs.Cast.{cast, cast_row}
-use Rattle.sqlite_rules.specs.Edit.{id_in, is_taken, without_all}
+use Rattle.sqlite_rules.specs.Edit.{is_taken, without_all}
 use Rattle.sqlite_rules.specs.Keys.{conflicts}
 use Rattle.sqlite_rules.specs.Lists.{Has}
 use Rattle.outbox.specs.Order.{Accepted, AreAccepted, IsCommand, refusal, status_of}
 use Rattle.outbox.specs.declared.status.Status.{Status}
 use Rattle.outbox.specs.Schema.{service, orders, outbox}
-use Rattle.outbox.specs.Service.{code, order_row, outbox_row, outbox_rows, AreOrders}
+use Rattle.outbox.specs.Service.{order_row, outbox_row, outbox_rows, AreOrders}
 use Rattle.outbox.proofs.StepLemmas.{has_permuted}
 
 either : {X : Type 0} (b : Bool) (x : X) → (if b then x else x) ≡ x
@@ -99,12 +97,14 @@ noted rows left after commands c within keeps free same old = record { sound = �
   where
     new : Row
     new = order_row c.order c.status
+
     sound : (r : Row) → Has (order_row c.order c.status ∷ left) r → (order : ℕ) × (status : Status) × (r ≡ order_row order status) × (status_of (commands ++ c ∷ []) order ≡ Some status)
     sound r (inl is) = (c.order, c.status, is, status_snoc commands c c.order ∙ ap (λ b. if b then Some c.status else status_of commands c.order) (let e : eqb c.order c.order ≡ true = grind (arith, nat_tests) in e))
     sound r (inr h) =
         let was = old.sound r (within r h) in
         let apart = other_order was.0 c.order was.1 c.status (ap (λ (y : Row). is_eq (value_cmp (rowid y) (rowid (order_row c.order c.status)))) (sym was.2) ∙ not_taken left (order_row c.order c.status) r free h) in
         (was.0, was.1, was.2, status_snoc commands c was.0 ∙ ap (λ b. if b then Some c.status else status_of commands was.0) (eqb_sym c.order was.0 ∙ apart) ∙ was.3)
+
     complete : (order : ℕ) (status : Status) → status_of (commands ++ c ∷ []) order ≡ Some status → Has after (order_row order status)
     complete order status h = go (eqb c.order order) refl
       where

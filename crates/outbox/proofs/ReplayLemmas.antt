@@ -6,7 +6,7 @@ use Rattle.std.specs.BTreeMap.{BTreeMap, get}
 use Rattle.sqlite_value.specs.Order.{Row}
 use Rattle.sqlite_rules.specs.Lists.{Has}
 use Rattle.attributes.specs.Sequence.{max_sequence}
-use Rattle.outbox.specs.Order.{Accepted, AreAccepted, IsCommand, refusal, status_fault, status_of}
+use Rattle.outbox.specs.Order.{Accepted, IsCommand, status_fault, status_of}
 use Rattle.outbox.specs.steps.Change.{shown_row, shown_rows, shown_order, ShowOrders}
 use Rattle.outbox.specs.steps.Replay.{HasReplayed, IsReplay, HasMatched}
 use Rattle.outbox.specs.declared.adoption.Replayed.{Replayed}
@@ -67,6 +67,7 @@ match_on rows at all left new row n s low is shown has updates h = record {
   where
     more : take (at + 1) rows ≡ take at rows ++ row ∷ []
     more = take_more rows at row low ∙ ap (λ r. take at rows ++ r ∷ []) (sym is)
+
     here : (order : ℕ) (status : Status) → get nat_cmp left order ≡ Some status → (b : Bool) → is_eq (nat_cmp n order) ≡ b → (get nat_cmp new order ≡ Some status) ⊎ Has (take at rows ++ row ∷ []) (shown_order order status)
     here order status still true e =
         let same : n ≡ order = grind (arith, nat_tests, (let f : eqb n order ≡ true = sym (at_is n order) ∙ e in f)) in

@@ -5,7 +5,7 @@ use Rattle.std.proofs.lemmas.Bool.Decides.{nat_tests}
 use Rattle.std.proofs.lemmas.List.{drop_all}
 use Rattle.std.proofs.lemmas.List.Sorted.{length_permutation}
 use Rattle.sqlite_value.specs.Order.{Row, column}
-use Rattle.sqlite_value.specs.declared.value.Value.TheVariants.{Int, Text as Words}
+use Rattle.sqlite_value.specs.declared.value.Value.TheVariants.{Int}
 use Rattle.sqlite.specs.Effect.{Database}
 use Rattle.sqlite.specs.State.{State, HasCleanDisk}
 use Rattle.attributes.specs.Event.{EventValue}
@@ -19,7 +19,6 @@ use Rattle.outbox.specs.Call.{IsSame}
 use Rattle.outbox.specs.steps.Change.{Adds, TellsStatus, shown_row, shown_rows}
 use Rattle.outbox.specs.declared.fault.OutboxFault.{OutboxFault}
 use Rattle.outbox.specs.declared.fault.OutboxFault.TheVariants.{Foreign, Full}
-use Rattle.outbox.specs.declared.layout.Layout.{Layout}
 use Rattle.outbox.specs.declared.status.Status.{Status}
 use Rattle.outbox.specs.declared.status.Status.TheVariants.{Placed, Shipped, Cancelled}
 use Rattle.outbox.specs.Schema.{first_tree}
@@ -232,8 +231,8 @@ pub page_capped : (source : List ℕ) (db : Database) (base after at limit : ℕ
     → events ≡ rows_after source base commands after limit
 page_capped source db base after at limit commands rows events low near far box is reads = elim (Rattle.std.proofs.lemmas.Bool.cases_Bool (Rattle.std.proofs.Common.nat_lt max_sequence after)) [
   | inl above ↦ (let more : max_sequence < after = grind (arith, nat_tests, above) in
-    let top : at ≡ max_sequence = far more in
-    let high : base + length commands ≤ max_sequence = omega (arith, within base [] commands (omega (arith, low)) box.accepted) in
-    page_of source base at limit commands rows events is reads ∙ ap (λ n. rows_after source base commands n limit) top ∙ page_beyond source base after max_sequence limit commands high (omega (arith, more)))
+      let top : at ≡ max_sequence = far more in
+      let high : base + length commands ≤ max_sequence = omega (arith, within base [] commands (omega (arith, low)) box.accepted) in
+      page_of source base at limit commands rows events is reads ∙ ap (λ n. rows_after source base commands n limit) top ∙ page_beyond source base after max_sequence limit commands high (omega (arith, more)))
   | inr below ↦ (let less : after ≤ max_sequence = grind (arith, nat_tests, below) in page_of source base at limit commands rows events is reads ∙ ap (λ n. rows_after source base commands n limit) (near less))
 ]

@@ -1,17 +1,12 @@
 -- CHECKs and objects of a schema, from what is read of them.
-use Rattle.std.proofs.Common.{◌≡◌, ◌≤◌, ◌-◌, ◌+◌, ℕ, suc, pos, List, [], ◌∷◌, length, Some, codes, slice_get, true, refl, sym, ap, ap₂, subst, ◌∙◌, arith}
-use Rattle.sqlite_value.specs.declared.value.Value.TheVariants.{Null, Int}
-use Rattle.sqlite_value.specs.declared.keys.Collation.TheVariants.{Binary}
-use Rattle.sqlite_sql.specs.Term.{Term, lit, col, op2}
+use Rattle.std.proofs.Common.{◌≡◌, ◌≤◌, ◌-◌, ℕ, suc, List, [], ◌∷◌, length, codes, true, refl, sym, ap, ap₂, ◌∙◌, arith}
+use Rattle.sqlite_sql.specs.Term.{Term, op2}
 use Rattle.sqlite_sql.specs.declared.ops.BinaryOp.{BinaryOp}
-use Rattle.sqlite_sql.specs.declared.ops.BinaryOp.TheVariants.{Compare, And}
-use Rattle.sqlite_sql.specs.declared.ops.CompareOp.TheVariants.{Eq, Ge, Le}
 use Rattle.sqlite_schema.specs.declared.code.Op.{Op}
-use Rattle.sqlite_schema.specs.declared.code.Op.TheVariants.{Literal}
 use Rattle.sqlite_schema.specs.declared.schema.Index.{Index}
 use Rattle.sqlite_value.specs.declared.keys.Order.{Order}
-use Rattle.sqlite_schema.specs.Code.{term_to, term_in, terms_in, op_term}
-use Rattle.outbox.specs.Schema.{inbox_index, is_status}
+use Rattle.sqlite_schema.specs.Code.{term_to, term_in, terms_in}
+use Rattle.outbox.specs.Schema.{inbox_index}
 
 -- a node with two operands, by what they are
 pub node_is : (ops : List Op) (at a b depth : ℕ) (found op : BinaryOp) (s t : Term) → found ≡ op → ((depth : ℕ) → term_to ops (suc depth) at ≡ op2 found (term_to ops depth a) (term_to ops depth b)) → term_to ops depth a ≡ s → term_to ops depth b ≡ t

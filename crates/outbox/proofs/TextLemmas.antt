@@ -1,5 +1,5 @@
 -- What the texts mean under each schema that a service may have.
-use Rattle.std.proofs.Common.{◌≡◌, ℕ, suc, pos, negsuc, false, true, Some, None, List, [], ◌∷◌, codes, Ok, refl}
+use Rattle.std.proofs.Common.{◌≡◌, ℕ, suc, pos, negsuc, false, None, List, [], ◌∷◌, codes, refl}
 use Rattle.sqlite_value.specs.declared.value.Value.TheVariants.{Null, Int}
 use Rattle.sqlite_value.specs.declared.keys.Collation.TheVariants.{Binary}
 use Rattle.sqlite_sql.specs.declared.ops.BinaryOp.TheVariants.{Compare}
@@ -12,7 +12,7 @@ use Rattle.sqlite_schema.specs.declared.command.Command.{Command}
 use Rattle.sqlite_schema.specs.declared.command.Command.TheVariants.{Insert, InsertOr, Select}
 use Rattle.sqlite_tied.specs.Compute.{everything}
 use Rattle.sqlite.specs.Listing.{understood, reads_listing}
-use Rattle.sqlite.proofs.Callers.{IsPlain, command_of, statement_of}
+use Rattle.sqlite.proofs.Callers.{IsPlain, command_of}
 use Rattle.outbox.specs.Schema.{schema_in, first_tree}
 use Rattle.outbox.specs.declared.layout.Layout.{Layout}
 use Rattle.outbox.specs.declared.layout.Layout.TheVariants.{Alone, BehindInbox, BeforeInbox}

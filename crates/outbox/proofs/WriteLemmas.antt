@@ -1,12 +1,10 @@
 -- The two statements of a command, and what a crash may find.
-use Rattle.std.proofs.Common.{◌≡◌, ℕ, suc, ◌+◌, length, List, [], ◌∷◌, ◌++◌, Ok, None, refl, sym, ap, subst, ◌∙◌, arith, IsPermutation}
-use Rattle.sqlite_trees.specs.Tree.{Trees}
-use Rattle.sqlite.specs.Effect.{Database}
+use Rattle.std.proofs.Common.{◌≡◌, ℕ, suc, [], ◌∷◌, ◌++◌, Ok, sym, subst, ◌∙◌, arith, IsPermutation}
 use Rattle.sqlite.specs.State.{State, HasCleanDisk, Survives, ExecutesInside}
 use Rattle.sqlite.proofs.StateLemmas.{survives_then}
 use Rattle.outbox.specs.Order.{Accepted}
 use Rattle.outbox.specs.Schema.{first_tree}
-use Rattle.outbox.specs.Service.{IsService, AreOrders, outbox_row}
+use Rattle.outbox.specs.Service.{AreOrders, outbox_row}
 use Rattle.outbox.specs.steps.Change.{Adds, MayAdd}
 use Rattle.outbox.proofs.PutLemmas.{appended, accepted_snoc}
 use Rattle.outbox.proofs.NoteLemmas.{note_params, notes}

@@ -3,7 +3,6 @@ use Rattle.std.specs.Prelude.{ℕ, suc, ◌-◌, List, [], ◌∷◌, ◌++◌, 
 use Rattle.std.specs.Prelude.{replicate}
 use Rattle.std.specs.Fmt.{decimal}
 use Rattle.attributes.specs.Event.{EventValue, OfferValue, event_of}
-use Rattle.attributes.specs.declared.scalar.Given.{Given}
 use Rattle.attributes.specs.declared.scalar.Given.TheVariants.{Words}
 use Rattle.attributes.specs.declared.content.Offered.TheVariants.{Nothing}
 use Rattle.outbox.specs.Order.{Accepted}

@@ -1,5 +1,5 @@
 -- The tables of a service, and where they stand in a file.
-use Rattle.std.specs.Prelude.{◌≡◌, ℕ, suc, pos, Bool, true, false, not, List, [], ◌∷◌, ◌++◌, codes, Some, is_some, ◌||◌}
+use Rattle.std.specs.Prelude.{ℕ, suc, pos, Bool, true, false, not, List, [], ◌∷◌, ◌++◌, codes, Some, is_some, ◌||◌}
 use Rattle.sqlite_value.specs.declared.keys.Collation.TheVariants.{Binary}
 use Rattle.sqlite_value.specs.declared.value.Value.TheVariants.{Null, Int}
 use Rattle.sqlite_sql.specs.Term.{Term, lit, col, op2}
@@ -82,9 +82,9 @@ inbox tree = record (table (codes "inbox") tree
     (key_column (codes "place") ∷ filled_column (codes "source") Text
     ∷ filled_column (codes "id") Text ∷ filled_column (codes "number") Integer
     ∷ filled_column (codes "body") Text ∷ []) []) {
-  uniques = (2 ∷ 3 ∷ 5 ∷ []) ∷ [];
-  orders = record { digits = 0 } ∷ [];
-}
+      uniques = (2 ∷ 3 ∷ 5 ∷ []) ∷ [];
+      orders = record { digits = 0 } ∷ [];
+    }
 
 -- the index that SQLite makes for its UNIQUE (source, id, body)
 abbrev pub inbox_index : ℕ → Index

@@ -1,5 +1,5 @@
 -- The database of a service, and the commands that it stands for.
-use Rattle.std.specs.Prelude.{◌≡◌, ◌+◌, ℕ, suc, pos, List, [], ◌∷◌, Some, length, IsPermutation}
+use Rattle.std.specs.Prelude.{◌≡◌, ℕ, suc, pos, List, [], ◌∷◌, Some, IsPermutation}
 use Rattle.sqlite_value.specs.declared.value.Value.TheVariants.{Null, Int, Text as Words}
 use Rattle.sqlite_value.specs.Order.{Row}
 use Rattle.sqlite_rules.specs.Lists.{Has}

@@ -65,7 +65,10 @@ fn command_in(alloc: Global, row: &Row, number: u64) -> Result<Option<Stored>, O
         Err(OutboxFault::OutOfMemory) => return Err(OutboxFault::OutOfMemory),
         Err(_) => return Ok(None),
     };
-    if row.column_count() != 4 || stored.number != number || stored.order == 0 || stored.order > MAX
+    if row.column_count() != 4
+        || stored.number != number
+        || stored.order == 0
+        || stored.order > MAX
     {
         return Ok(None);
     }
@@ -141,10 +144,7 @@ fn order_in(row: &Row) -> Result<Option<(u64, Status)>, OutboxFault>
 
 /// Whether the rows of `orders` are just those of the orders and their statuses.
 #[tactic(auto, using(crate::proofs::ReplayLemmas::match_none))]
-pub(crate) fn are_orders(
-    rows: &[Row],
-    statuses: BTreeMap<u64, Status>,
-) -> Result<bool, OutboxFault>
+pub(crate) fn are_orders(rows: &[Row], statuses: BTreeMap<u64, Status>) -> Result<bool, OutboxFault>
     ensures orders { IfOk result (λ b. IsTrue b → (commands : List Accepted)
         → ((order : ℕ) → get nat_cmp statuses order ≡ status_of commands order)
         → ShowOrders rows.now commands) }

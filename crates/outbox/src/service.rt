@@ -228,12 +228,7 @@ impl<S: Alter> Service<S> {
     }
 
     /// Decides on a command, makes its event, and only then writes.
-    fn accept(
-        &mut self,
-        status: Status,
-        order: u64,
-        at: &Moment,
-    ) -> Result<Sequenced, OutboxFault>
+    fn accept(&mut self, status: Status, order: u64, at: &Moment) -> Result<Sequenced, OutboxFault>
         requires order { (1 ≤ order) × (order ≤ max_sequence) }
         requires short { length at.now ≤ 64 }
         ensures kept { (self.new.source ≡ self.old.source) × (self.new.base ≡ self.old.base) }

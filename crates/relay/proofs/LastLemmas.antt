@@ -1,5 +1,5 @@
 -- The last event of a list.
-use Rattle.std.proofs.Common.{◌≡◌, ℕ, zero, suc, ◌-◌, List, [], ◌∷◌, length, slice_get, Some, None, Option, refl, sym, ap, ◌∙◌, arith}
+use Rattle.std.proofs.Common.{◌≡◌, ℕ, zero, suc, ◌-◌, List, [], ◌∷◌, length, slice_get, Some, refl, ap, ◌∙◌, arith}
 use Rattle.attributes.specs.Event.{EventValue}
 use Rattle.attributes.specs.Sequence.{number_of}
 use Rattle.relay.specs.Relay.{IsLast}

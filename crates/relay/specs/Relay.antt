@@ -1,5 +1,5 @@
 -- What relays send.
-use Rattle.std.specs.Prelude.{◌≡◌, ◌≢◌, ℕ, ◌+◌, List, [], ◌∷◌, length, Some, Option, MatchOption, refl}
+use Rattle.std.specs.Prelude.{◌≡◌, ◌≢◌, ℕ, List, [], ◌∷◌, length, Some, Option, MatchOption, refl}
 use Rattle.std.specs.Coded.{Coded, code_by, coded×, coded_ℕ, coded_list}
 use Rattle.sqlite.specs.Effect.{Database}
 use Rattle.attributes.specs.Event.{EventValue}
@@ -8,7 +8,7 @@ use Rattle.attributes.specs.Sequence.{number_of}
 use Rattle.outbox.specs.Order.{Accepted}
 use Rattle.outbox.specs.Row.{rows_after}
 use Rattle.outbox.specs.Service.{IsService}
-use Rattle.relay.specs.Route.{AreIn, AreOf, Kept}
+use Rattle.relay.specs.Route.{AreIn, Kept}
 use Rattle.relay.specs.declared.relay.Job.{Job}
 
 -- the most rows that are sent at once

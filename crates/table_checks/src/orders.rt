@@ -15,15 +15,20 @@ const MAX: u64 = 9_223_372_036_854_775_807;
 
 const TIME: &str = "2024-02-29T10:00:00Z";
 
-const PLACED: &str = r#"{"id":"00000000000000000001","sequence":"00000000000000000001","source":"/orders","specversion":"1.0","subject":"7","time":"2024-02-29T10:00:00Z","type":"order.placed"}"#;
+const PLACED: &str =
+    r#"{"id":"00000000000000000001","sequence":"00000000000000000001","source":"/orders","specversion":"1.0","subject":"7","time":"2024-02-29T10:00:00Z","type":"order.placed"}"#;
 
-const SHIPPED: &str = r#"{"id":"00000000000000000002","sequence":"00000000000000000002","source":"/orders","specversion":"1.0","subject":"7","time":"2024-02-29T10:00:00Z","type":"order.shipped"}"#;
+const SHIPPED: &str =
+    r#"{"id":"00000000000000000002","sequence":"00000000000000000002","source":"/orders","specversion":"1.0","subject":"7","time":"2024-02-29T10:00:00Z","type":"order.shipped"}"#;
 
-const CANCELLED: &str = r#"{"id":"00000000000000000002","sequence":"00000000000000000002","source":"/orders","specversion":"1.0","subject":"9","time":"2024-02-29T10:00:00Z","type":"order.cancelled"}"#;
+const CANCELLED: &str =
+    r#"{"id":"00000000000000000002","sequence":"00000000000000000002","source":"/orders","specversion":"1.0","subject":"9","time":"2024-02-29T10:00:00Z","type":"order.cancelled"}"#;
 
-const LAST: &str = r#"{"id":"09223372036854775807","sequence":"09223372036854775807","source":"/orders","specversion":"1.0","subject":"1","time":"2024-02-29T10:00:00Z","type":"order.placed"}"#;
+const LAST: &str =
+    r#"{"id":"09223372036854775807","sequence":"09223372036854775807","source":"/orders","specversion":"1.0","subject":"1","time":"2024-02-29T10:00:00Z","type":"order.placed"}"#;
 
-const INBOX: &str = "CREATE TABLE inbox (place INTEGER PRIMARY KEY, source TEXT NOT NULL, id TEXT NOT NULL, number INTEGER NOT NULL, body TEXT NOT NULL, UNIQUE (source, id, body)) STRICT";
+const INBOX: &str =
+    "CREATE TABLE inbox (place INTEGER PRIMARY KEY, source TEXT NOT NULL, id TEXT NOT NULL, number INTEGER NOT NULL, body TEXT NOT NULL, UNIQUE (source, id, body)) STRICT";
 
 // Changes after which the rows are no longer those that the calls of a service leave.
 const CHANGES: [&str; 13] = [
@@ -72,10 +77,7 @@ fn create(alloc: Global, base: u64) -> Result<Service<MemStore>, OutboxFault> {
 }
 
 /// The service that a database has.
-fn adopt(
-    alloc: Global,
-    conn: Connection<MemStore>,
-) -> Result<Service<MemStore>, OutboxFault> {
+fn adopt(alloc: Global, conn: Connection<MemStore>) -> Result<Service<MemStore>, OutboxFault> {
     match Service::adopt(alloc, conn) {
         Ok(service) => Ok(service),
         Err(NotMade { conn: _, fault }) => Err(fault),
@@ -229,7 +231,11 @@ fn fault_after(alloc: Global, change: &str) -> Result<Option<OutboxFault>, Outbo
 #[test]
 fn other_rows_are_foreign(rt: HostRuntime) -> Result<(), OutboxFault> {
     for change in CHANGES {
-        assert_eq!(rt; fault_after(rt.alloc(), change)?, Some(OutboxFault::Foreign), "{change}");
+        assert_eq!(rt;
+            fault_after(rt.alloc(), change)?,
+            Some(OutboxFault::Foreign),
+            "{change}"
+        );
     }
     assert_eq!(rt; fault_after(rt.alloc(), INBOX)?, None);
     let other = "CREATE TABLE other (a INTEGER)";
@@ -253,10 +259,7 @@ fn an_inbox_stands_beside_it(rt: HostRuntime) -> Result<(), OutboxFault> {
 }
 
 /// A database over two files in memory.
-fn open(
-    alloc: Global,
-    files: Files<Memory>,
-) -> Result<Connection<FileStore<Memory>>, OutboxFault> {
+fn open(alloc: Global, files: Files<Memory>) -> Result<Connection<FileStore<Memory>>, OutboxFault> {
     if !files.may_be_used() {
         return Err(OutboxFault::Store);
     }
@@ -383,14 +386,18 @@ fn settled(site: u32, first: u64, last: u64) -> Option<RelayFault> {
         return None;
     }
     let mut relay = Relay::at(1, 2);
-    relay.settle(Outcome { site, first, last, sent: true }).err()
+    relay
+        .settle(Outcome {
+            site,
+            first,
+            last,
+            sent: true,
+        })
+        .err()
 }
 
 /// Carries the next rows as a job, and answers the mark after it.
-fn mark_after(
-    alloc: Global,
-    service: &mut Service<MemStore>,
-) -> Result<u64, RelayFault> {
+fn mark_after(alloc: Global, service: &mut Service<MemStore>) -> Result<u64, RelayFault> {
     let mut relay = Relay::at(1, 0);
     let mut route = MemoryRoute::empty(alloc);
     let Some(job) = relay.job(service)? else {

@@ -1,5 +1,5 @@
 -- Rows that are those of accepted commands.
-use Rattle.std.specs.Prelude.{◌≡◌, ◌⊎◌, Some, ◌≤◌, ℕ, suc, ◌+◌, List, [], length, take, Option}
+use Rattle.std.specs.Prelude.{◌≡◌, ◌⊎◌, Some, ◌≤◌, ℕ, suc, ◌+◌, List, [], length, take}
 use Rattle.std.specs.BTreeMap.{get}
 use Rattle.std.specs.BTreeMap.{BTreeMap}
 use Rattle.std.specs.Ordering.{nat_cmp}

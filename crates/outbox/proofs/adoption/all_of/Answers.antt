@@ -1,4 +1,4 @@
-use Rattle.std.proofs.Common.{◌≡◌, IsTrue, rules}
+use Rattle.std.proofs.Common.{IsTrue, rules}
 use Rattle.sqlite.specs.Held.{state}
 use Rattle.outbox.proofs.SameLemmas.{refused_same, answered_same}
 use Rattle.outbox.proofs.adoption.all_of.Goals as goal

@@ -1,6 +1,4 @@
-use Rattle.std.proofs.Common.{◌≡◌, List, [], ◌∷◌, pos, sym, ◌∙◌}
-use Rattle.sqlite_value.specs.declared.value.Value.TheVariants.{Int, Text as Words}
-use Rattle.sqlite_value.specs.Order.{Row}
+use Rattle.std.proofs.Common.{◌≡◌, [], ◌∷◌, sym, ◌∙◌}
 use Rattle.sqlite.specs.Held.{state}
 use Rattle.outbox.specs.steps.Change.{shown_service}
 use Rattle.outbox.specs.steps.Replay.{IsReplay}

@@ -1,7 +1,6 @@
-use Rattle.std.proofs.Common.{◌≡◌, refl, arith, Ok}
-use Rattle.sqlite.specs.State.{HasCleanDisk, ExecutesInside}
+use Rattle.std.proofs.Common.{arith}
+use Rattle.sqlite.specs.State.{HasCleanDisk}
 use Rattle.sqlite.specs.Held.{state}
-use Rattle.outbox.specs.steps.Statement.{create_service, create_orders, create_outbox}
 use Rattle.outbox.proofs.CreateLemmas.{tables_made}
 use Rattle.outbox.proofs.creation.make_tables.Goals as goal
 

@@ -1,12 +1,10 @@
-use Rattle.std.proofs.Common.{◌≡◌, ◌≤◌, List, ℕ, [], ◌∷◌, length, IsTrue, suc, rules, pos, arith, sym, ap, subst, ◌∙◌}
+use Rattle.std.proofs.Common.{◌≡◌, IsTrue, suc, rules, pos}
 use Rattle.sqlite_value.specs.declared.value.Value.TheVariants.{Int}
 use Rattle.sqlite_value.specs.declared.keys.Collation.TheVariants.{Binary}
 use Rattle.sqlite_sql.specs.Term.{lit, col, op2}
 use Rattle.sqlite_sql.specs.declared.ops.BinaryOp.TheVariants.{Compare, And}
-use Rattle.sqlite_sql.specs.declared.ops.CompareOp.TheVariants.{Eq, Ge, Le}
-use Rattle.sqlite_schema.specs.Code.{terms_in}
-use Rattle.outbox.specs.Schema.{is_status}
-use Rattle.outbox.proofs.TermLemmas.{node_is, one_check, two_checks}
+use Rattle.sqlite_sql.specs.declared.ops.CompareOp.TheVariants.{Ge, Le}
+use Rattle.outbox.proofs.TermLemmas.{node_is}
 use Rattle.outbox.proofs.layout.is_status.Goals as goal
 
 pub returns : goal.returns

@@ -1,6 +1,6 @@
-use Rattle.std.proofs.Common.{◌≡◌, ◌<◌, ◌+◌, rules, sym, ◌∙◌, refl, ap, arith, Some, None, length}
+use Rattle.std.proofs.Common.{◌≡◌, ◌<◌, ◌+◌, rules, sym, ◌∙◌, ap, arith, length}
 use Rattle.attributes.specs.Sequence.{max_sequence}
-use Rattle.outbox.specs.Order.{status_fault, status_of}
+use Rattle.outbox.specs.Order.{status_fault}
 use Rattle.outbox.proofs.ServiceLemmas.{refused_some, refused_full, refused_none}
 use Rattle.outbox.proofs.service.decide.Goals as goal
 

@@ -1,4 +1,4 @@
-use Rattle.std.proofs.Common.{◌≡◌, ◌<◌, List, [], rules, sym, ◌∙◌, refl, length, get_or, pos}
+use Rattle.std.proofs.Common.{◌≡◌, ◌<◌, rules, sym, length, get_or, pos}
 use Rattle.sqlite_value.specs.Order.{column}
 use Rattle.sqlite_value.specs.declared.value.Value.TheVariants.{Int}
 use Rattle.outbox.specs.Service.{code}

@@ -1,4 +1,4 @@
-use Rattle.std.proofs.Common.{◌≡◌, refl, rules, arith, w64, FitsSigned, IsTrue}
+use Rattle.std.proofs.Common.{rules, w64, FitsSigned, IsTrue}
 use Rattle.std.proofs.lemmas.Int.{to_z-of_z}
 use Rattle.sqlite.specs.Held.{state}
 use Rattle.outbox.proofs.SameLemmas.{refused_same, answered_same}

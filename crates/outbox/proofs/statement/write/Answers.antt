@@ -2,7 +2,7 @@ use Rattle.std.proofs.Common.{◌≡◌, refl, sym, rules, arith, w64, FitsSigne
 use Rattle.std.proofs.lemmas.Int.{to_z-of_z}
 use Rattle.sqlite.specs.Effect.{Database}
 use Rattle.sqlite.specs.State.{HasCleanDisk, Survives, ExecutesInside}
-use Rattle.sqlite.specs.Held.{Held, state}
+use Rattle.sqlite.specs.Held.{state}
 use Rattle.sqlite.proofs.Callers.{survives_begin}
 use Rattle.outbox.specs.Order.{Accepted}
 use Rattle.outbox.specs.steps.Statement.{note_text, append_text}
@@ -48,12 +48,12 @@ returns-in_err-commit-clause-crash g c =
     let fit : FitsSigned w64 c.code.result = search rules in
     let fit2 : FitsSigned w64 c.code-2.result = search rules in
     let adds : HasCleanDisk last → Adds c.args.number it start.now last.now = λ clean2.
-        let clean1 : HasCleanDisk mid = omega (arith, c.append.ensures.survives.clean, clean2) in
-        let one : ExecutesInside 0 note_text (note_params it) start mid (Ok c.in_ok-note.field-0) =
-        rw (c.transaction-tx.ensures.begun, c.in_ok-note.was, to_z-of_z w64 c.signed.result fits, c.signed.ensures, to_z-of_z w64 c.code.result fit, c.code.ensures) at (c.note.ensures.runs clean1 (rw c.transaction-tx.ensures.begun refl)) in
-        let two : ExecutesInside 0 append_text (append_params c.args.number it) mid last (Ok c.in_ok-append.field-0) =
-        rw (c.in_ok-append.was, to_z-of_z w64 c.signed-2.result fits2, c.signed-2.ensures, to_z-of_z w64 c.signed-3.result fits3, c.signed-3.ensures, to_z-of_z w64 c.code-2.result fit2, c.code-2.ensures) at (c.append.ensures.runs clean2 one.1.mode) in
-        both start mid last c.args.number it _ _ one two in
+    let clean1 : HasCleanDisk mid = omega (arith, c.append.ensures.survives.clean, clean2) in
+    let one : ExecutesInside 0 note_text (note_params it) start mid (Ok c.in_ok-note.field-0) =
+    rw (c.transaction-tx.ensures.begun, c.in_ok-note.was, to_z-of_z w64 c.signed.result fits, c.signed.ensures, to_z-of_z w64 c.code.result fit, c.code.ensures) at (c.note.ensures.runs clean1 (rw c.transaction-tx.ensures.begun refl)) in
+    let two : ExecutesInside 0 append_text (append_params c.args.number it) mid last (Ok c.in_ok-append.field-0) =
+    rw (c.in_ok-append.was, to_z-of_z w64 c.signed-2.result fits2, c.signed-2.ensures, to_z-of_z w64 c.signed-3.result fits3, c.signed-3.ensures, to_z-of_z w64 c.code-2.result fit2, c.code-2.ensures) at (c.append.ensures.runs clean2 one.1.mode) in
+    both start mid last c.args.number it _ _ one two in
     let first : Survives start mid (λ _. ⊥) = rw c.transaction-tx.ensures.begun at c.note.ensures.survives in
     subst (λ h. Survives (state g.S.Store c.args.conn.now) (state g.S.Store h) (MayAdd c.args.number it (state g.S.Store c.args.conn.now))) same
     (survives_begin g.S.Store c.args.conn.now (state g.S.Store c.commit.new.self.0) (MayAdd c.args.number it (state g.S.Store c.args.conn.now))
@@ -72,12 +72,12 @@ returns-clause-crash g c =
     let fit : FitsSigned w64 c.code.result = search rules in
     let fit2 : FitsSigned w64 c.code-2.result = search rules in
     let adds : HasCleanDisk last → Adds c.args.number it start.now last.now = λ clean2.
-        let clean1 : HasCleanDisk mid = omega (arith, c.append.ensures.survives.clean, clean2) in
-        let one : ExecutesInside 0 note_text (note_params it) start mid (Ok c.in_ok-note.field-0) =
-        rw (c.transaction-tx.ensures.begun, c.in_ok-note.was, to_z-of_z w64 c.signed.result fits, c.signed.ensures, to_z-of_z w64 c.code.result fit, c.code.ensures) at (c.note.ensures.runs clean1 (rw c.transaction-tx.ensures.begun refl)) in
-        let two : ExecutesInside 0 append_text (append_params c.args.number it) mid last (Ok c.in_ok-append.field-0) =
-        rw (c.in_ok-append.was, to_z-of_z w64 c.signed-2.result fits2, c.signed-2.ensures, to_z-of_z w64 c.signed-3.result fits3, c.signed-3.ensures, to_z-of_z w64 c.code-2.result fit2, c.code-2.ensures) at (c.append.ensures.runs clean2 one.1.mode) in
-        both start mid last c.args.number it _ _ one two in
+    let clean1 : HasCleanDisk mid = omega (arith, c.append.ensures.survives.clean, clean2) in
+    let one : ExecutesInside 0 note_text (note_params it) start mid (Ok c.in_ok-note.field-0) =
+    rw (c.transaction-tx.ensures.begun, c.in_ok-note.was, to_z-of_z w64 c.signed.result fits, c.signed.ensures, to_z-of_z w64 c.code.result fit, c.code.ensures) at (c.note.ensures.runs clean1 (rw c.transaction-tx.ensures.begun refl)) in
+    let two : ExecutesInside 0 append_text (append_params c.args.number it) mid last (Ok c.in_ok-append.field-0) =
+    rw (c.in_ok-append.was, to_z-of_z w64 c.signed-2.result fits2, c.signed-2.ensures, to_z-of_z w64 c.signed-3.result fits3, c.signed-3.ensures, to_z-of_z w64 c.code-2.result fit2, c.code-2.ensures) at (c.append.ensures.runs clean2 one.1.mode) in
+    both start mid last c.args.number it _ _ one two in
     let first : Survives start mid (λ _. ⊥) = rw c.transaction-tx.ensures.begun at c.note.ensures.survives in
     subst (λ h. Survives (state g.S.Store c.args.conn.now) (state g.S.Store h) (MayAdd c.args.number it (state g.S.Store c.args.conn.now))) same
     (survives_begin g.S.Store c.args.conn.now (state g.S.Store c.commit.new.self.0) (MayAdd c.args.number it (state g.S.Store c.args.conn.now))

@@ -1,5 +1,5 @@
-use Rattle.std.proofs.Common.{◌≤◌, length, arith, sym}
-use Rattle.relay.proofs.RouteLemmas.{Appended, append_one, in_appended, of_appended, all_appended}
+use Rattle.std.proofs.Common.{arith}
+use Rattle.relay.proofs.RouteLemmas.{append_one, in_appended, of_appended, all_appended}
 use Rattle.relay.proofs.memory.append_all.Goals as goal
 
 pub loop-i-preserved : goal.loop-i-preserved

@@ -1,4 +1,4 @@
-use Rattle.std.proofs.Common.{◌≡◌, ◌-◌, length, slice_get, Some, rules, ap, ◌∙◌, sym}
+use Rattle.std.proofs.Common.{◌≡◌, ◌-◌, length, slice_get, Some, ap, ◌∙◌, sym}
 use Rattle.attributes.specs.Sequence.{number_of}
 use Rattle.relay.proofs.LastLemmas.{last_is}
 use Rattle.relay.proofs.relay.last_number.Goals as goal
