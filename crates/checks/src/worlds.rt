@@ -92,8 +92,12 @@ fn delivered(
     Ok((batch, set))
 }
 
+/// The bit of a row.
 fn bit(place: u64) -> u8 {
-    1u8.checked_shl(place as u32).unwrap_or(0)
+    match [1, 2, 4, 8, 16, 32, 64, 128].get(place as usize) {
+        Some(bit) => *bit,
+        None => 0,
+    }
 }
 
 /// A step, after which the sets are those that a plain reader expects.
