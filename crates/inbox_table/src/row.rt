@@ -128,9 +128,9 @@ fn event_of(alloc: Global, row: &Row, place: u64) -> Result<Sequenced, TableFaul
     }
 }
 
-#[tactic(auto, using(crate::proofs::ReadLemmas::read_none, crate::proofs::ReadLemmas::read_on, crate::proofs::ReadLemmas::read_all, crate::proofs::ReadLemmas::refuses))]
 /// The events of the rows, where these are those of events at the places 1, 2 and so on; else
 /// `Foreign`.
+#[tactic(auto, using(crate::proofs::ReadLemmas::read_none, crate::proofs::ReadLemmas::read_on, crate::proofs::ReadLemmas::read_all, crate::proofs::ReadLemmas::refuses))]
 pub(crate) fn events_of(alloc: Global, rows: &[Row]) -> Result<Batch, TableFault>
     ensures events { IfOk result (λ l. AreNumbered l × (rows.now ≡ shown_from 1 l)) }
     ensures foreign { IfErr result (λ f. f ≡ Foreign

@@ -9,15 +9,25 @@ use sqlite_disk::Memory;
 use std::alloc::{AllocError, Global};
 use std::test::Fail;
 
-const E1: &str = r#"{"id":"a1","sequence":"00000000000000000001","source":"/orders","specversion":"1.0","subject":"x","type":"t.a"}"#;
-const E2: &str = r#"{"id":"a2","sequence":"00000000000000000002","source":"/orders","specversion":"1.0","subject":"x","type":"t.b"}"#;
-const E3: &str = r#"{"id":"a3","sequence":"00000000000000000003","source":"/orders","specversion":"1.0","subject":"y","type":"t.a"}"#;
-/// The source, id and number of the first, with another type.
-const F1: &str = r#"{"id":"a1","sequence":"00000000000000000001","source":"/orders","specversion":"1.0","subject":"y","type":"t.b"}"#;
+const E1: &str =
+    r#"{"id":"a1","sequence":"00000000000000000001","source":"/orders","specversion":"1.0","subject":"x","type":"t.a"}"#;
 
-const INBOX: &str = "CREATE TABLE inbox (place INTEGER PRIMARY KEY, source TEXT NOT NULL, id TEXT NOT NULL, number INTEGER NOT NULL, body TEXT NOT NULL, UNIQUE (source, id, body)) STRICT";
+const E2: &str =
+    r#"{"id":"a2","sequence":"00000000000000000002","source":"/orders","specversion":"1.0","subject":"x","type":"t.b"}"#;
+
+const E3: &str =
+    r#"{"id":"a3","sequence":"00000000000000000003","source":"/orders","specversion":"1.0","subject":"y","type":"t.a"}"#;
+/// The source, id and number of the first, with another type.
+const F1: &str =
+    r#"{"id":"a1","sequence":"00000000000000000001","source":"/orders","specversion":"1.0","subject":"y","type":"t.b"}"#;
+
+const INBOX: &str =
+    "CREATE TABLE inbox (place INTEGER PRIMARY KEY, source TEXT NOT NULL, id TEXT NOT NULL, number INTEGER NOT NULL, body TEXT NOT NULL, UNIQUE (source, id, body)) STRICT";
+
 const INSERT: &str = "INSERT INTO inbox (place, source, id, number, body) VALUES ";
-const OUTBOX: &str = "CREATE TABLE service (one INTEGER PRIMARY KEY CHECK (one = 1), source TEXT NOT NULL, base INTEGER NOT NULL CHECK (base >= 0)) STRICT; CREATE TABLE orders (number INTEGER PRIMARY KEY, state INTEGER NOT NULL CHECK (state >= 1 AND state <= 3)) STRICT; CREATE TABLE outbox (number INTEGER PRIMARY KEY, kind INTEGER NOT NULL CHECK (kind >= 1 AND kind <= 3), order_number INTEGER NOT NULL, at TEXT NOT NULL) STRICT;";
+
+const OUTBOX: &str =
+    "CREATE TABLE service (one INTEGER PRIMARY KEY CHECK (one = 1), source TEXT NOT NULL, base INTEGER NOT NULL CHECK (base >= 0)) STRICT; CREATE TABLE orders (number INTEGER PRIMARY KEY, state INTEGER NOT NULL CHECK (state >= 1 AND state <= 3)) STRICT; CREATE TABLE outbox (number INTEGER PRIMARY KEY, kind INTEGER NOT NULL CHECK (kind >= 1 AND kind <= 3), order_number INTEGER NOT NULL, at TEXT NOT NULL) STRICT;";
 
 /// Why a test can't go on.
 #[derive(Debug, Drop, thiserror::Error)]
@@ -177,21 +187,36 @@ fn opened(alloc: Global, files: Files<Memory>) -> Result<Connection<FileStore<Me
     }
 }
 
+/// A table made there, with three events.
+fn made<S: Alter + Drop>(alloc: Global, conn: Connection<S>) -> Result<Table<S>, Stop> {
+    match Table::create(alloc, conn) {
+        Ok(mut table) => {
+            fill(alloc, &mut table)?;
+            Ok(table)
+        }
+        Err(refused) => Err(Stop::Fault(refused.fault.number())),
+    }
+}
+
+/// The files of a connection, closed.
+fn close(conn: Connection<FileStore<Memory>>) -> Result<Files<Memory>, Stop> {
+    match conn.close_files() {
+        Ok(files) => Ok(files),
+        Err((_error, store)) => {
+            let _files = store.close();
+            Err(Stop::NoDatabase)
+        }
+    }
+}
+
 /// The files of a table with three events, closed.
 fn closed(alloc: Global) -> Result<Files<Memory>, Stop> {
     let files = Files {
         log: Memory::new(alloc),
         db: Memory::new(alloc),
     };
-    let mut table = match Table::create(alloc, opened(alloc, files)?) {
-        Ok(table) => table,
-        Err(_) => return Err(Stop::NoDatabase),
-    };
-    fill(alloc, &mut table)?;
-    match table.into_connection().close_files() {
-        Ok(files) => Ok(files),
-        Err(_) => Err(Stop::NoDatabase),
-    }
+    let table = made(alloc, opened(alloc, files)?)?;
+    close(table.into_connection())
 }
 
 #[test]
@@ -213,20 +238,74 @@ fn row_fault(alloc: Global, values: &str) -> Result<u8, Stop> {
 fn rows_that_no_call_leaves_are_foreign(rt: HostRuntime) -> Result<(), Fail> {
     let alloc = rt.alloc();
     // The columns of an event and its text are taken.
-    assert_eq!(rt; row_fault(alloc, r#"(1, '/orders', 'a1', 1, '{"id":"a1","sequence":"00000000000000000001","source":"/orders","specversion":"1.0","subject":"x","type":"t.a"}')"#)?, 0);
+    assert_eq!(rt;
+        row_fault(
+            alloc,
+            r#"(1, '/orders', 'a1', 1, '{"id":"a1","sequence":"00000000000000000001","source":"/orders","specversion":"1.0","subject":"x","type":"t.a"}')"#
+        )?,
+        0
+    );
     assert_eq!(rt; row_fault(alloc, "(1, '/orders', 'a1', 1, '{}')")?, 3);
     assert_eq!(rt; row_fault(alloc, "(1, '/orders', 'a1', 1, 'x')")?, 3);
     // Places from 0, and from 2.
-    assert_eq!(rt; row_fault(alloc, r#"(0, '/orders', 'a1', 1, '{"id":"a1","sequence":"00000000000000000001","source":"/orders","specversion":"1.0","subject":"x","type":"t.a"}')"#)?, 3);
-    assert_eq!(rt; row_fault(alloc, r#"(2, '/orders', 'a1', 1, '{"id":"a1","sequence":"00000000000000000001","source":"/orders","specversion":"1.0","subject":"x","type":"t.a"}')"#)?, 3);
+    assert_eq!(rt;
+        row_fault(
+            alloc,
+            r#"(0, '/orders', 'a1', 1, '{"id":"a1","sequence":"00000000000000000001","source":"/orders","specversion":"1.0","subject":"x","type":"t.a"}')"#
+        )?,
+        3
+    );
+    assert_eq!(rt;
+        row_fault(
+            alloc,
+            r#"(2, '/orders', 'a1', 1, '{"id":"a1","sequence":"00000000000000000001","source":"/orders","specversion":"1.0","subject":"x","type":"t.a"}')"#
+        )?,
+        3
+    );
     // Another source, id or number than the event has.
-    assert_eq!(rt; row_fault(alloc, r#"(1, '/other', 'a1', 1, '{"id":"a1","sequence":"00000000000000000001","source":"/orders","specversion":"1.0","subject":"x","type":"t.a"}')"#)?, 3);
-    assert_eq!(rt; row_fault(alloc, r#"(1, '/orders', 'a2', 1, '{"id":"a1","sequence":"00000000000000000001","source":"/orders","specversion":"1.0","subject":"x","type":"t.a"}')"#)?, 3);
-    assert_eq!(rt; row_fault(alloc, r#"(1, '/orders', 'a1', 2, '{"id":"a1","sequence":"00000000000000000001","source":"/orders","specversion":"1.0","subject":"x","type":"t.a"}')"#)?, 3);
+    assert_eq!(rt;
+        row_fault(
+            alloc,
+            r#"(1, '/other', 'a1', 1, '{"id":"a1","sequence":"00000000000000000001","source":"/orders","specversion":"1.0","subject":"x","type":"t.a"}')"#
+        )?,
+        3
+    );
+    assert_eq!(rt;
+        row_fault(
+            alloc,
+            r#"(1, '/orders', 'a2', 1, '{"id":"a1","sequence":"00000000000000000001","source":"/orders","specversion":"1.0","subject":"x","type":"t.a"}')"#
+        )?,
+        3
+    );
+    assert_eq!(rt;
+        row_fault(
+            alloc,
+            r#"(1, '/orders', 'a1', 2, '{"id":"a1","sequence":"00000000000000000001","source":"/orders","specversion":"1.0","subject":"x","type":"t.a"}')"#
+        )?,
+        3
+    );
     // The event, but not its canonical text; an event without a number; a batch of one event.
-    assert_eq!(rt; row_fault(alloc, r#"(1, '/orders', 'a1', 1, '{"type":"t.a","id":"a1","sequence":"00000000000000000001","source":"/orders","specversion":"1.0","subject":"x"}')"#)?, 3);
-    assert_eq!(rt; row_fault(alloc, r#"(1, '/orders', 'a1', 1, '{"id":"a1","source":"/orders","specversion":"1.0","subject":"x","type":"t.a"}')"#)?, 3);
-    assert_eq!(rt; row_fault(alloc, r#"(1, '/orders', 'a1', 1, '[{"id":"a1","sequence":"00000000000000000001","source":"/orders","specversion":"1.0","subject":"x","type":"t.a"}]')"#)?, 3);
+    assert_eq!(rt;
+        row_fault(
+            alloc,
+            r#"(1, '/orders', 'a1', 1, '{"type":"t.a","id":"a1","sequence":"00000000000000000001","source":"/orders","specversion":"1.0","subject":"x"}')"#
+        )?,
+        3
+    );
+    assert_eq!(rt;
+        row_fault(
+            alloc,
+            r#"(1, '/orders', 'a1', 1, '{"id":"a1","source":"/orders","specversion":"1.0","subject":"x","type":"t.a"}')"#
+        )?,
+        3
+    );
+    assert_eq!(rt;
+        row_fault(
+            alloc,
+            r#"(1, '/orders', 'a1', 1, '[{"id":"a1","sequence":"00000000000000000001","source":"/orders","specversion":"1.0","subject":"x","type":"t.a"}]')"#
+        )?,
+        3
+    );
     Ok(())
 }
 
@@ -261,7 +340,10 @@ fn schemas_that_are_taken_and_refused(rt: HostRuntime) -> Result<(), Fail> {
     assert_eq!(rt; adopt_fault(alloc, &[OUTBOX, INBOX])?, 0);
     assert_eq!(rt; adopt_fault(alloc, &["CREATE TABLE inbox (a)"])?, 3);
     assert_eq!(rt; adopt_fault(alloc, &[INBOX, "CREATE TABLE other (a)"])?, 2);
-    assert_eq!(rt; adopt_fault(alloc, &[INBOX, "CREATE INDEX more ON inbox (id)"])?, 2);
+    assert_eq!(rt;
+        adopt_fault(alloc, &[INBOX, "CREATE INDEX more ON inbox (id)"])?,
+        2
+    );
     assert_eq!(rt; adopt_fault(alloc, &[INBOX, "BEGIN"])?, 2);
     Ok(())
 }
@@ -269,7 +351,10 @@ fn schemas_that_are_taken_and_refused(rt: HostRuntime) -> Result<(), Fail> {
 #[test]
 fn a_table_beside_an_outbox(rt: HostRuntime) -> Result<(), Fail> {
     let alloc = rt.alloc();
-    let Loaded { table: mut before, events: _ } = adopted(alloc, database(alloc, &[INBOX, OUTBOX])?)?;
+    let Loaded {
+        table: mut before,
+        events: _,
+    } = adopted(alloc, database(alloc, &[INBOX, OUTBOX])?)?;
     assert_eq!(rt; fill(alloc, &mut before)?, (2, 1));
     assert!(rt; has(&before.load()?, &[E1, E2, E3]));
     let Ok(mut behind) = Table::create(alloc, database(alloc, &[OUTBOX])?) else {
