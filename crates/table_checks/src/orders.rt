@@ -287,9 +287,17 @@ fn placed_files(alloc: Global) -> Result<Files<Memory>, OutboxFault> {
         return Err(OutboxFault::Foreign);
     }
     let _ = service.place(7, &at)?;
-    match service.into_connection().close_files() {
+    close(service.into_connection())
+}
+
+/// The files of a connection, closed.
+fn close(conn: Connection<FileStore<Memory>>) -> Result<Files<Memory>, OutboxFault> {
+    match conn.close_files() {
         Ok(files) => Ok(files),
-        Err(_) => Err(OutboxFault::Store),
+        Err((_error, store)) => {
+            let _files = store.close();
+            Err(OutboxFault::Store)
+        }
     }
 }
 
