@@ -8,8 +8,8 @@ use attributes::{Octets, Text};
 use event_json::readings_are_one;
 use site::Site;
 use std::alloc::Global;
-use views::laws::answers_are_alike;
 use views::Query;
+use views::laws::answers_are_alike;
 
 /// An answer, in lines that end with LF, and the events that it is about. To give the memory of many
 /// events back, one after the other, can take longer than to ask about them, so the caller says

@@ -15,7 +15,10 @@ use std::alloc::{AllocError, Global};
 use std::collections::BTreeMap;
 
 /// The shown events, in key order, lent.
-pub(crate) fn shown_events<'a>(alloc: Global, inbox: &'a Inbox) -> Result<Vec<&'a Sequenced>, AllocError>
+pub(crate) fn shown_events<'a>(
+    alloc: Global,
+    inbox: &'a Inbox,
+) -> Result<Vec<&'a Sequenced>, AllocError>
     ensures { IfOk result (λ list. map (λ e. e.now) list.items ≡ shown (events inbox.now)) }
 {
     let mut list = Vec::new(alloc);
