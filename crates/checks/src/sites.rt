@@ -121,10 +121,13 @@ fn has(batch: &Batch, rows: &[Row]) -> bool {
 
 /// The summary of numbers of the source `/orders`.
 fn summary_of(alloc: Global, numbers: &[u64]) -> Result<Summary, Failed> {
+    let source = Text::of(alloc, "/orders")?;
     let mut summary = Summary::empty(alloc);
     for number in numbers {
         if let Some(number) = Sequence::of_u64(*number) {
-            summary.insert_str("/orders", number)?;
+            if source.is_source() {
+                summary.insert(&source, number)?;
+            }
         }
     }
     Ok(summary)
@@ -144,6 +147,7 @@ fn a_peer_gets_what_it_lacks(rt: HostRuntime) -> Result<(), Failed> {
     assert!(rt; has(&site.delta_page(&peer, 1, 100)?, &[A3]));
     assert!(rt; has(&site.delta_page(&peer, 0, 1)?, &[A1]));
     assert!(rt; has(&site.delta_page(&peer, 2, 1)?, &[]));
+    assert_eq!(rt; site.len(), 3);
     let part = site.delta_from(&peer, 1, 1)?;
     assert!(rt; has(&part.events, &[A3]));
     assert_eq!(rt; part.next, 3);
