@@ -322,10 +322,21 @@ fn gossip_goes_by_numbers_and_scrub_by_events(rt: HostRuntime) -> Result<(), Fai
     assert_eq!(rt; scrub(&p, &mut q)?, counts(1, 0));
     assert_eq!(rt; scrub(&q, &mut p)?, counts(1, 1));
     let cover = "{\"sources\":{\"/orders\":[[1,1]]},\"version\":1}\n";
+    let latest =
+        "{\"id\":\"q\",\"sequence\":\"00000000000000000001\",\"source\":\"/orders\",\"specversion\":\"1.0\",\"subject\":\"x\",\"type\":\"t.a\"}\n";
     for site in [&p, &q] {
         assert_eq!(rt; lines(rt.alloc(), site, Query::Cover)?.as_str(), cover);
         assert!(rt; has(&site.page(0, 10)?, &[P, Q]));
+        assert_eq!(rt; site.lines(Query::Latest)?.as_str(), latest);
     }
+    Ok(())
+}
+
+#[test]
+fn what_is_there_is_counted_as_repeated(rt: HostRuntime) -> Result<(), Failed> {
+    let mut one = site_of(rt.alloc(), &[A2, A3])?;
+    let other = site_of(rt.alloc(), &[A1, A2, A3])?;
+    assert_eq!(rt; one.merge(&other)?, counts(1, 2));
     Ok(())
 }
 
