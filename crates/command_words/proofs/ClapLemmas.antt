@@ -1,15 +1,18 @@
 -- What clap's rule for a command says once the command is known.
-use Rattle.std.proofs.Common.{◌≡◌, List, [], true, refl, sym, ap, ◌∙◌, ◌≢◌, inl, inr, subst}
-use Rattle.clap.specs.Words.{App, new_app, with_rule, HasKind, HasMatchesOf, IsAmong, Text, fault_of, kind_of, found_of, is_simple, is_simple_and_free, matches_of, rows_of}
+use Rattle.std.proofs.Common.{◌≡◌, ℕ, List, [], Bool, true, false, ◌&&◌, refl, sym, ap, ◌∙◌, ◌≢◌, inl, inr, subst}
+use Rattle.std.specs.Prelude.{codes, if◌then◌else◌}
+use Rattle.std.specs.Str.{bytes_eq}
+use Rattle.clap.specs.Words.{App, HasKind, HasMatchesOf, IsAmong, Text, fault_of, kind_of, found_of, is_simple, is_simple_and_free, matches_of, rows_of}
 use Rattle.clap.specs.declared.parser.matches.ArgMatches.{ArgMatches}
 use Rattle.clap.specs.declared.error.Error.{Error}
 use Rattle.clap.specs.declared.error.kind.ErrorKind.TheVariants as kind
 use Rattle.command_words.specs.declared.fault.Faulty.{Faulty}
 use Rattle.command_words.specs.declared.fault.Faulty.TheVariants.{OutOfMemory, Words}
-use Rattle.command_words.specs.Commands.{app_for, files_rule, word_of}
+use Rattle.command_words.specs.Commands.{app_for, word_of}
 use Rattle.command_words.specs.Plans.{Blames}
 use Rattle.command_words.specs.declared.command.Command.{Command}
-use Rattle.command_words.specs.declared.command.Command.TheVariants.{Ask}
+use Rattle.command_words.specs.declared.command.Command.TheVariants.{Ask, Delta, Order, Relay, Scrub, Take}
+use Rattle.views.specs.declared.query.Query.TheVariants.{Conflicts, Cover, Days, Gaps, Kinds, Latest, Shown}
 
 -- what a command that is b matched at the words
 pub rows_by : (a b : App) (words ws : List Text) (m : ArgMatches) → a ≡ b → ws ≡ words → is_simple b ≡ true
@@ -36,7 +39,44 @@ Blames-weaker F G (Words text is_help) f h = f h
 -- a command's rule is one that clap's contracts speak of
 pub app_for-simple : (command : Command) → is_simple_and_free (app_for command) ≡ true
 app_for-simple (Ask query) = refl
+app_for-simple Take = refl
+app_for-simple Delta = refl
+app_for-simple Scrub = refl
+app_for-simple Order = refl
+app_for-simple Relay = refl
 
--- commands of one word have one rule
-pub app_by_word : (a b : Command) → word_of a ≡ word_of b → app_for a ≡ app_for b
-app_by_word (Ask q) (Ask r) same = ap (λ word. with_rule (new_app word) files_rule) same
+-- the command of a word, where it is one
+abbrev of_word : List ℕ → Command
+of_word word =
+    if bytes_eq word (codes "cover") then Ask Cover else if bytes_eq word (codes "gaps") then Ask Gaps
+    else if bytes_eq word (codes "shown") then Ask Shown else if bytes_eq word (codes "latest") then Ask Latest
+    else if bytes_eq word (codes "kinds") then Ask Kinds else if bytes_eq word (codes "days") then Ask Days
+    else if bytes_eq word (codes "conflicts") then Ask Conflicts else if bytes_eq word (codes "take") then Take
+    else if bytes_eq word (codes "delta") then Delta else if bytes_eq word (codes "scrub") then Scrub
+    else if bytes_eq word (codes "order") then Order else Relay
+
+of_word_back : (command : Command) → of_word (word_of command) ≡ command
+of_word_back (Ask Cover) = refl
+of_word_back (Ask Gaps) = refl
+of_word_back (Ask Shown) = refl
+of_word_back (Ask Latest) = refl
+of_word_back (Ask Kinds) = refl
+of_word_back (Ask Days) = refl
+of_word_back (Ask Conflicts) = refl
+of_word_back Take = refl
+of_word_back Delta = refl
+of_word_back Scrub = refl
+of_word_back Order = refl
+of_word_back Relay = refl
+
+-- commands of one word are one
+pub command_by_word : (a b : Command) → word_of a ≡ word_of b → a ≡ b
+command_by_word a b same = sym (of_word_back a) ∙ (ap of_word same ∙ of_word_back b)
+
+both_left : (a b : Bool) → (a && b) ≡ true → a ≡ true
+both_left true b h = refl
+both_left false b h = h
+
+-- a rule of which clap's contracts speak is one of which the walk's do
+pub is_simple_by : (a : App) → is_simple_and_free a ≡ true → is_simple a ≡ true
+is_simple_by a h = both_left (is_simple a) _ h

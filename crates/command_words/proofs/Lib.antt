@@ -1,1 +1,2 @@
 mod ClapLemmas
+mod PlanLemmas

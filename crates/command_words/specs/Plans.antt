@@ -1,8 +1,15 @@
 -- What the words after the program's name ask for.
-use Rattle.std.specs.Prelude.{◌≡◌, ◌≢◌, ℕ, List, [], codes, Some, slice_get, unwrap_or}
-use Rattle.clap.specs.Words.{Row, Text, all_of, fault_of, matches_of}
+use Rattle.std.specs.Prelude.{◌≡◌, ◌≢◌, ◌≤◌, ◌<◌, ◌^◌, ℕ, List, [], true, codes, length, None, Some, slice_get, unwrap_or}
+use Rattle.std.specs.Str.Parse.{IsNumeral, digits_value}
+use Rattle.clap.specs.Words.{Row, Text, all_of, fault_of, first_of, matches_of}
+use Rattle.attributes.specs.Character.{is_filled}
+use Rattle.attributes.specs.Sequence.{max_sequence}
+use Rattle.attributes.specs.Time.{time_day}
 use Rattle.command_words.specs.declared.command.Command.{Command}
 use Rattle.command_words.specs.declared.command.Command.TheVariants as command
+use Rattle.command_words.specs.declared.request.Action.{Action}
+use Rattle.command_words.specs.declared.request.Action.TheVariants as action
+use Rattle.command_words.specs.declared.request.Request.{Request}
 use Rattle.command_words.specs.declared.request.Plan.{Plan}
 use Rattle.command_words.specs.declared.request.Plan.TheVariants as plan
 use Rattle.command_words.specs.declared.fault.Faulty.{Faulty}
@@ -12,14 +19,77 @@ use Rattle.command_words.specs.Commands.{app_for, word_of}
 -- the command of a plan
 abbrev pub command_of : Plan → Command
 command_of (plan.Ask query files) = command.Ask query
+command_of (plan.Take db files) = command.Take
+command_of (plan.Delta db from summary) = command.Delta
+command_of (plan.Scrub db from) = command.Scrub
+command_of (plan.Order request) = command.Order
+command_of (plan.Relay db after) = command.Relay
+
+-- ---- values
+
+-- the text is one to twenty ASCII digits, and writes a number that fits 64 bits
+pub record IsNumber (text : List ℕ) (n : ℕ) : Type 0 where
+  pub short : length text ≤ 20
+  pub digits : IsNumeral 10 text
+  pub value : digits_value 10 text ≡ n
+  pub fits : n < 2 ^ 64
+
+-- the number of an order: 1 to 2^63-1
+pub record IsOrderNumber (text : List ℕ) (n : ℕ) : Type 0 where
+  pub is_number : IsNumber text n
+  pub low : 1 ≤ n
+  pub high : n ≤ max_sequence
+
+-- the word of what is done with an order
+abbrev pub action_word : Action → List ℕ
+action_word action.Place = codes "place"
+action_word action.Ship = codes "ship"
+action_word action.Cancel = codes "cancel"
+
+-- the text is a time of RFC 3339 of at most 64 bytes
+pub record IsTime (text : List ℕ) : Type 0 where
+  pub short : length text ≤ 64
+  pub time : time_day text ≢ None
+
+-- the text may name the source of a service: at least one character, no control character, and at
+-- most 1,024 bytes
+pub record IsServiceSource (text : List ℕ) : Type 0 where
+  pub short : length text ≤ 1024
+  pub filled : is_filled text ≡ true
+
+-- ---- plans
 
 -- the texts that were matched for an argument; none where it isn't given
 abbrev pub texts_in : List Row → Text → List Text
 texts_in rows id = unwrap_or (all_of id rows) []
 
--- the plan's texts are those that were matched for its arguments
+-- the text that was matched for an argument; empty where it isn't given
+abbrev pub text_in : List Row → Text → Text
+text_in rows id = unwrap_or (first_of id rows) []
+
+-- what is asked of an order has the values that were matched for the arguments
+pub record HasRequestOf (rows : List Row) (r : Request) : Type 0 where
+  pub db : r.db ≡ text_in rows (codes "db")
+  pub source : r.source ≡ text_in rows (codes "source")
+  pub allowed : IsServiceSource r.source
+  pub at : r.at ≡ text_in rows (codes "at")
+  pub time : IsTime r.at
+  pub action : text_in rows (codes "action") ≡ action_word r.action
+  pub order : IsOrderNumber (text_in rows (codes "order")) r.order
+
+-- the plan has the texts, and the values that they write, that were matched for its arguments
 abbrev pub HasTextsOf : List Row → Plan → Type 0
 HasTextsOf rows (plan.Ask query files) = files ≡ texts_in rows (codes "file")
+HasTextsOf rows (plan.Take db files) =
+    (db ≡ text_in rows (codes "db")) × (files ≡ texts_in rows (codes "file"))
+HasTextsOf rows (plan.Delta db from summary) =
+    (db ≡ text_in rows (codes "db")) × IsNumber (text_in rows (codes "from")) from
+    × (summary ≡ text_in rows (codes "summary"))
+HasTextsOf rows (plan.Scrub db from) =
+    (db ≡ text_in rows (codes "db")) × IsNumber (text_in rows (codes "from")) from
+HasTextsOf rows (plan.Order request) = HasRequestOf rows request
+HasTextsOf rows (plan.Relay db after) =
+    (db ≡ text_in rows (codes "db")) × IsNumber (text_in rows (codes "after")) after
 
 -- clap's rule for the command finds no fault in the words, and the plan is that command with the
 -- texts that the rule matches
@@ -38,10 +108,14 @@ abbrev pub Blames : Type 0 → Faulty → Type 0
 Blames fault faulty.OutOfMemory = Unit {0}
 Blames fault (faulty.Words text is_help) = fault
 
--- the first word is no command, or the words are at fault by clap's rule for the command
+-- no plan of the command has what was matched
+abbrev pub HaveNoPlan : List Row → Command → Type 0
+HaveNoPlan rows command = (plan : Plan) → command_of plan ≡ command → HasTextsOf rows plan → ⊥
+
+-- there is no plan that the words are: the first is no command, the words are at fault by clap's
+-- rule for the command, or one of their values isn't allowed
 abbrev pub AreFaulty : List Text → Type 0
-AreFaulty words = (command : Command) → slice_get words 0 ≡ Some (word_of command)
-    → fault_of (app_for command) words ≢ []
+AreFaulty words = (plan : Plan) → IsPlan words plan → ⊥
 
 -- the number of the reason, from 1
 abbrev pub number_of : Faulty → ℕ

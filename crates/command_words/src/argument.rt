@@ -1,11 +1,10 @@
-//! The arguments of the commands, and their texts in what clap matched.
-ghost use Rattle.std.specs.Prelude.{◌≡◌, false, IfOk, [], unwrap_or, map};
-ghost use Rattle.clap.specs.Words.{all_of, found_of, rows_of, rule_of};
-ghost use Rattle.command_words.specs.Commands.{files_rule};
+//! The arguments of the commands, as clap declares them.
+ghost use Rattle.std.specs.Prelude.{◌≡◌, false, codes};
+ghost use Rattle.clap.specs.Words.{rule_of};
+ghost use Rattle.command_words.specs.Commands.{default_rule, files_rule, from_rule, needed_rule, place_rule};
 
-use attributes::{Text, Texts};
-use clap::{Arg, ArgAction, ArgMatches};
-use std::alloc::{AllocError, Global};
+use clap::{Arg, ArgAction};
+use std::alloc::Global;
 
 /// `FILE..`, one or more.
 pub fn files<'a>(alloc: Global) -> Arg<'a>
@@ -19,24 +18,95 @@ pub fn files<'a>(alloc: Global) -> Arg<'a>
         .required(true)
 }
 
-/// The texts that were matched for an argument, in their order; none where it wasn't given.
-pub fn texts_of(alloc: Global, matches: &ArgMatches<'_>, id: &str) -> Result<Texts, AllocError>
-    ensures { IfOk result (λ texts.
-        texts ≡ unwrap_or (all_of id.now (rows_of (found_of matches.now))) []) }
+/// `--db DB`
+pub fn db<'a>(alloc: Global) -> Arg<'a>
+    ensures rule { rule_of result ≡ needed_rule (codes "db") }
+    ensures local { result.global ≡ false }
 {
-    match matches.get_strs(id) {
-        Some(values) => to_texts(alloc, values),
-        None => Ok(Texts::empty(alloc)),
-    }
+    Arg::new(alloc, "db")
+        .long("db")
+        .value_name("DB")
+        .help("The database file, made where there is none")
+        .required(true)
 }
 
-/// The values as texts of their own.
-fn to_texts(alloc: Global, values: &[&str]) -> Result<Texts, AllocError>
-    ensures { IfOk result (λ texts. texts ≡ map (λ s. s.now) values.now) }
+/// `--from N`
+pub fn from<'a>(alloc: Global) -> Arg<'a>
+    ensures rule { rule_of result ≡ from_rule }
+    ensures local { result.global ≡ false }
 {
-    let mut texts = Texts::empty(alloc);
-    for value in values {
-        texts.push(Text::of(alloc, value)?)?;
-    }
-    Ok(texts)
+    Arg::new(alloc, "from")
+        .long("from")
+        .value_name("N")
+        .help("How many events to pass over: 100 for the second page")
+        .default_value("0")
+}
+
+/// `SUMMARY`
+pub fn summary<'a>(alloc: Global) -> Arg<'a>
+    ensures rule { rule_of result ≡ place_rule (codes "summary") }
+    ensures local { result.global ≡ false }
+{
+    Arg::new(alloc, "summary")
+        .value_name("SUMMARY")
+        .help("A file with the other site's summary, as cover prints it; - is standard input")
+        .required(true)
+}
+
+/// `--source S`
+pub fn source<'a>(alloc: Global) -> Arg<'a>
+    ensures rule { rule_of result ≡ default_rule (codes "source") (codes "/orders") }
+    ensures local { result.global ≡ false }
+{
+    Arg::new(alloc, "source")
+        .long("source")
+        .value_name("S")
+        .help("The source of the service's events, for a database that is new")
+        .default_value("/orders")
+}
+
+/// `--at TIME`
+pub fn at<'a>(alloc: Global) -> Arg<'a>
+    ensures rule { rule_of result ≡ needed_rule (codes "at") }
+    ensures local { result.global ≡ false }
+{
+    Arg::new(alloc, "at")
+        .long("at")
+        .value_name("TIME")
+        .help("When it was done, as RFC 3339 writes it: 2024-02-29T10:00:00Z")
+        .required(true)
+}
+
+/// `ACTION`
+pub fn action<'a>(alloc: Global) -> Arg<'a>
+    ensures rule { rule_of result ≡ place_rule (codes "action") }
+    ensures local { result.global ≡ false }
+{
+    Arg::new(alloc, "action")
+        .value_name("ACTION")
+        .help("What is done with the order: place, ship or cancel")
+        .required(true)
+}
+
+/// `ORDER`
+pub fn order<'a>(alloc: Global) -> Arg<'a>
+    ensures rule { rule_of result ≡ place_rule (codes "order") }
+    ensures local { result.global ≡ false }
+{
+    Arg::new(alloc, "order")
+        .value_name("ORDER")
+        .help("The number of the order, from 1")
+        .required(true)
+}
+
+/// `--after N`
+pub fn after<'a>(alloc: Global) -> Arg<'a>
+    ensures rule { rule_of result ≡ needed_rule (codes "after") }
+    ensures local { result.global ≡ false }
+{
+    Arg::new(alloc, "after")
+        .long("after")
+        .value_name("N")
+        .help("The number of the last row that was sent, 0 for none")
+        .required(true)
 }

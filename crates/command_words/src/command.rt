@@ -1,10 +1,10 @@
 //! The table of the commands: their words, their help lines and their arguments.
-ghost use Rattle.std.specs.Prelude.{◌≡◌, IfOk, IfSome, IsNone, ◌≢◌};
+ghost use Rattle.std.specs.Prelude.{◌≡◌, IfOk, IfSome, IsNone, codes, ◌≢◌};
 ghost use Rattle.clap.specs.Words.{app_of, new_app, with_rule};
-ghost use Rattle.command_words.specs.Commands.{app_for, files_rule, word_of};
+ghost use Rattle.command_words.specs.Commands.{app_for, needed_rule, place_rule, word_of};
 ghost use Rattle.command_words.specs.declared.command.Command.{Command};
 
-use crate::argument::files;
+use crate::argument::{action, after, at, db, files, from, order, source, summary};
 use std::alloc::{AllocError, Global};
 use views::Query;
 
@@ -13,6 +13,16 @@ use views::Query;
 pub enum Command {
     /// `WORD FILE..`: answers the query for the events of all files together.
     Ask(Query),
+    /// `take --db DB FILE..`: adds the files' events to a database.
+    Take,
+    /// `delta --db DB [--from N] SUMMARY`: a page of the events that a summary lacks.
+    Delta,
+    /// `scrub --db DB [--from N]`: a page of all events.
+    Scrub,
+    /// `order --db DB [--source S] --at TIME ACTION ORDER`: a command to a service.
+    Order,
+    /// `relay --db DB --after N`: the next rows of a service's outbox.
+    Relay,
 }
 
 /// A row of the table, for as long as clap's command wants its texts.
@@ -28,7 +38,7 @@ pub struct Row<'a> {
 }
 
 /// The words of all commands, in the order in which help lists them.
-pub const WORDS: [&str; 7] = [
+pub const WORDS: [&str; 12] = [
     "cover",
     "gaps",
     "shown",
@@ -36,6 +46,11 @@ pub const WORDS: [&str; 7] = [
     "kinds",
     "days",
     "conflicts",
+    "take",
+    "delta",
+    "scrub",
+    "order",
+    "relay",
 ];
 
 /// The table: the row of a word.
@@ -87,6 +102,36 @@ pub fn row_of<'a>(word: &str) -> Option<Row<'a>>
             full_name: "site conflicts",
             about: "Prints the events that share a source and id, to find producers at fault",
         }),
+        "take" => Some(Row {
+            command: Command::Take,
+            word: "take",
+            full_name: "site take",
+            about: "Adds the files' events to a database, each once, and prints how many were new",
+        }),
+        "delta" => Some(Row {
+            command: Command::Delta,
+            word: "delta",
+            full_name: "site delta",
+            about: "Prints a batch of the events that another site lacks, to be sent to it",
+        }),
+        "scrub" => Some(Row {
+            command: Command::Scrub,
+            word: "scrub",
+            full_name: "site scrub",
+            about: "Prints a batch of all events, page by page, to mend what a delta can't find",
+        }),
+        "order" => Some(Row {
+            command: Command::Order,
+            word: "order",
+            full_name: "site order",
+            about: "Places, ships or cancels an order, and prints the event that says so",
+        }),
+        "relay" => Some(Row {
+            command: Command::Relay,
+            word: "relay",
+            full_name: "site relay",
+            about: "Prints a batch of the next events of the orders, to be sent to the sites",
+        }),
         _ => None,
     }
 }
@@ -107,19 +152,42 @@ impl<'a> Row<'a> {
         requires { self.word.now ≡ word_of self.command }
         ensures { IfOk result (λ parser. app_of parser ≡ app_for self.entry.command) }
     {
+        let bare = self.bare(alloc)?;
         match self.command {
-            Command::Ask(_) => self.ask_parser(alloc),
+            Command::Ask(_) => bare.arg(files(alloc)),
+            Command::Take => bare.arg(db(alloc))?.arg(files(alloc)),
+            Command::Delta => bare
+                .arg(db(alloc))?
+                .arg(from(alloc))?
+                .arg(summary(alloc)),
+            Command::Scrub => bare.arg(db(alloc))?.arg(from(alloc)),
+            Command::Order => {
+                let begun = bare.arg(db(alloc))?.arg(source(alloc))?;
+                with_request(alloc, begun)
+            }
+            Command::Relay => bare.arg(db(alloc))?.arg(after(alloc)),
         }
     }
 
-    /// `WORD FILE..`
-    fn ask_parser(self, alloc: Global) -> Result<clap::Command<'a>, AllocError>
-        ensures { IfOk result (λ parser.
-            app_of parser ≡ with_rule (new_app self.entry.word.now) files_rule) }
+    /// The word with its help line, without arguments.
+    fn bare(self, alloc: Global) -> Result<clap::Command<'a>, AllocError>
+        ensures { IfOk result (λ parser. app_of parser ≡ new_app self.entry.word.now) }
     {
-        clap::Command::new(alloc, self.word)
-            .bin_name(self.full_name)?
-            .about(self.about)
-            .arg(files(alloc))
+        let named = clap::Command::new(alloc, self.word).bin_name(self.full_name)?;
+        Ok(named.about(self.about))
     }
+}
+
+/// The command with when, what and which order.
+fn with_request<'a>(
+    alloc: Global,
+    begun: clap::Command<'a>,
+) -> Result<clap::Command<'a>, AllocError>
+    ensures { IfOk result (λ parser. app_of parser ≡ with_rule (with_rule (with_rule (app_of begun.entry)
+        (needed_rule (codes "at"))) (place_rule (codes "action"))) (place_rule (codes "order"))) }
+{
+    begun
+        .arg(at(alloc))?
+        .arg(action(alloc))?
+        .arg(order(alloc))
 }

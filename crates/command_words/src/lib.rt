@@ -4,12 +4,14 @@
 mod argument;
 mod command;
 mod fault;
+mod matched;
 mod program;
 mod request;
+mod value;
 mod words;
 
 pub use attributes::Texts;
 pub use command::Command;
 pub use fault::Faulty;
-pub use request::Plan;
+pub use request::{Action, Plan, Request};
 pub use words::plan;

@@ -17,7 +17,7 @@ fn program<'a>(alloc: Global) -> Result<clap::Command<'a>, AllocError> {
     let mut program = clap::Command::new(alloc, "site")
         .bin_name("site")?
         .version("0.1.0")
-        .about("Answers questions about the events in files of CloudEvents")
+        .about("Keeps the CloudEvents of several regions in step, and answers questions about them")
         .no_binary_name(true)
         .subcommand_required(true)
         .arg_required_else_help(true);

@@ -1,10 +1,42 @@
 //! What the words of the command line ask for.
-use attributes::Texts;
+use attributes::{Moment, Text, Texts};
 use views::Query;
 
-/// What the words ask for: a command and the texts of its arguments.
+/// What the words ask for: a command, and the values of its arguments.
 #[derive(Drop)]
 pub enum Plan {
     /// The answer to a query for the events of all files together.
     Ask { query: Query, files: Texts },
+    /// The files' events into a database.
+    Take { db: Text, files: Texts },
+    /// The events of a database that a summary lacks, from a place on.
+    Delta { db: Text, from: u64, summary: Text },
+    /// The events of a database in key order, from a place on.
+    Scrub { db: Text, from: u64 },
+    /// A command to the service of a database.
+    Order(Request),
+    /// The rows of a service's outbox with a number greater than `after`.
+    Relay { db: Text, after: u64 },
+}
+
+/// A command to a service: what is done with which order, and when.
+#[derive(Drop)]
+pub struct Request {
+    pub db: Text,
+    /// The source of the service's events, for a database that is new: 1 to 1,024 bytes without a
+    /// control character.
+    pub source: Text,
+    /// A text of at most 64 bytes.
+    pub at: Moment,
+    pub action: Action,
+    /// In 1..=2^63-1.
+    pub order: u64,
+}
+
+/// What is done with an order.
+#[derive(Clone, Copy, Debug, PartialEq, Eq)]
+pub enum Action {
+    Place,
+    Ship,
+    Cancel,
 }

@@ -1,15 +1,17 @@
 //! From the words of the command line to a plan.
-ghost use Rattle.std.specs.Prelude.{◌≡◌, ◌≢◌, IfOk, IfErr, [], map};
-ghost use Rattle.clap.specs.Words.{fault_of, found_of, rows_of};
-ghost use Rattle.command_words.specs.Commands.{app_for, word_of};
-ghost use Rattle.command_words.specs.Plans.{AreFaulty, Blames, HasTextsOf, IsPlan, IsPlanFor, command_of};
-ghost use Rattle.command_words.specs.declared.command.Command.{Command};
+ghost use Rattle.std.specs.Prelude.{◌≡◌, IfOk, IfErr, map};
+ghost use Rattle.clap.specs.Words.{found_of, rows_of};
+ghost use Rattle.command_words.specs.Commands.{word_of};
+ghost use Rattle.command_words.specs.Plans.{AreFaulty, Blames, HasRequestOf, HasTextsOf, HaveNoPlan, IsPlan, IsPlanFor, command_of};
+ghost use Rattle.command_words.specs.declared.request.Plan.{Plan};
+ghost use Rattle.command_words.specs.declared.request.Request.{Request};
 
-use crate::argument::texts_of;
 use crate::command::{Command, row_of};
 use crate::fault::Faulty;
+use crate::matched::{str_of, text_of, texts_of};
 use crate::program::{faulty_of, no_command};
-use crate::request::Plan;
+use crate::request::{Plan, Request};
+use crate::value::{action, number, order_number, source, time};
 use attributes::Text;
 use clap::ArgMatches;
 use std::alloc::{AllocError, Global};
@@ -31,8 +33,8 @@ pub fn plan(alloc: Global, words: &[Text]) -> Result<Plan, Faulty>
 fn plan_for(alloc: Global, first: &str, words: &[Text]) -> Result<Plan, Faulty>
     ensures ok { IfOk result (λ plan. (word_of (command_of plan) ≡ first.now)
         × IsPlanFor words.now (command_of plan) plan) }
-    ensures err { IfErr result (Blames ((command : Command) → first.now ≡ word_of command
-        → fault_of (app_for command) words.now ≢ [])) }
+    ensures err { IfErr result (Blames ((plan : Plan) → first.now ≡ word_of (command_of plan)
+        → IsPlanFor words.now (command_of plan) plan → ⊥)) }
 {
     let strs = as_strs(alloc, words)?;
     let Some(row) = row_of(first) else {
@@ -40,21 +42,85 @@ fn plan_for(alloc: Global, first: &str, words: &[Text]) -> Result<Plan, Faulty>
     };
     let parser = row.parser(alloc)?;
     match parser.try_get_matches_from(strs.as_slice()) {
-        Ok(matches) => Ok(matched(alloc, row.command, &matches)?),
+        Ok(matches) => matched(alloc, row.command, &matches),
         Err(error) => Err(faulty_of(alloc, error)),
     }
 }
 
-/// The command with the texts of its arguments.
-fn matched(alloc: Global, command: Command, matches: &ArgMatches<'_>) -> Result<Plan, AllocError>
+/// The command with the values of its arguments.
+fn matched(alloc: Global, command: Command, matches: &ArgMatches<'_>) -> Result<Plan, Faulty>
     ensures command { IfOk result (λ plan. command_of plan ≡ command) }
     ensures texts { IfOk result (HasTextsOf (rows_of (found_of matches.now))) }
+    ensures err { IfErr result (Blames (HaveNoPlan (rows_of (found_of matches.now)) command)) }
 {
     match command {
         Command::Ask(query) => {
             let files = texts_of(alloc, matches, "file")?;
             Ok(Plan::Ask { query, files })
         }
+        Command::Take => {
+            let db = text_of(alloc, matches, "db")?;
+            let files = texts_of(alloc, matches, "file")?;
+            Ok(Plan::Take { db, files })
+        }
+        Command::Delta => {
+            let db = text_of(alloc, matches, "db")?;
+            let summary = text_of(alloc, matches, "summary")?;
+            match number(alloc, "--from <N>", str_of(matches, "from")) {
+                Ok(from) => Ok(Plan::Delta { db, from, summary }),
+                Err(faulty) => Err(faulty),
+            }
+        }
+        Command::Scrub => {
+            let db = text_of(alloc, matches, "db")?;
+            match number(alloc, "--from <N>", str_of(matches, "from")) {
+                Ok(from) => Ok(Plan::Scrub { db, from }),
+                Err(faulty) => Err(faulty),
+            }
+        }
+        Command::Order => match request(alloc, matches) {
+            Ok(request) => Ok(Plan::Order(request)),
+            Err(faulty) => Err(faulty),
+        },
+        Command::Relay => {
+            let db = text_of(alloc, matches, "db")?;
+            match number(alloc, "--after <N>", str_of(matches, "after")) {
+                Ok(after) => Ok(Plan::Relay { db, after }),
+                Err(faulty) => Err(faulty),
+            }
+        }
+    }
+}
+
+/// What is asked of an order. Its values are tested in this order: the time, the source, the
+/// action, the number.
+fn request(alloc: Global, matches: &ArgMatches<'_>) -> Result<Request, Faulty>
+    ensures ok { IfOk result (HasRequestOf (rows_of (found_of matches.now))) }
+    ensures err { IfErr result (Blames ((r : Request)
+        → HasRequestOf (rows_of (found_of matches.now)) r → ⊥)) }
+{
+    let db = text_of(alloc, matches, "db")?;
+    let at = match time(alloc, str_of(matches, "at")) {
+        Ok(at) => at,
+        Err(faulty) => return Err(faulty),
+    };
+    let source = match source(alloc, str_of(matches, "source")) {
+        Ok(source) => source,
+        Err(faulty) => return Err(faulty),
+    };
+    let action = match action(alloc, str_of(matches, "action")) {
+        Ok(action) => action,
+        Err(faulty) => return Err(faulty),
+    };
+    match order_number(alloc, str_of(matches, "order")) {
+        Ok(order) => Ok(Request {
+            db,
+            source,
+            at,
+            action,
+            order,
+        }),
+        Err(faulty) => Err(faulty),
     }
 }
 

@@ -1,0 +1,46 @@
+//! The texts that clap matched for arguments.
+ghost use Rattle.std.specs.Prelude.{◌≡◌, IfOk, [], unwrap_or, map};
+ghost use Rattle.clap.specs.Words.{all_of, first_of, found_of, rows_of};
+ghost use Rattle.command_words.specs.Plans.{text_in, texts_in};
+
+use attributes::{Text, Texts};
+use clap::ArgMatches;
+use std::alloc::{AllocError, Global};
+
+/// The text that was matched for an argument; empty where it wasn't given.
+pub fn str_of<'a>(matches: &ArgMatches<'a>, id: &str) -> &'a str
+    ensures { result.now ≡ text_in (rows_of (found_of matches.now)) id.now }
+{
+    match matches.get_str(id) {
+        Some(text) => text,
+        None => "",
+    }
+}
+
+/// The text that was matched for an argument, as a text of its own; empty where it wasn't given.
+pub fn text_of(alloc: Global, matches: &ArgMatches<'_>, id: &str) -> Result<Text, AllocError>
+    ensures { IfOk result (λ text. text ≡ text_in (rows_of (found_of matches.now)) id.now) }
+{
+    Text::of(alloc, str_of(matches, id))
+}
+
+/// The texts that were matched for an argument, in their order; none where it wasn't given.
+pub fn texts_of(alloc: Global, matches: &ArgMatches<'_>, id: &str) -> Result<Texts, AllocError>
+    ensures { IfOk result (λ texts. texts ≡ texts_in (rows_of (found_of matches.now)) id.now) }
+{
+    match matches.get_strs(id) {
+        Some(values) => to_texts(alloc, values),
+        None => Ok(Texts::empty(alloc)),
+    }
+}
+
+/// The values as texts of their own.
+fn to_texts(alloc: Global, values: &[&str]) -> Result<Texts, AllocError>
+    ensures { IfOk result (λ texts. texts ≡ map (λ s. s.now) values.now) }
+{
+    let mut texts = Texts::empty(alloc);
+    for value in values {
+        texts.push(Text::of(alloc, value)?)?;
+    }
+    Ok(texts)
+}

@@ -1,0 +1,142 @@
+//! The values that texts of the command line write.
+ghost use Rattle.std.specs.Prelude.{◌≡◌, ◌≢◌, ℕ, true, IfErr, IfOk, IfSome, IsNone};
+ghost use Rattle.command_words.specs.Plans.{Blames, IsNumber, IsOrderNumber, IsServiceSource, IsTime, action_word};
+ghost use Rattle.command_words.specs.declared.request.Action.{Action};
+
+use crate::fault::Faulty;
+use crate::request::Action;
+use attributes::{Fault, Moment, Text};
+use std::alloc::Global;
+
+/// The most digits of a number.
+const MAX_DIGITS: usize = 20;
+/// The greatest number of an order, 2^63 - 1.
+const MAX_ORDER: u64 = 9_223_372_036_854_775_807;
+/// The most bytes of the time of a command.
+const MAX_TIME: usize = 64;
+/// The most bytes of a service's source.
+const MAX_SOURCE: usize = 1_024;
+
+/// The number that at most twenty decimal digits write, where it fits 64 bits.
+fn number_of(text: &str) -> Option<u64>
+    ensures some { IfSome result (IsNumber text.now) }
+    ensures none { IsNone result → (n : ℕ) → IsNumber text.now n → ⊥ }
+{
+    if text.len() > MAX_DIGITS {
+        return None;
+    }
+    if let Some(b'+') = text.as_bytes().first() {
+        return None;
+    }
+    text.parse::<u64>().ok()
+}
+
+/// A number. `name` is that of its argument, for what is said of another text.
+pub fn number(alloc: Global, name: &str, text: &str) -> Result<u64, Faulty>
+    ensures ok { IfOk result (IsNumber text.now) }
+    ensures err { IfErr result (Blames ((n : ℕ) → IsNumber text.now n → ⊥)) }
+{
+    match number_of(text) {
+        Some(number) => Ok(number),
+        None => Err(not_allowed(
+            alloc,
+            name,
+            text,
+            "a number of 1 to 20 digits, below 2^64",
+        )),
+    }
+}
+
+/// The number of an order.
+pub fn order_number(alloc: Global, text: &str) -> Result<u64, Faulty>
+    ensures ok { IfOk result (IsOrderNumber text.now) }
+    ensures err { IfErr result (Blames ((n : ℕ) → IsOrderNumber text.now n → ⊥)) }
+{
+    match number_of(text) {
+        Some(number) => {
+            if number == 0 || number > MAX_ORDER {
+                return Err(no_order(alloc, text));
+            }
+            Ok(number)
+        }
+        None => Err(no_order(alloc, text)),
+    }
+}
+
+/// What is said of a text that is no order's number.
+fn no_order(alloc: Global, text: &str) -> Faulty {
+    not_allowed(
+        alloc,
+        "<ORDER>",
+        text,
+        "a number from 1 to 9223372036854775807",
+    )
+}
+
+/// What is done with an order.
+pub fn action(alloc: Global, text: &str) -> Result<Action, Faulty>
+    ensures ok { IfOk result (λ action. text.now ≡ action_word action) }
+    ensures err { IfErr result (Blames ((action : Action) → text.now ≢ action_word action)) }
+{
+    match text {
+        "place" => Ok(Action::Place),
+        "ship" => Ok(Action::Ship),
+        "cancel" => Ok(Action::Cancel),
+        _ => Err(not_allowed(
+            alloc,
+            "<ACTION>",
+            text,
+            "place, ship or cancel",
+        )),
+    }
+}
+
+/// The time of a command.
+pub fn time(alloc: Global, text: &str) -> Result<Moment, Faulty>
+    ensures ok { IfOk result (λ at. at ≡ text.now) }
+    ensures allowed { IfOk result (λ at. IsTime text.now) }
+    ensures err { IfErr result (Blames (IsTime text.now → ⊥)) }
+{
+    let wanted = "a time of RFC 3339 of at most 64 bytes, such as 2024-02-29T10:00:00Z";
+    if text.len() > MAX_TIME {
+        return Err(not_allowed(alloc, "--at <TIME>", text, wanted));
+    }
+    match Moment::of_text(alloc, text) {
+        Ok(at) => Ok(at),
+        Err(Fault::OutOfMemory) => Err(Faulty::OutOfMemory),
+        Err(_) => Err(not_allowed(alloc, "--at <TIME>", text, wanted)),
+    }
+}
+
+/// The source of a service.
+pub fn source(alloc: Global, text: &str) -> Result<Text, Faulty>
+    ensures ok { IfOk result (λ source. source ≡ text.now) }
+    ensures allowed { IfOk result (λ source. IsServiceSource text.now) }
+    ensures err { IfErr result (Blames (IsServiceSource text.now → ⊥)) }
+{
+    let source = Text::of(alloc, text)?;
+    if text.len() > MAX_SOURCE || !source.is_source() {
+        return Err(not_allowed(
+            alloc,
+            "--source <S>",
+            text,
+            "1 to 1,024 bytes without a control character",
+        ));
+    }
+    Ok(source)
+}
+
+/// What is said of a text that its argument doesn't allow.
+fn not_allowed(alloc: Global, name: &str, text: &str, wanted: &str) -> Faulty {
+    let said = format!(
+        in alloc;
+        "error: invalid value '{text}' for '{name}': {wanted} is wanted\n\nFor more information, try '--help'.\n"
+    );
+    match said {
+        Ok(text) => Faulty::Words {
+            text: Text::from_string(text),
+            is_help: false,
+        },
+        Err(_) => Faulty::OutOfMemory,
+    }
+}
