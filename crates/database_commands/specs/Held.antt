@@ -1,0 +1,41 @@
+-- What a database holds for a command.
+use Rattle.std.specs.Prelude.{◌≡◌, ◌-◌, ◌+◌, ℕ, List, [], length, true, false}
+use Rattle.sqlite.specs.Effect.{Database}
+use Rattle.attributes.specs.Event.{EventValue}
+use Rattle.inbox.specs.KeyOrder.{key_cmp}
+use Rattle.inbox.specs.Ordered.{append_new}
+use Rattle.inbox.specs.Sets.{set_of}
+use Rattle.coverage.specs.Summary.{Sources}
+use Rattle.site.specs.Delta.{delta}
+use Rattle.site.specs.Page.{page}
+use Rattle.inbox_table.specs.Rows.{IsInbox}
+use Rattle.inbox_table.specs.Schema.{has_inbox}
+use Rattle.database_commands.specs.Print.{batch_line, counts_line}
+
+-- the database has an inbox with these events, or none, and then they are none
+pub record Holds (db : Database) (events : List EventValue) : Type 0 where
+  pub there : has_inbox db.schema ≡ true → IsInbox db events
+  pub none : has_inbox db.schema ≡ false → events ≡ []
+
+-- the most events that are printed at once
+abbrev pub max_page : ℕ
+max_page = 100
+
+-- whatever the database held, it has that now and behind it those of L that weren't there, and the
+-- text says how many they are
+abbrev pub TakesInto : List EventValue → Database → Database → List ℕ → Type 0
+TakesInto L old new text = (held : List EventValue) → Holds old held
+    → IsInbox new (append_new key_cmp held L)
+    × (text ≡ counts_line (length L) (length (append_new key_cmp held L) - length held))
+
+-- the text is the batch of the page, from this place on, of what the summary lacks of all that the
+-- database held
+abbrev pub ShowsDelta : Sources → ℕ → Database → List ℕ → Type 0
+ShowsDelta summary from db text = (held : List EventValue) → Holds db held
+    → text ≡ batch_line (page (delta (set_of held) summary) from max_page)
+
+-- the text is the batch of the page, from this place on, of all that the database held, in key
+-- order
+abbrev pub ShowsPage : ℕ → Database → List ℕ → Type 0
+ShowsPage from db text = (held : List EventValue) → Holds db held
+    → text ≡ batch_line (page (set_of held) from max_page)

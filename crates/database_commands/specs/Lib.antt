@@ -1,0 +1,3 @@
+pub mod Fault
+pub mod Print
+pub mod Held

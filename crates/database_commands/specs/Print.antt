@@ -1,0 +1,18 @@
+-- What the commands over a database print. Each line ends with LF.
+use Rattle.std.specs.Prelude.{◌≡◌, ◌-◌, ℕ, List, [], ◌∷◌, ◌++◌, codes}
+use Rattle.std.specs.Fmt.{decimal}
+use Rattle.attributes.specs.Event.{EventValue, text}
+use Rattle.event_json.specs.Writing.{batch_text}
+
+-- how many events were read, how many of them were new, and how many were there
+abbrev pub counts_line : ℕ → ℕ → List ℕ
+counts_line read fresh = codes "read " ++ decimal read ++ codes " new " ++ decimal fresh
+    ++ codes " repeated " ++ decimal (read - fresh) ++ 10 ∷ []
+
+-- a batch, as one line
+abbrev pub batch_line : List EventValue → List ℕ
+batch_line events = batch_text events ++ 10 ∷ []
+
+-- an event, as one line
+abbrev pub event_line : EventValue → List ℕ
+event_line e = text e ++ 10 ∷ []

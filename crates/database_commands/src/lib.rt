@@ -1,0 +1,25 @@
+//! The commands over a database: from an open connection to the printed text.
+#![tactic(auto)]
+
+mod fault;
+mod inbox;
+mod page;
+mod service;
+mod text;
+
+pub use fault::CommandFault;
+pub use inbox::take;
+pub use outbox::Status;
+pub use page::{delta, scrub};
+pub use service::{Request, order, relay};
+pub use text::summary_of;
+
+use attributes::Text;
+use sqlite::{Alter, Connection};
+
+/// A command that came to its end: the connection, and the text to print or why there is none.
+#[derive(Drop)]
+pub struct Ended<S: Alter + Drop> {
+    pub conn: Connection<S>,
+    pub outcome: Result<Text, CommandFault>,
+}
