@@ -46,7 +46,7 @@ refused_same sql params old new e P survives settled fails = record {
   same = λ clean still l has. let how = not_shown sql params old new e (fails clean) in same_where old new (settled (open_where old new how still)) how still;
 }
 
-shown_open : (sql : List ℕ) (params : Row) (old new : State) (rows : List Row) → Shown sql params old new rows → IsTrue old.is_open
+pub shown_open : (sql : List ℕ) (params : Row) (old new : State) (rows : List Row) → Shown sql params old new rows → IsTrue old.is_open
 unfolding Shown
 shown_open sql params old new rows h = go h.0.returning h.2
   where

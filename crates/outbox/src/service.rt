@@ -353,6 +353,8 @@ impl<S: Alter> Service<S> {
         ensures rows { HasCleanDisk (state S.Store self.new.conn) → IfOk result
             (ShowsAfter self.old.source self.old.base after limit
             (state S.Store self.old.conn).now) }
+        ensures open { HasCleanDisk (state S.Store self.new.conn)
+            → OnOk result (IsTrue (state S.Store self.old.conn).is_open) }
         ensures same { IsSame (state S.Store self.old.conn) (state S.Store self.new.conn) }
         ensures fault { IfErr result (λ f. (f ≡ OutOfMemory) ⊎ (f ≡ Store)) }
     {

@@ -158,6 +158,8 @@ pub(crate) fn page<S: Alter>(
         → IsService (state S.Store conn.old).now source base commands
         → rows.items ≡ take limit
         (shown_rows (suc base + (after - base)) (drop (after - base) commands))) }
+    ensures open { HasCleanDisk (state S.Store conn.new)
+        → OnOk result (IsTrue (state S.Store conn.old).is_open) }
     ensures same { IsSame (state S.Store conn.old) (state S.Store conn.new) }
     ensures fault { IfErr result (λ f. (f ≡ OutOfMemory) ⊎ (f ≡ Store)) }
 {

@@ -1,7 +1,7 @@
 use Rattle.std.proofs.Common.{rules, w64, FitsSigned, IsTrue}
 use Rattle.std.proofs.lemmas.Int.{to_z-of_z}
 use Rattle.sqlite.specs.Held.{state}
-use Rattle.outbox.proofs.SameLemmas.{refused_same, answered_same}
+use Rattle.outbox.proofs.SameLemmas.{refused_same, answered_same, shown_open}
 use Rattle.outbox.proofs.LoadLemmas.{pages}
 use Rattle.outbox.proofs.TextLemmas.{page_text, page_plain}
 use Rattle.outbox.proofs.statement.page.Goals as goal
@@ -20,3 +20,6 @@ returns-clause-rows g c clean source base commands box =
     let fits2 : FitsSigned w64 c.signed-2.result = search rules in
     pages (state g.S.Store c.args.conn.now) (state g.S.Store c.page_asked.new.conn) box.layout base commands c.args.after c.args.limit _ box.schema box.outbox
     (rw (to_z-of_z w64 c.signed.result fits, c.signed.ensures, to_z-of_z w64 c.signed-2.result fits2, c.signed-2.ensures) at (c.in_ok-page_asked.ensures.ok clean))
+
+pub returns-clause-open : goal.returns-clause-open
+returns-clause-open g c clean = shown_open page_text _ (state g.S.Store c.args.conn.now) (state g.S.Store c.page_asked.new.conn) _ (c.in_ok-page_asked.ensures.ok clean)
