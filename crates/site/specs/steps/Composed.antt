@@ -1,5 +1,5 @@
 -- Runs of the site machine, one after another.
-use Rattle.std.specs.Prelude.{◌≡◌, List, [], ◌∷◌, ◌++◌}
+use Rattle.std.specs.Prelude.{List, [], ◌∷◌, ◌++◌}
 use Rattle.std.proofs.Common.{subst}
 use Rattle.attributes.specs.Event.{EventValue}
 use Rattle.site.specs.Machine.{Runs, arrivals_after}
