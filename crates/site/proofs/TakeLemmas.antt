@@ -1,5 +1,5 @@
 -- Lists that are taken an item at a time.
-use Rattle.std.proofs.Common.{◌≡◌, ◌+◌, ◌≤◌, ℕ, zero, suc, List, [], ◌∷◌, ◌++◌, true, false, length, take, drop, if◌then◌else◌, Some, slice_get, refl, sym, ap, ap₂, ◌∙◌, arith, length-append}
+use Rattle.std.proofs.Common.{◌≡◌, ◌+◌, ◌≤◌, ℕ, zero, suc, List, [], ◌∷◌, ◌++◌, Bool, true, false, length, take, drop, if◌then◌else◌, Some, slice_get, refl, sym, ap, ap₂, ◌∙◌, arith, length-append}
 use Rattle.std.specs.declared.cmp.Ordering.{Ordering}
 use Rattle.std.specs.BTreeSet.{insert_key}
 use Rattle.std.proofs.lemmas.List.{drop-drop, drop-take, take-append-drop, take-take, take_more}
@@ -10,6 +10,15 @@ module _ {K : Type 0} (R : K → K → Ordering) where
   pub append_new-append : (A xs ys : List K) → append_new R A (xs ++ ys) ≡ append_new R (append_new R A xs) ys
   append_new-append A [] ys = refl
   append_new-append A (x ∷ xs) ys = append_new-append (if has R A x then A else A ++ x ∷ []) xs ys
+
+  once_more : (b : Bool) (A : List K) (x : K) → has R A x ≡ b → append_new R [] A ≡ A → append_new R [] (if b then A else A ++ x ∷ []) ≡ (if b then A else A ++ x ∷ [])
+  once_more true A x is once = once
+  once_more false A x is once = append_new-append [] A (x ∷ []) ∙ ap (λ B. append_new R B (x ∷ [])) once ∙ ap (λ b. if b then A else A ++ x ∷ []) is
+
+  -- what is there once stays so
+  pub stays_once : (A xs : List K) → append_new R [] A ≡ A → append_new R [] (append_new R A xs) ≡ append_new R A xs
+  stays_once A [] once = once
+  stays_once A (x ∷ xs) once = stays_once (if has R A x then A else A ++ x ∷ []) xs (once_more (has R A x) A x refl once)
 
   pub add_all-append : (E xs ys : List K) → add_all R E (xs ++ ys) ≡ add_all R (add_all R E xs) ys
   add_all-append E [] ys = refl

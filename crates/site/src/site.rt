@@ -2,7 +2,7 @@
 
 ghost use Rattle.std.specs.Prelude.{◌≡◌, ◌<◌, [], length, slice_get, Some};
 ghost use Rattle.inbox.specs.Sets.{AreEvents, set_of};
-ghost use Rattle.site.specs.Arrival.{AreNumbered};
+ghost use Rattle.site.specs.Arrival.{AreDistinct, AreNumbered};
 
 mod delta;
 mod merge;
@@ -33,7 +33,7 @@ impl Model for Site {
     ghost use Rattle.attributes.specs.EventCode.{event_code};
     ghost use Rattle.attributes.specs.Event.{EventValue};
     ghost use Rattle.views.specs.Number.{HasNumbers};
-    ghost use Rattle.site.specs.Arrival.{AreNumbered};
+    ghost use Rattle.site.specs.Arrival.{AreDistinct, AreNumbered};
 
     ghost Value = { List EventValue };
 
@@ -42,7 +42,7 @@ impl Model for Site {
     ghost view = { λ s. s.inbox.arrivals };
 
     ghost invariant = { λ s. HasNumbers s.inbox.arrivals s.summary
-        × AreNumbered s.inbox.arrivals };
+        × AreNumbered s.inbox.arrivals × AreDistinct s.inbox.arrivals };
 }
 
 impl Site {
@@ -62,6 +62,7 @@ impl Site {
         ensures count { result ≡ length self.now }
         ensures events { AreEvents self.now }
         ensures numbered { AreNumbered self.now }
+        ensures distinct { AreDistinct self.now }
     {
         self.inbox.arrived()
     }

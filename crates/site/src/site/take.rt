@@ -5,7 +5,7 @@ ghost use Rattle.inbox.specs.KeyOrder.{key_cmp};
 ghost use Rattle.inbox.specs.Ordered.{append_new, has};
 ghost use Rattle.inbox.specs.Sets.{set_of, union};
 ghost use Rattle.views.specs.Number.{HasNumbers};
-ghost use Rattle.site.specs.Arrival.{AreNumbered, LacksAt};
+ghost use Rattle.site.specs.Arrival.{AreDistinct, AreNumbered, LacksAt};
 
 use super::Site;
 use attributes::{Batch, Sequenced};
@@ -22,11 +22,14 @@ pub(super) fn grow(
 ) -> Result<(), AllocError>
     requires numbers { HasNumbers inbox.old.arrivals summary.old }
     requires numbered { AreNumbered inbox.old.arrivals }
+    requires distinct { AreDistinct inbox.old.arrivals }
     ensures same { inbox.new.arrivals ≡ inbox.old.arrivals }
     ensures room { OnOk result (0 < inbox.new.spare) }
     ensures numbers { OnOk result (HasNumbers
         (append_new key_cmp inbox.old.arrivals (event.now ∷ [])) summary.new) }
     ensures numbered { OnOk result (AreNumbered
+        (append_new key_cmp inbox.old.arrivals (event.now ∷ []))) }
+    ensures distinct { OnOk result (AreDistinct
         (append_new key_cmp inbox.old.arrivals (event.now ∷ []))) }
     ensures err { OnErr result (summary.new ≡ summary.old) }
 

@@ -1,9 +1,11 @@
-use Rattle.std.proofs.Common.{sym, ap, ◌∙◌, ◌||◌, subst}
+use Rattle.std.proofs.Common.{◌∷◌, [], sym, ap, ◌∙◌, ◌||◌, subst}
 use Rattle.std.proofs.lemmas.Result.{err_from_is_err_and}
 use Rattle.coverage.specs.Summary.{holds_at}
+use Rattle.inbox.specs.KeyOrder.{key_cmp}
 use Rattle.attributes.specs.Event.{source_of}
 use Rattle.attributes.specs.Fault.{IsEvent}
 use Rattle.site.proofs.SumLemmas.{is_numbered-is, new_number, numbers_more}
+use Rattle.site.proofs.TakeLemmas.{stays_once}
 use Rattle.site.proofs.site.take.grow.Goals as goal
 
 pub returns-clause-numbers : goal.returns-clause-numbers
@@ -20,3 +22,6 @@ returns-in_err-insert_str-clause-err_of_new c =
     let exit = err_from_is_err_and c.from_residual-in_err-insert_str.result c.from_residual-in_err-insert_str.ensures.1 in
     rw exit.1 (λ _. new_number c.sets_are_members.ensures c.args.inbox.now.arrivals e c.args.summary.now c.number.result c.arrived-arrived.ensures.events (subst IsEvent c.event.ensures c.text-text.ensures.event) c.requires.numbers c.number.ensures
     (ap (λ s. holds_at c.args.summary.now s c.number.result) (sym named) ∙ c.in_err-insert_str.ensures.err_of_new))
+
+pub returns-clause-distinct : goal.returns-clause-distinct
+returns-clause-distinct c = stays_once key_cmp c.args.inbox.now.arrivals (c.args.event.now ∷ []) c.requires.distinct

@@ -1,0 +1,4 @@
+mod HistoryLemmas
+mod RuleLemmas
+mod StepLemmas
+mod TurnLemmas
