@@ -1,8 +1,8 @@
 -- What the commands over a database print. Each line ends with LF.
-use Rattle.std.specs.Prelude.{◌≡◌, ◌-◌, ℕ, List, [], ◌∷◌, ◌++◌, codes}
+use Rattle.std.specs.Prelude.{◌≡◌, ◌≢◌, ◌⊎◌, ◌-◌, ℕ, List, [], ◌∷◌, ◌++◌, codes}
 use Rattle.std.specs.Fmt.{decimal}
 use Rattle.attributes.specs.Event.{EventValue, text}
-use Rattle.event_json.specs.Writing.{batch_text}
+use Rattle.event_json.specs.BatchText.{batch_text}
 
 -- how many events were read, how many of them were new, and how many were there
 abbrev pub counts_line : ℕ → ℕ → List ℕ
@@ -16,3 +16,8 @@ batch_line events = batch_text events ++ 10 ∷ []
 -- an event, as one line
 abbrev pub event_line : EventValue → List ℕ
 event_line e = text e ++ 10 ∷ []
+
+-- the text is the rest of these bytes before one LF at their end, or all of them where none is there
+abbrev pub WithoutLineEnd : List ℕ → List ℕ → Type 0
+WithoutLineEnd bytes text = (bytes ≡ text ++ 10 ∷ [])
+    ⊎ ((bytes ≡ text) × ((front : List ℕ) → bytes ≢ front ++ 10 ∷ []))

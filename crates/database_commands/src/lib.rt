@@ -2,16 +2,18 @@
 #![tactic(auto)]
 
 mod fault;
+mod file;
 mod inbox;
 mod page;
 mod service;
 mod text;
 
 pub use fault::CommandFault;
+pub use file::Databases;
 pub use inbox::take;
 pub use outbox::Status;
 pub use page::{delta, scrub};
-pub use service::{Request, order, relay};
+pub use service::{order, relay};
 pub use text::summary_of;
 
 use attributes::Text;

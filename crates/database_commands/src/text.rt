@@ -1,6 +1,6 @@
 //! The printed texts, and the file of a summary.
-ghost use Rattle.std.specs.Prelude.{◌≡◌, ◌+◌, ◌++◌, ◌∷◌, [], ℕ, List, IfOk, length};
-ghost use Rattle.database_commands.specs.Print.{batch_line, counts_line, event_line};
+ghost use Rattle.std.specs.Prelude.{◌≡◌, IfOk};
+ghost use Rattle.database_commands.specs.Print.{WithoutLineEnd, batch_line, counts_line, event_line};
 
 use attributes::{Batch, Sequenced, Text};
 use event_json::write_sequenced;
@@ -34,9 +34,9 @@ pub fn event_line(alloc: Global, event: &Sequenced) -> Result<Text, AllocError>
     Ok(Text::from_string(line))
 }
 
-/// The bytes without one LF at their end.
+/// The bytes without one LF at their end, as `cover` prints a summary.
 pub fn summary_of(bytes: &[u8]) -> &[u8]
-    ensures { True }
+    ensures { WithoutLineEnd bytes.now result.now }
 {
     match bytes.last() {
         Some(b'\n') => &bytes[..bytes.len() - 1],

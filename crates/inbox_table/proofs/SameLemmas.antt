@@ -1,5 +1,5 @@
 -- A reading changes nothing.
-use Rattle.std.proofs.Common.{◌≡◌, ◌⊎◌, inl, inr, ℕ, ◌≤◌, List, [], Option, Some, None, Ok, Err, Result, IsTrue, OnErr, true, false, refl, sym, ap, subst, ◌∙◌}
+use Rattle.std.proofs.Common.{◌≡◌, ◌⊎◌, inl, inr, ℕ, ◌≤◌, List, [], Option, Some, None, Ok, Err, Result, IsTrue, OnErr, OnOk, true, false, refl, sym, ap, subst, ◌∙◌}
 use Rattle.sqlite_value.specs.Order.{Row}
 use Rattle.sqlite_trees.specs.Tree.{Trees}
 use Rattle.sqlite_trees.specs.View.{doubt}
@@ -59,6 +59,19 @@ shown_open old new rows h = go h.0.returning h.2
     go : (r : Option Returning) → ShowsRows old new select_text h.0 (timed [] h.0.formats h.1.now) rows r → IsTrue old.is_open
     go None k = k.3.0.was_open
     go (Some what) k = k.1.shown.was_open
+
+-- what a question answered, it answered from a database that stays open
+pub shown_stays_open : (old new : State) (rows : List Row) → Shown select_text [] old new rows → IsTrue new.is_open
+unfolding Shown
+shown_stays_open old new rows h = go h.0.returning h.2
+  where
+    go : (r : Option Returning) → ShowsRows old new select_text h.0 (timed [] h.0.formats h.1.now) rows r → IsTrue new.is_open
+    go None k = k.3.0.is_open
+    go (Some what) k = k.1.shown.is_open
+
+pub on_ok : {T E : Type 0} (r : Result T E) (P : Type 0) → P → OnOk r P
+on_ok (Ok x) P p = p
+on_ok (Err y) P p = tt
 
 pub answered_same : (old new : State) (rows : List Row) (P : Trees → Type 0) → Survives old new P → (HasCleanDisk new → Shown select_text [] old new rows) → IsSame old new
 answered_same old new rows P survives shows = record {

@@ -27,6 +27,7 @@ pub(crate) fn create<S: Alter>(conn: &mut Connection<S>) -> Result<(), TableFaul
     ensures there { has_inbox (state S.Store conn.old).now.schema ≡ true → result ≡ Err Foreign }
     ensures foreign { IfErr result (λ f. f ≡ Foreign
         → has_inbox (state S.Store conn.old).now.schema ≡ true) }
+    ensures untouched { IfErr result (λ f. f ≡ Foreign → conn.new ≡ conn.old) }
     ensures same { HasCleanDisk (state S.Store conn.new) → IsTrue (state S.Store conn.new).is_open
         → OnErr result ((state S.Store conn.new).now ≡ (state S.Store conn.old).now) }
     ensures crash { Survives (state S.Store conn.old) (state S.Store conn.new) MayMake }
@@ -62,6 +63,8 @@ pub(crate) fn events_in<S: Alter>(
         → (state S.Store conn.new).now ≡ (state S.Store conn.old).now }
     ensures was_open { HasCleanDisk (state S.Store conn.new)
         → IsTrue (state S.Store conn.new).is_open → IsTrue (state S.Store conn.old).is_open }
+    ensures open { HasCleanDisk (state S.Store conn.new)
+        → OnOk result (IsTrue (state S.Store conn.new).is_open) }
     ensures survives { Survives (state S.Store conn.old) (state S.Store conn.new) (λ _. ⊥) }
 {
     text_tells_events();

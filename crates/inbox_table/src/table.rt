@@ -85,6 +85,9 @@ impl<S: Alter> Table<S> {
             → IsErrAnd result (λ n. n.fault ≡ Foreign) }
         ensures foreign { IfErr result (λ n. n.fault ≡ Foreign
             → has_inbox (state S.Store conn).now.schema ≡ true) }
+
+        // A table of the name is found before the database is asked for anything.
+        ensures untouched { IfErr result (λ n. n.fault ≡ Foreign → n.conn ≡ conn) }
         ensures same { IfErr result (λ n. HasCleanDisk (state S.Store n.conn)
             → IsTrue (state S.Store n.conn).is_open
             → (state S.Store n.conn).now ≡ (state S.Store conn).now) }
@@ -118,6 +121,8 @@ impl<S: Alter> Table<S> {
         ensures exact { IfOk result (λ l. HasCleanDisk (state S.Store l.table.conn)
             → (m : List EventValue) → IsInbox (state S.Store conn).now m → l.events ≡ m) }
         ensures rows { IfOk result (λ l. l.table.rows ≡ length l.events) }
+        ensures open { IfOk result (λ l. HasCleanDisk (state S.Store l.table.conn)
+            → IsTrue (state S.Store l.table.conn).is_open) }
         ensures unchanged { IfOk result (λ l. HasCleanDisk (state S.Store l.table.conn)
             → IsTrue (state S.Store l.table.conn).is_open
             → (state S.Store l.table.conn).now ≡ (state S.Store conn).now) }

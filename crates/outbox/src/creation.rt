@@ -186,6 +186,7 @@ impl<S: Alter + Drop> Service<S> {
         // A name that is taken is found before any memory is asked for.
         ensures there { has_name (state S.Store conn).now.schema ≡ true
             → IsErrAnd result (λ e. e.fault ≡ Foreign) }
+        ensures untouched { IfErr result (λ e. e.fault ≡ Foreign → e.conn ≡ conn) }
     {
         let mut conn = conn;
         if has_name(conn.schema()) {

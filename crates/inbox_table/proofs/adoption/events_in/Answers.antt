@@ -4,6 +4,7 @@ use Rattle.sqlite.specs.Held.{state}
 use Rattle.inbox_table.specs.Schema.{IsOurs, has_inbox}
 use Rattle.inbox_table.proofs.LoadLemmas.{loads, tells}
 use Rattle.inbox_table.proofs.OnceLemmas.{adopted}
+use Rattle.inbox_table.proofs.SameLemmas.{on_ok, shown_stays_open}
 use Rattle.inbox_table.proofs.SchemaLemmas.{form_named, named}
 use Rattle.inbox_table.proofs.adoption.events_in.Goals as goal
 
@@ -37,3 +38,7 @@ returns-in-Ok-clause-exact g c clean =
     let old = state g.S.Store c.args.conn.now in
     let last = state g.S.Store c.rows_of.new.conn in
     IfOk-weaker c.events_of.result _ _ (λ l known m box. tells c.text_tells_events.ensures 1 l m known.0 box.numbered (sym known.1 ∙ (c.deref.ensures.value ∙ loads old last m c.in-Ok.rows.items box (c.in-Ok.ensures.shown clean)))) c.events_of.ensures.events
+
+pub returns-in-Ok-clause-open : goal.returns-in-Ok-clause-open
+returns-in-Ok-clause-open g c clean =
+    on_ok c.events_of.result _ (shown_stays_open (state g.S.Store c.args.conn.now) (state g.S.Store c.rows_of.new.conn) c.in-Ok.rows.items (c.in-Ok.ensures.shown clean))

@@ -1,0 +1,20 @@
+use Rattle.std.proofs.Common.{◌≡◌, ◌∙◌, List, ap, [], rules}
+use Rattle.std.proofs.lemmas.Result.{IfOk-at_ok, IfOk-weaker}
+use Rattle.sqlite.specs.Held.{state}
+use Rattle.attributes.specs.Event.{EventValue}
+use Rattle.inbox.specs.KeyOrder.{key_cmp}
+use Rattle.inbox.specs.Ordered.{append_new}
+use Rattle.inbox.specs.Sets.{set_of}
+use Rattle.site.specs.Delta.{delta}
+use Rattle.site.specs.Page.{page}
+use Rattle.database_commands.specs.Print.{batch_line}
+use Rattle.database_commands.proofs.HeldLemmas.{held_once}
+use Rattle.database_commands.proofs.page.delta.Goals as goal
+
+pub returns-in-Ok-clause-shown : goal.returns-in-Ok-clause-shown
+returns-in-Ok-clause-shown g c clean =
+    IfOk-weaker c.delta_line-outcome.result _ _
+    (λ text line held holds.
+    let same : c.in-Ok.events ≡ held = IfOk-at_ok _ c.in-Ok.is (c.contents_of-conn.ensures clean) held holds in
+    line ∙ ap (λ (l : List EventValue). batch_line (page (delta (set_of l) c.args.summary.now) c.args.from 100)) (ap (append_new key_cmp []) same ∙ held_once (state g.S.Store c.args.conn).now held holds))
+    c.delta_line-outcome.ensures

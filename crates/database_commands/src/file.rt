@@ -1,0 +1,195 @@
+//! Databases by the names of their files.
+ghost use Rattle.std.specs.Prelude.{◌≡◌, ◌≤◌, ℕ, List, length, true, IfOk};
+ghost use Rattle.attributes.specs.Character.{is_filled};
+ghost use Rattle.attributes.specs.Event.{EventValue};
+ghost use Rattle.attributes.specs.Sequence.{max_sequence};
+ghost use Rattle.database_commands.specs.Print.{batch_line, counts_line, event_line};
+
+use crate::Ended;
+use crate::fault::CommandFault;
+use crate::inbox::take;
+use crate::page::{delta, scrub};
+use crate::service::{order, relay};
+use attributes::{Batch, Moment, Text};
+use coverage::Summary;
+use outbox::Status;
+use sqlite::Connection;
+use sqlite_disk::Unknown;
+use sqlite_pager::Options;
+use sqlite_std_file::{File, OpenError};
+use sqlite_store::FileStore;
+use std::alloc::Global;
+use std::fs;
+use std::hash::{BuildHasher, RandomState};
+use std::io::ErrorKind;
+
+/// The bytes of a database's page.
+const PAGE: u64 = 4_096;
+/// The fewest pages that are kept in memory.
+const LEAST_PAGES: u64 = 200;
+
+/// The commands over databases, by the names of their files. Each opens the database, makes its
+/// file where there is none, and closes it in the end; what was committed stays, also where the
+/// closing fails. What a file holds no clause can say: those of the commands over a connection do.
+pub trait Databases {
+    /// As [`crate::take`].
+    fn take(&self, alloc: Global, name: &str, events: &Batch) -> Result<Text, CommandFault>
+        ensures { IfOk result (λ text. (fresh : ℕ) × (text ≡ counts_line (length events.now) fresh)) };
+
+    /// As [`crate::delta`].
+    fn delta(
+        &self,
+        alloc: Global,
+        name: &str,
+        summary: &Summary,
+        from: u64,
+    ) -> Result<Text, CommandFault>
+        ensures { IfOk result (λ text. (events : List EventValue) × (text ≡ batch_line events)) };
+
+    /// As [`crate::scrub`].
+    fn scrub(&self, alloc: Global, name: &str, from: u64) -> Result<Text, CommandFault>
+        ensures { IfOk result (λ text. (events : List EventValue) × (text ≡ batch_line events)) };
+
+    /// As [`crate::order`].
+    fn order(
+        &self,
+        alloc: Global,
+        name: &str,
+        source: &Text,
+        status: Status,
+        order: u64,
+        at: &Moment,
+    ) -> Result<Text, CommandFault>
+        requires source { (is_filled source.now ≡ true) × (length source.now ≤ 1024) }
+        requires order { (1 ≤ order) × (order ≤ max_sequence) }
+        requires short { length at.now ≤ 64 }
+        ensures { IfOk result (λ text. (e : EventValue) × (text ≡ event_line e)) };
+
+    /// As [`crate::relay`].
+    fn relay(
+        &self,
+        alloc: Global,
+        name: &str,
+        source: &Text,
+        after: u64,
+    ) -> Result<Text, CommandFault>
+        requires { (is_filled source.now ≡ true) × (length source.now ≤ 1024) }
+        ensures { IfOk result (λ text. (events : List EventValue) × (text ≡ batch_line events)) };
+}
+
+impl Databases for HostRuntime {
+    fn take(&self, alloc: Global, name: &str, events: &Batch) -> Result<Text, CommandFault> {
+        // A row has some 100 bytes beside the event's text, and the index half a row.
+        let growth = events.len().saturating_mul(512);
+        match open(self, name, growth) {
+            Ok(conn) => closed(take(alloc, conn, events)),
+            Err(fault) => Err(fault),
+        }
+    }
+
+    fn delta(
+        &self,
+        alloc: Global,
+        name: &str,
+        summary: &Summary,
+        from: u64,
+    ) -> Result<Text, CommandFault> {
+        match open(self, name, 0) {
+            Ok(conn) => closed(delta(alloc, conn, summary, from)),
+            Err(fault) => Err(fault),
+        }
+    }
+
+    fn scrub(&self, alloc: Global, name: &str, from: u64) -> Result<Text, CommandFault> {
+        match open(self, name, 0) {
+            Ok(conn) => closed(scrub(alloc, conn, from)),
+            Err(fault) => Err(fault),
+        }
+    }
+
+    fn order(
+        &self,
+        alloc: Global,
+        name: &str,
+        source: &Text,
+        status: Status,
+        number: u64,
+        at: &Moment,
+    ) -> Result<Text, CommandFault> {
+        match open(self, name, 0) {
+            Ok(conn) => closed(order(alloc, conn, source, status, number, at)),
+            Err(fault) => Err(fault),
+        }
+    }
+
+    fn relay(
+        &self,
+        alloc: Global,
+        name: &str,
+        source: &Text,
+        after: u64,
+    ) -> Result<Text, CommandFault> {
+        match open(self, name, 0) {
+            Ok(conn) => closed(relay(alloc, conn, source, after)),
+            Err(fault) => Err(fault),
+        }
+    }
+}
+
+/// Closes the database of a command, and answers what it came to.
+fn closed(ended: Ended<FileStore<File>>) -> Result<Text, CommandFault>
+    ensures { result ≡ ended.outcome }
+{
+    let Ended { conn, outcome } = ended;
+    let _closed = conn.close();
+    outcome
+}
+
+/// Opens the database of that name, and makes its file where there is none. `growth` is about how
+/// many bytes will be added, for the size of the cache alone.
+fn open(
+    rt: &HostRuntime,
+    name: &str,
+    growth: u64,
+) -> Result<Connection<FileStore<File>>, CommandFault> {
+    let pages = pages_for(length_of(rt, name), growth);
+    let options = options(rt, pages)?;
+    match sqlite_std_file::open(rt, name, Unknown) {
+        Ok(files) => match Connection::open_files(rt.alloc(), files, options) {
+            Ok(conn) => Ok(conn),
+            Err(_) => Err(CommandFault::Store),
+        },
+        Err(OpenError::OutOfMemory) => Err(CommandFault::OutOfMemory),
+        Err(OpenError::Io(error)) if error.kind() == ErrorKind::OutOfMemory => {
+            Err(CommandFault::OutOfMemory)
+        }
+        Err(_) => Err(CommandFault::Store),
+    }
+}
+
+/// How long the file of that name is; 0 where there is none.
+fn length_of(rt: &HostRuntime, name: &str) -> u64 {
+    match fs::metadata(rt, name) {
+        Ok(found) => found.len(),
+        Err(_) => 0,
+    }
+}
+
+/// The pages that are to be kept in memory: all of the file with what is added to it, and a tenth
+/// more, since the cache finds a page by its number modulo its size. An open looks each row up in
+/// its index, so that a page which isn't kept is read over and over.
+fn pages_for(length: u64, growth: u64) -> u64 {
+    let pages = length.saturating_add(growth) / PAGE;
+    pages.saturating_add(pages / 10).max(LEAST_PAGES)
+}
+
+/// How a database is opened, with a seed drawn at random.
+fn options(rt: &HostRuntime, pages: u64) -> Result<Options, CommandFault> {
+    let Ok(state) = RandomState::new(rt) else {
+        return Err(CommandFault::Store);
+    };
+    let mut options = Options::new(state.hash_one(&0u8));
+    options.cache_pages = pages as usize;
+    options.spill_pages = options.spill_pages.max(pages as usize);
+    Ok(options)
+}

@@ -1,0 +1,110 @@
+//! The inbox of a database: its table, and taking events into it.
+ghost use Rattle.std.specs.Prelude.{◌≡◌, ◌≤◌, ℕ, List, [], true, false, length, IfErr, IfOk};
+ghost use Rattle.sqlite.specs.Held.{state};
+ghost use Rattle.sqlite.specs.State.{HasCleanDisk};
+ghost use Rattle.attributes.specs.Event.{EventValue};
+ghost use Rattle.inbox_table.specs.Rows.{IsInbox};
+ghost use Rattle.database_commands.specs.Held.{Holds, IsTaken, TakesInto};
+ghost use Rattle.database_commands.specs.Print.{counts_line};
+
+use crate::Ended;
+use crate::fault::{CommandFault, of_table};
+use crate::text::counts_line;
+use attributes::{Batch, Text};
+use inbox_table::{Loaded, NotMade, Table, TableFault};
+use sqlite::{Alter, Connection};
+use std::alloc::Global;
+
+/// The table of a database with its events, made where there is none.
+pub fn loaded<S: Alter + Drop>(
+    alloc: Global,
+    conn: Connection<S>,
+) -> Result<Loaded<S>, NotMade<S>>
+    ensures events { IfOk result (λ l. HasCleanDisk (state S.Store l.table.conn)
+        → (held : List EventValue) → Holds (state S.Store conn).now held → l.events ≡ held) }
+    ensures table { IfOk result (λ l. HasCleanDisk (state S.Store l.table.conn)
+        → (held : List EventValue) → Holds (state S.Store conn).now held
+        → IsInbox (state S.Store l.table.conn).now held) }
+{
+    match Table::create(alloc, conn) {
+        Ok(table) => {
+            let events = Batch::empty(alloc);
+            Ok(Loaded { table, events })
+        }
+        Err(refused) => {
+            let NotMade { conn, fault } = refused;
+            match fault {
+                TableFault::Foreign => Table::adopt_and_load(alloc, conn),
+                _ => Err(NotMade { conn, fault }),
+            }
+        }
+    }
+}
+
+/// Adds the events that a database doesn't have, each in its turn, and answers the line that says
+/// how many of them were new. The table is made where there is none. One transaction; the events
+/// that are there already are read once and not kept.
+pub fn take<S: Alter + Drop>(alloc: Global, conn: Connection<S>, events: &Batch) -> Ended<S>
+    ensures taken { HasCleanDisk (state S.Store result.conn) → IfOk result.outcome
+        (TakesInto events.now (state S.Store conn).now (state S.Store result.conn).now) }
+    ensures line { IfOk result.outcome (λ text.
+        (fresh : ℕ) × (text ≡ counts_line (length events.now) fresh)) }
+{
+    match adopted(alloc, conn) {
+        Ok(mut table) => {
+            let outcome = kept(alloc, &mut table, events);
+            let conn = table.into_connection();
+            Ended { conn, outcome }
+        }
+        Err(refused) => {
+            let NotMade { conn, fault } = refused;
+            let outcome = Err(of_table(fault));
+            Ended { conn, outcome }
+        }
+    }
+}
+
+/// The table of a database, made where there is none.
+fn adopted<S: Alter + Drop>(alloc: Global, conn: Connection<S>) -> Result<Table<S>, NotMade<S>>
+    ensures { IfOk result (λ t. HasCleanDisk (state S.Store t.conn)
+        → (held : List EventValue) → Holds (state S.Store conn).now held
+        → IsInbox (state S.Store t.conn).now held) }
+{
+    match loaded(alloc, conn) {
+        Ok(loaded) => {
+            let Loaded { table, events: _ } = loaded;
+            Ok(table)
+        }
+        Err(refused) => Err(refused),
+    }
+}
+
+/// Keeps the events in a table, and answers the line that says how many were new.
+fn kept<S: Alter + Drop>(
+    alloc: Global,
+    table: &mut Table<S>,
+    events: &Batch,
+) -> Result<Text, CommandFault>
+    ensures taken { HasCleanDisk (state S.Store table.new.conn) → IfOk result (λ text.
+        (held : List EventValue) → IsInbox (state S.Store table.old.conn).now held
+        → IsTaken events.now held (state S.Store table.new.conn).now text) }
+    ensures line { IfOk result (λ text.
+        (fresh : ℕ) × (text ≡ counts_line (length events.now) fresh)) }
+    ensures clean { HasCleanDisk (state S.Store table.new.conn)
+        → HasCleanDisk (state S.Store table.old.conn) }
+{
+    match table.keep(events) {
+        Ok(fresh) => said(alloc, events.len(), fresh),
+        Err(fault) => Err(of_table(fault)),
+    }
+}
+
+/// The line of so many events, of which so many were new.
+fn said(alloc: Global, read: u64, fresh: u64) -> Result<Text, CommandFault>
+    ensures { IfOk result (λ text. text ≡ counts_line read fresh) }
+{
+    match counts_line(alloc, read, fresh) {
+        Ok(text) => Ok(text),
+        Err(_) => Err(CommandFault::OutOfMemory),
+    }
+}

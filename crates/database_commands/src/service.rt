@@ -1,0 +1,179 @@
+//! The service of a database: commands on its orders, and the rows of its outbox.
+ghost use Rattle.std.specs.Prelude.{◌≡◌, ◌≢◌, ◌≤◌, ◌⊎◌, ℕ, List, length, true, IfErr, IfOk, IsTrue};
+ghost use Rattle.sqlite.specs.Held.{state};
+ghost use Rattle.sqlite.specs.State.{HasCleanDisk};
+ghost use Rattle.attributes.specs.Character.{is_filled};
+ghost use Rattle.attributes.specs.Event.{EventValue};
+ghost use Rattle.attributes.specs.Sequence.{max_sequence};
+ghost use Rattle.outbox.specs.Call.{Accepts, Refuses};
+ghost use Rattle.outbox.specs.declared.fault.OutboxFault.TheVariants.{Foreign, OutOfMemory, Store};
+ghost use Rattle.relay.specs.Relay.{ForNextRows};
+ghost use Rattle.database_commands.specs.Held.{PrintsRows};
+ghost use Rattle.database_commands.specs.Print.{batch_line, event_line};
+
+use crate::Ended;
+use crate::fault::{CommandFault, of_outbox, of_relay};
+use crate::text::{batch_line, event_line};
+use attributes::{Moment, Sequenced, Text};
+use outbox::{NotMade, OutboxFault, Service, Status};
+use relay::{MemoryRoute, Relay};
+use sqlite::{Alter, Connection};
+use std::alloc::Global;
+
+/// The base of a service that is new: its first row has the number 1.
+const BASE: u64 = 0;
+
+/// The service of a database, made with this source where there is none.
+fn service_of<S: Alter + Drop>(
+    alloc: Global,
+    conn: Connection<S>,
+    source: &Text,
+) -> Result<Service<S>, NotMade<S>>
+    requires { (is_filled source.now ≡ true) × (length source.now ≤ 1024) }
+    ensures { IfErr result (λ e. (e.fault ≡ OutOfMemory) ⊎ ((e.fault ≡ Store) ⊎ (e.fault ≡ Foreign))) }
+{
+    match Service::create(alloc, conn, source, BASE) {
+        Ok(service) => Ok(service),
+        Err(refused) => {
+            let NotMade { conn, fault } = refused;
+            match fault {
+                OutboxFault::Foreign => Service::adopt(alloc, conn),
+                _ => Err(NotMade { conn, fault }),
+            }
+        }
+    }
+}
+
+/// Gives an order a status, and answers the event of its row.
+fn command<S: Alter>(
+    service: &mut Service<S>,
+    status: Status,
+    order: u64,
+    at: &Moment,
+) -> Result<Sequenced, OutboxFault>
+    requires order { (1 ≤ order) × (order ≤ max_sequence) }
+    requires short { length at.now ≤ 64 }
+    ensures accepted { HasCleanDisk (state S.Store service.new.conn) → IfOk result
+        (Accepts service.old.source service.old.base
+        (record { status = status; order = order; at = at.now })
+        (state S.Store service.old.conn).now (state S.Store service.new.conn).now) }
+    ensures refused { HasCleanDisk (state S.Store service.new.conn)
+        → IsTrue (state S.Store service.new.conn).is_open
+        → IfErr result (λ f. f ≢ OutOfMemory → f ≢ Store
+        → Refuses service.old.source service.old.base status order
+        (state S.Store service.old.conn).now f) }
+{
+    match status {
+        Status::Placed => service.place(order, at),
+        Status::Shipped => service.ship(order, at),
+        Status::Cancelled => service.cancel(order, at),
+    }
+}
+
+/// Gives an order of a database's service a status, and answers the line of the event that says so.
+/// The service is made with this source where there is none.
+pub fn order<S: Alter + Drop>(
+    alloc: Global,
+    conn: Connection<S>,
+    source: &Text,
+    status: Status,
+    order: u64,
+    at: &Moment,
+) -> Ended<S>
+    requires source { (is_filled source.now ≡ true) × (length source.now ≤ 1024) }
+    requires order { (1 ≤ order) × (order ≤ max_sequence) }
+    requires short { length at.now ≤ 64 }
+    ensures { IfOk result.outcome (λ text. (e : EventValue) × (text ≡ event_line e)) }
+{
+    match service_of(alloc, conn, source) {
+        Ok(mut service) => {
+            let outcome = command_line(alloc, &mut service, status, order, at);
+            let conn = service.into_connection();
+            Ended { conn, outcome }
+        }
+        Err(refused) => {
+            let NotMade { conn, fault } = refused;
+            let outcome = Err(of_outbox(fault));
+            Ended { conn, outcome }
+        }
+    }
+}
+
+/// Gives an order a status, and answers the line of the event of its row.
+fn command_line<S: Alter>(
+    alloc: Global,
+    service: &mut Service<S>,
+    status: Status,
+    order: u64,
+    at: &Moment,
+) -> Result<Text, CommandFault>
+    requires order { (1 ≤ order) × (order ≤ max_sequence) }
+    requires short { length at.now ≤ 64 }
+    ensures accepted { HasCleanDisk (state S.Store service.new.conn) → IfOk result (λ text.
+        (e : EventValue) × (text ≡ event_line e)
+        × Accepts service.old.source service.old.base
+        (record { status = status; order = order; at = at.now })
+        (state S.Store service.old.conn).now (state S.Store service.new.conn).now e) }
+    ensures line { IfOk result (λ text. (e : EventValue) × (text ≡ event_line e)) }
+{
+    match command(service, status, order, at) {
+        Ok(event) => said(alloc, &event),
+        Err(fault) => Err(of_outbox(fault)),
+    }
+}
+
+/// The line of an event.
+fn said(alloc: Global, event: &Sequenced) -> Result<Text, CommandFault>
+    ensures { IfOk result (λ text. text ≡ event_line event.now) }
+{
+    match event_line(alloc, event) {
+        Ok(text) => Ok(text),
+        Err(_) => Err(CommandFault::OutOfMemory),
+    }
+}
+
+/// The rows of a database's service with a greater number than `after`, at most 100, as the line of
+/// a batch. The service is made with this source where there is none.
+pub fn relay<S: Alter + Drop>(
+    alloc: Global,
+    conn: Connection<S>,
+    source: &Text,
+    after: u64,
+) -> Ended<S>
+    requires { (is_filled source.now ≡ true) × (length source.now ≤ 1024) }
+    ensures { IfOk result.outcome (λ text.
+        (events : List EventValue) × (text ≡ batch_line events)) }
+{
+    match service_of(alloc, conn, source) {
+        Ok(mut service) => {
+            let outcome = rows_line(alloc, &mut service, after);
+            let conn = service.into_connection();
+            Ended { conn, outcome }
+        }
+        Err(refused) => {
+            let NotMade { conn, fault } = refused;
+            let outcome = Err(of_outbox(fault));
+            Ended { conn, outcome }
+        }
+    }
+}
+
+/// The line of what a relay at this mark sends in one step.
+fn rows_line<S: Alter>(
+    alloc: Global,
+    service: &mut Service<S>,
+    after: u64,
+) -> Result<Text, CommandFault>
+    ensures rows { HasCleanDisk (state S.Store service.new.conn) → IfOk result (λ text.
+        ForNextRows service.old.source service.old.base after
+        (state S.Store service.old.conn).now (PrintsRows text)) }
+    ensures line { IfOk result (λ text.
+        (events : List EventValue) × (text ≡ batch_line events)) }
+{
+    let mut route = MemoryRoute::empty(alloc);
+    let mut relay = Relay::at(0, after);
+    match relay.step(service, &mut route) {
+        Ok(_) => Ok(batch_line(alloc, route.accepted())?),
+        Err(fault) => Err(of_relay(fault)),
+    }
+}
