@@ -23,7 +23,7 @@ use Rattle.file_reports.proofs.ListLemmas.{take_next}
 use Rattle.file_reports.specs.declared.refusal.ReportFault.{ReportFault}
 use Rattle.file_reports.specs.declared.refusal.ReportFault.TheVariants.{OutOfMemory, Read, Event}
 use Rattle.file_reports.specs.steps.Intake.{Gains, KeepsFiles}
-use Rattle.file_reports.specs.Reports.{AreSequenced, EachReads, IsFault, IsRefusal, IsUnnumberedAt, joined}
+use Rattle.file_reports.specs.Reports.{AreSequenced, EachReads, IsFault, IsRefusal, IsUnnumberedAt, SpellAll, joined}
 
 pub EachReads-more : (files : List (List ℕ)) (lists : List (List EventValue)) (file : List ℕ) (events : List EventValue)
     → EachReads files lists → Reads file events → AreSequenced events → EachReads (files ++ file ∷ []) (lists ++ events ∷ [])
@@ -53,6 +53,12 @@ KeepsFiles-more files file L old new h r s are added = (
   subst AreEvents (sym (joined-more h.0 L)) (AreEvents-append (joined h.0) L h.2 are),
   added ∙ ap (λ E. add_all key_cmp E L) h.3 ∙ sym (add_all-append [] (joined h.0) L) ∙ ap (λ l. set_of l) (sym (joined-more h.0 L)),
 )
+
+-- a file more was read
+pub SpellAll-more : (files : List (List ℕ)) (file : List ℕ) (L : List EventValue) (old new : List EventValue) → SpellAll files old
+    → Reads file L → AreSequenced L → new ≡ old ++ L → SpellAll (files ++ file ∷ []) new
+SpellAll-more files file L old new h r s added =
+    (h.0 ++ L ∷ [], EachReads-more files h.0 file L h.1 r s, added ∙ ap (λ l. l ++ L) h.2 ∙ sym (joined-more h.0 L))
 
 AreEvents-permutation : (L M : List EventValue) → IsPermutation L M → AreEvents L → AreEvents M
 AreEvents-permutation L M p are = recursion_from_All IsEvent M (All-permutation IsEvent L M p (All-from_recursion IsEvent L are))

@@ -29,6 +29,11 @@ EachReads _ _ = ⊥
 abbrev pub joined : List (List EventValue) → List EventValue
 joined lists = flat_map (λ events. events) lists
 
+-- the files all spell events with numbers, and these are they, one file behind the other
+abbrev pub SpellAll : List (List ℕ) → List EventValue → Type 0
+SpellAll files events =
+    (lists : List (List EventValue)) × EachReads files lists × (events ≡ joined lists)
+
 -- ---- the answers
 
 -- the files all spell events with numbers, and the text answers the question about the set of these

@@ -1,11 +1,11 @@
-//! The events of all files, in one site.
-ghost use Rattle.std.specs.Prelude.{IfErr, IfOk, OnOk};
-ghost use Rattle.file_reports.specs.Reports.{IsRefusal};
+//! The events of all files, in one site or one batch.
+ghost use Rattle.std.specs.Prelude.{◌≡◌, ◌++◌, IfErr, IfOk, OnOk};
+ghost use Rattle.file_reports.specs.Reports.{IsRefusal, SpellAll};
 ghost use Rattle.file_reports.specs.steps.Intake.{Gains, KeepsFiles};
 
 use crate::batch::{events_of_file, in_key_order};
 use crate::refusal::Refused;
-use attributes::{Batch, Octets};
+use attributes::{Batch, Octets, Sequenced};
 use inbox::laws::sets_are_members;
 use site::Site;
 use std::alloc::{AllocError, Global};
@@ -39,4 +39,33 @@ fn take_all(site: &mut Site, mut batch: Batch) -> Result<(), AllocError>
         Ok(_) => Ok(()),
         Err(_) => Err(AllocError),
     }
+}
+
+/// The events of all files, one file behind the other, with their repeats. The first file at fault
+/// is named, as for a report. Time in proportion to the files' bytes.
+pub fn events_of(alloc: Global, files: &[Octets]) -> Result<Batch, Refused>
+    ensures ok { IfOk result (SpellAll files.now) }
+    ensures err { IfErr result (IsRefusal files.now) }
+{
+    let mut events = Batch::empty(alloc);
+    for (file, bytes) in files.iter().enumerate() {
+        match events_of_file(alloc, bytes.as_bytes()) {
+            Ok(more) => append(&mut events, more)?,
+            Err(fault) => {
+                let file = file as u64;
+                return Err(Refused { file, fault });
+            }
+        }
+    }
+    Ok(events)
+}
+
+/// Moves events behind those of a batch.
+fn append(events: &mut Batch, more: Vec<Sequenced>) -> Result<(), AllocError>
+    ensures { OnOk result (events.new ≡ events.old ++ more.items) }
+{
+    for event in more {
+        events.push(event)?;
+    }
+    Ok(())
 }

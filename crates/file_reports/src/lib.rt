@@ -10,6 +10,7 @@ mod shelf;
 
 pub use answer::{Reported, report};
 pub use input::{Unread, read_all};
+pub use intake::events_of;
 pub use refusal::{Refused, ReportFault};
 pub use shelf::{Shelf, UnreadAt, contents_of};
 pub use views::Query;
