@@ -7,7 +7,7 @@ ghost use Rattle.database_commands.specs.Print.{batch_line, counts_line, event_l
 
 use crate::Ended;
 use crate::fault::CommandFault;
-use crate::inbox::take;
+use crate::intake::take;
 use crate::page::{delta, scrub};
 use crate::service::{order, relay};
 use attributes::{Batch, Moment, Text};

@@ -3,21 +3,20 @@
 
 mod fault;
 mod file;
-mod inbox;
+mod intake;
 mod page;
 mod service;
 mod text;
 
+use attributes::Text;
 pub use fault::CommandFault;
 pub use file::Databases;
-pub use inbox::take;
+pub use intake::take;
 pub use outbox::Status;
 pub use page::{delta, scrub};
 pub use service::{order, relay};
-pub use text::summary_of;
-
-use attributes::Text;
 use sqlite::{Alter, Connection};
+pub use text::summary_of;
 
 /// A command that came to its end: the connection, and the text to print or why there is none.
 #[derive(Drop)]

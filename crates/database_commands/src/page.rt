@@ -13,7 +13,7 @@ ghost use Rattle.database_commands.specs.Print.{batch_line};
 
 use crate::Ended;
 use crate::fault::{CommandFault, of_table};
-use crate::inbox::loaded;
+use crate::intake::loaded;
 use crate::text::batch_line;
 use attributes::{Batch, Text};
 use coverage::Summary;

@@ -6,11 +6,12 @@ use Rattle.file_reports.specs.declared.input.Unread.{Unread}
 use Rattle.site_cli.specs.Endings.{Ends, Writes}
 use Rattle.site_cli.specs.Lines.{memory_line}
 use Rattle.site_cli.specs.Runs.{IsEnding, IsLine, PrintsAnswer}
-use Rattle.site_cli.specs.Answers.{RefusesPlan, files_of}
+use Rattle.site_cli.specs.Answers.{IsAllowed, RefusesPlan}
 use Rattle.site_cli.specs.declared.ending.Ending.{Ending}
 use Rattle.site_cli.specs.declared.ending.Ending.TheVariants.{Answer, Help, Faulty, Refused, NoMemory}
 use Rattle.site_cli.specs.declared.line.Refusal.{Refusal}
 use Rattle.command_words.specs.declared.request.Plan.{Plan}
+use Rattle.command_words.specs.declared.request.Plan.TheVariants as plan
 use Rattle.command_words.specs.Plans.{IsPlan}
 
 written_within : (r s : ℕ) (a b : Option (List ℕ)) (text : List ℕ) → s ≤ 2 → Writes r s a b text → r ≤ 2
@@ -46,9 +47,24 @@ module _ (C : List ℕ → List ℕ → Type 0) (U : List ℕ → Unread → Typ
 
 -- the line of a refused plan is the ending of its words
 pub refused_ending : (C : List ℕ → List ℕ → Type 0) (U : List ℕ → Unread → Type 0) (words : List (List ℕ)) (plan : Plan) (refusal : Refusal) (e : Ending)
-    → IsPlan words plan → RefusesPlan C U plan refusal → IsLine (files_of plan) refusal e → IsEnding C U words e
+    → IsPlan words plan → RefusesPlan C U plan refusal → IsLine plan refusal e → IsEnding C U words e
 refused_ending C U words plan refusal (Answer text) p r line = absurd line
 refused_ending C U words plan refusal (Help text) p r line = absurd line
 refused_ending C U words plan refusal (Faulty text) p r line = absurd line
 refused_ending C U words plan refusal (Refused text) p r line = record { plan = plan; planned = p; refusal = refusal; refused = r; is_line = line }
 refused_ending C U words plan refusal NoMemory p r line = tt
+
+-- what the words ask for is within what a service allows
+pub allowed_by : (words : List (List ℕ)) (p : Plan) → IsPlan words p → IsAllowed p
+allowed_by words (plan.Ask query files) h = tt
+allowed_by words (plan.Take db files) h = tt
+allowed_by words (plan.Delta db from summary) h = tt
+allowed_by words (plan.Scrub db from) h = tt
+allowed_by words (plan.Order request) h = let r = h.1.texts in record {
+  filled = r.allowed.filled;
+  short = r.allowed.short;
+  low = r.order.low;
+  high = r.order.high;
+  at = r.time.short;
+}
+allowed_by words (plan.Relay db after) h = tt

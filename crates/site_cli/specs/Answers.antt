@@ -1,10 +1,22 @@
 -- What the plans of the program are answered with, and why they are refused. C says what a name is
 -- read as, U why a name isn't read.
-use Rattle.std.specs.Prelude.{List, ℕ}
+use Rattle.std.specs.Prelude.{◌≡◌, ◌≤◌, List, ℕ, length, true}
+use Rattle.attributes.specs.Character.{is_filled}
+use Rattle.attributes.specs.Event.{EventValue}
+use Rattle.attributes.specs.Sequence.{max_sequence}
+use Rattle.coverage.specs.Summary.{Sources}
+use Rattle.coverage.specs.SummaryText.{summary_text}
+use Rattle.coverage.specs.Refusals.{Refuses}
+use Rattle.outbox.specs.declared.status.Status.{Status}
+use Rattle.outbox.specs.declared.status.Status.TheVariants as status
+use Rattle.command_words.specs.declared.request.Action.{Action}
+use Rattle.command_words.specs.declared.request.Action.TheVariants as action
+use Rattle.database_commands.specs.Print.{WithoutLineEnd, batch_line, counts_line, event_line}
+use Rattle.command_words.specs.declared.request.Request.{Request}
 use Rattle.command_words.specs.declared.request.Plan.{Plan}
 use Rattle.command_words.specs.declared.request.Plan.TheVariants as plan
 use Rattle.file_reports.specs.Shelves.{AreContents, IsUnreadAt}
-use Rattle.file_reports.specs.Reports.{IsRefusal, IsReport}
+use Rattle.file_reports.specs.Reports.{IsRefusal, IsReport, SpellAll}
 use Rattle.file_reports.specs.declared.input.Unread.{Unread}
 use Rattle.views.specs.declared.query.Query.{Query}
 use Rattle.site_cli.specs.declared.line.Refusal.{Refusal}
@@ -21,16 +33,99 @@ abbrev pub RefusesQuery : (List ℕ → List ℕ → Type 0) → (List ℕ → U
 RefusesQuery C U files (refusal.Unread at) = IsUnreadAt C U files at
 RefusesQuery C U files (refusal.File refused) =
     (contents : List (List ℕ)) × AreContents C files contents × IsRefusal contents refused
+RefusesQuery C U files (refusal.Summary why) = ⊥
+RefusesQuery C U files (refusal.Database why) = ⊥
+
+-- the text is a batch, as one line
+abbrev pub PrintsBatch : List ℕ → Type 0
+PrintsBatch text = (events : List EventValue) × (text ≡ batch_line events)
+
+-- the text is an event, as one line
+abbrev pub PrintsEvent : List ℕ → Type 0
+PrintsEvent text = (e : EventValue) × (text ≡ event_line e)
+
+-- what is asked of an order is within what a service allows: its source, the order's number, and the
+-- length of the time
+pub record IsAllowedRequest (r : Request) : Type 0 where
+  pub filled : is_filled r.source ≡ true
+  pub short : length r.source ≤ 1024
+  pub low : 1 ≤ r.order
+  pub high : r.order ≤ max_sequence
+  pub at : length r.at ≤ 64
+
+-- the text counts the events of the files, and so many of them as new
+abbrev pub AnswersTake : (List ℕ → List ℕ → Type 0) → List (List ℕ) → List ℕ → Type 0
+AnswersTake C files text = (contents : List (List ℕ)) × AreContents C files contents
+    × (events : List EventValue) × SpellAll contents events
+    × (fresh : ℕ) × (text ≡ counts_line (length events) fresh)
+
+-- the first file that wasn't read, or, where all were, the first at fault, or, where none was, the
+-- database
+abbrev pub RefusesTake : (List ℕ → List ℕ → Type 0) → (List ℕ → Unread → Type 0)
+    → List (List ℕ) → Refusal → Type 0
+RefusesTake C U files (refusal.Unread at) = IsUnreadAt C U files at
+RefusesTake C U files (refusal.File refused) =
+    (contents : List (List ℕ)) × AreContents C files contents × IsRefusal contents refused
+RefusesTake C U files (refusal.Summary why) = ⊥
+RefusesTake C U files (refusal.Database why) =
+    (contents : List (List ℕ)) × AreContents C files contents
+    × (events : List EventValue) × SpellAll contents events
+
+-- the file's bytes, but for one LF at their end, are the text of this summary
+abbrev pub HasSummary : (List ℕ → List ℕ → Type 0) → List ℕ → Sources → Type 0
+HasSummary C file s = (bytes : List ℕ) × C file bytes
+    × (words : List ℕ) × WithoutLineEnd bytes words × (words ≡ summary_text s)
+
+-- the file has a summary, and the text is a batch
+abbrev pub AnswersDelta : (List ℕ → List ℕ → Type 0) → List ℕ → List ℕ → Type 0
+AnswersDelta C file text = (s : Sources) × HasSummary C file s × PrintsBatch text
+
+-- the file wasn't read, or, where it was, has no summary, or, where it has one, the database
+abbrev pub RefusesDelta : (List ℕ → List ℕ → Type 0) → (List ℕ → Unread → Type 0)
+    → List ℕ → Refusal → Type 0
+RefusesDelta C U file (refusal.Unread at) = U file at.why
+RefusesDelta C U file (refusal.File refused) = ⊥
+RefusesDelta C U file (refusal.Summary why) = (bytes : List ℕ) × C file bytes
+    × (words : List ℕ) × WithoutLineEnd bytes words × Refuses words why
+RefusesDelta C U file (refusal.Database why) = (s : Sources) × HasSummary C file s
+
+-- the database is the cause
+abbrev pub IsOfDatabase : Refusal → Type 0
+IsOfDatabase (refusal.Unread at) = ⊥
+IsOfDatabase (refusal.File refused) = ⊥
+IsOfDatabase (refusal.Summary why) = ⊥
+IsOfDatabase (refusal.Database why) = Unit {0}
 
 -- the text is the answer to the plan
 abbrev pub AnswersPlan : (List ℕ → List ℕ → Type 0) → Plan → List ℕ → Type 0
 AnswersPlan C (plan.Ask query files) text = AnswersQuery C query files text
+AnswersPlan C (plan.Take db files) text = AnswersTake C files text
+AnswersPlan C (plan.Delta db from summary) text = AnswersDelta C summary text
+AnswersPlan C (plan.Scrub db from) text = PrintsBatch text
+AnswersPlan C (plan.Order request) text = PrintsEvent text
+AnswersPlan C (plan.Relay db after) text = PrintsBatch text
 
 -- this is why the plan has no answer
 abbrev pub RefusesPlan : (List ℕ → List ℕ → Type 0) → (List ℕ → Unread → Type 0)
     → Plan → Refusal → Type 0
 RefusesPlan C U (plan.Ask query files) refusal = RefusesQuery C U files refusal
+RefusesPlan C U (plan.Take db files) refusal = RefusesTake C U files refusal
+RefusesPlan C U (plan.Delta db from summary) refusal = RefusesDelta C U summary refusal
+RefusesPlan C U (plan.Scrub db from) refusal = IsOfDatabase refusal
+RefusesPlan C U (plan.Order request) refusal = IsOfDatabase refusal
+RefusesPlan C U (plan.Relay db after) refusal = IsOfDatabase refusal
 
--- the files that a plan names
-abbrev pub files_of : Plan → List (List ℕ)
-files_of (plan.Ask query files) = files
+-- what is asked of an order is within what a service allows
+abbrev pub IsAllowed : Plan → Type 0
+IsAllowed (plan.Ask query files) = Unit {0}
+IsAllowed (plan.Take db files) = Unit {0}
+IsAllowed (plan.Delta db from summary) = Unit {0}
+IsAllowed (plan.Scrub db from) = Unit {0}
+IsAllowed (plan.Order request) = IsAllowedRequest request
+IsAllowed (plan.Relay db after) = Unit {0}
+
+-- the status that an order gets by what is done with it
+abbrev pub status_of : Action → Status
+status_of action.Place = status.Placed
+status_of action.Ship = status.Shipped
+status_of action.Cancel = status.Cancelled

@@ -11,6 +11,12 @@ use Rattle.file_reports.specs.declared.input.Unread.{Unread}
 use Rattle.file_reports.specs.declared.input.Unread.TheVariants as unread
 use Rattle.file_reports.specs.declared.refusal.ReportFault.{ReportFault}
 use Rattle.file_reports.specs.declared.refusal.ReportFault.TheVariants as report
+use Rattle.coverage.specs.declared.fault.SummaryFault.{SummaryFault}
+use Rattle.coverage.specs.declared.fault.SummaryFault.TheVariants as summary
+use Rattle.command_words.specs.declared.request.Plan.{Plan}
+use Rattle.command_words.specs.declared.request.Plan.TheVariants as plan
+use Rattle.database_commands.specs.declared.fault.CommandFault.{CommandFault}
+use Rattle.database_commands.specs.declared.fault.CommandFault.TheVariants as database
 use Rattle.site_cli.specs.declared.line.Refusal.{Refusal}
 use Rattle.site_cli.specs.declared.line.Refusal.TheVariants as refusal
 
@@ -98,7 +104,61 @@ fault_line name (report.Read (read.BadEvent index why)) = file_line name (event_
 fault_line name (report.Read read.InputTooLarge) = file_line name (codes "too large")
 fault_line name (report.Event index why) = file_line name (event_words index why)
 
--- the one line of a refusal, where the command named these files
-abbrev pub line_of : List (List ℕ) → Refusal → List ℕ
-line_of names (refusal.Unread at) = unread_line (name_at names at.file) at.why
-line_of names (refusal.File refused) = fault_line (name_at names refused.file) refused.fault
+-- the summary in a file of this name is at fault
+abbrev pub summary_line : List ℕ → SummaryFault → List ℕ
+summary_line name summary.OutOfMemory = memory_line
+summary_line name summary.NotJson = file_line name (codes "not JSON")
+summary_line name summary.Shape = file_line name (codes "Shape")
+summary_line name summary.Version = file_line name (codes "Version")
+summary_line name summary.NotCanonical = file_line name (codes "NotCanonical")
+
+-- `site: order N: NAME`
+abbrev pub order_line : ℕ → List ℕ → List ℕ
+order_line number name = codes "site: order " ++ decimal number ++ codes ": " ++ name ++ 10 ∷ []
+
+-- a command over the database of this name, about this order, has no answer
+abbrev pub database_line : List ℕ → ℕ → CommandFault → List ℕ
+database_line db number database.OutOfMemory = memory_line
+database_line db number database.Store = file_line db (codes "Store")
+database_line db number database.Foreign = file_line db (codes "Foreign")
+database_line db number database.OrderExists = order_line number (codes "OrderExists")
+database_line db number database.NoOrder = order_line number (codes "NoOrder")
+database_line db number database.WrongState = order_line number (codes "WrongState")
+database_line db number database.Full = order_line number (codes "Full")
+database_line db number database.RouteFailed = codes "site: route failed" ++ 10 ∷ []
+
+-- ---- what a plan names
+
+-- the file at a place of a plan
+abbrev pub name_in : Plan → ℕ → List ℕ
+name_in (plan.Ask query files) file = name_at files file
+name_in (plan.Take db files) file = name_at files file
+name_in (plan.Delta db from name) file = name
+name_in (plan.Scrub db from) file = []
+name_in (plan.Order request) file = []
+name_in (plan.Relay db after) file = []
+
+-- the database of a plan; empty where it has none
+abbrev pub db_in : Plan → List ℕ
+db_in (plan.Ask query files) = []
+db_in (plan.Take db files) = db
+db_in (plan.Delta db from name) = db
+db_in (plan.Scrub db from) = db
+db_in (plan.Order request) = request.db
+db_in (plan.Relay db after) = db
+
+-- the order of a plan; 0 where it has none
+abbrev pub order_in : Plan → ℕ
+order_in (plan.Ask query files) = 0
+order_in (plan.Take db files) = 0
+order_in (plan.Delta db from name) = 0
+order_in (plan.Scrub db from) = 0
+order_in (plan.Order request) = request.order
+order_in (plan.Relay db after) = 0
+
+-- the one line of a plan's refusal
+abbrev pub line_of : Plan → Refusal → List ℕ
+line_of plan (refusal.Unread at) = unread_line (name_in plan at.file) at.why
+line_of plan (refusal.File refused) = fault_line (name_in plan refused.file) refused.fault
+line_of plan (refusal.Summary why) = summary_line (name_in plan 0) why
+line_of plan (refusal.Database why) = database_line (db_in plan) (order_in plan) why

@@ -4,7 +4,7 @@ use Rattle.std.specs.Io.KnownBytes.{Appends}
 use Rattle.command_words.specs.Plans.{AreFaulty, IsPlan}
 use Rattle.command_words.specs.declared.request.Plan.{Plan}
 use Rattle.file_reports.specs.declared.input.Unread.{Unread}
-use Rattle.site_cli.specs.Answers.{AnswersPlan, RefusesPlan, files_of}
+use Rattle.site_cli.specs.Answers.{AnswersPlan, RefusesPlan}
 use Rattle.site_cli.specs.Endings.{Ends}
 use Rattle.site_cli.specs.Lines.{arguments_line, line_of}
 use Rattle.site_cli.specs.declared.ending.Ending.{Ending}
@@ -25,15 +25,15 @@ pub record RefusesWords (C : List ℕ → List ℕ → Type 0) (U : List ℕ →
   pub planned : IsPlan words plan
   pub refusal : Refusal
   pub refused : RefusesPlan C U plan refusal
-  pub is_line : text ≡ line_of (files_of plan) refusal
+  pub is_line : text ≡ line_of plan refusal
 
 -- the line of a refusal, or want of memory for it
-abbrev pub IsLine : List (List ℕ) → Refusal → Ending → Type 0
-IsLine names refusal (ending.Answer text) = ⊥
-IsLine names refusal (ending.Help text) = ⊥
-IsLine names refusal (ending.Faulty text) = ⊥
-IsLine names refusal (ending.Refused text) = text ≡ line_of names refusal
-IsLine names refusal ending.NoMemory = Unit {0}
+abbrev pub IsLine : Plan → Refusal → Ending → Type 0
+IsLine plan refusal (ending.Answer text) = ⊥
+IsLine plan refusal (ending.Help text) = ⊥
+IsLine plan refusal (ending.Faulty text) = ⊥
+IsLine plan refusal (ending.Refused text) = text ≡ line_of plan refusal
+IsLine plan refusal ending.NoMemory = Unit {0}
 
 -- what the words come to
 abbrev pub IsEnding : (List ℕ → List ℕ → Type 0) → (List ℕ → Unread → Type 0)

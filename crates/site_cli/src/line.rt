@@ -1,9 +1,12 @@
 //! The lines of refusals on standard error.
 ghost use Rattle.std.specs.Prelude.{◌≡◌, ◌<◌, ◌++◌, [], ◌∷◌, IfOk, OnOk, string_bytes};
 ghost use Rattle.std.specs.Char.{digit_char};
-ghost use Rattle.site_cli.specs.Lines.{event_words, fault_line, fault_name, file_line, line_of, name_at, name_char, other_char, printed_name, unread_line};
+ghost use Rattle.site_cli.specs.Lines.{database_line, db_in, event_words, fault_line, fault_name, file_line, line_of, name_at, name_char, name_in, order_in, order_line, other_char, printed_name, summary_line, unread_line};
 
 use attributes::{Fault, Text};
+use command_words::Plan;
+use coverage::SummaryFault;
+use database_commands::CommandFault;
 use event_json::ReadFault;
 use file_reports::{Refused, ReportFault, Unread, UnreadAt};
 use std::alloc::{AllocError, Global};
@@ -15,15 +18,59 @@ pub enum Refusal {
     Unread(UnreadAt),
     /// The first file at fault, where all were read.
     File(Refused),
+    /// The file spells no summary.
+    Summary(SummaryFault),
+    /// The command over the database.
+    Database(CommandFault),
 }
 
-/// The line of a refusal, where the command named these files.
-pub fn line_of(alloc: Global, names: &[Text], refusal: Refusal) -> Result<Text, AllocError>
-    ensures { IfOk result (λ text. text ≡ line_of names.now refusal) }
+/// The line of a plan's refusal.
+pub fn line_of(alloc: Global, plan: &Plan, refusal: Refusal) -> Result<Text, AllocError>
+    ensures { IfOk result (λ text. text ≡ line_of plan.now refusal) }
 {
     match refusal {
-        Refusal::Unread(at) => unread_line(alloc, name_at(names, at.file), at.why),
-        Refusal::File(refused) => fault_line(alloc, name_at(names, refused.file), refused.fault),
+        Refusal::Unread(at) => unread_line(alloc, name_in(plan, at.file), at.why),
+        Refusal::File(refused) => fault_line(alloc, name_in(plan, refused.file), refused.fault),
+        Refusal::Summary(why) => summary_line(alloc, name_in(plan, 0), why),
+        Refusal::Database(why) => database_line(alloc, db_in(plan), order_in(plan), why),
+    }
+}
+
+/// The file at a place of a plan, from 0; empty where there is none.
+fn name_in(plan: &Plan, file: u64) -> &str
+    ensures { result.now ≡ name_in plan.now file }
+{
+    match plan {
+        Plan::Ask { files, .. } => name_at(files.as_slice(), file),
+        Plan::Take { files, .. } => name_at(files.as_slice(), file),
+        Plan::Delta { summary, .. } => summary.as_str(),
+        Plan::Scrub { .. } => "",
+        Plan::Order(_) => "",
+        Plan::Relay { .. } => "",
+    }
+}
+
+/// The database of a plan; empty where it has none.
+fn db_in(plan: &Plan) -> &str
+    ensures { result.now ≡ db_in plan.now }
+{
+    match plan {
+        Plan::Ask { .. } => "",
+        Plan::Take { db, .. } => db.as_str(),
+        Plan::Delta { db, .. } => db.as_str(),
+        Plan::Scrub { db, .. } => db.as_str(),
+        Plan::Order(request) => request.db.as_str(),
+        Plan::Relay { db, .. } => db.as_str(),
+    }
+}
+
+/// The order of a plan; 0 where it has none.
+fn order_in(plan: &Plan) -> u64
+    ensures { result ≡ order_in plan.now }
+{
+    match plan {
+        Plan::Order(request) => request.order,
+        _ => 0,
     }
 }
 
@@ -63,6 +110,54 @@ fn fault_line(alloc: Global, name: &str, fault: ReportFault) -> Result<Text, All
         ),
         ReportFault::Event { index, fault } => event_line(alloc, name, index, fault),
     }
+}
+
+/// The line of a summary at fault.
+fn summary_line(alloc: Global, name: &str, why: SummaryFault) -> Result<Text, AllocError>
+    ensures { IfOk result (λ text. text ≡ summary_line name.now why) }
+{
+    match why {
+        SummaryFault::OutOfMemory => Text::of(alloc, "site: out of memory\n"),
+        SummaryFault::NotJson => file_line(alloc, name, "not JSON"),
+        SummaryFault::Shape => file_line(alloc, name, "Shape"),
+        SummaryFault::Version => file_line(alloc, name, "Version"),
+        SummaryFault::NotCanonical => file_line(alloc, name, "NotCanonical"),
+    }
+}
+
+/// The line of a command over a database, about an order.
+fn database_line(
+    alloc: Global,
+    db: &str,
+    number: u64,
+    why: CommandFault,
+) -> Result<Text, AllocError>
+    ensures { IfOk result (λ text. text ≡ database_line db.now number why) }
+{
+    match why {
+        CommandFault::OutOfMemory => Text::of(alloc, "site: out of memory\n"),
+        CommandFault::Store => file_line(alloc, db, "Store"),
+        CommandFault::Foreign => file_line(alloc, db, "Foreign"),
+        CommandFault::OrderExists => order_line(alloc, number, "OrderExists"),
+        CommandFault::NoOrder => order_line(alloc, number, "NoOrder"),
+        CommandFault::WrongState => order_line(alloc, number, "WrongState"),
+        CommandFault::Full => order_line(alloc, number, "Full"),
+        CommandFault::RouteFailed => Text::of(alloc, "site: route failed\n"),
+    }
+}
+
+/// `site: order N: NAME`
+fn order_line(alloc: Global, number: u64, name: &str) -> Result<Text, AllocError>
+    ensures { IfOk result (λ text. text ≡ order_line number name.now) }
+{
+    let digits = format!(in alloc; "{number}")?;
+    let mut line = String::new(alloc);
+    line.push_str("site: order ")?;
+    line.push_str(digits.as_str())?;
+    line.push_str(": ")?;
+    line.push_str(name)?;
+    line.push_str("\n")?;
+    Ok(Text::from_string(line))
 }
 
 /// The line of the event that is at fault.

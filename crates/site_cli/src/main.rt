@@ -1,6 +1,7 @@
-//! `site`: answers questions about the events in files of CloudEvents.
+//! `site`: keeps CloudEvents of several regions in step, and answers questions about them.
 #![tactic(auto)]
 
+mod database;
 mod ending;
 mod line;
 mod query;

@@ -2,15 +2,17 @@
 ghost use Rattle.std.specs.Prelude.{◌≡◌, ◌≤◌, IfErr, IfOk, MatchResult};
 ghost use Rattle.std.specs.Process.{exit_status};
 ghost use Rattle.command_words.specs.Plans.{AreFaulty};
-ghost use Rattle.site_cli.specs.Answers.{AnswersPlan, RefusesPlan, files_of};
+ghost use Rattle.site_cli.specs.Answers.{AnswersPlan, IsAllowed, RefusesPlan};
 ghost use Rattle.site_cli.specs.Runs.{EndsUnheard, IsEnding, IsLine, IsUnheard, PrintsAnswer, RunsWords};
 
+use crate::database::{delta, order, relay, scrub, take};
 use crate::ending::{Ending, finish};
 use crate::line::{Refusal, line_of};
 use crate::query::ask;
 use crate::system::SystemFiles;
 use attributes::Text;
 use command_words::{Faulty, Plan, plan};
+use database_commands::Databases;
 use file_reports::Shelf;
 use std::alloc::Global;
 use std::io;
@@ -20,7 +22,7 @@ use std::rt::Files;
 
 /// Runs the program on the words after its name, and answers its exit code. Words that couldn't be
 /// had are at fault, or memory was refused.
-pub fn exit<R: AllocGlobal + Files, O: Write, E: Write>(
+pub fn exit<R: AllocGlobal + Files + Databases, O: Write, E: Write>(
     rt: &R,
     words: io::Result<Vec<Text>>,
     out: &mut O,
@@ -41,10 +43,10 @@ pub fn exit<R: AllocGlobal + Files, O: Write, E: Write>(
 /// Runs the program on the words after its name, and answers its exit status: 0 for a result, 1 for
 /// a refusal and for output that can't be written, 2 for faulty words and for help.
 ///
-/// All files are read before any is judged. A result is written to `out` in one piece, a refusal as
+/// All files are read before any is judged, and judged before a database is opened. A result is written to `out` in one piece, a refusal as
 /// one line to `err`. Help that was asked for goes to `out`, what is said of faulty words to `err`.
 /// After a write that fails nothing more is written.
-pub fn perform<R: AllocGlobal + Files, O: Write, E: Write>(
+pub fn perform<R: AllocGlobal + Files + Databases, O: Write, E: Write>(
     rt: &R,
     words: &[Text],
     out: &mut O,
@@ -58,17 +60,22 @@ pub fn perform<R: AllocGlobal + Files, O: Write, E: Write>(
         (O.contents out.old) (O.contents out.new) (E.contents err.old) (E.contents err.new) }
 {
     let shelf = SystemFiles { rt };
-    finish(outcome(rt.alloc(), &shelf, words), out, err)
+    finish(outcome(rt.alloc(), &shelf, rt, words), out, err)
 }
 
 /// What the words come to over a shelf of files, before anything is written.
-fn outcome<S: Shelf>(alloc: Global, shelf: &S, words: &[Text]) -> Ending
+fn outcome<S: Shelf, D: Databases>(
+    alloc: Global,
+    shelf: &S,
+    databases: &D,
+    words: &[Text],
+) -> Ending
     ensures { IsEnding (S.is_content shelf.now) (S.is_unread shelf.now) words.now result }
 {
     match plan(alloc, words) {
-        Ok(plan) => match carried_out(alloc, shelf, &plan) {
+        Ok(plan) => match carried_out(alloc, shelf, databases, &plan) {
             Ok(text) => Ending::Answer(text),
-            Err(refusal) => refused(alloc, files_of(&plan), refusal),
+            Err(refusal) => refused(alloc, &plan, refusal),
         },
         Err(Faulty::Words { text, is_help }) => {
             if is_help {
@@ -82,30 +89,39 @@ fn outcome<S: Shelf>(alloc: Global, shelf: &S, words: &[Text]) -> Ending
 }
 
 /// The answer to a plan.
-fn carried_out<S: Shelf>(alloc: Global, shelf: &S, plan: &Plan) -> Result<Text, Refusal>
+fn carried_out<S: Shelf, D: Databases>(
+    alloc: Global,
+    shelf: &S,
+    databases: &D,
+    plan: &Plan,
+) -> Result<Text, Refusal>
+    requires { IsAllowed plan.now }
     ensures ok { IfOk result (AnswersPlan (S.is_content shelf.now) plan.now) }
     ensures err { IfErr result
         (RefusesPlan (S.is_content shelf.now) (S.is_unread shelf.now) plan.now) }
 {
     match plan {
         Plan::Ask { query, files } => ask(alloc, shelf, *query, files.as_slice()),
-    }
-}
-
-/// The files that a plan names, in the order of its words.
-fn files_of(plan: &Plan) -> &[Text]
-    ensures { result.now ≡ files_of plan.now }
-{
-    match plan {
-        Plan::Ask { files, .. } => files.as_slice(),
+        Plan::Take { db, files } => take(alloc, shelf, databases, db.as_str(), files.as_slice()),
+        Plan::Delta { db, from, summary } => delta(
+            alloc,
+            shelf,
+            databases,
+            db.as_str(),
+            *from,
+            summary.as_str(),
+        ),
+        Plan::Scrub { db, from } => scrub(alloc, databases, db.as_str(), *from),
+        Plan::Order(request) => order(alloc, databases, request),
+        Plan::Relay { db, after } => relay(alloc, databases, db.as_str(), *after),
     }
 }
 
 /// The ending of a refusal: its line, where memory is left for it.
-fn refused(alloc: Global, names: &[Text], refusal: Refusal) -> Ending
-    ensures { IsLine names.now refusal result }
+fn refused(alloc: Global, plan: &Plan, refusal: Refusal) -> Ending
+    ensures { IsLine plan.now refusal result }
 {
-    match line_of(alloc, names, refusal) {
+    match line_of(alloc, plan, refusal) {
         Ok(line) => Ending::Refused(line),
         Err(_) => Ending::NoMemory,
     }

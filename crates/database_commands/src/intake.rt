@@ -16,10 +16,7 @@ use sqlite::{Alter, Connection};
 use std::alloc::Global;
 
 /// The table of a database with its events, made where there is none.
-pub fn loaded<S: Alter + Drop>(
-    alloc: Global,
-    conn: Connection<S>,
-) -> Result<Loaded<S>, NotMade<S>>
+pub fn loaded<S: Alter + Drop>(alloc: Global, conn: Connection<S>) -> Result<Loaded<S>, NotMade<S>>
     ensures events { IfOk result (λ l. HasCleanDisk (state S.Store l.table.conn)
         → (held : List EventValue) → Holds (state S.Store conn).now held → l.events ≡ held) }
     ensures table { IfOk result (λ l. HasCleanDisk (state S.Store l.table.conn)

@@ -1,7 +1,7 @@
 use Rattle.std.proofs.Common.{◌∙◌, ap}
 use Rattle.std.proofs.lemmas.Result.{IfOk-weaker}
 use Rattle.database_commands.specs.Print.{counts_line}
-use Rattle.database_commands.proofs.inbox.kept.Goals as goal
+use Rattle.database_commands.proofs.intake.kept.Goals as goal
 
 pub returns-in-Ok-clause-taken : goal.returns-in-Ok-clause-taken
 returns-in-Ok-clause-taken g c clean =

@@ -3,7 +3,7 @@ use Rattle.std.proofs.lemmas.Result.{IfOk-weaker}
 use Rattle.sqlite.specs.Held.{state}
 use Rattle.inbox_table.specs.Rows.{IsInbox}
 use Rattle.database_commands.proofs.HeldLemmas.{both_ok, made_holds}
-use Rattle.database_commands.proofs.inbox.loaded.Goals as goal
+use Rattle.database_commands.proofs.intake.loaded.Goals as goal
 
 pub returns-in-Ok-clause-table : goal.returns-in-Ok-clause-table
 returns-in-Ok-clause-table g c clean held holds =
