@@ -1,12 +1,16 @@
 //! Relays, which send the rows of an outbox to routes and keep a mark.
 #![tactic(auto)]
 
+mod fan;
 mod fault;
+mod gate;
 mod memory;
 mod relay;
 mod route;
 
+pub use fan::End;
 pub use fault::RelayFault;
+pub use gate::{Gate, GateShut};
 pub use memory::MemoryRoute;
 pub use relay::{Job, Outcome, Relay, carry};
 pub use route::{Route, RouteFailed};
