@@ -1,3 +1,5 @@
 pub mod LaneLemmas
 pub mod LastLemmas
+pub mod RoundLemmas
 pub mod RouteLemmas
+pub mod WindowLemmas

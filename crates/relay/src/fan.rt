@@ -1,6 +1,8 @@
 //! The rows of one outbox, sent to several routes at the same time.
 
 mod lane;
+mod round;
+mod window;
 mod worker;
 
 use crate::fault::RelayFault;

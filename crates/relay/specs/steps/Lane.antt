@@ -1,13 +1,17 @@
 -- Relays and their routes on their way through the rows.
-use Rattle.std.specs.Prelude.{◌≡◌, ◌⊎◌, ◌≤◌, ◌+◌, ◌-◌, ⊤, ℕ, suc, List, [], ◌∷◌, length, ◌++◌, drop, Option, Some, None, MatchOption, IsSome}
+use Rattle.std.specs.Prelude.{◌≡◌, ◌⊎◌, ◌≤◌, ◌+◌, ◌-◌, ⊤, ℕ, suc, List, [], ◌∷◌, length, ◌++◌, drop, Option, Some, None, MatchOption, IsSome, All}
 use Rattle.attributes.specs.Event.{EventValue}
 use Rattle.sqlite.specs.Effect.{Database}
+use Rattle.sqlite.specs.State.{State, HasCleanDisk}
+use Rattle.outbox.specs.Call.{IsSame}
 use Rattle.outbox.specs.Order.{Accepted}
 use Rattle.outbox.specs.Row.{rows_of}
 use Rattle.outbox.specs.Service.{IsService}
 use Rattle.relay.specs.Route.{Has, AreIn, AreOf}
 use Rattle.relay.specs.Fan.{AreSent, HasCause, IsAtEnd}
 use Rattle.relay.specs.declared.fault.RelayFault.{RelayFault}
+use Rattle.relay.specs.declared.fan.End.{End}
+use Rattle.relay.specs.declared.fan.End.TheVariants.{Done}
 use Rattle.relay.specs.declared.fan.lane.Lane.{Lane}
 
 -- where a lane stopped, its route shows why
@@ -63,3 +67,38 @@ pub record IsWindow (base : ℕ) (all : List EventValue) (start : ℕ) (rows : L
 abbrev pub ShowsWindow : List ℕ → ℕ → ℕ → Database → List EventValue → Type 0
 ShowsWindow source base start db rows = (commands : List Accepted)
     → IsService db source base commands → IsWindow base (rows_of source base commands) start rows
+
+-- a lane that goes on isn't behind this mark
+abbrev pub IsAhead : {R : Type 0} → ℕ → Lane R → Type 0
+IsAhead mark lane = lane.fault ≡ None → mark ≤ lane.relay.mark
+
+-- the lane stopped
+abbrev pub IsStopped : {R : Type 0} → Lane R → Type 0
+IsStopped lane = IsSome lane.fault
+
+-- the least mark of the lanes that go on; none where all stopped
+abbrev pub IsLeast : {R : Type 0} → List (Lane R) → Option ℕ → Type 0
+IsLeast lanes least =
+    MatchOption least (All IsStopped lanes) (λ mark. All (IsAhead mark) lanes)
+
+-- a lane that goes on has no row left
+abbrev pub HasSent : {R : Type 0} → ℕ → List EventValue → Lane R → Type 0
+HasSent base rows lane = lane.fault ≡ None → IsAtEnd base rows lane.relay.mark
+
+-- from one state of the database to another the lanes went on, over the rows of the service
+pub record Goes {R : Type 0} (accepted : R → List EventValue) (has_failed : R → R → Type 0)
+    (source : List ℕ) (base : ℕ) (old new : State) (olds news : List (Lane R)) : Type 0 where
+  pub same : IsSame old new
+  pub moves : Each (Moves accepted has_failed) olds news
+  pub sends : HasCleanDisk new → (commands : List Accepted)
+      → IsService old.now source base commands
+      → Each (Sends accepted base (rows_of source base commands)) olds news
+
+-- they went on to their end: where it is done, those that didn't stop have no row left
+pub record Ends {R : Type 0} (accepted : R → List EventValue) (has_failed : R → R → Type 0)
+    (source : List ℕ) (base : ℕ) (old new : State) (olds news : List (Lane R)) (end : End)
+    : Type 0 where
+  pub goes : Goes accepted has_failed source base old new olds news
+  pub done : end ≡ Done → HasCleanDisk new → (commands : List Accepted)
+      → IsService old.now source base commands
+      → All (HasSent base (rows_of source base commands)) news

@@ -1,0 +1,62 @@
+-- Windows of a service's rows.
+use Rattle.std.proofs.Common.{◌≡◌, ◌⊎◌, ◌+◌, ◌-◌, ◌<◌, ◌≤◌, inl, inr, ℕ, zero, suc, Bool, true, false, nat_lt, List, [], ◌∷◌, ◌++◌, length, take, drop, slice_get, Some, None, Option, IsSome, refl, sym, ap, subst, ◌∙◌, arith}
+use Rattle.std.proofs.lemmas.Bool.Decides.{nat_tests}
+use Rattle.std.proofs.lemmas.Option.{slice_get_within}
+use Rattle.std.proofs.lemmas.List.{take-append-drop}
+use Rattle.attributes.specs.Event.{EventValue}
+use Rattle.relay.specs.Route.{Has, AreIn, AreOf}
+use Rattle.relay.specs.Fan.{IsRow, AreSent, IsAtEnd}
+use Rattle.relay.specs.steps.Lane.{IsWindow}
+use Rattle.relay.proofs.RouteLemmas.{has_left}
+
+-- the first rows after a number, at least one of them
+pub first_rows : (base : ℕ) (all : List EventValue) (start limit : ℕ) (rows : List EventValue) → rows ≡ take (suc limit) (drop (start - base) all) → IsWindow base all start rows
+first_rows base all start limit rows is = record {
+  rest = drop (suc limit) (drop (start - base) all);
+  whole = sym (ap (λ r. r ++ drop (suc limit) (drop (start - base) all)) is ∙ take-append-drop (suc limit) (drop (start - base) all));
+  last = λ none. go (drop (start - base) all) (sym is ∙ none);
+}
+  where
+    go : (l : List EventValue) → take (suc limit) l ≡ [] → drop (suc limit) l ≡ []
+    go [] h = refl
+    go (x ∷ l) h = absurd (cc)
+
+slice_drop : (n i : ℕ) (l : List EventValue) → slice_get (drop n l) i ≡ slice_get l (i + n)
+slice_drop zero i l = ap (slice_get l) (let e : i ≡ i + 0 = omega arith in e)
+slice_drop (suc n) i [] = refl
+slice_drop (suc n) i (x ∷ l) = slice_drop n i l ∙ ap (slice_get (x ∷ l)) (let e : suc (i + n) ≡ i + suc n = omega arith in e)
+
+slice_left : (a b : List EventValue) (i : ℕ) → i < length a → slice_get (a ++ b) i ≡ slice_get a i
+slice_left [] b i low = absurd (omega (arith, low))
+slice_left (x ∷ a) b zero low = refl
+slice_left (x ∷ a) b (suc i) low = slice_left a b i (omega (arith, low))
+
+has_drop : (n : ℕ) (l : List EventValue) (e : EventValue) → Has (drop n l) e → Has l e
+has_drop zero l e h = h
+has_drop (suc n) [] e h = absurd h
+has_drop (suc n) (x ∷ l) e h = inr (has_drop n l e h)
+
+-- a row of the service stands in the window too, where its number is one of those of the window
+pub in_window : (base : ℕ) (all : List EventValue) (start : ℕ) (rows : List EventValue) (number : ℕ) (e : EventValue) → IsWindow base all start rows → base ≤ start → start < number → number ≤ start + length rows → IsRow base all number e → IsRow start rows number e
+in_window base all start rows number e w low above below is =
+    let place : number - suc start + (start - base) ≡ number - suc base = omega (arith, low, above) in
+    let near : number - suc start < length rows = omega (arith, above, below) in
+    (above, sym (slice_left rows w.rest (number - suc start) near) ∙ ap (λ l. slice_get l (number - suc start)) (sym w.whole) ∙ slice_drop (start - base) (number - suc start) all ∙ ap (slice_get all) place ∙ is.1)
+
+-- the rows of a window are rows of the service
+pub of_window : (base : ℕ) (all : List EventValue) (start : ℕ) (rows : List EventValue) → IsWindow base all start rows → AreIn rows all
+of_window base all start rows w e h = has_drop (start - base) all e (subst (λ l. Has l e) (sym w.whole) (has_left rows w.rest e h))
+
+length_drop_none : (n : ℕ) (l : List EventValue) → drop n l ≡ [] → length l ≤ n
+length_drop_none zero [] h = omega arith
+length_drop_none zero (x ∷ l) h = absurd (cc)
+length_drop_none (suc n) [] h = omega arith
+length_drop_none (suc n) (x ∷ l) h = omega (arith, length_drop_none n l h)
+
+-- an empty window: no row has a number above its start
+pub no_window : (base : ℕ) (all : List EventValue) (start : ℕ) (rows : List EventValue) → IsWindow base all start rows → base ≤ start → rows ≡ [] → IsAtEnd base all start
+no_window base all start rows w low none number e is =
+    let empty : drop (start - base) all ≡ [] = w.whole ∙ ap (λ r. r ++ w.rest) none ∙ w.last none in
+    let short : length all ≤ start - base = length_drop_none (start - base) all empty in
+    let near : number - suc base < length all = slice_get_within all (number - suc base) e is.1 in
+    omega (arith, short, near, low, is.0)
