@@ -1,3 +1,4 @@
+pub mod FanLemmas
 pub mod LaneLemmas
 pub mod LastLemmas
 pub mod RoundLemmas

@@ -33,17 +33,11 @@ each_then P Q T both (x ∷ xs) (y ∷ ys) [] h k = absurd k
 each_then P Q T both (x ∷ xs) (y ∷ ys) (z ∷ zs) h k = (both x y z h.0 k.0, each_then P Q T both xs ys zs h.1 k.1)
 
 -- the same, where the second step may use a fact of its first lane
-each_from : {A : Type 0} (F : A → Type 0) (P Q : A → A → Type 0) → ((x y : A) → F x → P x y → Q x y) → (xs ys : List A) → AllByRecursion F xs → Each P xs ys → Each Q xs ys
+pub each_from : {A : Type 0} (F : A → Type 0) (P Q : A → A → Type 0) → ((x y : A) → F x → P x y → Q x y) → (xs ys : List A) → AllByRecursion F xs → Each P xs ys → Each Q xs ys
 each_from F P Q one [] [] f h = tt
 each_from F P Q one [] (y ∷ ys) f h = absurd h
 each_from F P Q one (x ∷ xs) [] f h = absurd h
 each_from F P Q one (x ∷ xs) (y ∷ ys) f h = (one x y f.0 h.0, each_from F P Q one xs ys f.1 h.1)
-
-each_weaker : {A : Type 0} (P Q : A → A → Type 0) → ((x y : A) → P x y → Q x y) → (xs ys : List A) → Each P xs ys → Each Q xs ys
-each_weaker P Q one [] [] h = tt
-each_weaker P Q one [] (y ∷ ys) h = absurd h
-each_weaker P Q one (x ∷ xs) [] h = absurd h
-each_weaker P Q one (x ∷ xs) (y ∷ ys) h = (one x y h.0, each_weaker P Q one xs ys h.1)
 
 some_none : {T : Type 0} (o : Option T) → IsSome o → o ≡ None → ⊥
 some_none (Some x) h is = absurd (cc)

@@ -8,7 +8,7 @@ mod memory;
 mod relay;
 mod route;
 
-pub use fan::End;
+pub use fan::{End, FanOut, Relays, Routes, fan_out};
 pub use fault::RelayFault;
 pub use gate::{Gate, GateShut};
 pub use memory::MemoryRoute;

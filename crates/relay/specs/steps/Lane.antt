@@ -11,7 +11,7 @@ use Rattle.relay.specs.Route.{Has, AreIn, AreOf}
 use Rattle.relay.specs.Fan.{AreSent, HasCause, IsAtEnd}
 use Rattle.relay.specs.declared.fault.RelayFault.{RelayFault}
 use Rattle.relay.specs.declared.fan.End.{End}
-use Rattle.relay.specs.declared.fan.End.TheVariants.{Done}
+use Rattle.relay.specs.declared.fan.End.TheVariants.{Done, Failed}
 use Rattle.relay.specs.declared.fan.lane.Lane.{Lane}
 
 -- where a lane stopped, its route shows why
@@ -102,3 +102,11 @@ pub record Ends {R : Type 0} (accepted : R → List EventValue) (has_failed : R 
   pub done : end ≡ Done → HasCleanDisk new → (commands : List Accepted)
       → IsService old.now source base commands
       → All (HasSent base (rows_of source base commands)) news
+
+-- how a lane ended, where this is the end of those that didn't stop
+abbrev pub end_after : Option RelayFault → End → End
+end_after None end = end
+end_after (Some f) end = Failed f
+
+abbrev pub end_of : {R : Type 0} → End → Lane R → End
+end_of end lane = end_after lane.fault end
