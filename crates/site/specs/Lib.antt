@@ -3,3 +3,6 @@ pub mod Page
 pub mod Delta
 pub mod Sum
 pub mod Law
+pub mod Machine
+pub mod Desk
+pub mod steps
