@@ -3,14 +3,13 @@
 
 mod fan;
 mod fault;
-mod gate;
 mod memory;
 mod relay;
 mod route;
 
 pub use fan::{End, FanOut, Relays, Routes, fan_out};
 pub use fault::RelayFault;
-pub use gate::{Gate, GateShut};
+
 pub use memory::MemoryRoute;
 pub use relay::{Job, Outcome, Relay, carry};
 pub use route::{Route, RouteFailed};

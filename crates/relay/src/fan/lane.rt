@@ -7,10 +7,10 @@ ghost use Rattle.relay.specs.steps.Lane.{Carries, left};
 ghost use Rattle.relay.specs.declared.fault.RelayFault.TheVariants.{OutOfMemory, Store};
 
 use crate::fault::RelayFault;
-use crate::gate::Gate;
 use crate::relay::{MAX_PAGE, Relay};
 use crate::route::Route;
 use attributes::Batch;
+use site::Gate;
 use std::alloc::{AllocError, Global};
 
 /// A relay, its route, and how far they are.

@@ -8,15 +8,15 @@ ghost use Rattle.relay.specs.steps.Lane.{Carries, Each};
 
 use crate::fan::lane::{Lane, carry_lane};
 use crate::fault::RelayFault;
-use crate::gate::Gate;
 use crate::route::Route;
 use attributes::Batch;
+use site::Gate;
 use std::alloc::Global;
 use std::snapshot::Snapshot;
 use std::sync::Wait;
 use std::sync::atomic::{AtomicBool, Ordering};
-use std::thread;
 use std::thread::{Promise, Threads};
+use std::thread;
 
 /// What a worker promises: it carries this lane over these rows.
 #[derive(Drop)]
