@@ -10,8 +10,10 @@ use relay::{End, MemoryRoute, Relay, RelayFault, Route, RouteFailed, fan_out};
 use site::{Gate, GateShut, Wide};
 use sqlite::MemStore;
 use std::alloc::Global;
+use std::sync::Wait;
 use std::sync::atomic::{AtomicU64, Ordering};
 use std::thread;
+use std::thread::Threads;
 
 /// A route that fails once, at the send with this number from 1 on, or never if it is 0.
 #[derive(Drop)]
@@ -94,14 +96,14 @@ fn placed(alloc: Global, count: u64) -> Result<Service<MemStore>, OutboxFault> {
 
 /// Whether relays with these marks, to routes that fail at these sends, end so, with these marks and
 /// so many accepted rows.
-fn ends_as<G: Gate + Sync>(
-    rt: &HostRuntime,
+fn ends_as<H: Threads + Wait + Sync, G: Gate + Sync>(
+    rt: &H,
+    alloc: Global,
     service: &mut Service<MemStore>,
     gate: &G,
     from: &[(u64, u64)],
     want: &[(End, u64, u64)],
 ) -> Result<bool, OutboxFault> {
-    let alloc = rt.alloc();
     let mut relays = Vec::new(alloc);
     let mut routes = Vec::new(alloc);
     for (mark, send) in from {
@@ -130,7 +132,7 @@ fn ends_as<G: Gate + Sync>(
 fn every_row_goes_to_both_routes(rt: HostRuntime) -> Result<(), OutboxFault> {
     let mut service = placed(rt.alloc(), 2)?;
     let want = [(End::Done, 2, 2), (End::Done, 2, 2)];
-    assert!(rt; ends_as(&rt, &mut service, &Wide, &[(0, 0), (0, 0)], &want)?);
+    assert!(rt; ends_as(&rt, rt.alloc(), &mut service, &Wide, &[(0, 0), (0, 0)], &want)?);
     Ok(())
 }
 
@@ -141,7 +143,7 @@ fn two_routes_are_sent_to_at_the_same_time(rt: HostRuntime) -> Result<(), Outbox
         entered: AtomicU64::new(0),
     };
     let want = [(End::Done, 150, 150), (End::Done, 150, 150)];
-    assert!(rt; ends_as(&rt, &mut service, &gate, &[(0, 0), (0, 0)], &want)?);
+    assert!(rt; ends_as(&rt, rt.alloc(), &mut service, &gate, &[(0, 0), (0, 0)], &want)?);
     Ok(())
 }
 
@@ -154,13 +156,13 @@ fn the_others_go_on_where_one_stops(rt: HostRuntime) -> Result<(), OutboxFault> 
         (End::Done, 250, 220),
         (End::Done, 300, 0),
     ];
-    assert!(rt; ends_as(&rt, &mut service, &Wide, &[(0, 2), (30, 0), (300, 0)], &want)?);
+    assert!(rt; ends_as(&rt, rt.alloc(), &mut service, &Wide, &[(0, 2), (30, 0), (300, 0)], &want)?);
     let gate = ShutsAtSecond {
         made: AtomicU64::new(0),
     };
     let shut = End::Failed(RelayFault::GateShut);
     let want = [(End::Done, 250, 250), (shut, 100, 100)];
-    assert!(rt; ends_as(&rt, &mut service, &gate, &[(0, 0), (0, 0)], &want)?);
+    assert!(rt; ends_as(&rt, rt.alloc(), &mut service, &gate, &[(0, 0), (0, 0)], &want)?);
     assert_eq!(rt; gate.made.load(Ordering::SeqCst), 4);
     Ok(())
 }
