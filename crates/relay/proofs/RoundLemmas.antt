@@ -50,10 +50,10 @@ max_top a b s is = go (nat_lt a b) refl
     go true less = let low : a < b = grind (arith, nat_tests, less) in inr (omega (arith, is, low))
     go false more = let low : b ≤ a = grind (arith, nat_tests, more) in inl (omega (arith, is, low))
 
-same_none : (a : State) → IsSame a a
+pub same_none : (a : State) → IsSame a a
 same_none a = record { clean = omega arith; was_open = λ clean still. still; same = λ clean still l has. (refl, refl) }
 
-same_then : (a b c : State) → IsSame a b → IsSame b c → IsSame a c
+pub same_then : (a b c : State) → IsSame a b → IsSame b c → IsSame a c
 same_then a b c h k = record {
   clean = omega (arith, h.clean, k.clean);
   was_open = λ clean still. h.was_open (omega (arith, clean, k.clean)) (k.was_open clean still);
@@ -64,7 +64,7 @@ same_then a b c h k = record {
 }
 
 -- the service is there after a reading
-service_then : (a b : State) (source : List ℕ) (base : ℕ) (commands : List Accepted) → IsSame a b → HasCleanDisk b → IsTrue b.is_open → IsService a.now source base commands → IsService b.now source base commands
+pub service_then : (a b : State) (source : List ℕ) (base : ℕ) (commands : List Accepted) → IsSame a b → HasCleanDisk b → IsTrue b.is_open → IsService a.now source base commands → IsService b.now source base commands
 service_then a b source base commands h clean opened is = subst (λ db. IsService db source base commands) (sym (h.same clean opened is.layout is.schema).0) is
 
 pub goes_none : {R : Type 0} (accepted : R → List EventValue) (has_failed : R → R → Type 0) (source : List ℕ) (base : ℕ) (a : State) (lanes : List (Lane R)) → Goes accepted has_failed source base a a lanes lanes
@@ -151,3 +151,24 @@ ends_unread accepted has_failed source base a b c olds news f h k = record {
   goes = goes_still accepted has_failed source base a b c olds news h k;
   done = λ is_done. absurd (cc);
 }
+
+-- what the window shows, after it showed so much from a state of before
+pub shows_on : (source : List ℕ) (base start : ℕ) (a b c : State) (rows more : List EventValue) → IsSame a b → IsSame b c → (HasCleanDisk b → ShowsWindow source base start a.now rows) → (HasCleanDisk c → IsTrue b.is_open)
+    → (HasCleanDisk c → ShowsWindow source base start b.now rows → ShowsWindow source base start b.now more) → HasCleanDisk c → ShowsWindow source base start a.now more
+shows_on source base start a b c rows more h k shows opened next clean commands is =
+    let was : HasCleanDisk b = omega (arith, clean, k.clean) in
+    let same : b.now ≡ a.now = (h.same was (opened clean) is.layout is.schema).0 in
+    next clean (subst (λ db. ShowsWindow source base start db rows) (sym same) (shows was)) commands (service_then a b source base commands h was (opened clean) is)
+
+-- from one state to another a window was read of the first
+abbrev pub Reads : List ℕ → ℕ → ℕ → State → State → List EventValue → Type 0
+Reads source base start a b rows =
+    IsSame a b × (HasCleanDisk b → IsTrue a.is_open) × (HasCleanDisk b → ShowsWindow source base start a.now rows)
+
+pub reads_on : (source source' : List ℕ) (base base' start : ℕ) (a b c : State) (rows more : List EventValue) → source' ≡ source → base' ≡ base → Reads source base start a b rows → IsSame b c → (HasCleanDisk c → IsTrue b.is_open)
+    → (HasCleanDisk c → ShowsWindow source' base' start b.now rows → ShowsWindow source' base' start b.now more) → Reads source base start a c more
+reads_on source source' base base' start a b c rows more p q h k opened next = (
+  same_then a b c h.0 k,
+  λ clean. h.1 (omega (arith, clean, k.clean)),
+  shows_on source base start a b c rows more h.0 k h.2 opened (subst (λ s. HasCleanDisk c → ShowsWindow s base start b.now rows → ShowsWindow s base start b.now more) p (subst (λ n. HasCleanDisk c → ShowsWindow source' n start b.now rows → ShowsWindow source' n start b.now more) q next)),
+)

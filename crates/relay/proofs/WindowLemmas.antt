@@ -1,5 +1,5 @@
 -- Windows of a service's rows.
-use Rattle.std.proofs.Common.{◌≡◌, ◌⊎◌, ◌+◌, ◌-◌, ◌<◌, ◌≤◌, inl, inr, ℕ, zero, suc, Bool, true, false, nat_lt, List, [], ◌∷◌, ◌++◌, length, take, drop, slice_get, Some, None, Option, IsSome, refl, sym, ap, subst, ◌∙◌, arith}
+use Rattle.std.proofs.Common.{◌≡◌, ◌⊎◌, ◌+◌, ◌-◌, ◌<◌, ◌≤◌, inl, inr, ℕ, zero, suc, Bool, true, false, nat_lt, List, [], ◌∷◌, ◌++◌, length, take, drop, slice_get, Some, None, Option, IsSome, append_assoc, refl, sym, ap, subst, ◌∙◌, arith}
 use Rattle.std.proofs.lemmas.Bool.Decides.{nat_tests}
 use Rattle.std.proofs.lemmas.Option.{slice_get_within}
 use Rattle.std.proofs.lemmas.List.{take-append-drop}
@@ -60,3 +60,32 @@ no_window base all start rows w low none number e is =
     let short : length all ≤ start - base = length_drop_none (start - base) all empty in
     let near : number - suc base < length all = slice_get_within all (number - suc base) e is.1 in
     omega (arith, short, near, low, is.0)
+
+drop_empty : (k : ℕ) → ◌≡◌ {A = List EventValue} (drop k []) []
+drop_empty zero = refl
+drop_empty (suc k) = refl
+
+drop_past : (n m : ℕ) (l : List EventValue) → drop (n + m) l ≡ drop m (drop n l)
+drop_past zero m l = ap (λ k. drop k l) (let e : 0 + m ≡ m = omega arith in e)
+drop_past (suc n) m [] = drop_empty (suc n + m) ∙ sym (drop_empty m)
+drop_past (suc n) m (x ∷ l) = ap (λ k. drop k (x ∷ l)) (let e : suc n + m ≡ suc (n + m) = omega arith in e) ∙ drop_past n m l
+
+drop_before : (a b : List EventValue) → drop (length a) (a ++ b) ≡ b
+drop_before [] b = refl
+drop_before (x ∷ a) b = drop_before a b
+
+-- a window with the next page is a window
+pub next_page : (base : ℕ) (all : List EventValue) (start limit after : ℕ) (rows page more : List EventValue) → base ≤ start → after ≡ start + length rows → page ≡ take (suc limit) (drop (after - base) all) → more ≡ rows ++ page → IsWindow base all start rows → IsWindow base all start more
+next_page base all start limit after rows page more low at is made w =
+    let place : after - base ≡ start - base + length rows = omega (arith, at, low) in
+    let left : drop (after - base) all ≡ w.rest = ap (λ k. drop k all) place ∙ drop_past (start - base) (length rows) all ∙ ap (drop (length rows)) w.whole ∙ drop_before rows w.rest in
+    let first : page ≡ take (suc limit) w.rest = is ∙ ap (take (suc limit)) left in
+    record {
+      rest = drop (suc limit) w.rest;
+      whole = w.whole ∙ ap (λ r. rows ++ r) (sym (ap (λ p. p ++ drop (suc limit) w.rest) first ∙ take-append-drop (suc limit) w.rest)) ∙ sym (append_assoc rows page (drop (suc limit) w.rest)) ∙ ap (λ r. r ++ drop (suc limit) w.rest) (sym made);
+      last = λ none. ap (drop (suc limit)) (w.last (none_left rows page (sym made ∙ none)));
+    }
+  where
+    none_left : (a b : List EventValue) → a ++ b ≡ [] → a ≡ []
+    none_left [] b h = refl
+    none_left (x ∷ a) b h = absurd (cc)

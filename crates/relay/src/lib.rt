@@ -9,7 +9,6 @@ mod route;
 
 pub use fan::{End, FanOut, Relays, Routes, fan_out};
 pub use fault::RelayFault;
-
 pub use memory::MemoryRoute;
 pub use relay::{Job, Outcome, Relay, carry};
 pub use route::{Route, RouteFailed};

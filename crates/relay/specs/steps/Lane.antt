@@ -58,7 +58,8 @@ Each Holds (x ∷ xs) [] = ⊥
 Each Holds (x ∷ xs) (y ∷ ys) = Holds x y × Each Holds xs ys
 
 -- some of the next rows after `start`, and none only where there are none
-pub record IsWindow (base : ℕ) (all : List EventValue) (start : ℕ) (rows : List EventValue) : Type 0 where
+pub record IsWindow (base : ℕ) (all : List EventValue) (start : ℕ) (rows : List EventValue)
+    : Type 0 where
   pub rest : List EventValue
   pub whole : drop (start - base) all ≡ rows ++ rest
   pub last : rows ≡ [] → rest ≡ []

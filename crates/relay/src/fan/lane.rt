@@ -49,7 +49,6 @@ fn copied(alloc: Global, rows: &Batch, from: u64, to: u64) -> Result<Batch, Allo
 }
 
 /// The next page after the mark, of rows that have the numbers after `start`.
-#[tactic(auto, using(crate::proofs::LaneLemmas::sent_shift))]
 fn next_page(alloc: Global, rows: &Batch, start: u64, mark: u64) -> Result<Page, RelayFault>
     requires { mark - start < length rows.now }
     ensures last { IfOk result (λ p. (mark < p.last) × (p.last ≤ start + length rows.now)) }

@@ -21,7 +21,8 @@ use std::thread::Threads;
 
 /// The lesser of this mark and that of the lane, where it goes on.
 fn lesser<R>(least: Option<u64>, lane: &Lane<R>) -> Option<u64>
-    ensures { (before : List (Lane R)) → IsLeast before least → IsLeast (before ++ lane.now ∷ []) result }
+    ensures { (before : List (Lane R)) → IsLeast before least
+        → IsLeast (before ++ lane.now ∷ []) result }
 {
     if lane.fault.is_some() {
         return least;

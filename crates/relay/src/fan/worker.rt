@@ -29,7 +29,8 @@ struct Carried<R> {
 impl<R: Route> Promise<Lane<R>> for Carried<R> {
     ghost use Rattle.relay.specs.steps.Lane.{Carries};
 
-    ghost kept_by = { λ p lane. Carries R.accepted R.has_failed p.start p.rows.value p.lane.value lane };
+    ghost kept_by = { λ p lane.
+        Carries R.accepted R.has_failed p.start p.rows.value p.lane.value lane };
 }
 
 /// Adds a value where there is room for it.
@@ -43,8 +44,8 @@ pub(crate) fn put<T: Drop>(list: &mut Vec<T>, value: T)
     };
 }
 
-#[tactic(auto, using(crate::proofs::LaneLemmas::sent_none))]
 /// The lane of a worker that couldn't be started.
+#[tactic(auto, using(crate::proofs::LaneLemmas::sent_none))]
 fn unstarted<R: Route>(lane: Lane<R>) -> Lane<R>
     ensures { (start : ℕ) (rows : List EventValue)
         → Carries R.accepted R.has_failed start rows lane result }
@@ -77,7 +78,8 @@ pub(crate) fn run_lanes<H: Threads + Wait + Sync, R: Route + Drop + Send, G: Gat
     gate: &G,
     mut lanes: Vec<Lane<R>>,
 ) -> Vec<Lane<R>>
-    ensures carried { Each (Carries R.accepted R.has_failed start rows.now) lanes.items result.items }
+    ensures carried { Each (Carries R.accepted R.has_failed start rows.now)
+        lanes.items result.items }
     ensures room { vec_capacity lanes ≤ vec_capacity result }
 {
     let Some(lane) = lanes.pop() else {
@@ -102,8 +104,12 @@ pub(crate) fn run_lanes<H: Threads + Wait + Sync, R: Route + Drop + Send, G: Gat
         thread::scope_env(),
         rt,
         move |scope| -> Vec<Lane<R>>
-            requires { IsSync H.row × IsSync G.row × IsSend R.row × (vec_len lanes < vec_capacity lanes) × (promise.lane.value ≡ lane) × (promise.rows.value ≡ rows.now) × (promise.start ≡ start) }
-            ensures { Each (Carries R.accepted R.has_failed start rows.entry.now) (lanes.items ++ lane ∷ []) result.items × (vec_capacity lanes ≤ vec_capacity result) }
+            requires { IsSync H.row × IsSync G.row × IsSend R.row
+                × (vec_len lanes < vec_capacity lanes) × (promise.lane.value ≡ lane)
+                × (promise.rows.value ≡ rows.now) × (promise.start ≡ start) }
+            ensures { Each (Carries R.accepted R.has_failed start rows.entry.now)
+                (lanes.items ++ lane ∷ []) result.items
+                × (vec_capacity lanes ≤ vec_capacity result) }
         {
             let child = scope.spawn_with(promise, move || -> Lane<R>
                 ensures { Carries R.accepted R.has_failed start rows.entry.now lane result }
