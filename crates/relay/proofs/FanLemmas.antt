@@ -7,7 +7,7 @@ use Rattle.std.proofs.lemmas.List.Elements.{recursion_from_All, All-from_recursi
 use Rattle.attributes.specs.Event.{EventValue}
 use Rattle.relay.specs.Relay.{Marked}
 use Rattle.relay.specs.Fan.{IsAtEnd, HasCause, Leaves, Delivers, AtEach}
-use Rattle.relay.specs.steps.Lane.{IsExplained, Moves, Sends, HasSent, Each, end_after, end_of}
+use Rattle.relay.specs.steps.Lane.{Moves, Sends, HasSent, Each, end_after, end_of}
 use Rattle.relay.specs.declared.fault.RelayFault.{RelayFault}
 use Rattle.relay.specs.declared.fault.RelayFault.TheVariants.{OutOfMemory, Store}
 use Rattle.relay.specs.declared.fan.lane.Lane.{Lane}
@@ -136,7 +136,7 @@ pub fan_leaves : {R : Type 0} (accepted : R → List EventValue) (has_failed : R
 fan_leaves {R} accepted has_failed end olds news relays after routes back ends why fresh moves p q s t u =
     at_lists (Leaves accepted has_failed) _ relays _ after _ routes _ back _ ends
     (each_at (λ x y. (x.fault ≡ None) × Moves accepted has_failed x y) (Leaves accepted has_failed) end (leaves accepted has_failed end why) olds news
-      (each_from (λ (x : Lane R). x.fault ≡ None) (Moves accepted has_failed) (λ x y. (x.fault ≡ None) × Moves accepted has_failed x y) (λ x y f m. (f, m)) olds news (recursion_from_All (λ (x : Lane R). x.fault ≡ None) olds fresh) moves)) p q s t u
+    (each_from (λ (x : Lane R). x.fault ≡ None) (Moves accepted has_failed) (λ x y. (x.fault ≡ None) × Moves accepted has_failed x y) (λ x y f m. (f, m)) olds news (recursion_from_All (λ (x : Lane R). x.fault ≡ None) olds fresh) moves)) p q s t u
 
 pub fan_delivers : {R : Type 0} (accepted : R → List EventValue) (base : ℕ) (rows : List EventValue) (end : End) (olds news : List (Lane R)) (relays after : List Marked) (routes back : List R) (ends : List End)
     → Each (Sends accepted base rows) olds news → (end ≡ Done → All (HasSent base rows) news)
@@ -145,4 +145,4 @@ pub fan_delivers : {R : Type 0} (accepted : R → List EventValue) (base : ℕ) 
 fan_delivers {R} accepted base rows end olds news relays after routes back ends sends done p q s t u =
     at_lists (Delivers accepted base rows) _ relays _ after _ routes _ back _ ends
     (each_at (λ x y. Sends accepted base rows x y × (end ≡ Done → HasSent base rows y)) (Delivers accepted base rows) end (delivers accepted base rows end) olds news
-      (each_to (end ≡ Done) (HasSent base rows) (Sends accepted base rows) (λ x y. Sends accepted base rows x y × (end ≡ Done → HasSent base rows y)) (λ x y m f. (m, f)) olds news sends (λ is. recursion_from_All (HasSent base rows) news (done is)))) p q s t u
+    (each_to (end ≡ Done) (HasSent base rows) (Sends accepted base rows) (λ x y. Sends accepted base rows x y × (end ≡ Done → HasSent base rows y)) (λ x y m f. (m, f)) olds news sends (λ is. recursion_from_All (HasSent base rows) news (done is)))) p q s t u

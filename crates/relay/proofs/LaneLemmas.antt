@@ -1,10 +1,10 @@
 -- Lanes on their way through rows.
-use Rattle.std.proofs.Common.{◌≡◌, ◌⊎◌, ◌+◌, ◌-◌, ◌<◌, ◌≤◌, inl, inr, ℕ, zero, suc, Bool, true, false, nat_lt, List, [], ◌∷◌, ◌++◌, length, slice_get, Some, None, Option, IsSome, refl, sym, ap, subst, ◌∙◌, arith}
+use Rattle.std.proofs.Common.{◌≡◌, ◌⊎◌, ◌+◌, ◌-◌, ◌<◌, inl, inr, ℕ, zero, suc, Bool, true, false, nat_lt, List, [], ◌∷◌, ◌++◌, length, slice_get, Some, Option, IsSome, refl, sym, ap, subst, ◌∙◌, arith}
 use Rattle.std.proofs.lemmas.Bool.Decides.{nat_tests}
 use Rattle.attributes.specs.Event.{EventValue}
 use Rattle.relay.specs.Route.{Has, AreIn, AreOf}
-use Rattle.relay.specs.Fan.{IsRow, AreSent, HasCause}
-use Rattle.relay.specs.steps.Lane.{IsExplained, Moves, Carries, Each}
+use Rattle.relay.specs.Fan.{AreSent, HasCause}
+use Rattle.relay.specs.steps.Lane.{Moves, Carries, Each}
 use Rattle.relay.specs.declared.fan.lane.Lane.{Lane}
 use Rattle.relay.specs.declared.fault.RelayFault.{RelayFault}
 use Rattle.relay.specs.declared.fault.RelayFault.TheVariants.{OutOfMemory, RouteFailed, Stranger, Store, NoThread, GateShut}

@@ -1,5 +1,5 @@
 -- Lanes that go on from window to window.
-use Rattle.std.proofs.Common.{◌≡◌, ◌⊎◌, ◌+◌, ◌-◌, ◌<◌, ◌≤◌, inl, inr, ℕ, zero, suc, max, Bool, true, false, nat_lt, List, [], ◌∷◌, ◌++◌, length, take, drop, slice_get, Some, None, Option, IsSome, IsTrue, All, MatchOption, refl, sym, ap, subst, ◌∙◌, arith}
+use Rattle.std.proofs.Common.{◌≡◌, ◌⊎◌, ◌<◌, ◌≤◌, inl, inr, ℕ, max, Bool, true, false, nat_lt, List, [], ◌∷◌, length, Some, None, Option, IsSome, IsTrue, All, refl, sym, ap, subst, ◌∙◌, arith}
 use Rattle.std.proofs.lemmas.Bool.Decides.{nat_tests}
 use Rattle.std.specs.List.{AllByRecursion}
 use Rattle.std.proofs.lemmas.List.Elements.{recursion_from_All}
@@ -7,15 +7,12 @@ use Rattle.sqlite.specs.State.{State, HasCleanDisk}
 use Rattle.attributes.specs.Event.{EventValue}
 use Rattle.outbox.specs.Order.{Accepted}
 use Rattle.outbox.specs.Row.{rows_of}
-use Rattle.outbox.specs.Schema.{schema_in}
 use Rattle.outbox.specs.Service.{IsService}
 use Rattle.outbox.specs.Call.{IsSame}
-use Rattle.relay.specs.Route.{Has, AreIn, AreOf}
-use Rattle.relay.specs.Fan.{IsRow, AreSent, IsAtEnd}
-use Rattle.relay.specs.steps.Lane.{IsExplained, Moves, Carries, Sends, Each, IsWindow, ShowsWindow, IsAhead, IsStopped, IsLeast, HasSent, Goes, Ends}
+use Rattle.relay.specs.Fan.{AreSent}
+use Rattle.relay.specs.steps.Lane.{Moves, Carries, Sends, Each, IsWindow, ShowsWindow, IsAhead, IsStopped, Goes, Ends}
 use Rattle.relay.specs.declared.fault.RelayFault.{RelayFault}
 use Rattle.relay.specs.declared.fan.lane.Lane.{Lane}
-use Rattle.relay.specs.declared.fan.End.{End}
 use Rattle.relay.specs.declared.fan.End.TheVariants.{Done, Failed}
 use Rattle.relay.proofs.LaneLemmas.{sent_none, sent_then, of_then, of_in, moves_none, moves_then}
 use Rattle.relay.proofs.WindowLemmas.{in_window, of_window, no_window}
@@ -116,7 +113,7 @@ goes_on {R} accepted has_failed source base a b c olds mids news start least row
       let all = rows_of source base commands in
       let w : IsWindow base all start rows = shows clean commands (service_then a b source base commands h.same was (opened clean) is) in
       let next : Each (λ x y. Moves accepted has_failed x y × Sends accepted base all x y) mids news =
-        each_from (IsAhead least) (Carries accepted has_failed start rows) (λ x y. Moves accepted has_failed x y × Sends accepted base all x y) (λ x y f q. (q.moves, sends_on accepted has_failed base all start least rows w low top x y f q)) mids news (recursion_from_All (IsAhead least) mids ahead) carries in
+      each_from (IsAhead least) (Carries accepted has_failed start rows) (λ x y. Moves accepted has_failed x y × Sends accepted base all x y) (λ x y f q. (q.moves, sends_on accepted has_failed base all start least rows w low top x y f q)) mids news (recursion_from_All (IsAhead least) mids ahead) carries in
       each_then (Sends accepted base all) (λ x y. Moves accepted has_failed x y × Sends accepted base all x y) (Sends accepted base all) (sends_then accepted has_failed base all) olds mids news (h.sends was commands is) next;
 }
 

@@ -7,7 +7,7 @@ use Rattle.outbox.specs.Call.{IsSame}
 use Rattle.outbox.specs.Order.{Accepted}
 use Rattle.outbox.specs.Row.{rows_of}
 use Rattle.outbox.specs.Service.{IsService}
-use Rattle.relay.specs.Route.{Has, AreIn, AreOf}
+use Rattle.relay.specs.Route.{AreIn, AreOf}
 use Rattle.relay.specs.Fan.{AreSent, HasCause, IsAtEnd}
 use Rattle.relay.specs.declared.fault.RelayFault.{RelayFault}
 use Rattle.relay.specs.declared.fan.End.{End}

@@ -15,8 +15,8 @@ use std::alloc::Global;
 use std::snapshot::Snapshot;
 use std::sync::Wait;
 use std::sync::atomic::{AtomicBool, Ordering};
-use std::thread::{Promise, Threads};
 use std::thread;
+use std::thread::{Promise, Threads};
 
 /// What a worker promises: it carries this lane over these rows.
 #[derive(Drop)]
@@ -111,15 +111,18 @@ pub(crate) fn run_lanes<H: Threads + Wait + Sync, R: Route + Drop + Send, G: Gat
                 (lanes.items ++ lane ∷ []) result.items
                 × (vec_capacity lanes ≤ vec_capacity result) }
         {
-            let child = scope.spawn_with(promise, move || -> Lane<R>
-                ensures { Carries R.accepted R.has_failed start rows.entry.now lane result }
-            {
-                if refused.load(Ordering::SeqCst) {
-                    unstarted(lane)
-                } else {
-                    carry_lane(alloc, rows, start, gate, worker, lane)
-                }
-            });
+            let child = scope.spawn_with(
+                promise,
+                move || -> Lane<R>
+                    ensures { Carries R.accepted R.has_failed start rows.entry.now lane result }
+                {
+                    if refused.load(Ordering::SeqCst) {
+                        unstarted(lane)
+                    } else {
+                        carry_lane(alloc, rows, start, gate, worker, lane)
+                    }
+                },
+            );
             match child {
                 Ok(child) => {
                     let mut all = run_lanes(rt, alloc, rows, start, gate, lanes);

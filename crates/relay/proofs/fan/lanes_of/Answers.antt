@@ -1,4 +1,4 @@
-use Rattle.std.proofs.Common.{◌≡◌, ◌<◌, length, get_or, sym, subst, ap, arith, ◌∙◌, refl}
+use Rattle.std.proofs.Common.{◌≡◌, ◌<◌, length, arith, refl}
 use Rattle.relay.proofs.FanLemmas.{filled_none, filled_more, filled_low, filled_relays, filled_routes}
 use Rattle.relay.proofs.fan.lanes_of.Goals as goal
 

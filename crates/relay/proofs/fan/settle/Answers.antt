@@ -1,4 +1,4 @@
-use Rattle.std.proofs.Common.{◌≡◌, ◌≤◌, ◌+◌, ◌++◌, ◌∷◌, [], length, map, sym, subst, ap, arith, ◌∙◌, refl, vec_capacity}
+use Rattle.std.proofs.Common.{◌≡◌, ◌++◌, ◌∷◌, [], length, map, ap, arith, ◌∙◌, vec_capacity}
 use Rattle.relay.specs.steps.Lane.{end_of}
 use Rattle.relay.specs.declared.fan.lane.Lane.{Lane}
 use Rattle.relay.proofs.FanLemmas.{put_more, put_room, put_low, put_all}
@@ -10,8 +10,7 @@ loop-lane-init g c =
     let many : length c.into_iter-lane-iterator.result.rest.items ≡ length c.args.lanes.items = ap length all in
     let none-0 : length c.args.relays.now.items ≡ 0 = ap length c.requires.empty.0 in
     let none-1 : length c.args.routes.items ≡ 0 = ap length c.requires.empty.1 in
-    let none-2 : length c.args.ends.items ≡ 0 = ap length c.requires.empty.2 in
-    (
+    let none-2 : length c.args.ends.items ≡ 0 = ap length c.requires.empty.2 in (
       ap (λ l. l ++ map (λ (x : Lane g.row.R.Denot). x.relay) c.into_iter-lane-iterator.result.rest.items) c.requires.empty.0 ∙ ap (map (λ (x : Lane g.row.R.Denot). x.relay)) all,
       ap (λ l. l ++ map (λ (x : Lane g.row.R.Denot). x.route) c.into_iter-lane-iterator.result.rest.items) c.requires.empty.1 ∙ ap (map (λ (x : Lane g.row.R.Denot). x.route)) all,
       ap (λ l. l ++ map (end_of c.args.end) c.into_iter-lane-iterator.result.rest.items) c.requires.empty.2 ∙ ap (map (end_of c.args.end)) all,
@@ -34,8 +33,7 @@ loop-lane-preserved g c =
     let first = c.in-Some.ensures.steps.0 in
     let rest = c.loop-lane.lane-iterator.rest.items in
     let left = c.next.new.self.rest.items in
-    let ended : c.put.new.list.items ≡ c.loop-lane.ends.items ++ end_of c.args.end c.in-Some.lane ∷ [] = c.put.ensures.items ∙ ap (λ e. c.loop-lane.ends.items ++ e ∷ []) c.end_at.ensures in
-    (
+    let ended : c.put.new.list.items ≡ c.loop-lane.ends.items ++ end_of c.args.end c.in-Some.lane ∷ [] = c.put.ensures.items ∙ ap (λ e. c.loop-lane.ends.items ++ e ∷ []) c.end_at.ensures in (
       put_more (λ (x : Lane g.row.R.Denot). x.relay) c.loop-lane.relays.items c.put-in-loop-lane.new.list.items c.in-Some.lane rest left _ c.loop-lane.invariant.0 first c.put-in-loop-lane.ensures.items,
       put_more (λ (x : Lane g.row.R.Denot). x.route) c.loop-lane.routes.items c.put-in-loop-lane-2.new.list.items c.in-Some.lane rest left _ c.loop-lane.invariant.1 first c.put-in-loop-lane-2.ensures.items,
       put_more (end_of c.args.end) c.loop-lane.ends.items c.put.new.list.items c.in-Some.lane rest left _ c.loop-lane.invariant.2 first ended,

@@ -1,7 +1,7 @@
-use Rattle.std.proofs.Common.{rules, ◌≡◌, ◌⊎◌, ◌≤◌, ◌∙◌, All, IsTrue, length, refl, sym, subst, arith}
+use Rattle.std.proofs.Common.{rules, ◌≡◌, ◌⊎◌, ◌≤◌, ◌∙◌, length, refl, subst, arith}
 use Rattle.sqlite.specs.State.{HasCleanDisk}
 use Rattle.sqlite.specs.Held.{state}
-use Rattle.relay.specs.steps.Lane.{ShowsWindow, IsAhead, Goes}
+use Rattle.relay.specs.steps.Lane.{ShowsWindow}
 use Rattle.relay.proofs.RoundLemmas.{goes_none, goes_on, ends_empty, ends_stopped, ends_unread, max_top}
 use Rattle.relay.proofs.fan.round.run_rounds.Goals as goal
 
@@ -37,7 +37,7 @@ returns-then-is_empty-clause-ends g c =
     let before = state g.S.Store c.loop.service.conn in
     let after = state g.S.Store c.read_window.new.service.conn in
     let shows : HasCleanDisk after → ShowsWindow c.args.service.now.source c.args.service.now.base start before.now c.in-Ok.rows =
-      λ clean. subst (λ s. ShowsWindow s c.args.service.now.base start before.now c.in-Ok.rows) was.0 (subst (λ b. ShowsWindow c.loop.service.source b start before.now c.in-Ok.rows) was.1 (c.in-Ok.ensures.rows clean)) in
+    λ clean. subst (λ s. ShowsWindow s c.args.service.now.base start before.now c.in-Ok.rows) was.0 (subst (λ b. ShowsWindow c.loop.service.source b start before.now c.in-Ok.rows) was.1 (c.in-Ok.ensures.rows clean)) in
     let low : c.args.service.now.base ≤ start = omega (arith, c.max-start.ensures, c.loop.invariant.1) in
     let top : (start ≤ c.in-Some-least_mark.least) ⊎ (start ≤ c.args.service.now.base) = subst (λ b. (start ≤ c.in-Some-least_mark.least) ⊎ (start ≤ b)) c.loop.invariant.1 (max_top c.in-Some-least_mark.least c.base-base.result start c.max-start.ensures) in
     let none : length c.in-Ok.rows ≡ 0 = search rules in
@@ -50,7 +50,7 @@ loop-preserved g c =
     let before = state g.S.Store c.loop.service.conn in
     let after = state g.S.Store c.read_window.new.service.conn in
     let shows : HasCleanDisk after → ShowsWindow c.args.service.now.source c.args.service.now.base start before.now c.in-Ok.rows =
-      λ clean. subst (λ s. ShowsWindow s c.args.service.now.base start before.now c.in-Ok.rows) was.0 (subst (λ b. ShowsWindow c.loop.service.source b start before.now c.in-Ok.rows) was.1 (c.in-Ok.ensures.rows clean)) in
+    λ clean. subst (λ s. ShowsWindow s c.args.service.now.base start before.now c.in-Ok.rows) was.0 (subst (λ b. ShowsWindow c.loop.service.source b start before.now c.in-Ok.rows) was.1 (c.in-Ok.ensures.rows clean)) in
     let low : c.args.service.now.base ≤ start = omega (arith, c.max-start.ensures, c.loop.invariant.1) in
     let top : (start ≤ c.in-Some-least_mark.least) ⊎ (start ≤ c.args.service.now.base) = subst (λ b. (start ≤ c.in-Some-least_mark.least) ⊎ (start ≤ b)) c.loop.invariant.1 (max_top c.in-Some-least_mark.least c.base-base.result start c.max-start.ensures) in
     let goes = goes_on g.R.Route.accepted g.R.Route.has_failed c.args.service.now.source c.args.service.now.base (state g.S.Store c.args.service.now.conn) before after c.args.lanes.items c.loop.lanes.items c.run_lanes-lanes.result.items start c.in-Some-least_mark.least c.in-Ok.rows c.loop.invariant.2 c.read_window.ensures.service c.in-Ok.ensures.open shows low top c.in-Some-least_mark.ensures c.run_lanes-lanes.ensures.carried in

@@ -1,4 +1,4 @@
-use Rattle.std.proofs.Common.{◌≡◌, ◌∙◌, arith}
+use Rattle.std.proofs.Common.{◌∙◌, arith}
 use Rattle.sqlite.specs.Held.{state}
 use Rattle.outbox.specs.Row.{rows_of}
 use Rattle.relay.proofs.RoundLemmas.{same_then, reads_on}
