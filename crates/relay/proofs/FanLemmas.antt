@@ -122,6 +122,7 @@ delivers : {R : Type 0} (accepted : R → List EventValue) (base : ℕ) (rows : 
 delivers accepted base rows end o n h = record {
   sent = h.0.sent;
   new_rows = h.0.new_rows;
+  reached = h.0.reached;
   done = λ is. go n.fault refl is;
 }
   where

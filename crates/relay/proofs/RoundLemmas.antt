@@ -1,5 +1,5 @@
 -- Lanes that go on from window to window.
-use Rattle.std.proofs.Common.{◌≡◌, ◌⊎◌, ◌<◌, ◌≤◌, inl, inr, ℕ, max, Bool, true, false, nat_lt, List, [], ◌∷◌, length, Some, None, Option, IsSome, IsTrue, All, refl, sym, ap, subst, ◌∙◌, arith}
+use Rattle.std.proofs.Common.{◌≡◌, ◌⊎◌, ◌<◌, ◌≤◌, inl, inr, ℕ, max, Bool, true, false, nat_lt, List, [], ◌∷◌, length, Some, None, Option, IsSome, IsTrue, All, refl, sym, ap, subst, ◌∙◌, arith, ◌+◌}
 use Rattle.std.proofs.lemmas.Bool.Decides.{nat_tests}
 use Rattle.std.specs.List.{AllByRecursion}
 use Rattle.std.proofs.lemmas.List.Elements.{recursion_from_All}
@@ -15,7 +15,7 @@ use Rattle.relay.specs.declared.fault.RelayFault.{RelayFault}
 use Rattle.relay.specs.declared.fan.lane.Lane.{Lane}
 use Rattle.relay.specs.declared.fan.End.TheVariants.{Done, Failed}
 use Rattle.relay.proofs.LaneLemmas.{sent_none, sent_then, of_then, of_in, moves_none, moves_then}
-use Rattle.relay.proofs.WindowLemmas.{in_window, of_window, no_window}
+use Rattle.relay.proofs.WindowLemmas.{in_window, of_window, no_window, window_end}
 
 each_same : {A : Type 0} (Holds : A → A → Type 0) → ((x : A) → Holds x x) → (xs : List A) → Each Holds xs xs
 each_same Holds one [] = tt
@@ -68,7 +68,7 @@ pub goes_none : {R : Type 0} (accepted : R → List EventValue) (has_failed : R 
 goes_none accepted has_failed source base a lanes = record {
   same = same_none a;
   moves = each_same (Moves accepted has_failed) (moves_none accepted has_failed) lanes;
-  sends = λ clean commands is. each_same (Sends accepted base (rows_of source base commands)) (λ l. record { sent = sent_none base (rows_of source base commands) l.relay.mark (accepted l.route); new_rows = λ e x. inl x }) lanes;
+  sends = λ clean commands is. each_same (Sends accepted base (rows_of source base commands)) (λ l. record { sent = sent_none base (rows_of source base commands) l.relay.mark (accepted l.route); new_rows = λ e x. inl x; reached = inl refl }) lanes;
 }
 
 -- a reading after which the lanes are as they were
@@ -85,8 +85,13 @@ sends_on : {R : Type 0} (accepted : R → List EventValue) (has_failed : R → R
 sends_on {R} accepted has_failed base all start least rows w low top x y ahead c = record {
   sent = go x.fault refl;
   new_rows = of_in (accepted x.route) (accepted y.route) rows all c.new_rows (of_window base all start rows w);
+  reached = reach x.fault refl;
 }
   where
+    reach : (o : Option RelayFault) → x.fault ≡ o → (y.relay.mark ≡ x.relay.mark) ⊎ (y.relay.mark ≤ base + length all)
+    reach None is = elim c.within [ inl same ↦ inl same | inr fits ↦ window_end base all start least rows x.relay.mark y.relay.mark w low top (ahead is) c.moves.forward fits ]
+    reach (Some f) is = inl (ap (λ (l : Lane R). l.relay.mark) (c.moves.idle (subst (λ o. IsSome o) (sym is) refl)))
+
     go : (o : Option RelayFault) → x.fault ≡ o → AreSent base all x.relay.mark y.relay.mark (accepted y.route)
     go None is = λ number e above below it.
         let over : start < number = elim top [ inl near ↦ omega (arith, near, ahead is, above) | inr near ↦ omega (arith, near, it.0) ] in
@@ -99,6 +104,7 @@ sends_then : {R : Type 0} (accepted : R → List EventValue) (has_failed : R →
 sends_then accepted has_failed base all x y z h k = record {
   sent = sent_then base all x.relay.mark y.relay.mark z.relay.mark (accepted y.route) (accepted z.route) h.sent k.0.kept k.1.sent;
   new_rows = of_then (accepted x.route) (accepted y.route) (accepted z.route) all h.new_rows k.1.new_rows;
+  reached = elim k.1.reached [ inl same ↦ elim h.reached [ inl still ↦ inl (same ∙ still) | inr low ↦ inr (omega (arith, same, low)) ] | inr low ↦ inr low ];
 }
 
 -- one window more

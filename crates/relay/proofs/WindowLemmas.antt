@@ -1,7 +1,7 @@
 -- Windows of a service's rows.
-use Rattle.std.proofs.Common.{◌≡◌, ◌+◌, ◌-◌, ◌<◌, ◌≤◌, inr, ℕ, zero, suc, List, [], ◌∷◌, ◌++◌, length, take, drop, slice_get, append_assoc, refl, sym, ap, subst, ◌∙◌, arith}
+use Rattle.std.proofs.Common.{◌≡◌, ◌+◌, ◌-◌, ◌<◌, ◌≤◌, inr, ℕ, zero, suc, List, [], ◌∷◌, ◌++◌, length, take, drop, slice_get, append_assoc, refl, sym, ap, subst, ◌∙◌, arith, ◌⊎◌, inl}
 use Rattle.std.proofs.lemmas.Option.{slice_get_within}
-use Rattle.std.proofs.lemmas.List.{take-append-drop}
+use Rattle.std.proofs.lemmas.List.{take-append-drop, length-append}
 use Rattle.attributes.specs.Event.{EventValue}
 use Rattle.relay.specs.Route.{Has, AreIn}
 use Rattle.relay.specs.Fan.{IsRow, IsAtEnd}
@@ -88,3 +88,18 @@ next_page base all start limit after rows page more low at is made w =
     none_left : (a b : List EventValue) → a ++ b ≡ [] → a ≡ []
     none_left [] b h = refl
     none_left (x ∷ a) b h = absurd (cc)
+
+length_left : (n : ℕ) (l : List EventValue) → (length (drop n l) + n ≡ length l) ⊎ ((length (drop n l) ≡ 0) × (length l ≤ n))
+length_left zero l = inl (omega arith)
+length_left (suc n) [] = inr (refl, omega arith)
+length_left (suc n) (x ∷ l) = elim (length_left n l) [ inl is ↦ inl (omega (arith, is)) | inr is ↦ inr (is.0, omega (arith, is.1)) ]
+
+-- a mark that rose within a window isn't past the last row
+pub window_end : (base : ℕ) (all : List EventValue) (start least : ℕ) (rows : List EventValue) (old new : ℕ) → IsWindow base all start rows → base ≤ start → (start ≤ least) ⊎ (start ≤ base) → least ≤ old → old ≤ new → new ≤ start + length rows
+    → (new ≡ old) ⊎ (new ≤ base + length all)
+window_end base all start least rows old new w low top ahead forward fits =
+    let whole : length (drop (start - base) all) ≡ length rows + length w.rest = ap length w.whole ∙ length-append rows w.rest in
+    elim (length_left (start - base) all) [
+      | inl is ↦ inr (omega (arith, is, whole, low, fits))
+      | inr is ↦ elim top [ inl near ↦ inl (omega (arith, is.0, whole, near, ahead, forward, fits)) | inr near ↦ inr (omega (arith, is.0, whole, near, fits)) ]
+    ]

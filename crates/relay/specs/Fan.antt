@@ -1,5 +1,5 @@
 -- What a fan-out does for each relay and its route.
-use Rattle.std.specs.Prelude.{◌≡◌, ◌<◌, ◌≤◌, ◌-◌, ⊤, ℕ, suc, List, slice_get, Some}
+use Rattle.std.specs.Prelude.{◌≡◌, ◌⊎◌, ◌<◌, ◌≤◌, ◌+◌, ◌-◌, ⊤, ℕ, suc, List, length, slice_get, Some}
 use Rattle.attributes.specs.Event.{EventValue}
 use Rattle.relay.specs.Relay.{Marked}
 use Rattle.relay.specs.Route.{Has, AreIn, AreOf}
@@ -40,11 +40,13 @@ pub record Leaves {R : Type 0} (accepted : R → List EventValue) (has_failed : 
   pub cause : (f : RelayFault) → end ≡ Failed f → HasCause has_failed back f
 
 -- a relay and its route, before and after, over the rows of a service: the rows between the marks
--- are accepted, what is new is of the rows, and the end is done only where no row is left
+-- are accepted, what is new is of the rows, a mark doesn't rise past the last row, and the end is
+-- done only where no row is left
 pub record Delivers {R : Type 0} (accepted : R → List EventValue) (base : ℕ)
     (rows : List EventValue) (old new : Marked) (route back : R) (end : End) : Type 0 where
   pub sent : AreSent base rows old.mark new.mark (accepted back)
   pub new_rows : AreOf (accepted back) (accepted route) rows
+  pub reached : (new.mark ≡ old.mark) ⊎ (new.mark ≤ base + length rows)
   pub done : end ≡ Done → IsAtEnd base rows new.mark
 
 -- this holds at each place: of a relay before and after, its route before and after, and its end

@@ -115,7 +115,9 @@ fn ends_as<H: Threads + Wait + Sync, G: Gate + Sync>(
         return Ok(false);
     }
     let out = fan_out(rt, alloc, service, &mut relays, routes, gate);
-    if out.ends.len() != want.len() || relays.len() != want.len() || out.routes.len() != want.len()
+    if out.ends.len() != want.len()
+        || relays.len() != want.len()
+        || out.routes.len() != want.len()
     {
         return Ok(false);
     }
@@ -132,7 +134,16 @@ fn ends_as<H: Threads + Wait + Sync, G: Gate + Sync>(
 fn every_row_goes_to_both_routes(rt: HostRuntime) -> Result<(), OutboxFault> {
     let mut service = placed(rt.alloc(), 2)?;
     let want = [(End::Done, 2, 2), (End::Done, 2, 2)];
-    assert!(rt; ends_as(&rt, rt.alloc(), &mut service, &Wide, &[(0, 0), (0, 0)], &want)?);
+    assert!(rt;
+        ends_as(
+            &rt,
+            rt.alloc(),
+            &mut service,
+            &Wide,
+            &[(0, 0), (0, 0)],
+            &want
+        )?
+    );
     Ok(())
 }
 
@@ -143,7 +154,16 @@ fn two_routes_are_sent_to_at_the_same_time(rt: HostRuntime) -> Result<(), Outbox
         entered: AtomicU64::new(0),
     };
     let want = [(End::Done, 150, 150), (End::Done, 150, 150)];
-    assert!(rt; ends_as(&rt, rt.alloc(), &mut service, &gate, &[(0, 0), (0, 0)], &want)?);
+    assert!(rt;
+        ends_as(
+            &rt,
+            rt.alloc(),
+            &mut service,
+            &gate,
+            &[(0, 0), (0, 0)],
+            &want
+        )?
+    );
     Ok(())
 }
 
@@ -156,13 +176,31 @@ fn the_others_go_on_where_one_stops(rt: HostRuntime) -> Result<(), OutboxFault> 
         (End::Done, 250, 220),
         (End::Done, 300, 0),
     ];
-    assert!(rt; ends_as(&rt, rt.alloc(), &mut service, &Wide, &[(0, 2), (30, 0), (300, 0)], &want)?);
+    assert!(rt;
+        ends_as(
+            &rt,
+            rt.alloc(),
+            &mut service,
+            &Wide,
+            &[(0, 2), (30, 0), (300, 0)],
+            &want
+        )?
+    );
     let gate = ShutsAtSecond {
         made: AtomicU64::new(0),
     };
     let shut = End::Failed(RelayFault::GateShut);
     let want = [(End::Done, 250, 250), (shut, 100, 100)];
-    assert!(rt; ends_as(&rt, rt.alloc(), &mut service, &gate, &[(0, 0), (0, 0)], &want)?);
+    assert!(rt;
+        ends_as(
+            &rt,
+            rt.alloc(),
+            &mut service,
+            &gate,
+            &[(0, 0), (0, 0)],
+            &want
+        )?
+    );
     assert_eq!(rt; gate.made.load(Ordering::SeqCst), 4);
     Ok(())
 }

@@ -40,6 +40,7 @@ pub record Sends {R : Type 0} (accepted : R → List EventValue) (base : ℕ)
     (rows : List EventValue) (old new : Lane R) : Type 0 where
   pub sent : AreSent base rows old.relay.mark new.relay.mark (accepted new.route)
   pub new_rows : AreOf (accepted new.route) (accepted old.route) rows
+  pub reached : (new.relay.mark ≡ old.relay.mark) ⊎ (new.relay.mark ≤ base + length rows)
 
 -- how many steps a lane takes at most over so many numbers: one more to stop, none once stopped
 abbrev pub steps_left : Option RelayFault → ℕ → ℕ
