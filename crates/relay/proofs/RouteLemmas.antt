@@ -5,16 +5,16 @@ use Rattle.std.proofs.lemmas.Option.{get_or_from_slice_get, slice_get_within}
 use Rattle.attributes.specs.Event.{EventValue}
 use Rattle.relay.specs.Route.{Has, AreIn, AreOf}
 
-has_left : (a b : List EventValue) (e : EventValue) → Has a e → Has (a ++ b) e
+pub has_left : (a b : List EventValue) (e : EventValue) → Has a e → Has (a ++ b) e
 has_left [] b e h = absurd h
 has_left (x ∷ a) b e (inl is) = inl is
 has_left (x ∷ a) b e (inr h) = inr (has_left a b e h)
 
-has_right : (a b : List EventValue) (e : EventValue) → Has b e → Has (a ++ b) e
+pub has_right : (a b : List EventValue) (e : EventValue) → Has b e → Has (a ++ b) e
 has_right [] b e h = h
 has_right (x ∷ a) b e h = inr (has_right a b e h)
 
-has_either : (a b : List EventValue) (e : EventValue) → Has (a ++ b) e → Has a e ⊎ Has b e
+pub has_either : (a b : List EventValue) (e : EventValue) → Has (a ++ b) e → Has a e ⊎ Has b e
 has_either [] b e h = inr h
 has_either (x ∷ a) b e (inl is) = inl (inl is)
 has_either (x ∷ a) b e (inr h) = elim (has_either a b e h) [ inl k ↦ inl (inr k) | inr k ↦ inr k ]

@@ -16,7 +16,7 @@ use sqlite::Alter;
 use std::marker::Model;
 
 /// The most rows that are sent at once.
-const MAX_PAGE: u64 = 100;
+pub(crate) const MAX_PAGE: u64 = 100;
 
 /// Sends the rows of a service to a route. The mark is the number of the last row that the route
 /// has accepted; the rows after it are still to be sent.

@@ -4,6 +4,8 @@
 #![tactic(auto)]
 
 #[cfg(test)]
+mod fans;
+#[cfg(test)]
 mod orders;
 #[cfg(test)]
 mod tables;

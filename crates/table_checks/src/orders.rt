@@ -48,7 +48,7 @@ const CHANGES: [&str; 13] = [
 ];
 
 /// The time of all commands.
-fn time(alloc: Global) -> Result<Moment, OutboxFault> {
+pub(crate) fn time(alloc: Global) -> Result<Moment, OutboxFault> {
     match Moment::of_text(alloc, TIME) {
         Ok(moment) => Ok(moment),
         Err(_) => Err(OutboxFault::OutOfMemory),
@@ -72,7 +72,7 @@ fn create_in(
 }
 
 /// A new service in memory.
-fn create(alloc: Global, base: u64) -> Result<Service<MemStore>, OutboxFault> {
+pub(crate) fn create(alloc: Global, base: u64) -> Result<Service<MemStore>, OutboxFault> {
     create_in(alloc, Connection::open_in_memory(alloc)?, base)
 }
 
@@ -85,7 +85,7 @@ fn adopt(alloc: Global, conn: Connection<MemStore>) -> Result<Service<MemStore>,
 }
 
 /// A command, by its word.
-fn command(
+pub(crate) fn command(
     service: &mut Service<MemStore>,
     word: &str,
     order: u64,

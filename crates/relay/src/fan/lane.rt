@@ -1,0 +1,159 @@
+//! A relay and its route, on their way through a window of rows.
+
+ghost use Rattle.std.specs.Prelude.{◌≡◌, ◌⊎◌, ◌<◌, ◌≤◌, ◌-◌, ◌+◌, length, None, OnOk, IfOk, IfErr};
+ghost use Rattle.relay.specs.Route.{AreIn, AreOf};
+ghost use Rattle.relay.specs.Fan.{AreSent, HasCause};
+ghost use Rattle.relay.specs.steps.Lane.{Carries, left};
+ghost use Rattle.relay.specs.declared.fault.RelayFault.TheVariants.{OutOfMemory, Store};
+
+use crate::fault::RelayFault;
+use crate::relay::{MAX_PAGE, Relay};
+use crate::route::Route;
+use attributes::Batch;
+use site::Gate;
+use std::alloc::{AllocError, Global};
+
+/// A relay, its route, and how far they are.
+#[derive(Drop)]
+pub(crate) struct Lane<R> {
+    pub(crate) relay: Relay,
+    pub(crate) route: R,
+    /// How many pages were sent, or tried.
+    pub(crate) calls: u64,
+    /// Why it goes no further.
+    pub(crate) fault: Option<RelayFault>,
+}
+
+/// A page of rows and the number of its last one.
+#[derive(Drop)]
+struct Page {
+    rows: Batch,
+    last: u64,
+}
+
+/// Copies of the rows at these places.
+fn copied(alloc: Global, rows: &Batch, from: u64, to: u64) -> Result<Batch, AllocError>
+    requires low { from ≤ to }
+    requires high { to ≤ length rows.now }
+    ensures there { IfOk result (λ page. AreSent 0 rows.now from to page) }
+    ensures rows { IfOk result (λ page. AreIn page rows.now) }
+{
+    let mut page = Batch::empty(alloc);
+    for i in from..to {
+        match page.push(rows.at(i).copy()?) {
+            Ok(()) => {}
+            Err(_) => return Err(AllocError),
+        }
+    }
+    Ok(page)
+}
+
+/// The next page after the mark, of rows that have the numbers after `start`.
+fn next_page(alloc: Global, rows: &Batch, start: u64, mark: u64) -> Result<Page, RelayFault>
+    requires { mark - start < length rows.now }
+    ensures last { IfOk result (λ p. (mark < p.last) × (p.last ≤ start + length rows.now)) }
+    ensures there { IfOk result (λ p. AreSent start rows.now mark p.last p.rows) }
+    ensures rows { IfOk result (λ p. AreIn p.rows rows.now) }
+    ensures fault { IfErr result (λ f. (f ≡ OutOfMemory) ⊎ (f ≡ Store)) }
+{
+    let from = mark.saturating_sub(start);
+    let to = rows.len().min(from.saturating_add(MAX_PAGE));
+    let Some(last) = start.checked_add(to) else {
+        return Err(RelayFault::Store);
+    };
+    match copied(alloc, rows, from, to) {
+        Ok(rows) => Ok(Page { rows, last }),
+        Err(_) => Err(RelayFault::OutOfMemory),
+    }
+}
+
+/// Sends a page, where the gate lets it through.
+fn send_page<R: Route, G: Gate>(
+    gate: &G,
+    worker: u64,
+    call: u64,
+    page: &Batch,
+    route: &mut R,
+) -> Result<(), RelayFault>
+    ensures sent { OnOk result (AreIn page.now (R.accepted route.new)) }
+    ensures kept { AreIn (R.accepted route.old) (R.accepted route.new) }
+    ensures new { AreOf (R.accepted route.new) (R.accepted route.old) page.now }
+    ensures fault { IfErr result (HasCause R.has_failed route.new) }
+{
+    match gate.before(worker, call) {
+        Ok(()) => {}
+        Err(_) => return Err(RelayFault::GateShut),
+    }
+    let sent = route.send(page);
+    gate.after(worker, call);
+    match sent {
+        Ok(()) => Ok(()),
+        Err(_) => Err(RelayFault::RouteFailed),
+    }
+}
+
+/// Sends the next page of a lane that goes on, and raises its mark to the last row.
+fn send_next<R: Route, G: Gate>(
+    alloc: Global,
+    rows: &Batch,
+    start: u64,
+    gate: &G,
+    worker: u64,
+    lane: Lane<R>,
+) -> Lane<R>
+    requires going { lane.fault ≡ None }
+    requires more { lane.relay.mark - start < length rows.now }
+    ensures carried { Carries R.accepted R.has_failed start rows.now lane result }
+    ensures less { left start rows.now result < left start rows.now lane }
+{
+    let Lane {
+        relay,
+        mut route,
+        calls,
+        fault: _,
+    } = lane;
+    let page = match next_page(alloc, rows, start, relay.mark()) {
+        Ok(page) => page,
+        Err(fault) => {
+            return Lane {
+                relay,
+                route,
+                calls,
+                fault: Some(fault),
+            };
+        }
+    };
+    let calls = calls.saturating_add(1);
+    match send_page(gate, worker, calls, &page.rows, &mut route) {
+        Ok(()) => Lane {
+            relay: Relay::at(relay.site(), page.last),
+            route,
+            calls,
+            fault: None,
+        },
+        Err(fault) => Lane {
+            relay,
+            route,
+            calls,
+            fault: Some(fault),
+        },
+    }
+}
+
+/// Sends page after page, until all rows are sent or the lane stops.
+pub(crate) fn carry_lane<R: Route, G: Gate>(
+    alloc: Global,
+    rows: &Batch,
+    start: u64,
+    gate: &G,
+    worker: u64,
+    lane: Lane<R>,
+) -> Lane<R>
+    ensures { Carries R.accepted R.has_failed start rows.now lane result }
+{
+    let mut lane = lane;
+    'pages: while lane.fault.is_none() && lane.relay.mark().saturating_sub(start) < rows.len() {
+        lane = send_next(alloc, rows, start, gate, worker, lane);
+    }
+    lane
+}

@@ -1,0 +1,206 @@
+//! What no contract says of a fan-out: that every row gets to every route, that routes are sent to
+//! at the same time, that the others go on where one fails, and that the gate is asked.
+
+ghost use Rattle.std.specs.Prelude.{◌≡◌, ◌⊎◌};
+
+use crate::orders::{command, create, time};
+use attributes::Batch;
+use outbox::{OutboxFault, Service};
+use relay::{End, MemoryRoute, Relay, RelayFault, Route, RouteFailed, fan_out};
+use site::{Gate, GateShut, Wide};
+use sqlite::MemStore;
+use std::alloc::Global;
+use std::sync::Wait;
+use std::sync::atomic::{AtomicU64, Ordering};
+use std::thread;
+use std::thread::Threads;
+
+/// A route that fails once, at the send with this number from 1 on, or never if it is 0.
+#[derive(Drop)]
+struct FailsAt {
+    route: MemoryRoute,
+    send: u64,
+}
+
+impl Route for FailsAt {
+    ghost use Rattle.std.specs.Prelude.{◌≡◌, ◌⊎◌};
+    ghost use Rattle.relay.specs.Route.{CountRises};
+
+    ghost accepted = { λ r. r.route.events };
+
+    ghost has_failed = { λ old new. ((old.send ≡ 1) × (new.send ≡ 0))
+        ⊎ CountRises old.route.failures new.route.failures };
+
+    fn send(&mut self, batch: &Batch) -> Result<(), RouteFailed> {
+        if self.send == 1 {
+            self.send = 0;
+            return Err(RouteFailed);
+        }
+        self.send = self.send.saturating_sub(1);
+        self.route.send(batch)
+    }
+}
+
+/// Workers 0 and 1 wait for one another before their first calls.
+#[derive(Drop)]
+struct Together {
+    entered: AtomicU64,
+}
+
+impl Gate for Together {
+    fn before(&self, worker: u64, call: u64) -> Result<(), GateShut> {
+        if worker > 1 || call != 1 {
+            return Ok(());
+        }
+        self.entered.fetch_add(1, Ordering::SeqCst);
+        for _ in 0..100_000_000u64 {
+            if self.entered.load(Ordering::SeqCst) >= 2 {
+                return Ok(());
+            }
+            thread::yield_now();
+        }
+        Err(GateShut)
+    }
+
+    fn after(&self, _worker: u64, _call: u64) {}
+}
+
+/// Shuts before the second call of worker 1, and counts the calls that were made.
+#[derive(Drop)]
+struct ShutsAtSecond {
+    made: AtomicU64,
+}
+
+impl Gate for ShutsAtSecond {
+    fn before(&self, worker: u64, call: u64) -> Result<(), GateShut> {
+        if worker == 1 && call == 2 {
+            return Err(GateShut);
+        }
+        Ok(())
+    }
+
+    fn after(&self, _worker: u64, _call: u64) {
+        self.made.fetch_add(1, Ordering::SeqCst);
+    }
+}
+
+/// A service with so many placed orders.
+fn placed(alloc: Global, count: u64) -> Result<Service<MemStore>, OutboxFault> {
+    let mut service = create(alloc, 0)?;
+    let at = time(alloc)?;
+    for order in 1..=count {
+        command(&mut service, "place", order, &at)?;
+    }
+    Ok(service)
+}
+
+/// Whether relays with these marks, to routes that fail at these sends, end so, with these marks and
+/// so many accepted rows.
+fn ends_as<H: Threads + Wait + Sync, G: Gate + Sync>(
+    rt: &H,
+    alloc: Global,
+    service: &mut Service<MemStore>,
+    gate: &G,
+    from: &[(u64, u64)],
+    want: &[(End, u64, u64)],
+) -> Result<bool, OutboxFault> {
+    let mut relays = Vec::new(alloc);
+    let mut routes = Vec::new(alloc);
+    for (mark, send) in from {
+        let route = MemoryRoute::empty(alloc);
+        relays.push(Relay::at(routes.len() as u32, *mark))?;
+        routes.push(FailsAt { route, send: *send })?;
+    }
+    if routes.is_empty() || routes.len() > 16 || relays.len() != routes.len() {
+        return Ok(false);
+    }
+    let out = fan_out(rt, alloc, service, &mut relays, routes, gate);
+    if out.ends.len() != want.len()
+        || relays.len() != want.len()
+        || out.routes.len() != want.len()
+    {
+        return Ok(false);
+    }
+    for i in 0..want.len() {
+        let accepted = out.routes[i].route.accepted().len();
+        if (out.ends[i], relays[i].mark(), accepted) != want[i] {
+            return Ok(false);
+        }
+    }
+    Ok(true)
+}
+
+#[test]
+fn every_row_goes_to_both_routes(rt: HostRuntime) -> Result<(), OutboxFault> {
+    let mut service = placed(rt.alloc(), 2)?;
+    let want = [(End::Done, 2, 2), (End::Done, 2, 2)];
+    assert!(rt;
+        ends_as(
+            &rt,
+            rt.alloc(),
+            &mut service,
+            &Wide,
+            &[(0, 0), (0, 0)],
+            &want
+        )?
+    );
+    Ok(())
+}
+
+#[test]
+fn two_routes_are_sent_to_at_the_same_time(rt: HostRuntime) -> Result<(), OutboxFault> {
+    let mut service = placed(rt.alloc(), 150)?;
+    let gate = Together {
+        entered: AtomicU64::new(0),
+    };
+    let want = [(End::Done, 150, 150), (End::Done, 150, 150)];
+    assert!(rt;
+        ends_as(
+            &rt,
+            rt.alloc(),
+            &mut service,
+            &gate,
+            &[(0, 0), (0, 0)],
+            &want
+        )?
+    );
+    Ok(())
+}
+
+#[test]
+fn the_others_go_on_where_one_stops(rt: HostRuntime) -> Result<(), OutboxFault> {
+    let mut service = placed(rt.alloc(), 250)?;
+    let failed = End::Failed(RelayFault::RouteFailed);
+    let want = [
+        (failed, 100, 100),
+        (End::Done, 250, 220),
+        (End::Done, 300, 0),
+    ];
+    assert!(rt;
+        ends_as(
+            &rt,
+            rt.alloc(),
+            &mut service,
+            &Wide,
+            &[(0, 2), (30, 0), (300, 0)],
+            &want
+        )?
+    );
+    let gate = ShutsAtSecond {
+        made: AtomicU64::new(0),
+    };
+    let shut = End::Failed(RelayFault::GateShut);
+    let want = [(End::Done, 250, 250), (shut, 100, 100)];
+    assert!(rt;
+        ends_as(
+            &rt,
+            rt.alloc(),
+            &mut service,
+            &gate,
+            &[(0, 0), (0, 0)],
+            &want
+        )?
+    );
+    assert_eq!(rt; gate.made.load(Ordering::SeqCst), 4);
+    Ok(())
+}
