@@ -1,7 +1,7 @@
 -- What a worker that asks was answered, one question more at a time.
-use Rattle.std.proofs.Common.{◌≡◌, ◌≢◌, ℕ, ◌+◌, ◌<◌, ◌≤◌, List, [], ◌∷◌, ◌++◌, length, take, drop, sym, refl, ap, ◌∙◌, subst, append_assoc, append-nil, arith, inl, inr, length-append}
-use Rattle.std.specs.Prelude.{Option, Some, None, map, slice_get}
-use Rattle.std.proofs.lemmas.List.{take-append-drop, take_more}
+use Rattle.std.proofs.Common.{◌≡◌, ℕ, ◌+◌, List, [], ◌∷◌, ◌++◌, length, take, drop, sym, refl, ap, ◌∙◌, subst, append_assoc, append-nil, inl, inr, length-append}
+use Rattle.std.specs.Prelude.{Option, Some, None, map}
+use Rattle.std.proofs.lemmas.List.{take-append-drop}
 use Rattle.site.specs.Machine.{call}
 use Rattle.site.specs.declared.call.Call.{Call}
 use Rattle.site.specs.declared.call.Command.TheVariants as command
@@ -70,5 +70,5 @@ pub stops_at : (queries : List Query) (place : ℕ) (query : Query) (m n : List 
     → commands_of m ≡ map command.Query (take place queries) → old ≡ answers_of m → AsksOne query n old new o → o ≡ Some ended → r.answers ≡ new → r.ended ≡ ended → Asks queries (m ++ n) r
 stops_at queries place query m n old new o ended r next so_far kept a is answers ends =
     stops_asking queries (take place queries) (drop (place + 1) queries) query m n old new ended r
-      (sym (append_assoc (take place queries) (query ∷ []) (drop (place + 1) queries)) ∙ ap (λ z. z ++ drop (place + 1) queries) (sym next) ∙ take-append-drop (place + 1) queries)
-      so_far kept (a.stops ended is) answers ends
+    (sym (append_assoc (take place queries) (query ∷ []) (drop (place + 1) queries)) ∙ ap (λ z. z ++ drop (place + 1) queries) (sym next) ∙ take-append-drop (place + 1) queries)
+    so_far kept (a.stops ended is) answers ends

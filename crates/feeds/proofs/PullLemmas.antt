@@ -1,7 +1,6 @@
 -- What a pull brought, one page more at a time.
-use Rattle.std.proofs.Common.{◌≡◌, ◌≢◌, ℕ, suc, ◌+◌, ◌*◌, ◌<◌, ◌≤◌, ◌⊎◌, List, [], ◌∷◌, ◌++◌, Bool, true, false, ◌||◌, if◌then◌else◌, length, take, drop, min, sym, refl, ap, ◌∙◌, subst, append_assoc, append-nil, arith, inl, inr, length-append}
-use Rattle.std.specs.Prelude.{Option, Some, None, Result, Ok, Err, Contains}
-use Rattle.std.specs.List.{AllByRecursion}
+use Rattle.std.proofs.Common.{◌≡◌, ◌≢◌, ℕ, ◌+◌, ◌≤◌, ◌⊎◌, List, [], ◌∷◌, ◌++◌, Bool, true, false, ◌||◌, if◌then◌else◌, length, take, drop, sym, refl, ap, ◌∙◌, subst, append_assoc, append-nil, arith, inl, inr, length-append}
+use Rattle.std.specs.Prelude.{Option, Some, None, Ok, Err, Contains}
 use Rattle.std.specs.Ordering.{is_eq}
 use Rattle.std.proofs.lemmas.List.{drop-drop, length-take, take-append-drop, take_min}
 use Rattle.std.proofs.lemmas.List.Folds.{list_any-append}
@@ -12,7 +11,7 @@ use Rattle.inbox.specs.Ordered.{append_new, has}
 use Rattle.inbox.specs.Sets.{set_of}
 use Rattle.site.specs.Delta.{delta}
 use Rattle.site.specs.Desk.{refused}
-use Rattle.site.specs.Machine.{Answers, Follows, IsReply, Runs, arrivals_after, call, handled_by}
+use Rattle.site.specs.Machine.{Follows, IsReply, Runs, arrivals_after, call, handled_by}
 use Rattle.site.specs.declared.call.Call.{Call}
 use Rattle.site.specs.declared.call.Command.TheVariants as command
 use Rattle.site.specs.declared.call.Reply.{Reply}
@@ -26,7 +25,7 @@ use Rattle.feeds.specs.declared.report.Ended.TheVariants.{Done, OutOfMemory}
 use Rattle.feeds.specs.declared.report.Report.{Report}
 use Rattle.feeds.specs.declared.report.Tally.{Tally}
 use Rattle.feeds.specs.steps.Pull.{HasSameCounts, Moves, Pages, Pulling}
-use Rattle.feeds.specs.steps.Tally.{Counted, Flushed, Gains}
+use Rattle.feeds.specs.steps.Tally.{Flushed, Gains}
 use Rattle.feeds.proofs.TallyLemmas.{empty_is, fresh-append, handled-append, repeated-append, takes-append}
 
 -- a page has at most 100 events
@@ -74,8 +73,8 @@ holds-append A (x ∷ xs) M h k = (h.0, holds-append A xs M h.1 k)
 pub holds_more : ((A : List EventValue) (e : EventValue) → Contains A e → has key_cmp A e ≡ true) → (A L M B : List EventValue) → Holds A L → Gains A M B → Holds B (L ++ M)
 holds_more is_found A L M B h gains = let C : List EventValue = append_new key_cmp (A ++ gains.0) M in
     subst (λ Z. Holds Z (L ++ M)) (sym gains.1) (holds-append C L M
-      (holds_on A C L (λ e had. keeps_having (A ++ gains.0) M e (still_has A gains.0 e had)) h)
-      (holds_taken is_found (A ++ gains.0) M))
+    (holds_on A C L (λ e had. keeps_having (A ++ gains.0) M e (still_has A gains.0 e had)) h)
+    (holds_taken is_found (A ++ gains.0) M))
 
 replied-append : (m n : List Call) → replied (m ++ n) ≡ replied m ++ replied n
 replied-append [] n = refl
@@ -89,8 +88,11 @@ holds_still A B m n h same none = subst (λ z. Holds B z) (sym (replied-append m
 
 pages-append : (peer : Sources) (p : ℕ) (m n : List Call) → ArePages peer p m → ArePages peer (p + length (replied m)) n → ArePages peer p (m ++ n)
 pages-append peer p [] n h k = subst (λ z. ArePages peer z n) (omega arith) k
-pages-append peer p (c ∷ cs) n h k = (h.0, pages-append peer (p + length (events_in c.reply)) cs n h.1
-    (subst (λ z. ArePages peer z n) (omega (arith, length-append (events_in c.reply) (replied cs))) k))
+pages-append peer p (c ∷ cs) n h k = (
+  h.0,
+  pages-append peer (p + length (events_in c.reply)) cs n h.1
+      (subst (λ z. ArePages peer z n) (omega (arith, length-append (events_in c.reply) (replied cs))) k),
+)
 
 ends-cons : (c : Call) (n : List Call) → EndsEmpty n → EndsEmpty (c ∷ n)
 ends-cons c [] h = absurd h
@@ -187,7 +189,7 @@ pull_stops peer m n k l t u o ended is p moves = let c = moves.counted in let hs
   };
   refused = c.refused ∙ p.refused;
   done = λ d. let e = moves.done (is ∙ ap Some d) in
-    (handled-append n l ∙ ap (λ z. z ++ handled l) p.order ∙ ap (λ z. replied m ++ z) e.0 ∙ sym (replied-append m k), ends-append m k e.2);
+      (handled-append n l ∙ ap (λ z. z ++ handled l) p.order ∙ ap (λ z. replied m ++ z) e.0 ∙ sym (replied-append m k), ends-append m k e.2);
 }
 
 pub pull_short : (peer : Sources) (m n : List Call) (t : Tally) → Pulling peer m n t → Pulled peer m n (reported t OutOfMemory)
@@ -246,7 +248,7 @@ all_pages A B peer p (c ∷ []) runs pages ends = last_reply A peer p c.reply en
 all_pages A B peer p (c ∷ d ∷ ds) runs pages ends =
     let same : arrivals_after A c ≡ A = ap (λ z. append_new key_cmp A (handled_by z c.reply)) pages.0 in
     one_reply A peer p c.reply (replied (d ∷ ds)) (subst (λ z. IsReply A z c.reply) pages.0 runs.0)
-      (all_pages A B peer (p + length (events_in c.reply)) (d ∷ ds) (subst (λ Z. Runs Z (d ∷ ds) B) same runs.1) pages.1 ends)
+    (all_pages A B peer (p + length (events_in c.reply)) (d ∷ ds) (subst (λ Z. Runs Z (d ∷ ds) B) same runs.1) pages.1 ends)
 
 pub pull_brings : (A B C : List EventValue) (m n : List Call) (r : Report) → Runs A m B → Pulls m n r → (r.ended ≡ Done → Holds C (replied m)) → r.ended ≡ Done → Brings A n C
 pull_brings A B C m n r runs (inl un) holds done = absurd (un.ended done)

@@ -1,6 +1,6 @@
 -- What a worker counts, one step more at a time.
-use Rattle.std.proofs.Common.{◌≡◌, ◌≢◌, ℕ, suc, ◌+◌, ◌-◌, ◌<◌, ◌≤◌, List, [], ◌∷◌, ◌++◌, Bool, true, false, not, cond, filter, if◌then◌else◌, length, take, drop, sym, refl, ap, ◌∙◌, subst, append_assoc, append-nil, arith, inl, inr, length-append}
-use Rattle.std.specs.Prelude.{Option, Some, None, Result, Ok, Err}
+use Rattle.std.proofs.Common.{◌≡◌, ◌≢◌, suc, ◌+◌, ◌-◌, ◌<◌, ◌≤◌, List, [], ◌∷◌, ◌++◌, true, false, not, cond, if◌then◌else◌, length, take, drop, sym, refl, ap, ◌∙◌, subst, append_assoc, append-nil, arith, inl, inr, length-append}
+use Rattle.std.specs.Prelude.{Option, Some, None, Ok, Err}
 use Rattle.std.proofs.lemmas.List.{length-take, take-append-drop}
 use Rattle.std.proofs.lemmas.List.Elements.{filter-append}
 use Rattle.std.specs.declared.cmp.Ordering.{Ordering}
@@ -15,12 +15,12 @@ use Rattle.site.specs.declared.call.Call.{Call}
 use Rattle.site.specs.declared.call.Command.TheVariants as command
 use Rattle.site.specs.declared.desk.DeskFault.{DeskFault}
 use Rattle.site.specs.declared.desk.DeskFault.TheVariants as desk
-use Rattle.feeds.specs.Report.{AreTakes, Counts, Handles, Tells, fresh_by, fresh_of, handled, has_number, repeated_by, repeated_of, reported, sequenced, unsequenced}
+use Rattle.feeds.specs.Report.{AreTakes, Tells, fresh_of, handled, has_number, repeated_of, reported, sequenced, unsequenced}
 use Rattle.feeds.specs.declared.report.Ended.{Ended}
 use Rattle.feeds.specs.declared.report.Ended.TheVariants.{Done, GateShut, OutOfMemory}
 use Rattle.feeds.specs.declared.report.Report.{Report}
 use Rattle.feeds.specs.declared.report.Tally.{Tally}
-use Rattle.feeds.specs.steps.Tally.{Counted, Flushed, FlushedIfFull, Gains, Going, Passes, short_of}
+use Rattle.feeds.specs.steps.Tally.{Flushed, FlushedIfFull, Going, Passes, short_of}
 
 module _ {K : Type 0} (R : K → K → Ordering) where
   length-append_new : (A xs : List K) → length (append_new R A xs) ≤ length A + length xs
@@ -126,14 +126,14 @@ skips L e m b t u g no_number is = record {
   repeated = ap (λ z. z.repeated) is ∙ g.repeated;
   all = g.all;
   refused = let more = ap length (filter-append (λ d. not (has_number d)) L (e ∷ []) ∙ ap (λ z. unsequenced L ++ z) (one_refused e no_number)) in
-    omega (arith, ap (λ z. z.refused) is, g.refused, more, length-append (unsequenced L) (e ∷ []));
+      omega (arith, ap (λ z. z.refused) is, g.refused, more, length-append (unsequenced L) (e ∷ []));
 }
 
 keeps : (L : List EventValue) (e : EventValue) (m : List Call) (b c : List EventValue) (t : Tally) → Going L m b t → has_number e ≡ true → c ≡ b ++ e ∷ [] → Going (L ++ e ∷ []) m c t
 keeps L e m b c t g numbered is = record {
   takes = g.takes;
   order = ap (λ z. handled m ++ z) is ∙ sym (append_assoc (handled m) b (e ∷ [])) ∙ ap (λ z. z ++ e ∷ []) g.order
-    ∙ sym (filter-append has_number L (e ∷ []) ∙ ap (λ z. sequenced L ++ z) (one_kept e numbered));
+      ∙ sym (filter-append has_number L (e ∷ []) ∙ ap (λ z. sequenced L ++ z) (one_kept e numbered));
   fresh = g.fresh;
   repeated = g.repeated;
   all = g.all;
@@ -206,21 +206,21 @@ empty_is (x ∷ xs) e = absurd (omega (arith, e))
 
 pub ends : (all L rest : List EventValue) (m : List Call) (b : List EventValue) (t : Tally) (r : Report) → L ++ rest ≡ all → rest ≡ [] → Going L m b t → length b ≡ 0 → r ≡ reported t Done → Tells all m r
 ends all L rest m b t r split none g empty is = let same : L ≡ all = sym (append-nil L) ∙ ap (λ z. L ++ z) (sym none) ∙ split in
-  let handled_all : handled m ≡ sequenced L = sym (append-nil (handled m)) ∙ ap (λ z. handled m ++ z) (sym (empty_is b empty)) ∙ g.order in record {
-    passed = L;
-    behind = [];
-    split = append-nil L ∙ same;
-    handles = record { takes = g.takes; rest = b; order = g.order };
-    counts = record {
-      fresh = ap (λ z. z.fresh) is ∙ g.fresh;
-      repeated = ap (λ z. z.repeated) is ∙ g.repeated;
-      handled = omega (arith, ap (λ z. z.fresh) is, ap (λ z. z.repeated) is, g.fresh, g.repeated, g.all);
-      read = subst (λ z. z.read ≡ z.fresh + z.repeated + z.refused) (sym is) refl;
-    };
-    refused = ap (λ z. z.refused) is ∙ g.refused;
-    most = omega (arith, ap (λ z. z.read) is, bounded L m b t g, ap length same);
-    done = λ _. (handled_all ∙ ap sequenced same, omega (arith, ap (λ z. z.read) is, bounded L m b t g, ap length same, empty));
-  }
+    let handled_all : handled m ≡ sequenced L = sym (append-nil (handled m)) ∙ ap (λ z. handled m ++ z) (sym (empty_is b empty)) ∙ g.order in record {
+      passed = L;
+      behind = [];
+      split = append-nil L ∙ same;
+      handles = record { takes = g.takes; rest = b; order = g.order };
+      counts = record {
+        fresh = ap (λ z. z.fresh) is ∙ g.fresh;
+        repeated = ap (λ z. z.repeated) is ∙ g.repeated;
+        handled = omega (arith, ap (λ z. z.fresh) is, ap (λ z. z.repeated) is, g.fresh, g.repeated, g.all);
+        read = subst (λ z. z.read ≡ z.fresh + z.repeated + z.refused) (sym is) refl;
+      };
+      refused = ap (λ z. z.refused) is ∙ g.refused;
+      most = omega (arith, ap (λ z. z.read) is, bounded L m b t g, ap length same);
+      done = λ _. (handled_all ∙ ap sequenced same, omega (arith, ap (λ z. z.read) is, bounded L m b t g, ap length same, empty));
+    }
 
 pub moves : (L rest left all : List EventValue) (e : EventValue) → rest ≡ e ∷ left → L ++ rest ≡ all → (L ++ e ∷ []) ++ left ≡ all
 moves L rest left all e next split = append_assoc L (e ∷ []) left ∙ ap (λ z. L ++ z) (sym next) ∙ split
@@ -235,7 +235,7 @@ room all L rest m b t g split = (omega (arith, bounded L m b t g, ap length spli
 pub full : (L : List EventValue) (m n : List Call) (b left : List EventValue) (t u : Tally) (o : Option Ended) → o ≡ None → Going L m b t → FlushedIfFull n b left t u o
     → Going L (m ++ n) left u × (length left < 100)
 full L m n b left t u o is g (inl f) =
-  let k : Flushed n b left t u None = subst (λ z. Flushed n b left t u z) is f in (flushes L m n b left t u g k, omega (arith, ap length (k.whole refl).1))
+    let k : Flushed n b left t u None = subst (λ z. Flushed n b left t u z) is f in (flushes L m n b left t u g k, omega (arith, ap length (k.whole refl).1))
 full L m n b left t u o is g (inr f) = (
   subst (λ z. Going L z left u) (sym (ap (λ z. m ++ z) f.0 ∙ append-nil m)) (still L m b left t u g (f.1, f.2)),
   omega (arith, ap length f.1, f.4),

@@ -13,7 +13,6 @@ use Rattle.site.specs.declared.call.Command.TheVariants as command
 use Rattle.site.specs.declared.call.Reply.{Reply}
 use Rattle.site.specs.declared.call.Reply.TheVariants.{Paged, Summed}
 use Rattle.feeds.specs.Report.{Counts, Handles, handled}
-use Rattle.feeds.specs.declared.report.Ended.{Ended}
 use Rattle.feeds.specs.declared.report.Ended.TheVariants.{Done}
 use Rattle.feeds.specs.declared.report.Report.{Report}
 

@@ -124,12 +124,7 @@ fn pull_pages<D: Desk, E: Desk, G: Gate>(
 /// stays taken.
 ///
 /// Costs the calls; at most 100 events are held beside the summary.
-pub fn pull<D: Desk, E: Desk, G: Gate>(
-    from: &mut D,
-    to: &mut E,
-    gate: &G,
-    worker: u64,
-) -> Report
+pub fn pull<D: Desk, E: Desk, G: Gate>(from: &mut D, to: &mut E, gate: &G, worker: u64) -> Report
     ensures { (m n : List Call) × D.went from.old from.new m × E.went to.old to.new n
         × Pulls m n result
         × (result.ended ≡ Done → Holds (E.arrivals to.new) (replied m)) }
@@ -147,12 +142,7 @@ pub fn pull<D: Desk, E: Desk, G: Gate>(
 
 /// `pull` from a site that nobody else adds to: where it is done, the desk has all that its summary
 /// lacked of the site's events.
-pub fn pull_from<E: Desk, G: Gate>(
-    from: &mut Site,
-    to: &mut E,
-    gate: &G,
-    worker: u64,
-) -> Report
+pub fn pull_from<E: Desk, G: Gate>(from: &mut Site, to: &mut E, gate: &G, worker: u64) -> Report
     ensures same { from.new ≡ from.old }
     ensures pulled { (m n : List Call) × Runs from.old m from.new × E.went to.old to.new n
         × Pulls m n result × (result.ended ≡ Done → Brings from.old n (E.arrivals to.new)) }

@@ -1,4 +1,4 @@
-use Rattle.std.proofs.Common.{◌++◌, ◌≡◌, [], refl, sym, ap, ◌∙◌, ◌+◌}
+use Rattle.std.proofs.Common.{◌++◌, refl, sym, ap, ◌∙◌, ◌+◌}
 use Rattle.std.specs.Prelude.{map}
 use Rattle.std.proofs.lemmas.List.{take_more}
 use Rattle.site.specs.declared.call.Command.TheVariants as command

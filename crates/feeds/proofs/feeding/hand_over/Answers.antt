@@ -1,6 +1,6 @@
-use Rattle.std.proofs.Common.{rules, ◌≡◌, ◌+◌, ◌<◌, ◌≤◌, ◌^◌, length, List, ℕ, [], ◌∷◌, ◌++◌, Fits, w64, arith, refl, ap, sym, ◌∙◌}
+use Rattle.std.proofs.Common.{rules, length, [], ◌∷◌, ◌++◌, arith, refl, ap, sym, ◌∙◌}
 use Rattle.feeds.specs.declared.report.Ended.TheVariants.{OutOfMemory}
-use Rattle.feeds.proofs.TallyLemmas.{empty_is, ends, flushes, full, full_stops, goes, goes_length, going_start, moves, room, room_behind, still, stops, stops_here}
+use Rattle.feeds.proofs.TallyLemmas.{empty_is, ends, flushes, full, full_stops, goes, goes_length, moves, room, room_behind, still, stops, stops_here}
 use Rattle.feeds.proofs.feeding.hand_over.Goals as goal
 
 pub pass_on-requires : goal.pass_on-requires
@@ -24,9 +24,11 @@ loop-event-preserved g c = let i = c.loop-event.invariant in let f = c.in-None-f
     (i.0 ++ c.in-Some.event ∷ [], i.1 ++ f.0, moves _ _ _ _ _ next i.2, g.met.D.Desk.goes_on _ _ _ _ _ i.3 f.1, r.0, r.1)
 
 pub returns-in-Some-flush_full : goal.returns-in-Some-flush_full
-returns-in-Some-flush_full g c = let i = c.loop-event.invariant in let f = c.in-Some-flush_full.ensures in let next = c.in-Some.ensures.steps.0 in
-    (i.1 ++ f.0, g.met.D.Desk.goes_on _ _ _ _ _ i.3 f.1,
-    stops _ _ _ _ _ _ _ _ _ _ _ (moves _ _ _ _ _ next i.2) (goes _ _ _ _ _ _ _ i.4 c.in-Ok.ensures) (full_stops _ _ _ _ _ _ _ refl f.2) refl)
+returns-in-Some-flush_full g c = let i = c.loop-event.invariant in let f = c.in-Some-flush_full.ensures in let next = c.in-Some.ensures.steps.0 in (
+  i.1 ++ f.0,
+  g.met.D.Desk.goes_on _ _ _ _ _ i.3 f.1,
+  stops _ _ _ _ _ _ _ _ _ _ _ (moves _ _ _ _ _ next i.2) (goes _ _ _ _ _ _ _ i.4 c.in-Ok.ensures) (full_stops _ _ _ _ _ _ _ refl f.2) refl,
+)
 
 pub returns-then-is_empty : goal.returns-then-is_empty
 returns-then-is_empty g c = let i = c.loop-event.invariant in (i.1, i.3, ends _ _ _ _ _ _ _ i.2 (empty_is _ (sym c.loop-event.event-iterator.rest.ok.0 ∙ c.in-None.ensures.steps.0)) i.4 (search rules) refl)

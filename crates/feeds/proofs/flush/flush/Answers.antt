@@ -1,4 +1,4 @@
-use Rattle.std.proofs.Common.{rules, ◌≡◌, ◌+◌, ◌<◌, ◌≤◌, List, length, ℕ, ◌-◌, [], ◌∷◌, Fits, w64, arith, refl, ap}
+use Rattle.std.proofs.Common.{rules, [], ◌∷◌, ap}
 use Rattle.std.specs.Prelude.{Ok, Err}
 use Rattle.site.specs.Desk.{took}
 use Rattle.site.specs.Machine.{call}

@@ -12,7 +12,12 @@ returns-then-is_empty g c = let p = c.in-Ok.ensures.page in
     (p.0, [], p.1, g.met.E.Desk.stays _, moved_last _ _ _ _ _ p.2 (search rules) c.in-Ok.ensures.same, (λ k. absurd (cc)), (λ k. refl))
 
 pub returns : goal.returns
-returns g c = let p = c.in-Ok.ensures.page in let f = c.flush.ensures.flushed in
-    (p.0, f.0, p.1, f.1, moved _ _ _ _ _ _ _ _ _ p.2 c.in-Ok.ensures.same f.2,
-    (λ none. subst (λ z. Gains (g.E.Desk.arrivals c.args.to.now) z (g.E.Desk.arrivals c.flush.new.desk)) (sym (replied_page _ _ _ _ p.2)) (c.flush.ensures.gains none)),
-    (λ done. absurd (f.2.never_done done)))
+returns g c = let p = c.in-Ok.ensures.page in let f = c.flush.ensures.flushed in (
+  p.0,
+  f.0,
+  p.1,
+  f.1,
+  moved _ _ _ _ _ _ _ _ _ p.2 c.in-Ok.ensures.same f.2,
+  (λ none. subst (λ z. Gains (g.E.Desk.arrivals c.args.to.now) z (g.E.Desk.arrivals c.flush.new.desk)) (sym (replied_page _ _ _ _ p.2)) (c.flush.ensures.gains none)),
+  (λ done. absurd (f.2.never_done done)),
+)

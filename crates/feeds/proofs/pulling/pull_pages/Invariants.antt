@@ -1,4 +1,4 @@
-use Rattle.std.proofs.Common.{◌≡◌, ◌≤◌, ◌+◌, ◌*◌, List, length}
+use Rattle.std.proofs.Common.{◌≤◌, ◌+◌, ◌*◌, List}
 use Rattle.site.specs.declared.call.Call.{Call}
 use Rattle.feeds.specs.Pull.{Holds, replied}
 use Rattle.feeds.specs.steps.Pull.{Pulling}
