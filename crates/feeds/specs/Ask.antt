@@ -26,7 +26,8 @@ abbrev pub answers_of : List Call → List Answer
 answers_of [] = []
 answers_of (c ∷ cs) = answers_by c.reply ++ answers_of cs
 
--- these are the answers that the calls got, but for the last one where no memory was left to keep it
+-- these are the answers that the calls got, but for the last one where no memory was left to keep
+-- it
 abbrev pub KeepsAnswers : List Call → List Answer → Ended → Type 0
 KeepsAnswers m answers ended = (answers ≡ answers_of m)
     ⊎ ((ended ≡ OutOfMemory) × ((lost : Answer) × (answers ++ lost ∷ [] ≡ answers_of m)))
@@ -39,4 +40,5 @@ pub record Asks (queries : List Query) (m : List Call) (r : Asked) : Type 0 wher
   pub split : asked ++ behind ≡ queries
   pub calls : commands_of m ≡ map command.Query asked
   pub answers : KeepsAnswers m r.answers r.ended
-  pub done : r.ended ≡ Done → (asked ≡ queries) × (r.answers ≡ answers_of m) × (length r.answers ≡ length queries)
+  pub done : r.ended ≡ Done → (asked ≡ queries) × (r.answers ≡ answers_of m)
+      × (length r.answers ≡ length queries)

@@ -43,8 +43,8 @@ EndsEmpty (c ∷ d ∷ ds) = EndsEmpty (d ∷ ds)
 abbrev pub Holds : List EventValue → List EventValue → Type 0
 Holds A events = AllByRecursion (λ e. has key_cmp A e ≡ true) events
 
--- a pull by this summary: m asked the one desk for pages, and n handed their events to the other, all
--- up to an empty page, where it was done
+-- a pull by this summary: m asked the one desk for pages, and n handed their events to the other,
+-- all up to an empty page, where it was done
 pub record Pulled (peer : Sources) (m n : List Call) (r : Report) : Type 0 where
   pub pages : ArePages peer 0 m
   pub handles : Handles n (replied m)
@@ -59,13 +59,14 @@ pub record IsUnbegun (m n : List Call) (r : Report) : Type 0 where
   pub ended : r.ended ≢ Done
   pub counts : r ≡ record { read = 0; fresh = 0; repeated = 0; refused = 0; ended = r.ended }
 
--- a pull, by its calls of the one desk and those of the other, of which the first asks for the summary
+-- a pull, by its calls of the one desk and those of the other, of which the first asks for the
+-- summary
 abbrev pub Pulls : List Call → List Call → Report → Type 0
 Pulls m n r = IsUnbegun m n r ⊎ ((peer : Sources) × (takes : List Call)
     × (n ≡ call command.Summary (Summed peer) ∷ takes) × Pulled peer m takes r)
 
--- by these calls a desk that now has the arrivals B got all that the summary which it told lacked of
--- the events A
+-- by these calls a desk that now has the arrivals B got all that the summary which it told lacked
+-- of the events A
 pub record Brings (A : List EventValue) (n : List Call) (B : List EventValue) : Type 0 where
   pub peer : Sources
   pub takes : List Call

@@ -1,5 +1,6 @@
 -- What a report tells of the calls that a worker made.
-use Rattle.std.specs.Prelude.{◌≡◌, ◌≢◌, ◌⊎◌, ◌+◌, ◌-◌, ◌≤◌, ℕ, Bool, not, is_some, filter, List, [], ◌∷◌, ◌++◌, length}
+use Rattle.std.specs.Prelude.{◌≡◌, ◌≢◌, ◌⊎◌, ◌+◌, ◌-◌, ◌≤◌, ℕ, Bool, not, is_some, filter}
+use Rattle.std.specs.Prelude.{List, [], ◌∷◌, ◌++◌, length}
 use Rattle.attributes.specs.Event.{EventValue}
 use Rattle.attributes.specs.Sequence.{number_of}
 use Rattle.event_json.specs.Reading.{Reads, Refuses}
@@ -73,9 +74,9 @@ pub record Counts (m : List Call) (r : Report) : Type 0 where
   pub handled : r.fresh + r.repeated ≡ length (handled m)
   pub read : r.read ≡ r.fresh + r.repeated + r.refused
 
--- the report of a worker that brought these events by these calls: it read the first of them, passed
--- over those without a number, and handed over the others as far as it came; all of them, where it
--- was done
+-- the report of a worker that brought these events by these calls: it read the first of them,
+-- passed over those without a number, and handed over the others as far as it came; all of them,
+-- where it was done
 pub record Tells (events : List EventValue) (m : List Call) (r : Report) : Type 0 where
   pub passed : List EventValue
   pub behind : List EventValue

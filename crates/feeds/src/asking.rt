@@ -21,8 +21,8 @@ pub struct Asked {
     pub ended: Ended,
 }
 
-/// Asks a question in one call, where the gate lets it, and keeps the answer. What comes back is why
-/// the worker ends, if it does.
+/// Asks a question in one call, where the gate lets it, and keeps the answer. What comes back is
+/// why the worker ends, if it does.
 fn ask_one<D: Desk, G: Gate>(
     desk: &mut D,
     gate: &G,
@@ -49,8 +49,9 @@ fn ask_one<D: Desk, G: Gate>(
     }
 }
 
-/// Asks the questions in their order, each in one call and each over what has come by then. The gate
-/// is asked before each; a shut gate or want of memory ends it, and the answers so far are kept.
+/// Asks the questions in their order, each in one call and each over what has come by then. The
+/// gate is asked before each; a shut gate or want of memory ends it, and the answers so far are
+/// kept.
 ///
 /// Costs the calls, and the answers are held at once.
 pub fn ask<D: Desk, G: Gate>(

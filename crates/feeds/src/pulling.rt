@@ -18,7 +18,8 @@ use coverage::Summary;
 use inbox::laws::sets_are_members;
 use site::{Desk, Gate, Site};
 
-/// The most pages of one pull, 2^56: more than any memory holds. It bounds the sums of their lengths.
+/// The most pages of one pull, 2^56: more than any memory holds. It bounds the sums of their
+/// lengths.
 const PAGES: u64 = 72_057_594_037_927_936;
 
 /// The summary of a desk, in the worker's first call, where the gate lets it; else why the worker
@@ -119,9 +120,9 @@ fn pull_pages<D: Desk, E: Desk, G: Gate>(
 }
 
 /// Brings the one desk what it lacks of the other's events: takes its summary once, and then, in
-/// pages of at most 100, the events of the other that this summary lacks, until a page is empty. The
-/// gate is asked before each call; a shut gate or want of memory ends it, and what was taken by then
-/// stays taken.
+/// pages of at most 100, the events of the other that this summary lacks, until a page is empty.
+/// The gate is asked before each call; a shut gate or want of memory ends it, and what was taken by
+/// then stays taken.
 ///
 /// Costs the calls; at most 100 events are held beside the summary.
 pub fn pull<D: Desk, E: Desk, G: Gate>(from: &mut D, to: &mut E, gate: &G, worker: u64) -> Report

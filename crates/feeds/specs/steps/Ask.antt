@@ -16,6 +16,8 @@ StopsAt query m old new ended = (new ≡ old) × (((ended ≡ GateShut) × (m �
     ⊎ ((ended ≡ OutOfMemory) × ((reply : Reply) × (m ≡ call (command.Query query) reply ∷ []))))
 
 -- one question was asked and its answer kept, if nothing ended it
-pub record AsksOne (query : Query) (m : List Call) (old new : List Answer) (o : Option Ended) : Type 0 where
-  pub goes_on : o ≡ None → (answer : Answer) × (m ≡ call (command.Query query) (Answered answer) ∷ []) × (new ≡ old ++ answer ∷ [])
+pub record AsksOne (query : Query) (m : List Call) (old new : List Answer) (o : Option Ended)
+    : Type 0 where
+  pub goes_on : o ≡ None → (answer : Answer)
+      × (m ≡ call (command.Query query) (Answered answer) ∷ []) × (new ≡ old ++ answer ∷ [])
   pub stops : (ended : Ended) → o ≡ Some ended → StopsAt query m old new ended

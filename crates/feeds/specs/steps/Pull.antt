@@ -1,5 +1,6 @@
 -- What a pull has brought on its way.
-use Rattle.std.specs.Prelude.{◌≡◌, ◌≢◌, ◌⊎◌, ◌+◌, ◌≤◌, ℕ, List, [], ◌∷◌, length, Option, None, Some, Result, Ok, Err}
+use Rattle.std.specs.Prelude.{◌≡◌, ◌≢◌, ◌⊎◌, ◌+◌, ◌≤◌, ℕ, List, [], ◌∷◌, length}
+use Rattle.std.specs.Prelude.{Option, None, Some, Result, Ok, Err}
 use Rattle.attributes.specs.Event.{EventValue}
 use Rattle.coverage.specs.Summary.{Sources}
 use Rattle.site.specs.Desk.{refused}
@@ -19,14 +20,16 @@ use Rattle.feeds.specs.steps.Tally.{Counted}
 -- the call for the summary
 abbrev pub Sums : List Call → Result Sources Ended → Type 0
 Sums n (Ok peer) = n ≡ call command.Summary (Summed peer) ∷ []
-Sums n (Err ended) = (ended ≢ Done) × ((n ≡ []) ⊎ ((reply : Reply) × (n ≡ call command.Summary reply ∷ [])))
+Sums n (Err ended) = (ended ≢ Done)
+    × ((n ≡ []) ⊎ ((reply : Reply) × (n ≡ call command.Summary reply ∷ [])))
 
 -- the call for a page
 abbrev pub Pages : Sources → ℕ → List Call → Result (List EventValue) Ended → Type 0
 Pages peer place m (Ok events) =
     (m ≡ call (command.DeltaPage peer place 100) (Paged events) ∷ []) × (length events ≤ 100)
 Pages peer place m (Err ended) = (ended ≢ Done)
-    × ((m ≡ []) ⊎ ((fault : DeskFault) × (m ≡ call (command.DeltaPage peer place 100) (refused fault) ∷ [])))
+    × ((m ≡ []) ⊎ ((fault : DeskFault)
+    × (m ≡ call (command.DeltaPage peer place 100) (refused fault) ∷ [])))
 
 -- the counts of events are the same
 abbrev pub HasSameCounts : Tally → Tally → Type 0
