@@ -29,7 +29,9 @@ fn summary(site: &mut Site) -> Result<Summary, AllocError> {
 fn digits(batch: &Batch) -> u64 {
     let mut digits = 0u64;
     for i in 0..batch.len() {
-        digits = digits.saturating_mul(10).saturating_add(batch.at(i).number().number());
+        digits = digits
+            .saturating_mul(10)
+            .saturating_add(batch.at(i).number().number());
     }
     digits
 }
@@ -70,7 +72,10 @@ fn a_site_is_a_desk(rt: HostRuntime) -> Result<(), AllocError> {
     };
     assert_eq!(rt; counts, wanted);
     assert!(rt; batch.is_empty());
-    assert_eq!(rt; peer.to_text()?.as_str(), "{\"sources\":{\"/orders\":[[1,1]]},\"version\":1}");
+    assert_eq!(rt;
+        peer.to_text()?.as_str(),
+        "{\"sources\":{\"/orders\":[[1,1]]},\"version\":1}"
+    );
     assert_eq!(rt; delta_digits(&mut site, &peer, 0)?, 23);
     assert_eq!(rt; delta_digits(&mut site, &peer, 1)?, 3);
     assert_eq!(rt; page_digits(&mut site, 0)?, 12);

@@ -72,12 +72,30 @@ fn report(fresh: u64, repeated: u64, refused: u64, ended: Ended) -> Report
 fn a_shut_gate_ends_a_feed(rt: HostRuntime) -> Result<(), AllocError> {
     let mut site = Site::empty(rt.alloc());
     let text = batch(rt.alloc(), 150)?;
-    let first = feed(rt.alloc(), &mut site, &First(1), 7, text.as_str().as_bytes());
+    let first = feed(
+        rt.alloc(),
+        &mut site,
+        &First(1),
+        7,
+        text.as_str().as_bytes(),
+    );
     assert_eq!(rt; first, report(100, 0, 0, Ended::GateShut));
     assert_eq!(rt; site.arrived(), 100);
-    let other = feed(rt.alloc(), &mut site, &First(9), 8, text.as_str().as_bytes());
+    let other = feed(
+        rt.alloc(),
+        &mut site,
+        &First(9),
+        8,
+        text.as_str().as_bytes(),
+    );
     assert_eq!(rt; other, report(0, 0, 0, Ended::GateShut));
-    let again = feed(rt.alloc(), &mut site, &First(2), 7, text.as_str().as_bytes());
+    let again = feed(
+        rt.alloc(),
+        &mut site,
+        &First(2),
+        7,
+        text.as_str().as_bytes(),
+    );
     assert_eq!(rt; again, report(50, 100, 0, Ended::Done));
     Ok(())
 }
@@ -118,7 +136,10 @@ fn pulled_from(from: &mut Site, to: &mut Site) -> Report {
 fn a_pull_brings_what_is_lacking(rt: HostRuntime) -> Result<(), AllocError> {
     let mut from = site_of(rt.alloc(), 250)?;
     let mut to = Site::empty(rt.alloc());
-    assert_eq!(rt; pulled(&mut from, &mut to, 8), report(250, 0, 0, Ended::Done));
+    assert_eq!(rt;
+        pulled(&mut from, &mut to, 8),
+        report(250, 0, 0, Ended::Done)
+    );
     assert_eq!(rt; to.arrived(), 250);
     Ok(())
 }
@@ -127,8 +148,14 @@ fn a_pull_brings_what_is_lacking(rt: HostRuntime) -> Result<(), AllocError> {
 fn a_pull_goes_on_after_a_shut_gate(rt: HostRuntime) -> Result<(), AllocError> {
     let mut from = site_of(rt.alloc(), 150)?;
     let mut to = Site::empty(rt.alloc());
-    assert_eq!(rt; pulled(&mut from, &mut to, 3), report(100, 0, 0, Ended::GateShut));
-    assert_eq!(rt; pulled_from(&mut from, &mut to), report(50, 0, 0, Ended::Done));
+    assert_eq!(rt;
+        pulled(&mut from, &mut to, 3),
+        report(100, 0, 0, Ended::GateShut)
+    );
+    assert_eq!(rt;
+        pulled_from(&mut from, &mut to),
+        report(50, 0, 0, Ended::Done)
+    );
     assert_eq!(rt; pulled(&mut from, &mut to, 2), report(0, 0, 0, Ended::Done));
     assert_eq!(rt; to.arrived(), 150);
     Ok(())
@@ -137,15 +164,30 @@ fn a_pull_goes_on_after_a_shut_gate(rt: HostRuntime) -> Result<(), AllocError> {
 #[test]
 fn questions_are_answered_in_their_order(rt: HostRuntime) -> Result<(), AllocError> {
     let mut site = site_of(rt.alloc(), 2)?;
-    let both = ask(rt.alloc(), &mut site, &Wide, 0, &[Query::Kinds, Query::Cover]);
+    let both = ask(
+        rt.alloc(),
+        &mut site,
+        &Wide,
+        0,
+        &[Query::Kinds, Query::Cover],
+    );
     assert_eq!(rt; both.ended, Ended::Done);
     assert_eq!(rt; both.answers.len(), 2);
-    assert_eq!(rt; print(rt.alloc(), both.answers.at(0))?.as_str(), "[\"t.a\",2]\n");
+    assert_eq!(rt;
+        print(rt.alloc(), both.answers.at(0))?.as_str(),
+        "[\"t.a\",2]\n"
+    );
     assert_eq!(rt;
         print(rt.alloc(), both.answers.at(1))?.as_str(),
         "{\"sources\":{\"/orders\":[[1,2]]},\"version\":1}\n"
     );
-    let one = ask(rt.alloc(), &mut site, &First(1), 7, &[Query::Kinds, Query::Cover]);
+    let one = ask(
+        rt.alloc(),
+        &mut site,
+        &First(1),
+        7,
+        &[Query::Kinds, Query::Cover],
+    );
     assert_eq!(rt; one.ended, Ended::GateShut);
     assert_eq!(rt; one.answers.len(), 1);
     Ok(())
