@@ -6,8 +6,6 @@
 #[cfg(test)]
 mod answers;
 #[cfg(test)]
-mod desks;
-#[cfg(test)]
 mod events;
 #[cfg(test)]
 mod inboxes;

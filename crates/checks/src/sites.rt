@@ -77,7 +77,7 @@ pub fn event(alloc: Global, row: Row) -> Result<Sequenced, Failed> {
 }
 
 /// A batch of the events of rows.
-pub fn batch_of(alloc: Global, rows: &[Row]) -> Result<Batch, Failed> {
+fn batch_of(alloc: Global, rows: &[Row]) -> Result<Batch, Failed> {
     let mut batch = Batch::empty(alloc);
     for row in rows {
         if batch.push(event(alloc, *row)?).is_err() {
@@ -106,7 +106,7 @@ fn site_of(alloc: Global, rows: &[Row]) -> Result<Site, Failed> {
 }
 
 /// Whether a batch has the events of rows, in their order.
-pub fn has(batch: &Batch, rows: &[Row]) -> bool {
+fn has(batch: &Batch, rows: &[Row]) -> bool {
     if batch.len() != rows.len() as u64 {
         return false;
     }
@@ -120,7 +120,7 @@ pub fn has(batch: &Batch, rows: &[Row]) -> bool {
 }
 
 /// The summary of numbers of the source `/orders`.
-pub fn summary_of(alloc: Global, numbers: &[u64]) -> Result<Summary, Failed> {
+fn summary_of(alloc: Global, numbers: &[u64]) -> Result<Summary, Failed> {
     let source = Text::of(alloc, "/orders")?;
     let mut summary = Summary::empty(alloc);
     for number in numbers {

@@ -1,5 +1,5 @@
--- The site as a machine. Its state is the list of arrivals: events, each once, in the order in which
--- they came. A call is a command with the reply that it got.
+-- The site as a machine. Its state is the list of arrivals: events, each once, in the order in
+-- which they came. A call is a command with the reply that it got.
 use Rattle.std.specs.Prelude.{◌≡◌, ◌+◌, ◌<◌, List, [], ◌∷◌, ◌++◌, length, take}
 use Rattle.attributes.specs.Event.{EventValue}
 use Rattle.inbox.specs.KeyOrder.{key_cmp}

@@ -1,4 +1,5 @@
-//! Calls of a site, as a history has them. No value of these types is made: contracts speak of them.
+//! Calls of a site, as a history has them. No value of these types is made: contracts speak of
+//! them.
 
 use attributes::Batch;
 use coverage::Summary;

@@ -42,8 +42,9 @@ impl From<AllocError> for DeskFault {
     }
 }
 
-/// Takes events and answers about them. It means a list of arrivals, which others may add to between
-/// its calls. Each call comes after all that was added by then, and is one call of the site machine.
+/// Takes events and answers about them. It means a list of arrivals, which others may add to
+/// between its calls. Each call comes after all that was added by then, and is one call of the site
+/// machine.
 pub trait Desk {
     ghost use Rattle.std.specs.Prelude.{List, [], ◌++◌};
     ghost use Rattle.attributes.specs.Event.{EventValue};
@@ -55,8 +56,8 @@ pub trait Desk {
     // From the one state to the other it made these calls of its own.
     ghost went: { Self → Self → List Call → Type 0 };
 
-    /// Takes the events of a batch, from its front on. After want of memory the batch holds what was
-    /// not taken; what was taken stays.
+    /// Takes the events of a batch, from its front on. After want of memory the batch holds what
+    /// was not taken; what was taken stays.
     fn take(&mut self, batch: &mut Batch) -> Result<Counts, DeskFault>
         ensures went { went self.old self.new
             (call (command.Take batch.old) (took result) ∷ []) }
@@ -71,8 +72,8 @@ pub trait Desk {
         ensures step { Follows (arrivals self.old)
             (call command.Summary (summed result)) (arrivals self.new) };
 
-    /// The events at the places from `from` on of what the peer lacks, in key order, `limit` of them
-    /// at most: 1 to 100.
+    /// The events at the places from `from` on of what the peer lacks, in key order, `limit` of
+    /// them at most: 1 to 100.
     fn delta_page(&mut self, peer: &Summary, from: u64, limit: u64) -> Result<Batch, DeskFault>
         requires low { 1 ≤ limit }
         requires high { limit ≤ 100 }

@@ -7,8 +7,8 @@ ghost use Rattle.std.specs.Prelude.{IsOk};
 pub struct GateShut;
 
 /// Asked by workers, outside their calls: before each, and after each that was let through. Workers
-/// count from 0 and the calls of each from 1. It may hold a worker up; no contract speaks of what it
-/// answers.
+/// count from 0 and the calls of each from 1. It may hold a worker up; no contract speaks of what
+/// it answers.
 pub trait Gate {
     /// Whether the worker may make its call.
     fn before(&self, worker: u64, call: u64) -> Result<(), GateShut>;

@@ -1,0 +1,9 @@
+use Rattle.std.proofs.Common.{◌≡◌, ◌<◌, ◌++◌, List, length}
+use Rattle.attributes.specs.Event.{EventValue}
+use Rattle.site.specs.declared.call.Call.{Call}
+use Rattle.feeds.specs.steps.Tally.{Going}
+use Rattle.feeds.proofs.feeding.hand_over.Given as goal
+
+abbrev pub invariant-loop-event : goal.invariant-loop-event
+invariant-loop-event g l = (passed : List EventValue) × (m : List Call) × (passed ++ l.event-iterator.rest.items ≡ l.fn.events)
+    × g.D.Desk.went l.fn.desk l.desk m × Going passed m l.batch l.tally × (length l.batch < 100)

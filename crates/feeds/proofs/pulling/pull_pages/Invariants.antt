@@ -1,0 +1,9 @@
+use Rattle.std.proofs.Common.{◌≤◌, ◌+◌, ◌*◌, List}
+use Rattle.site.specs.declared.call.Call.{Call}
+use Rattle.feeds.specs.Pull.{Holds, replied}
+use Rattle.feeds.specs.steps.Pull.{Pulling}
+use Rattle.feeds.proofs.pulling.pull_pages.Given as goal
+
+abbrev pub invariant-loop-page : goal.invariant-loop-page
+invariant-loop-page g l = (m : List Call) × (n : List Call) × g.D.Desk.went l.initial.from l.from m × g.E.Desk.went l.initial.to l.to n
+    × Pulling l.peer m n l.tally × Holds (g.E.Desk.arrivals l.to) (replied m) × (l.tally.fresh + l.tally.repeated ≤ 100 * l._page)

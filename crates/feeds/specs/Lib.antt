@@ -1,0 +1,4 @@
+pub mod Report
+pub mod Ask
+pub mod Pull
+pub mod steps

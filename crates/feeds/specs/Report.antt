@@ -1,0 +1,115 @@
+-- What a report tells of the calls that a worker made.
+use Rattle.std.specs.Prelude.{◌≡◌, ◌≢◌, ◌⊎◌, ◌+◌, ◌-◌, ◌≤◌, ℕ, Bool, not, is_some, filter}
+use Rattle.std.specs.Prelude.{List, [], ◌∷◌, ◌++◌, length}
+use Rattle.attributes.specs.Event.{EventValue}
+use Rattle.attributes.specs.Sequence.{number_of}
+use Rattle.event_json.specs.Reading.{Reads, Refuses}
+use Rattle.event_json.specs.declared.fault.ReadFault.{ReadFault}
+use Rattle.event_json.specs.declared.fault.ReadFault.TheVariants as read
+use Rattle.site.specs.Machine.{handled_by}
+use Rattle.site.specs.declared.call.Call.{Call}
+use Rattle.site.specs.declared.call.Command.{Command}
+use Rattle.site.specs.declared.call.Command.TheVariants as command
+use Rattle.site.specs.declared.call.Reply.{Reply}
+use Rattle.site.specs.declared.call.Reply.TheVariants.{Refused, Took}
+use Rattle.feeds.specs.declared.report.Ended.{Ended}
+use Rattle.feeds.specs.declared.report.Ended.TheVariants.{BadInput, Done, OutOfMemory}
+use Rattle.feeds.specs.declared.report.Report.{Report}
+use Rattle.feeds.specs.declared.report.Tally.{Tally}
+
+-- whether an event has a valid number
+abbrev pub has_number : EventValue → Bool
+has_number e = is_some (number_of e)
+
+-- the events that have a number, and those that have none
+abbrev pub sequenced : List EventValue → List EventValue
+sequenced L = filter has_number L
+
+abbrev pub unsequenced : List EventValue → List EventValue
+unsequenced L = filter (λ e. not (has_number e)) L
+
+-- the events that the calls handled, in their order
+abbrev pub handled : List Call → List EventValue
+handled [] = []
+handled (c ∷ cs) = handled_by c.command c.reply ++ handled cs
+
+-- how many events were new by a reply, and how many were there
+abbrev pub fresh_by : Reply → ℕ
+fresh_by (Took fresh repeated) = fresh
+fresh_by (Refused taken fresh) = fresh
+fresh_by _ = 0
+
+abbrev pub repeated_by : Reply → ℕ
+repeated_by (Took fresh repeated) = repeated
+repeated_by (Refused taken fresh) = taken - fresh
+repeated_by _ = 0
+
+-- the sums over the calls
+abbrev pub fresh_of : List Call → ℕ
+fresh_of [] = 0
+fresh_of (c ∷ cs) = fresh_by c.reply + fresh_of cs
+
+abbrev pub repeated_of : List Call → ℕ
+repeated_of [] = 0
+repeated_of (c ∷ cs) = repeated_by c.reply + repeated_of cs
+
+abbrev pub IsTake : Command → Type 0
+IsTake (command.Take L) = Unit {0}
+IsTake _ = ⊥
+
+abbrev pub AreTakes : List Call → Type 0
+AreTakes [] = Unit {0}
+AreTakes (c ∷ cs) = IsTake c.command × AreTakes cs
+
+-- the calls are takes, which handled the first of these events, in their order
+pub record Handles (m : List Call) (events : List EventValue) : Type 0 where
+  pub takes : AreTakes m
+  pub rest : List EventValue
+  pub order : handled m ++ rest ≡ events
+
+-- the report counts the events that the calls handled
+pub record Counts (m : List Call) (r : Report) : Type 0 where
+  pub fresh : r.fresh ≡ fresh_of m
+  pub repeated : r.repeated ≡ repeated_of m
+  pub handled : r.fresh + r.repeated ≡ length (handled m)
+  pub read : r.read ≡ r.fresh + r.repeated + r.refused
+
+-- the report of a worker that brought these events by these calls: it read the first of them,
+-- passed over those without a number, and handed over the others as far as it came; all of them,
+-- where it was done
+pub record Tells (events : List EventValue) (m : List Call) (r : Report) : Type 0 where
+  pub passed : List EventValue
+  pub behind : List EventValue
+  pub split : passed ++ behind ≡ events
+  pub handles : Handles m (sequenced passed)
+  pub counts : Counts m r
+  pub refused : r.refused ≡ length (unsequenced passed)
+  pub most : r.read ≤ length events
+  pub done : r.ended ≡ Done → (handled m ≡ sequenced events) × (r.read ≡ length events)
+
+-- the report with these counts
+abbrev pub reported : Tally → Ended → Report
+reported t ended = record {
+  read = t.fresh + t.repeated + t.refused;
+  fresh = t.fresh;
+  repeated = t.repeated;
+  refused = t.refused;
+  ended = ended;
+}
+
+-- how a worker ends whose input was not read
+abbrev pub end_of : ReadFault → Ended
+end_of read.OutOfMemory = OutOfMemory
+end_of fault = BadInput fault
+
+-- the report of a worker whose input was not read
+abbrev pub unread : ReadFault → Report
+unread fault = record { read = 0; fresh = 0; repeated = 0; refused = 0; ended = end_of fault }
+
+-- the report of a worker that was to bring the events that bytes spell: where they were read, that
+-- of these events; else it made no call, and tells why, which is want of memory or a refusal of the
+-- bytes
+abbrev pub Feeds : List ℕ → List Call → Report → Type 0
+Feeds b m r = ((events : List EventValue) × Reads b events × Tells events m r)
+    ⊎ ((m ≡ []) × ((fault : ReadFault) × (r ≡ unread fault)
+    × (fault ≢ read.OutOfMemory → Refuses b fault)))

@@ -1,0 +1,4 @@
+-- Words of private clauses alone: whoever reads what is promised needs none of them.
+pub mod Tally
+pub mod Ask
+pub mod Pull

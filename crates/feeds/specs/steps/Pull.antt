@@ -1,0 +1,55 @@
+-- What a pull has brought on its way.
+use Rattle.std.specs.Prelude.{◌≡◌, ◌≢◌, ◌⊎◌, ◌+◌, ◌≤◌, ℕ, List, [], ◌∷◌, length}
+use Rattle.std.specs.Prelude.{Option, None, Some, Result, Ok, Err}
+use Rattle.attributes.specs.Event.{EventValue}
+use Rattle.coverage.specs.Summary.{Sources}
+use Rattle.site.specs.Desk.{refused}
+use Rattle.site.specs.Machine.{call}
+use Rattle.site.specs.declared.call.Call.{Call}
+use Rattle.site.specs.declared.call.Command.TheVariants as command
+use Rattle.site.specs.declared.call.Reply.{Reply}
+use Rattle.site.specs.declared.call.Reply.TheVariants.{Paged, Summed}
+use Rattle.site.specs.declared.desk.DeskFault.{DeskFault}
+use Rattle.feeds.specs.Pull.{ArePages, EndsEmpty, replied}
+use Rattle.feeds.specs.Report.{AreTakes, Handles, fresh_of, handled, repeated_of}
+use Rattle.feeds.specs.declared.report.Ended.{Ended}
+use Rattle.feeds.specs.declared.report.Ended.TheVariants.{Done}
+use Rattle.feeds.specs.declared.report.Tally.{Tally}
+use Rattle.feeds.specs.steps.Tally.{Counted}
+
+-- the call for the summary
+abbrev pub Sums : List Call → Result Sources Ended → Type 0
+Sums n (Ok peer) = n ≡ call command.Summary (Summed peer) ∷ []
+Sums n (Err ended) = (ended ≢ Done)
+    × ((n ≡ []) ⊎ ((reply : Reply) × (n ≡ call command.Summary reply ∷ [])))
+
+-- the call for a page
+abbrev pub Pages : Sources → ℕ → List Call → Result (List EventValue) Ended → Type 0
+Pages peer place m (Ok events) =
+    (m ≡ call (command.DeltaPage peer place 100) (Paged events) ∷ []) × (length events ≤ 100)
+Pages peer place m (Err ended) = (ended ≢ Done)
+    × ((m ≡ []) ⊎ ((fault : DeskFault)
+    × (m ≡ call (command.DeltaPage peer place 100) (refused fault) ∷ [])))
+
+-- the counts of events are the same
+abbrev pub HasSameCounts : Tally → Tally → Type 0
+HasSameCounts t u = (u.fresh ≡ t.fresh) × (u.repeated ≡ t.repeated) × (u.refused ≡ t.refused)
+
+-- a page was moved, whole if nothing ended it
+pub record Moves (peer : Sources) (m n : List Call) (t u : Tally) (o : Option Ended) : Type 0 where
+  pub pages : ArePages peer (t.fresh + t.repeated) m
+  pub handles : Handles n (replied m)
+  pub counted : Counted n t u
+  pub most : length (replied m) ≤ 100
+  pub whole : o ≡ None → handled n ≡ replied m
+  pub done : o ≡ Some Done → (handled n ≡ replied m) × (replied m ≡ []) × EndsEmpty m
+
+-- after these calls
+pub record Pulling (peer : Sources) (m n : List Call) (t : Tally) : Type 0 where
+  pub pages : ArePages peer 0 m
+  pub takes : AreTakes n
+  pub order : handled n ≡ replied m
+  pub fresh : t.fresh ≡ fresh_of n
+  pub repeated : t.repeated ≡ repeated_of n
+  pub all : fresh_of n + repeated_of n ≡ length (handled n)
+  pub refused : t.refused ≡ 0

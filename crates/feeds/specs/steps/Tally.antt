@@ -1,0 +1,59 @@
+-- What a worker has counted on its way.
+use Rattle.std.specs.Prelude.{◌≡◌, ◌⊎◌, ◌+◌, ◌<◌, List, [], ◌∷◌, ◌++◌, length, true, false}
+use Rattle.std.specs.Prelude.{Option, None, Some}
+use Rattle.attributes.specs.Event.{EventValue}
+use Rattle.inbox.specs.KeyOrder.{key_cmp}
+use Rattle.inbox.specs.Ordered.{append_new}
+use Rattle.inbox.specs.declared.inbox.Short.{Short}
+use Rattle.site.specs.declared.call.Call.{Call}
+use Rattle.site.specs.declared.desk.DeskFault.{DeskFault}
+use Rattle.site.specs.declared.desk.DeskFault.TheVariants.{OutOfMemory}
+use Rattle.feeds.specs.Report.{AreTakes, Handles, fresh_of, handled, has_number, repeated_of}
+use Rattle.feeds.specs.Report.{sequenced, unsequenced}
+use Rattle.feeds.specs.declared.report.Ended.{Ended}
+use Rattle.feeds.specs.declared.report.Ended.TheVariants.{Done}
+use Rattle.feeds.specs.declared.report.Tally.{Tally}
+
+-- the tally grew by just these calls
+pub record Counted (m : List Call) (t u : Tally) : Type 0 where
+  pub fresh : u.fresh ≡ t.fresh + fresh_of m
+  pub repeated : u.repeated ≡ t.repeated + repeated_of m
+  pub refused : u.refused ≡ t.refused
+  pub all : fresh_of m + repeated_of m ≡ length (handled m)
+
+-- one batch was handed over, whole if nothing ended it
+pub record Flushed (m : List Call) (batch left : List EventValue) (t u : Tally) (o : Option Ended)
+    : Type 0 where
+  pub handles : Handles m batch
+  pub counted : Counted m t u
+  pub whole : o ≡ None → (handled m ≡ batch) × (left ≡ [])
+  pub never_done : o ≡ Some Done → ⊥
+
+-- so, or the batch was not full and nothing was done
+abbrev pub FlushedIfFull : List Call → List EventValue → List EventValue → Tally → Tally
+    → Option Ended → Type 0
+FlushedIfFull m batch left t u o = Flushed m batch left t u o
+    ⊎ ((m ≡ []) × (left ≡ batch) × (u ≡ t) × (o ≡ None) × (length batch < 100))
+
+-- an event came into the batch, or was passed over
+abbrev pub Passes : EventValue → List EventValue → List EventValue → Tally → Tally → Type 0
+Passes e b c t u = ((has_number e ≡ false) × (c ≡ b) × (u ≡ record t { refused = t.refused + 1 }))
+    ⊎ ((has_number e ≡ true) × (c ≡ b ++ e ∷ []) × (u ≡ t))
+
+-- after these events
+pub record Going (passed : List EventValue) (m : List Call) (batch : List EventValue) (t : Tally)
+    : Type 0 where
+  pub takes : AreTakes m
+  pub order : handled m ++ batch ≡ sequenced passed
+  pub fresh : t.fresh ≡ fresh_of m
+  pub repeated : t.repeated ≡ repeated_of m
+  pub all : fresh_of m + repeated_of m ≡ length (handled m)
+  pub refused : t.refused ≡ length (unsequenced passed)
+
+-- how far a refused call came
+abbrev pub short_of : DeskFault → Short
+short_of (OutOfMemory taken fresh) = record { taken = taken; fresh = fresh }
+
+-- others added to the arrivals, and then came these events
+abbrev pub Gains : List EventValue → List EventValue → List EventValue → Type 0
+Gains A L B = (others : List EventValue) × (B ≡ append_new key_cmp (A ++ others) L)

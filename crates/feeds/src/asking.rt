@@ -1,0 +1,78 @@
+//! One worker that asks a desk.
+
+ghost use Rattle.std.specs.Prelude.{◌≡◌, List};
+ghost use Rattle.site.specs.declared.call.Call.{Call};
+ghost use Rattle.feeds.specs.Ask.{Asks};
+ghost use Rattle.feeds.specs.steps.Ask.{AsksOne};
+
+use crate::report::Ended;
+use attributes::List;
+use site::{Desk, Gate};
+use std::alloc::Global;
+use views::{Answer, Query};
+
+/// Answers in the order of their questions.
+pub type Answers = List<Answer>;
+
+/// What a worker was answered, and why it ended.
+#[derive(Drop)]
+pub struct Asked {
+    pub answers: Answers,
+    pub ended: Ended,
+}
+
+/// Asks a question in one call, where the gate lets it, and keeps the answer. What comes back is
+/// why the worker ends, if it does.
+fn ask_one<D: Desk, G: Gate>(
+    desk: &mut D,
+    gate: &G,
+    worker: u64,
+    call: u64,
+    query: Query,
+    answers: &mut Answers,
+) -> Option<Ended>
+    ensures { (m : List Call) × D.went desk.old desk.new m
+        × AsksOne query m answers.old answers.new result }
+{
+    match gate.before(worker, call) {
+        Ok(()) => (),
+        Err(_) => return Some(Ended::GateShut),
+    }
+    let answer = desk.query(query);
+    gate.after(worker, call);
+    match answer {
+        Ok(answer) => match answers.push(answer) {
+            Ok(()) => None,
+            Err(_) => Some(Ended::OutOfMemory),
+        },
+        Err(_) => Some(Ended::OutOfMemory),
+    }
+}
+
+/// Asks the questions in their order, each in one call and each over what has come by then. The
+/// gate is asked before each; a shut gate or want of memory ends it, and the answers so far are
+/// kept.
+///
+/// Costs the calls, and the answers are held at once.
+pub fn ask<D: Desk, G: Gate>(
+    alloc: Global,
+    desk: &mut D,
+    gate: &G,
+    worker: u64,
+    queries: &[Query],
+) -> Asked
+    ensures { (m : List Call) × D.went desk.old desk.new m × Asks queries.now m result }
+{
+    let mut answers = List::empty(alloc);
+    for (place, query) in queries.iter().enumerate() {
+        let call = (place as u64).saturating_add(1);
+        match ask_one(desk, gate, worker, call, *query, &mut answers) {
+            None => (),
+            Some(ended) => return Asked { answers, ended },
+        }
+    }
+    Asked {
+        answers,
+        ended: Ended::Done,
+    }
+}

@@ -1,0 +1,78 @@
+//! A batch that is handed to a desk.
+
+ghost use Rattle.std.specs.Prelude.{◌≡◌, ◌+◌, ◌<◌, ◌≤◌, ◌^◌, List, None, length};
+ghost use Rattle.site.specs.declared.call.Call.{Call};
+ghost use Rattle.feeds.specs.steps.Tally.{Flushed, FlushedIfFull, Gains, short_of};
+
+use crate::report::{Ended, Tally};
+use attributes::Batch;
+use inbox::Short;
+use site::{Desk, DeskFault, Gate};
+
+/// The most events that are handed over, or asked for, at a time.
+pub(crate) const PAGE: u64 = 100;
+
+/// How far a refused call came.
+fn short_of(fault: DeskFault) -> Short
+    ensures { result ≡ short_of fault }
+{
+    match fault {
+        DeskFault::OutOfMemory { taken, fresh } => Short { taken, fresh },
+    }
+}
+
+/// Hands over a batch in one call, where the gate lets it. The answer is why the worker ends, if it
+/// does.
+pub(crate) fn flush<D: Desk, G: Gate>(
+    desk: &mut D,
+    gate: &G,
+    worker: u64,
+    batch: &mut Batch,
+    tally: &mut Tally,
+) -> Option<Ended>
+    requires { tally.old.fresh + tally.old.repeated + length batch.old < 2 ^ 64 }
+    ensures flushed { (m : List Call) × D.went desk.old desk.new m
+        × Flushed m batch.old batch.new tally.old tally.new result }
+    ensures gains { result ≡ None
+        → Gains (D.arrivals desk.old) batch.old (D.arrivals desk.new) }
+{
+    tally.calls = tally.calls.saturating_add(1);
+    match gate.before(worker, tally.calls) {
+        Ok(()) => (),
+        Err(_) => return Some(Ended::GateShut),
+    }
+    let ended = match desk.take(batch) {
+        Ok(counts) => {
+            tally.fresh += counts.fresh;
+            tally.repeated += counts.repeated;
+            None
+        }
+        Err(fault) => {
+            let short = short_of(fault);
+            tally.fresh += short.fresh;
+            tally.repeated += short.taken - short.fresh;
+            Some(Ended::OutOfMemory)
+        }
+    };
+    gate.after(worker, tally.calls);
+    ended
+}
+
+/// Hands over a batch that is full. Else it does nothing.
+pub(crate) fn flush_full<D: Desk, G: Gate>(
+    desk: &mut D,
+    gate: &G,
+    worker: u64,
+    batch: &mut Batch,
+    tally: &mut Tally,
+) -> Option<Ended>
+    requires room { tally.old.fresh + tally.old.repeated + length batch.old < 2 ^ 64 }
+    requires most { length batch.old ≤ 100 }
+    ensures { (m : List Call) × D.went desk.old desk.new m
+        × FlushedIfFull m batch.old batch.new tally.old tally.new result }
+{
+    if batch.len() != PAGE {
+        return None;
+    }
+    flush(desk, gate, worker, batch, tally)
+}

@@ -1,0 +1,15 @@
+//! Workers that bring events to a desk, or ask it, and report what came of it.
+#![tactic(auto)]
+
+mod aside;
+mod asking;
+mod feeding;
+mod flush;
+mod pulling;
+mod report;
+
+pub use aside::{Aside, Idle};
+pub use asking::{Answers, Asked, ask};
+pub use feeding::feed;
+pub use pulling::{pull, pull_from};
+pub use report::{Ended, Report};

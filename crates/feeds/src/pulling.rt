@@ -1,0 +1,152 @@
+//! One worker that brings one desk what it lacks of another's events.
+
+ghost use Rattle.std.specs.Prelude.{◌≡◌, ◌+◌, ◌<◌, ◌^◌, List, None, Some};
+ghost use Rattle.inbox.specs.Sets.{set_of};
+ghost use Rattle.site.specs.Delta.{delta};
+ghost use Rattle.site.specs.Machine.{Runs};
+ghost use Rattle.site.specs.declared.call.Call.{Call};
+ghost use Rattle.feeds.specs.Pull.{Brings, Holds, Pulled, Pulls, replied};
+ghost use Rattle.feeds.specs.Report.{reported};
+ghost use Rattle.feeds.specs.declared.report.Ended.TheVariants.{Done};
+ghost use Rattle.feeds.specs.steps.Pull.{HasSameCounts, Moves, Pages, Sums};
+ghost use Rattle.feeds.specs.steps.Tally.{Gains};
+
+use crate::flush::{PAGE, flush};
+use crate::report::{Ended, Report, Tally};
+use attributes::Batch;
+use coverage::Summary;
+use inbox::laws::sets_are_members;
+use site::{Desk, Gate, Site};
+
+/// The most pages of one pull, 2^56: more than any memory holds. It bounds the sums of their
+/// lengths.
+const PAGES: u64 = 72_057_594_037_927_936;
+
+/// The summary of a desk, in the worker's first call, where the gate lets it; else why the worker
+/// ends.
+fn summary_of<E: Desk, G: Gate>(to: &mut E, gate: &G, worker: u64) -> Result<Summary, Ended>
+    ensures { (n : List Call) × E.went to.old to.new n × Sums n result }
+{
+    match gate.before(worker, 1) {
+        Ok(()) => (),
+        Err(_) => return Err(Ended::GateShut),
+    }
+    let summary = to.summary();
+    gate.after(worker, 1);
+    match summary {
+        Ok(summary) => Ok(summary),
+        Err(_) => Err(Ended::OutOfMemory),
+    }
+}
+
+/// The next page of what the peer lacks, in one call, where the gate lets it; else why the worker
+/// ends. All events of the pages before have been handed over, so their count is the place.
+fn next_page<D: Desk, G: Gate>(
+    from: &mut D,
+    gate: &G,
+    worker: u64,
+    peer: &Summary,
+    tally: &mut Tally,
+) -> Result<Batch, Ended>
+    requires { tally.old.fresh + tally.old.repeated < 2 ^ 64 }
+    ensures page { (m : List Call) × D.went from.old from.new m
+        × Pages peer.now (tally.old.fresh + tally.old.repeated) m result }
+    ensures same { HasSameCounts tally.old tally.new }
+{
+    let place = tally.fresh + tally.repeated;
+    tally.calls = tally.calls.saturating_add(1);
+    match gate.before(worker, tally.calls) {
+        Ok(()) => (),
+        Err(_) => return Err(Ended::GateShut),
+    }
+    let page = from.delta_page(peer, place, PAGE);
+    gate.after(worker, tally.calls);
+    match page {
+        Ok(events) => Ok(events),
+        Err(_) => Err(Ended::OutOfMemory),
+    }
+}
+
+/// Moves the next page of what the peer lacks. The answer is why the worker ends, if it does: it is
+/// done where the page is empty.
+fn move_page<D: Desk, E: Desk, G: Gate>(
+    from: &mut D,
+    to: &mut E,
+    gate: &G,
+    worker: u64,
+    peer: &Summary,
+    tally: &mut Tally,
+) -> Option<Ended>
+    requires { tally.old.fresh + tally.old.repeated + 100 < 2 ^ 64 }
+    ensures { (m n : List Call) × D.went from.old from.new m × E.went to.old to.new n
+        × Moves peer.now m n tally.old tally.new result
+        × (result ≡ None → Gains (E.arrivals to.old) (replied m) (E.arrivals to.new))
+        × (result ≡ Some Done → E.arrivals to.new ≡ E.arrivals to.old) }
+{
+    let mut batch = match next_page(from, gate, worker, peer, tally) {
+        Ok(batch) => batch,
+        Err(ended) => return Some(ended),
+    };
+    if batch.is_empty() {
+        return Some(Ended::Done);
+    }
+    flush(to, gate, worker, &mut batch, tally)
+}
+
+/// Moves all that the peer lacks, page by page. The answer is why it ended.
+fn pull_pages<D: Desk, E: Desk, G: Gate>(
+    from: &mut D,
+    to: &mut E,
+    gate: &G,
+    worker: u64,
+    peer: &Summary,
+    tally: &mut Tally,
+) -> Ended
+    requires start { tally.old ≡ record { calls = 1; fresh = 0; repeated = 0; refused = 0 } }
+    ensures pulled { (m n : List Call) × D.went from.old from.new m × E.went to.old to.new n
+        × Pulled peer.now m n (reported tally.new result)
+        × (result ≡ Done → Holds (E.arrivals to.new) (replied m)) }
+    ensures few { tally.new.fresh + tally.new.repeated + tally.new.refused < 2 ^ 64 }
+{
+    // What is taken is held: a law of sets.
+    sets_are_members();
+    for _page in 0..PAGES {
+        match move_page(from, to, gate, worker, peer, tally) {
+            None => (),
+            Some(ended) => return ended,
+        }
+    }
+    Ended::OutOfMemory
+}
+
+/// Brings the one desk what it lacks of the other's events: takes its summary once, and then, in
+/// pages of at most 100, the events of the other that this summary lacks, until a page is empty.
+/// The gate is asked before each call; a shut gate or want of memory ends it, and what was taken by
+/// then stays taken.
+///
+/// Costs the calls; at most 100 events are held beside the summary.
+pub fn pull<D: Desk, E: Desk, G: Gate>(from: &mut D, to: &mut E, gate: &G, worker: u64) -> Report
+    ensures { (m n : List Call) × D.went from.old from.new m × E.went to.old to.new n
+        × Pulls m n result
+        × (result.ended ≡ Done → Holds (E.arrivals to.new) (replied m)) }
+{
+    let mut tally = Tally::start();
+    match summary_of(to, gate, worker) {
+        Ok(peer) => {
+            tally.calls = 1;
+            let ended = pull_pages(from, to, gate, worker, &peer, &mut tally);
+            tally.report(ended)
+        }
+        Err(ended) => tally.report(ended),
+    }
+}
+
+/// `pull` from a site that nobody else adds to: where it is done, the desk has all that its summary
+/// lacked of the site's events.
+pub fn pull_from<E: Desk, G: Gate>(from: &mut Site, to: &mut E, gate: &G, worker: u64) -> Report
+    ensures same { from.new ≡ from.old }
+    ensures pulled { (m n : List Call) × Runs from.old m from.new × E.went to.old to.new n
+        × Pulls m n result × (result.ended ≡ Done → Brings from.old n (E.arrivals to.new)) }
+{
+    pull(from, to, gate, worker)
+}
