@@ -1,2 +1,3 @@
 mod SeatLemmas
 mod ArrivalLemmas
+mod StepLemmas

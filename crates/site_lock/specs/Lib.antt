@@ -1,3 +1,4 @@
 pub mod Pass
 pub mod PassCode
 pub mod Seat
+pub mod steps

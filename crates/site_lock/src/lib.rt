@@ -1,9 +1,11 @@
 //! A site that threads share, with one history of their calls.
 #![tactic(auto)]
 
+mod caller;
 mod held;
 mod pass;
 mod shared;
 
+pub use caller::Caller;
 pub use pass::Pass;
 pub use shared::{Begun, NotBegun, SharedSite};
