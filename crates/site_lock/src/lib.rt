@@ -3,8 +3,11 @@
 
 mod caller;
 mod held;
+pub mod laws;
 mod pass;
 mod shared;
+#[cfg(test)]
+mod tests;
 
 pub use caller::Caller;
 pub use pass::Pass;
