@@ -15,8 +15,9 @@ use site::{Desk, DeskFault};
 use std::sync::Wait;
 use views::{Answer, Query};
 
-/// One caller of a shared site: its pass, the site, and the runtime that it waits with. It is a desk
-/// whose arrivals are those after all that the pass has seen; each of its calls waits for a turn.
+/// One caller of a shared site: its pass, the site, and the runtime that it waits with. It is a
+/// desk whose arrivals are those after all that the pass has seen; each of its calls waits for a
+/// turn.
 #[derive(Drop)]
 pub struct Caller<'a, R: Wait> {
     rt: &'a R,

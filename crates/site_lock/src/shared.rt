@@ -19,8 +19,8 @@ use std::marker::Model;
 use std::sync::Wait;
 use turn_lock::{Says, Turnstile};
 
-/// A site that passes use by turns. Contracts see which one it is; a pass is of it where its `table`
-/// is that.
+/// A site that passes use by turns. Contracts see which one it is; a pass is of it where its
+/// `table` is that.
 #[derive(Drop)]
 pub struct SharedSite {
     turns: Turnstile<Held, Batch, Call>,

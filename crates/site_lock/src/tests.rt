@@ -1,8 +1,7 @@
-//! What no contract says of shared sites: that calls succeed with ample memory, that turns come, also
-//! to 16 threads at once, and that `turns` isn't too high. Public calls alone are used.
+//! What no contract says of shared sites: that calls succeed with ample memory, that turns come, and
+//! that `turns` isn't too high. Public calls alone are used.
 
-ghost use Rattle.std.specs.Prelude.{◌≡◌, ◌<◌, IfOk};
-ghost use denote.Param.Send.{IsSync};
+ghost use Rattle.std.specs.Prelude.{◌≡◌, IfOk};
 
 use crate::{Begun, Caller, Pass, SharedSite};
 use attributes::{Batch, Event, Given, Parts, Sequence, Sequenced, Text};
@@ -10,10 +9,13 @@ use coverage::Summary;
 use site::{Desk, DeskFault, Site};
 use std::alloc::{AllocError, Global};
 use std::sync::Wait;
-use std::thread::{Threads, join};
-use views::{Answer, Query, print};
+use views::{Query, print};
 
-const A1: &str = "{\"id\":\"a1\",\"sequence\":\"00000000000000000001\",\"source\":\"/orders\",\"specversion\":\"1.0\",\"subject\":\"x\",\"type\":\"t.a\"}\n";
+/// The line of the event a1.
+const A1: &str = concat!(
+    "{\"id\":\"a1\",\"sequence\":\"00000000000000000001\",\"source\":\"/orders\",",
+    "\"specversion\":\"1.0\",\"subject\":\"x\",\"type\":\"t.a\"}\n"
+);
 
 /// Why a test has no answer.
 #[derive(Debug, Drop)]
@@ -145,11 +147,13 @@ fn covered(site: &Site) -> Result<Text, AllocError> {
 
 /// The summary of the number 2.
 fn two(alloc: Global) -> Result<Summary, Failed> {
+    let source = Text::of(alloc, "/orders")?;
     let mut peer = Summary::empty(alloc);
-    let Some(two) = Sequence::of_u64(2) else {
-        return Err(Failed::NoEvent);
-    };
-    peer.insert_str("/orders", two)?;
+    if let Some(two) = Sequence::of_u64(2) {
+        if source.is_source() {
+            peer.insert(&source, two)?;
+        }
+    }
     Ok(peer)
 }
 
@@ -183,8 +187,12 @@ fn told<D: Desk>(alloc: Global, desk: &mut D) -> Result<(Text, Text), Failed> {
 #[test]
 fn a_caller_is_a_desk(rt: HostRuntime) {
     let alloc = rt.alloc();
-    let Begun { shared, pass } = begun(alloc).expect(&rt, "no memory");
-    let mut caller = Caller::of(&rt, &shared, pass);
+    let Begun {
+        shared,
+        pass: mut first,
+    } = begun(alloc).expect(&rt, "no memory");
+    let second = shared.split(&mut first).expect(&rt, "no memory");
+    let mut caller = Caller::of(&rt, &shared, second);
     let rows = [("a2", 2), ("a1", 1), ("a3", 3), ("a2", 2)];
     let counts = take_at(alloc, &mut caller, &rows).expect(&rt, "no memory");
     assert!(rt; counts == (3, 1));
@@ -192,115 +200,9 @@ fn a_caller_is_a_desk(rt: HostRuntime) {
     let (text, kinds) = told(alloc, &mut caller).expect(&rt, "no memory");
     assert_eq!(rt; text.as_str(), "{\"sources\":{\"/orders\":[[1,3]]},\"version\":1}");
     assert_eq!(rt; kinds.as_str(), "[\"t.a\",3]\n");
-    let mut pass = caller.into_pass();
-    let fresh = shared.fresh(&rt, &mut pass, 1, 10).expect(&rt, "no memory");
+    drop(caller.into_pass());
+    let fresh = shared.fresh(&rt, &mut first, 1, 10).expect(&rt, "no memory");
     assert!(rt; has(&fresh, &["a1", "a3"]));
-    assert_eq!(rt; shared.turns(&mut pass), 7);
-    assert_eq!(rt; shared.close(&rt, pass).arrived(), 3);
-}
-
-/// Takes an event that no other worker takes.
-fn take_one<R: Wait>(
-    rt: &R,
-    alloc: Global,
-    shared: &SharedSite,
-    pass: &mut Pass,
-    number: u64,
-) -> Result<(), Failed>
-    requires { pass.old.table ≡ shared.now }
-    ensures { pass.new.table ≡ pass.old.table }
-{
-    let id = format!(in alloc; "{number}")?;
-    let mut batch = batch_of(alloc, &[(id.as_str(), number)])?;
-    shared.take(rt, pass, &mut batch)?;
-    Ok(())
-}
-
-/// Takes so many events, one a call, with the numbers from `from` on.
-fn take_many<R: Wait>(
-    rt: &R,
-    alloc: Global,
-    shared: &SharedSite,
-    pass: Pass,
-    from: u64,
-    count: u64,
-) -> Pass
-    requires { pass.table ≡ shared.now }
-    ensures { result.table ≡ pass.table }
-{
-    let mut own = pass;
-    for k in 0..count {
-        let _ = take_one(rt, alloc, shared, &mut own, from.wrapping_add(k));
-    }
-    own
-}
-
-/// 2 to the power of `levels` workers, each in a thread of its own with a pass of its own. The pass
-/// that comes back has met all of them. Workers have numbers: the first has `worker` times that
-/// power.
-#[cycle(levels)]
-fn take_by_many<R: Threads + Wait + Sync>(
-    rt: &R,
-    alloc: Global,
-    shared: &SharedSite,
-    pass: Pass,
-    worker: u64,
-    count: u64,
-    levels: u32,
-) -> Pass
-    requires { pass.table ≡ shared.now }
-    ensures { result.table ≡ pass.table }
-{
-    if levels == 0 {
-        return take_many(rt, alloc, shared, pass, worker.wrapping_mul(1000), count);
-    }
-    let mut first = pass;
-    let Ok(second) = shared.split(&mut first) else {
-        return first;
-    };
-    let left = worker.wrapping_mul(2);
-    let (mut first, mut second) = join(
-        rt,
-        || -> Pass
-            requires { IsSync R.row × (first.table ≡ shared.now) × (0 < levels) }
-            ensures { result.table ≡ first.table }
-        { take_by_many(rt, alloc, shared, first, left, count, levels - 1) },
-        || -> Pass
-            requires { IsSync R.row × (second.table ≡ shared.now) × (0 < levels) }
-            ensures { result.table ≡ second.table }
-        { take_by_many(rt, alloc, shared, second, left.wrapping_add(1), count, levels - 1) },
-    );
-    let _ = shared.meet(&mut first, &mut second);
-    first
-}
-
-/// Runs 2 to the power of `levels` workers that take `count` events each, and tells how many events
-/// the site then shows, how many turns ended, and how many events it has.
-fn taken_by<R: Threads + Wait + Sync>(
-    rt: &R,
-    alloc: Global,
-    levels: u32,
-    count: u64,
-) -> Result<(u64, u64, u64), Failed> {
-    let Begun { shared, pass } = begun(alloc)?;
-    let mut pass = take_by_many(rt, alloc, &shared, pass, 1, count, levels);
-    let answer = shared.query(rt, &mut pass, Query::Shown);
-    let turns = shared.turns(&mut pass);
-    let arrived = shared.close(rt, pass).arrived();
-    match answer? {
-        Answer::Shown(events) => Ok((events.len(), turns, arrived)),
-        _ => Err(Failed::NoEvent),
-    }
-}
-
-#[test]
-fn two_threads_take_turns(rt: HostRuntime) {
-    let counts = taken_by(&rt, rt.alloc(), 1, 100).expect(&rt, "no memory");
-    assert!(rt; counts == (200, 201, 200));
-}
-
-#[test]
-fn sixteen_threads_take_turns(rt: HostRuntime) {
-    let counts = taken_by(&rt, rt.alloc(), 4, 50).expect(&rt, "no memory");
-    assert!(rt; counts == (800, 801, 800));
+    assert_eq!(rt; shared.turns(&mut first), 7);
+    assert_eq!(rt; shared.close(&rt, first).arrived(), 3);
 }
