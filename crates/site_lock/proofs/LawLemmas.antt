@@ -1,13 +1,12 @@
 -- The history of a first pass that was never split.
-use Rattle.std.proofs.Common.{◌≡◌, ◌<◌, ℕ, List, [], ◌∷◌, ◌++◌, length, true, cond, arith, refl, sym, ap, ◌∙◌, subst, append-nil}
+use Rattle.std.proofs.Common.{◌≡◌, ◌<◌, ℕ, List, [], ◌∷◌, ◌++◌, length, cond, arith, refl, sym, ap, ◌∙◌, subst, append-nil}
 use mathlib.Core.Option.{some}
 use lib.ListN.{get_elem?}
-use Rattle.attributes.specs.Event.{EventValue}
 use Rattle.site.specs.declared.call.Call.{Call}
 use Rattle.turn_lock.specs.declared.machine.Entry.{Entry}
 use Rattle.turn_lock.specs.History.{GoesOnBelow, made_by, same_number}
 use Rattle.site_lock.specs.Law.{UnsplitPassesSeeAll}
-use Rattle.site_lock.specs.Pass.{Closes, Shown, leave, leaves}
+use Rattle.site_lock.specs.Pass.{leave}
 
 at_middle : (xs : List (Entry Call)) (e : Entry Call) (es : List (Entry Call)) → get_elem? (xs ++ e ∷ es) (length xs) ≡ some e
 at_middle [] e es = refl
@@ -25,5 +24,5 @@ nothing_else seen (e ∷ es) foreign below = absurd (no_entry seen es e e.number
 pub sees_all : UnsplitPassesSeeAll
 sees_all p A number splits end =
     let none : end.others ≡ [] = nothing_else p.seen end.others (subst (λ n. made_by n end.others ≡ []) number end.foreign)
-        (subst (λ (z : List ℕ × ℕ). GoesOnBelow z.0 z.1 (p.seen ++ end.others)) (λ i. (number i, splits i)) end.below) in
+    (subst (λ (z : List ℕ × ℕ). GoesOnBelow z.0 z.1 (p.seen ++ end.others)) (λ i. (number i, splits i)) end.below) in
     (none, end.leaves ∙ ap (leave p.opening) (ap (λ l. p.seen ++ l) none ∙ append-nil p.seen))

@@ -1,5 +1,5 @@
 -- From a call of a pass to what its caller tells as a desk.
-use Rattle.std.proofs.Common.{◌≡◌, List, [], ◌∷◌, ◌++◌, sym, refl, ap, ◌∙◌, subst, append_assoc}
+use Rattle.std.proofs.Common.{◌≡◌, List, [], ◌∷◌, ◌++◌, refl, ap, ◌∙◌, subst, append_assoc}
 use Rattle.attributes.specs.Event.{EventValue}
 use Rattle.site.specs.Machine.{Answers, Follows, arrivals_after}
 use Rattle.site.specs.declared.call.Call.{Call}
@@ -28,8 +28,7 @@ last_answers A (x ∷ xs) e h = last_answers (arrivals_after A x.call) xs e h.1
 pub made_follows : (p q : Shown) (c : Call) → Made p q c → Follows (leaves p) c (leaves q)
 made_follows p q c m = let all : List (Entry Call) = p.seen ++ m.others in let e : Entry Call = entry p.number c in
     let g = leave_grows (leaves p) m.others in
-    let opens : leave q.opening all ≡ leaves p ++ g.0 = ap (λ (z : List EventValue). leave z all) m.same.opening ∙ (leave-append p.opening p.seen m.others ∙ g.1) in
-    (
+    let opens : leave q.opening all ≡ leaves p ++ g.0 = ap (λ (z : List EventValue). leave z all) m.same.opening ∙ (leave-append p.opening p.seen m.others ∙ g.1) in (
       g.0,
       subst (λ (z : List EventValue). Answers z c) opens (last_answers q.opening all e (subst (IsHistory q.opening) m.seen m.legal)),
       (ap (leave q.opening) m.seen ∙ leave-append q.opening all (e ∷ [])) ∙ ap (λ (z : List EventValue). arrivals_after z c) opens,

@@ -6,5 +6,4 @@ ghost use Rattle.site_lock.specs.Law.{UnsplitPassesSeeAll};
 /// as its own calls left it.
 pub fn unsplit_passes_see_all()
     ensures { UnsplitPassesSeeAll }
-{
-}
+{}

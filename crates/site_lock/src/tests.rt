@@ -130,14 +130,22 @@ fn a_pass_learns_by_meeting(rt: HostRuntime) {
     let fresh = take(&rt, alloc, &shared, &mut first, &[("a1", 1)]).expect(&rt, "no memory");
     assert_eq!(rt; fresh, 1);
     let cover = lines(&rt, alloc, &shared, &mut first, Query::Cover).expect(&rt, "no memory");
-    assert_eq!(rt; cover.as_str(), "{\"sources\":{\"/orders\":[[1,1]]},\"version\":1}\n");
-    shared.meet(&mut second, &mut first).expect(&rt, "no memory");
+    assert_eq!(rt;
+        cover.as_str(),
+        "{\"sources\":{\"/orders\":[[1,1]]},\"version\":1}\n"
+    );
+    shared
+        .meet(&mut second, &mut first)
+        .expect(&rt, "no memory");
     let shown = lines(&rt, alloc, &shared, &mut second, Query::Shown).expect(&rt, "no memory");
     assert_eq!(rt; shown.as_str(), A1);
     assert_eq!(rt; shared.turns(&mut second), 3);
     let site = shared.close(&rt, first);
     assert_eq!(rt; site.arrived(), 1);
-    assert_eq!(rt; covered(&site).expect(&rt, "no memory").as_str(), cover.as_str().trim_end());
+    assert_eq!(rt;
+        covered(&site).expect(&rt, "no memory").as_str(),
+        cover.as_str().trim_end()
+    );
 }
 
 /// The text of a site's summary.
@@ -198,10 +206,15 @@ fn a_caller_is_a_desk(rt: HostRuntime) {
     assert!(rt; counts == (3, 1));
     assert!(rt; pages(alloc, &mut caller).expect(&rt, "no memory"));
     let (text, kinds) = told(alloc, &mut caller).expect(&rt, "no memory");
-    assert_eq!(rt; text.as_str(), "{\"sources\":{\"/orders\":[[1,3]]},\"version\":1}");
+    assert_eq!(rt;
+        text.as_str(),
+        "{\"sources\":{\"/orders\":[[1,3]]},\"version\":1}"
+    );
     assert_eq!(rt; kinds.as_str(), "[\"t.a\",3]\n");
     drop(caller.into_pass());
-    let fresh = shared.fresh(&rt, &mut first, 1, 10).expect(&rt, "no memory");
+    let fresh = shared
+        .fresh(&rt, &mut first, 1, 10)
+        .expect(&rt, "no memory");
     assert!(rt; has(&fresh, &["a1", "a3"]));
     assert_eq!(rt; shared.turns(&mut first), 7);
     assert_eq!(rt; shared.close(&rt, first).arrived(), 3);

@@ -20,8 +20,11 @@ steps_none p = record {
 
 pub steps_on : (p q r : Shown) (m n : List Call) → Steps p q m → Steps q r n → Steps p r (m ++ n)
 steps_on p q r m n h k = record {
-  seen = (h.seen.0 ++ k.seen.0, k.seen.1 ∙ (ap (λ (z : List (Entry Call)). z ++ k.seen.0) h.seen.1
-      ∙ append_assoc p.seen h.seen.0 k.seen.0));
+  seen = (
+    h.seen.0 ++ k.seen.0,
+    k.seen.1 ∙ (ap (λ (z : List (Entry Call)). z ++ k.seen.0) h.seen.1
+        ∙ append_assoc p.seen h.seen.0 k.seen.0),
+  );
   mine = k.mine ∙ ((λ i. h.mine i ++ map (entry (h.same.number i)) n)
       ∙ (append_assoc p.mine (map (entry p.number) m) (map (entry p.number) n)
       ∙ ap (λ (z : List (Entry Call)). p.mine ++ z) (sym (map-append (entry p.number) m n))));

@@ -27,12 +27,7 @@ fn arrivals_after(site: &Site, n: u64, limit: u64) -> Result<Batch, DeskFault>
 
 impl SharedSite {
     /// Waits for a turn and asks a question, as `Site::query` does.
-    pub fn query<R: Wait>(
-        &self,
-        rt: &R,
-        pass: &mut Pass,
-        query: Query,
-    ) -> Result<Answer, DeskFault>
+    pub fn query<R: Wait>(&self, rt: &R, pass: &mut Pass, query: Query) -> Result<Answer, DeskFault>
         requires { pass.old.table ≡ self.now }
         ensures { Made pass.old pass.new (call (command.Query query) (answered result)) }
     {
