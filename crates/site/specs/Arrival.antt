@@ -14,6 +14,6 @@ AreNumbered A = AllByRecursion (λ e. (n : ℕ) × (number_of e ≡ Some n)) A
 abbrev pub LacksAt : List EventValue → List EventValue → ℕ → Type 0
 LacksAt A L i = (e : EventValue) → slice_get L i ≡ Some e → has key_cmp A e ≡ false
 
--- each of the events is there once: whoever adds them to nothing, one after another, passes none over
+-- each of the events is there once: whoever adds them to nothing, one by one, passes none over
 abbrev pub AreDistinct : List EventValue → Type 0
 AreDistinct A = append_new key_cmp [] A ≡ A

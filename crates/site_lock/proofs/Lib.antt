@@ -1,0 +1,4 @@
+mod SeatLemmas
+mod ArrivalLemmas
+mod StepLemmas
+mod LawLemmas

@@ -1,0 +1,5 @@
+pub mod Pass
+pub mod PassCode
+pub mod Seat
+pub mod Law
+pub mod steps

@@ -1,0 +1,115 @@
+//! Questions asked in a turn.
+
+ghost use Rattle.std.specs.Prelude.{◌≡◌, ◌≤◌};
+ghost use Rattle.site.specs.Desk.{answered, paged, summed};
+ghost use Rattle.site.specs.Machine.{Answers, call};
+ghost use Rattle.site.specs.declared.call.Command.TheVariants as command;
+ghost use Rattle.site_lock.specs.Pass.{Made};
+
+use super::SharedSite;
+use crate::held::Held;
+use crate::pass::Pass;
+use attributes::Batch;
+use coverage::Summary;
+use site::{Desk, DeskFault, Site};
+use std::marker::Brand;
+use std::sync::Wait;
+use views::{Answer, Query};
+
+/// The events that came after the first n, as a desk answers.
+fn arrivals_after(site: &Site, n: u64, limit: u64) -> Result<Batch, DeskFault>
+    requires low { 1 ≤ limit }
+    requires high { limit ≤ 100 }
+    ensures { Answers site.now (call (command.Fresh n limit) (paged result)) }
+{
+    Ok(site.arrivals_after(n, limit)?)
+}
+
+impl SharedSite {
+    /// Waits for a turn and asks a question, as `Site::query` does.
+    pub fn query<R: Wait>(&self, rt: &R, pass: &mut Pass, query: Query) -> Result<Answer, DeskFault>
+        requires { pass.old.table ≡ self.now }
+        ensures { Made pass.old pass.new (call (command.Query query) (answered result)) }
+    {
+        let seat = &mut pass.seat;
+        let Held { mut site } = self.turns.enter(rt, seat);
+        let reply = Desk::query(&mut site, query);
+        self.end::<Brand, _, _>(seat, site, &query, &reply);
+        reply
+    }
+
+    /// Waits for a turn and asks for the summary, as `Site::summary` does.
+    pub fn summary<R: Wait>(&self, rt: &R, pass: &mut Pass) -> Result<Summary, DeskFault>
+        requires { pass.old.table ≡ self.now }
+        ensures { Made pass.old pass.new (call command.Summary (summed result)) }
+    {
+        let seat = &mut pass.seat;
+        let Held { mut site } = self.turns.enter(rt, seat);
+        let reply = Desk::summary(&mut site);
+        self.end::<Brand, _, _>(seat, site, &(), &reply);
+        reply
+    }
+
+    /// Waits for a turn and asks for what a peer lacks, as `Site::delta_page` does.
+    pub fn delta_page<R: Wait>(
+        &self,
+        rt: &R,
+        pass: &mut Pass,
+        peer: &Summary,
+        from: u64,
+        limit: u64,
+    ) -> Result<Batch, DeskFault>
+        requires own { pass.old.table ≡ self.now }
+        requires low { 1 ≤ limit }
+        requires high { limit ≤ 100 }
+        ensures { Made pass.old pass.new
+            (call (command.DeltaPage peer.now from limit) (paged result)) }
+    {
+        let seat = &mut pass.seat;
+        let Held { mut site } = self.turns.enter(rt, seat);
+        let reply = Desk::delta_page(&mut site, peer, from, limit);
+        self.end::<Brand, _, _>(seat, site, &(peer, from, limit), &reply);
+        reply
+    }
+
+    /// Waits for a turn and asks for a page in key order, as `Site::page` does.
+    pub fn page<R: Wait>(
+        &self,
+        rt: &R,
+        pass: &mut Pass,
+        from: u64,
+        limit: u64,
+    ) -> Result<Batch, DeskFault>
+        requires own { pass.old.table ≡ self.now }
+        requires low { 1 ≤ limit }
+        requires high { limit ≤ 100 }
+        ensures { Made pass.old pass.new (call (command.Page from limit) (paged result)) }
+    {
+        let seat = &mut pass.seat;
+        let Held { mut site } = self.turns.enter(rt, seat);
+        let reply = Desk::page(&mut site, from, limit);
+        self.end::<Brand, _, _>(seat, site, &(from, limit), &reply);
+        reply
+    }
+
+    /// Waits for a turn and asks for the events that came after the first n, as
+    /// `Site::arrivals_after` does.
+    pub fn fresh<R: Wait>(
+        &self,
+        rt: &R,
+        pass: &mut Pass,
+        n: u64,
+        limit: u64,
+    ) -> Result<Batch, DeskFault>
+        requires own { pass.old.table ≡ self.now }
+        requires low { 1 ≤ limit }
+        requires high { limit ≤ 100 }
+        ensures { Made pass.old pass.new (call (command.Fresh n limit) (paged result)) }
+    {
+        let seat = &mut pass.seat;
+        let Held { site } = self.turns.enter(rt, seat);
+        let reply = arrivals_after(&site, n, limit);
+        self.end::<Brand, _, _>(seat, site, &(n, limit), &reply);
+        reply
+    }
+}

@@ -1,0 +1,40 @@
+//! Events taken in a turn.
+
+ghost use Rattle.std.specs.Prelude.{◌≡◌, [], drop, IfErr, OnOk};
+ghost use Rattle.site.specs.Desk.{taken_of, took};
+ghost use Rattle.site.specs.Machine.{call};
+ghost use Rattle.site.specs.declared.call.Command.TheVariants as command;
+ghost use Rattle.site_lock.specs.Pass.{Made};
+
+use super::SharedSite;
+use crate::held::Held;
+use crate::pass::Pass;
+use attributes::Batch;
+use inbox::Counts;
+use site::{Desk, DeskFault};
+use std::marker::Brand;
+use std::snapshot::Snapshot;
+use std::sync::Wait;
+
+impl SharedSite {
+    /// Waits for a turn and takes the events of a batch, as `Site::take_batch` does. After want of
+    /// memory the batch holds what was not taken; what was taken stays, and the call has its entry.
+    pub fn take<R: Wait>(
+        &self,
+        rt: &R,
+        pass: &mut Pass,
+        batch: &mut Batch,
+    ) -> Result<Counts, DeskFault>
+        requires { pass.old.table ≡ self.now }
+        ensures made { Made pass.old pass.new (call (command.Take batch.old) (took result)) }
+        ensures emptied { OnOk result (batch.new ≡ []) }
+        ensures rest { IfErr result (λ fault. batch.new ≡ drop (taken_of fault) batch.old) }
+    {
+        let seat = &mut pass.seat;
+        let Held { mut site } = self.turns.enter(rt, seat);
+        let before = Snapshot::of(batch);
+        let reply = Desk::take(&mut site, batch);
+        self.end::<Brand, _, _>(seat, site, &before, &reply);
+        reply
+    }
+}
