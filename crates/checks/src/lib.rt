@@ -14,8 +14,4 @@ mod json;
 #[cfg(test)]
 mod reports;
 #[cfg(test)]
-mod sites;
-#[cfg(test)]
 mod summaries;
-#[cfg(test)]
-mod worlds;

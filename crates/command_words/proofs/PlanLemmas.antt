@@ -14,15 +14,14 @@ pub planned : (r : Result Plan Faulty) (command : Command) (words : List Text) (
     → word_of command ≡ first → fault_of (app_for command) words ≡ [] → rows ≡ matches_of (app_for command) words
     → IfOk r (λ plan. command_of plan ≡ command) → IfOk r (HasTextsOf rows)
     → IfOk r (λ plan. (word_of (command_of plan) ≡ first) × IsPlanFor words (command_of plan) plan)
-planned (Ok plan) command words first rows word faultless matches is_command texts =
-    (
-      ap word_of is_command ∙ word,
-      record {
-        is_command = refl;
-        faultless = ap (λ c. fault_of (app_for c) words) is_command ∙ faultless;
-        texts = subst (λ l. HasTextsOf l plan) (matches ∙ ap (λ c. matches_of (app_for c) words) (sym is_command)) texts;
-      },
-    )
+planned (Ok plan) command words first rows word faultless matches is_command texts = (
+  ap word_of is_command ∙ word,
+  record {
+    is_command = refl;
+    faultless = ap (λ c. fault_of (app_for c) words) is_command ∙ faultless;
+    texts = subst (λ l. HasTextsOf l plan) (matches ∙ ap (λ c. matches_of (app_for c) words) (sym is_command)) texts;
+  },
+)
 planned (Err e) command words first rows word faultless matches is_command texts = tt
 
 -- where no plan has the values that were matched, the words are a plan for nothing

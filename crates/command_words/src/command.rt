@@ -156,10 +156,7 @@ impl<'a> Row<'a> {
         match self.command {
             Command::Ask(_) => bare.arg(files(alloc)),
             Command::Take => bare.arg(db(alloc))?.arg(files(alloc)),
-            Command::Delta => bare
-                .arg(db(alloc))?
-                .arg(from(alloc))?
-                .arg(summary(alloc)),
+            Command::Delta => bare.arg(db(alloc))?.arg(from(alloc))?.arg(summary(alloc)),
             Command::Scrub => bare.arg(db(alloc))?.arg(from(alloc)),
             Command::Order => {
                 let begun = bare.arg(db(alloc))?.arg(source(alloc))?;
@@ -186,8 +183,5 @@ fn with_request<'a>(
     ensures { IfOk result (λ parser. app_of parser ≡ with_rule (with_rule (with_rule (app_of begun.entry)
         (needed_rule (codes "at"))) (place_rule (codes "action"))) (place_rule (codes "order"))) }
 {
-    begun
-        .arg(at(alloc))?
-        .arg(action(alloc))?
-        .arg(order(alloc))
+    begun.arg(at(alloc))?.arg(action(alloc))?.arg(order(alloc))
 }

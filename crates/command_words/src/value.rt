@@ -38,12 +38,7 @@ pub fn number(alloc: Global, name: &str, text: &str) -> Result<u64, Faulty>
 {
     match number_of(text) {
         Some(number) => Ok(number),
-        None => Err(not_allowed(
-            alloc,
-            name,
-            text,
-            "a number of 1 to 20 digits, below 2^64",
-        )),
+        None => Err(not_allowed(alloc, name, text, "a number of 1 to 20 digits, below 2^64")),
     }
 }
 
@@ -82,12 +77,7 @@ pub fn action(alloc: Global, text: &str) -> Result<Action, Faulty>
         "place" => Ok(Action::Place),
         "ship" => Ok(Action::Ship),
         "cancel" => Ok(Action::Cancel),
-        _ => Err(not_allowed(
-            alloc,
-            "<ACTION>",
-            text,
-            "place, ship or cancel",
-        )),
+        _ => Err(not_allowed(alloc, "<ACTION>", text, "place, ship or cancel")),
     }
 }
 
@@ -128,8 +118,7 @@ pub fn source(alloc: Global, text: &str) -> Result<Text, Faulty>
 
 /// What is said of a text that its argument doesn't allow.
 fn not_allowed(alloc: Global, name: &str, text: &str, wanted: &str) -> Faulty {
-    let said = format!(
-        in alloc;
+    let said = format!(in alloc;
         "error: invalid value '{text}' for '{name}': {wanted} is wanted\n\nFor more information, try '--help'.\n"
     );
     match said {
