@@ -6,38 +6,7 @@
 #   tools/try_program.sh [PROGRAM]       by default crates/site_cli/out/site_cli
 #
 # Prints a line for each run that went wrong, and at last how many of how many were right.
-here=$(CDPATH='' cd -- "$(dirname -- "$(readlink -f -- "$0")")/.." && pwd) || exit 1
-program=$(readlink -f -- "${1:-$here/crates/site_cli/out/site_cli}")
-[ -x "$program" ] || { echo "no program at $program" >&2; exit 1; }
-folder=$(mktemp -d) || exit 1
-trap 'rm -rf "$folder"' EXIT
-cd "$folder" || exit 1
-right=0
-all=0
-
-# Compares: what was tried, the status, standard output, standard error. `*` stands for any text that
-# isn't empty.
-is() {
-    all=$((all + 1))
-    printf %s "$3" >want.out
-    printf %s "$4" >want.err
-    wrong=
-    [ "$status" = "$2" ] || wrong="status $status in place of $2"
-    for stream in out err; do
-        if [ "$(cat want.$stream)" = '*' ]; then
-            [ -s "got.$stream" ] || wrong="$wrong; nothing on $stream"
-        else
-            cmp -s want.$stream got.$stream || wrong="$wrong; on $stream: $(head -c 200 got.$stream)"
-        fi
-    done
-    if [ -z "$wrong" ]; then right=$((right + 1)); else echo "wrong: $1: $wrong"; fi
-}
-
-# Runs the program on the words, both streams caught.
-run() {
-    "$program" "$@" >got.out 2>got.err </dev/null
-    status=$?
-}
+. "$(dirname -- "$(readlink -f -- "$0")")/trial.sh"
 
 event='{"id":"a1","sequence":"00000000000000000001","source":"/orders","specversion":"1.0","type":"t.a"}'
 line='{"sources":{"/orders":[[1,1]]},"version":1}
@@ -207,5 +176,4 @@ if [ "$program" = "$here/crates/site_cli/out/site_cli" ] && [ -e "$program.built
     done
 fi
 
-echo "$right of $all runs were right"
-[ "$right" = "$all" ]
+tell

@@ -1,0 +1,183 @@
+#!/bin/sh
+# Runs the commands over databases as a shell does: what they print, what they leave in the files, and
+# what they say of files that are no databases. What another program of SQLite sees in the files is asked
+# of Python's.
+#
+#   tools/try_databases.sh [PROGRAM]     by default crates/site_cli/out/site_cli
+. "$(dirname -- "$(readlink -f -- "$0")")/trial.sh"
+
+lf='
+'
+# An event of the number, the id and the type, whose subject is the last word.
+event() {
+    printf '{"id":"%s","sequence":"%020d","source":"/orders","specversion":"1.0","subject":"%s","type":"%s"}' "$1" "$2" "$4" "$3"
+}
+e1=$(event a1 1 t.a x)
+e2=$(event a2 2 t.b x)
+e3=$(event a3 3 t.a y)
+printf '[%s,%s,%s]' "$e1" "$e2" "$e3" >three.json
+printf '[%s,%s]' "$e2" "$e3" >two.json
+printf '{"sources":{"/orders":[[2,2]]},"version":1}' >held.json
+printf '{"sources":{},"version":1}\n' >nothing.json
+
+# Asks SQLite, as Python has it, a question about a file.
+ask() {
+    python3 -c 'import sqlite3, sys
+for row in sqlite3.connect(sys.argv[1]).execute(sys.argv[2]): print("|".join(map(str, row)))' "$1" "$2" >got.out 2>got.err
+    status=$?
+}
+
+# Taking, and what another site lacks.
+run take --db s.db three.json two.json
+is 'repeats within the files' 0 "read 5 new 3 repeated 2$lf" ''
+run take --db s.db two.json
+is 'events that are there' 0 "read 2 new 0 repeated 2$lf" ''
+run scrub --db s.db
+is 'all events' 0 "[$e1,$e2,$e3]$lf" ''
+run scrub --db s.db --from 2
+is 'events from a place' 0 "[$e3]$lf" ''
+run scrub --db s.db --from 3
+is 'no event behind the last' 0 "[]$lf" ''
+run delta --db s.db held.json
+is 'what a summary lacks' 0 "[$e1,$e3]$lf" ''
+run delta --db s.db --from 1 held.json
+is 'what it lacks from a place' 0 "[$e3]$lf" ''
+run delta --db s.db nothing.json
+is 'a summary with a line end' 0 "[$e1,$e2,$e3]$lf" ''
+run delta --db new.db nothing.json
+is 'a new file' 0 "[]$lf" ''
+run take --db s.db three.json missing.json
+is 'files are read before the database is opened' 1 '' "site: missing.json: cannot read$lf"
+ask s.db 'SELECT place, source, id, number FROM inbox ORDER BY place'
+is 'the rows as SQLite has them' 0 "1|/orders|a1|1$lf""2|/orders|a2|2$lf""3|/orders|a3|3$lf" ''
+ask s.db 'PRAGMA integrity_check'
+is 'the file as SQLite tests it' 0 "ok$lf" ''
+
+# More events than a page holds.
+awk 'BEGIN { printf "["; for (i = 1; i <= 250; i++) printf "%s{\"id\":\"%03d\",\"sequence\":\"%020d\",\"source\":\"/\",\"specversion\":\"1.0\",\"type\":\"t\"}", (i > 1 ? "," : ""), i, i; printf "]" }' >many.json
+run take --db many.db many.json
+is '250 events' 0 "read 250 new 250 repeated 0$lf" ''
+for row in '0 100' '100 100' '200 50' '250 0'; do
+    for words in "delta --db many.db --from ${row% *} nothing.json" "scrub --db many.db --from ${row% *}"; do
+        # shellcheck disable=SC2086
+        run $words
+        count=$(grep -o '"id"' got.out | wc -l)
+        printf '%s' "$count" >got.out
+        is "$words" 0 "${row#* }" ''
+    done
+done
+: >got.err
+"$program" take --db closed.db three.json 2>got.err >&-
+status=$?
+: >got.out
+is 'taking with standard output closed' 1 '' ''
+run take --db closed.db three.json
+is 'it was kept all the same' 0 "read 3 new 0 repeated 3$lf" ''
+
+# Orders and their events.
+order() { run order --db o.db --at 2024-02-29T10:00:00Z "$@"; }
+row() {
+    printf '{"id":"%020d","sequence":"%020d","source":"/orders","specversion":"1.0","subject":"%s","time":"2024-02-29T10:00:00Z","type":"order.%s"}' "$1" "$1" "$2" "$3"
+}
+order place 7
+is 'an order' 0 "$(row 1 7 placed)$lf" ''
+order ship 7
+is 'it is shipped' 0 "$(row 2 7 shipped)$lf" ''
+order ship 7
+is 'it is shipped once' 1 '' "site: order 7: WrongState$lf"
+order place 7
+is 'it is placed once' 1 '' "site: order 7: OrderExists$lf"
+order cancel 8
+is 'an order that is not there' 1 '' "site: order 8: NoOrder$lf"
+order place 9
+is 'no number was lost' 0 "$(row 3 9 placed)$lf" ''
+order cancel 9
+is 'it is cancelled' 0 "$(row 4 9 cancelled)$lf" ''
+run relay --db o.db --after 0
+is 'all rows' 0 "[$(row 1 7 placed),$(row 2 7 shipped),$(row 3 9 placed),$(row 4 9 cancelled)]$lf" ''
+run relay --db o.db --after 3
+is 'rows after a number' 0 "[$(row 4 9 cancelled)]$lf" ''
+run relay --db o.db --after 4
+is 'no row is left' 0 "[]$lf" ''
+run relay --db o.db --after 18446744073709551615
+is 'a number beyond all' 0 "[]$lf" ''
+run order --db other.db --source /south --at 2024-02-29T10:00:00Z place 1
+sed 's/.*"source":"\([^"]*\)".*/\1/' got.out >source
+cp source got.out
+is 'a source' 0 "/south$lf" ''
+ask o.db 'SELECT number, state FROM orders ORDER BY number'
+is 'the orders as SQLite has them' 0 "7|2$lf""9|3$lf" ''
+run take --db o.db three.json
+is 'an inbox in the same file' 0 "read 3 new 3 repeated 0$lf" ''
+order place 10
+is 'beside the orders' 0 "$(row 5 10 placed)$lf" ''
+
+# Files that are no databases of these commands: one line, and the file as it was.
+is_kept() {
+    before=$(cksum <"$1")
+    shift_name=$1
+    shift
+    run "$@"
+    kept_status=$status
+    status=$kept_status
+    [ "$before" = "$(cksum <"$shift_name")" ] || status="$status, and the file changed"
+}
+printf 'no database, but a text that is long enough to be taken for a header of one, and more\n' >text.db
+is_kept text.db take --db text.db three.json
+is 'a text' 1 '' "site: text.db: Store$lf"
+is_kept text.db relay --db text.db --after 0
+is 'a text as an outbox' 1 '' "site: text.db: Store$lf"
+mkdir folder.db
+run scrub --db folder.db
+is 'a folder' 1 '' "site: folder.db: Store$lf"
+run scrub --db none/s.db
+is 'a folder that is not there' 1 '' "site: none/s.db: Store$lf"
+ask strange.db 'CREATE TABLE strange (a INTEGER)'
+is_kept strange.db take --db strange.db three.json
+is 'tables of another program' 1 '' "site: strange.db: Store$lf"
+is_kept strange.db order --db strange.db --at 2024-02-29T10:00:00Z place 1
+is 'orders beside them' 1 '' "site: strange.db: Store$lf"
+ask loose.db 'CREATE TABLE inbox (place INTEGER PRIMARY KEY, body TEXT)'
+is_kept loose.db scrub --db loose.db
+is 'a table of the name and another form' 1 '' "site: loose.db: Foreign$lf"
+cp s.db wrong.db
+python3 -c 'import sqlite3
+base = sqlite3.connect("wrong.db")
+base.execute("PRAGMA journal_mode = DELETE")
+base.execute("UPDATE inbox SET number = 5 WHERE place = 2")
+base.commit()'
+is_kept wrong.db delta --db wrong.db nothing.json
+is 'a row that breaks a rule' 1 '' "site: wrong.db: Foreign$lf"
+cp o.db gap.db
+python3 -c 'import sqlite3
+base = sqlite3.connect("gap.db")
+base.execute("PRAGMA journal_mode = DELETE")
+base.execute("DELETE FROM outbox WHERE number = 2")
+base.commit()'
+is_kept gap.db relay --db gap.db --after 0
+is 'an outbox with a gap' 1 '' "site: gap.db: Foreign$lf"
+
+# Faulty words: status 2, and no file is made.
+for words in 'take three.json' 'take --db w.db' 'delta --db w.db' 'delta --db w.db --from x held.json' \
+    'delta --db w.db --from +1 held.json' 'scrub --db w.db --from 18446744073709551616' \
+    'scrub --db w.db --from 000000000000000000001' 'relay --db w.db' 'relay --db w.db --after -1' \
+    'order --db w.db place 7' 'order --db w.db --at 2024-02-30T10:00:00Z place 7' \
+    'order --db w.db --at 2024-02-29T10:00:00Z send 7' 'order --db w.db --at 2024-02-29T10:00:00Z place 0' \
+    'order --db w.db --at 2024-02-29T10:00:00Z place 9223372036854775808' \
+    'order --db w.db --at 2024-02-29T10:00:00Z place seven'; do
+    # shellcheck disable=SC2086
+    run $words
+    is "$words" 2 '' '*'
+done
+run order --db w.db --source '' --at 2024-02-29T10:00:00Z place 7
+is 'an empty source' 2 '' '*'
+run order --db w.db --source "$(printf 'a\tb')" --at 2024-02-29T10:00:00Z place 7
+is 'a source with a control character' 2 '' '*'
+run order --db w.db --source "$(printf '%01025d' 0)" --at 2024-02-29T10:00:00Z place 7
+is 'a source of 1,025 bytes' 2 '' '*'
+status=0
+[ ! -e w.db ] || status='a file was made'
+: >got.out
+: >got.err
+is 'faulty words make no file' 0 '' ''
+tell
