@@ -108,7 +108,7 @@ fn ends_as<H: Threads + Wait + Sync, G: Gate + Sync>(
     let mut routes = Vec::new(alloc);
     for (mark, send) in from {
         let route = MemoryRoute::empty(alloc);
-        relays.push(Relay::at(routes.len() as u32, *mark))?;
+        relays.push(Relay::at(u32::try_from(routes.len()).unwrap_or(0), *mark))?;
         routes.push(FailsAt { route, send: *send })?;
     }
     if routes.is_empty() || routes.len() > 16 || relays.len() != routes.len() {
