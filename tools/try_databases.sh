@@ -113,19 +113,17 @@ order place 10
 is 'beside the orders' 0 "$(row 5 10 placed)$lf" ''
 
 # Files that are no databases of these commands: one line, and the file as it was.
-is_kept() {
-    before=$(cksum <"$1")
-    shift_name=$1
+run_over() {
+    file=$1
+    before=$(cksum <"$file")
     shift
     run "$@"
-    kept_status=$status
-    status=$kept_status
-    [ "$before" = "$(cksum <"$shift_name")" ] || status="$status, and the file changed"
+    [ "$before" = "$(cksum <"$file")" ] || status="$status, and the file changed"
 }
 printf 'no database, but a text that is long enough to be taken for a header of one, and more\n' >text.db
-is_kept text.db take --db text.db three.json
+run_over text.db take --db text.db three.json
 is 'a text' 1 '' "site: text.db: Store$lf"
-is_kept text.db relay --db text.db --after 0
+run_over text.db relay --db text.db --after 0
 is 'a text as an outbox' 1 '' "site: text.db: Store$lf"
 mkdir folder.db
 run scrub --db folder.db
@@ -133,12 +131,12 @@ is 'a folder' 1 '' "site: folder.db: Store$lf"
 run scrub --db none/s.db
 is 'a folder that is not there' 1 '' "site: none/s.db: Store$lf"
 ask strange.db 'CREATE TABLE strange (a INTEGER)'
-is_kept strange.db take --db strange.db three.json
+run_over strange.db take --db strange.db three.json
 is 'tables of another program' 1 '' "site: strange.db: Store$lf"
-is_kept strange.db order --db strange.db --at 2024-02-29T10:00:00Z place 1
+run_over strange.db order --db strange.db --at 2024-02-29T10:00:00Z place 1
 is 'orders beside them' 1 '' "site: strange.db: Store$lf"
 ask loose.db 'CREATE TABLE inbox (place INTEGER PRIMARY KEY, body TEXT)'
-is_kept loose.db scrub --db loose.db
+run_over loose.db scrub --db loose.db
 is 'a table of the name and another form' 1 '' "site: loose.db: Foreign$lf"
 cp s.db wrong.db
 python3 -c 'import sqlite3
@@ -146,7 +144,7 @@ base = sqlite3.connect("wrong.db")
 base.execute("PRAGMA journal_mode = DELETE")
 base.execute("UPDATE inbox SET number = 5 WHERE place = 2")
 base.commit()'
-is_kept wrong.db delta --db wrong.db nothing.json
+run_over wrong.db delta --db wrong.db nothing.json
 is 'a row that breaks a rule' 1 '' "site: wrong.db: Foreign$lf"
 cp o.db gap.db
 python3 -c 'import sqlite3
@@ -154,7 +152,7 @@ base = sqlite3.connect("gap.db")
 base.execute("PRAGMA journal_mode = DELETE")
 base.execute("DELETE FROM outbox WHERE number = 2")
 base.commit()'
-is_kept gap.db relay --db gap.db --after 0
+run_over gap.db relay --db gap.db --after 0
 is 'an outbox with a gap' 1 '' "site: gap.db: Foreign$lf"
 
 # Faulty words: status 2, and no file is made.
