@@ -52,8 +52,10 @@ pub fn events_of(alloc: Global, files: &[Octets]) -> Result<Batch, Refused>
         match events_of_file(alloc, bytes.as_bytes()) {
             Ok(more) => append(&mut events, more)?,
             Err(fault) => {
-                let file = file as u64;
-                return Err(Refused { file, fault });
+                return Err(Refused {
+                    file: file as u64,
+                    fault,
+                });
             }
         }
     }
