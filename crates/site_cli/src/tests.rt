@@ -259,7 +259,10 @@ fn faulty_words_and_help_end_with_two(rt: HostRuntime) -> Result<(), Fail> {
 #[test]
 fn a_plan_holds_the_question_and_the_files(rt: HostRuntime) -> Result<(), Fail> {
     let words = words_of(rt.alloc(), &["shown", "f", "-", "--", "-g"])?;
-    let Plan::Ask { query, files } = plan(rt.alloc(), words.as_slice()).ok().ok_or("no plan")?;
+    let Plan::Ask { query, files } = plan(rt.alloc(), words.as_slice()).ok().ok_or("no plan")?
+    else {
+        return Err(Fail::from("another plan"));
+    };
     assert_eq!(rt; Command::of_word("shown"), Some(Command::Ask(query)));
     assert_eq!(rt; query, Query::Shown);
     assert_eq!(rt; files.len(), 3);
