@@ -1,15 +1,18 @@
 //! Events, built of parts.
 
-ghost use Rattle.std.specs.Prelude.{◌≡◌, ◌≢◌, ◌↔◌, Err, IfErr, IfOk, Some, None, true, option_and_then, option_map};
+ghost use Rattle.std.specs.Prelude.{◌≡◌, ◌≢◌, ◌↔◌, ◌≤◌, Err, IfErr, IfOk, Some, None, true, codes, length, nat_lt, option_and_then, option_map};
 ghost use Rattle.std.specs.Option.{option_copied, option_or};
 ghost use Rattle.std.specs.declared.cmp.Ordering.TheVariants.{Equal};
 ghost use Rattle.attributes.specs.Bytes.{byte_cmp};
 ghost use Rattle.attributes.specs.Character.{is_filled};
-ghost use Rattle.attributes.specs.Members.{InOrder, named};
-ghost use Rattle.attributes.specs.Event.{scalar_of, attribute_of, content_of, day_of, event_of, id_of, kind_of, scalars_of, source_of, subject_of, text, time_of, words_of, words_or_empty};
+ghost use Rattle.std.specs.Str.{IsUtf8};
+ghost use Rattle.attributes.specs.Members.{InOrder, named, value_at};
+ghost use Rattle.attributes.specs.steps.Content.{HoldsExact};
+ghost use Rattle.attributes.specs.steps.Place.{IsBody, attributes_in, id_in, source_in, text_of};
+ghost use Rattle.attributes.specs.Event.{scalar_of, attribute_of, content_of, day_of, event_of, id_of, kind_of, scalars_of, source_of, subject_of, text, time_of, view_of, words_of, words_or_empty};
 ghost use Rattle.attributes.specs.Time.{time_day};
-ghost use Rattle.attributes.specs.Fault.{IsEvent, fault, member_fault, payload_fault};
-ghost use Rattle.attributes.specs.declared.fault.Fault.TheVariants.{OutOfMemory};
+ghost use Rattle.attributes.specs.Fault.{IsEvent, fault, has_whole_numbers, is_shallow, max_text, member_fault, offered_of, payload_fault};
+ghost use Rattle.attributes.specs.declared.fault.Fault.TheVariants.{OutOfMemory, TooLarge};
 
 use crate::body::{Attribute, Body};
 use crate::canonical::{canonical, sealed};
@@ -104,6 +107,51 @@ fn time_day(time: Option<&str>) -> Option<i32>
     }
 }
 
+/// The first fault of parts that is found before any memory is asked for.
+fn first_fault(members: &BTreeMap<String, Given>, offered: &Offered) -> Option<Fault>
+    ensures { result
+        ≡ option_or (member_fault (named members.now.entries)) (payload_fault offered.now) }
+{
+    match first_member_fault(members) {
+        None => first_payload_fault(offered),
+        Some(fault) => Some(fault),
+    }
+}
+
+/// What an event with these members and this content keeps of its text, where that isn't too large.
+fn body_of(
+    alloc: Global,
+    members: &BTreeMap<String, Given>,
+    content: &Content,
+) -> Result<Body, Fault>
+    requires members { member_fault (named members.now.entries) ≡ None }
+    requires whole { has_whole_numbers (offered_of content.now) ≡ true }
+    requires shallow { is_shallow (offered_of content.now) ≡ true }
+    ensures text { IfOk result (λ b.
+        text_of b ≡ text (view_of (scalars_of (named members.now.entries)) content.now)) }
+    ensures short { IfOk result (λ b. length (text_of b) ≤ max_text) }
+    ensures utf8 { IfOk result (λ b. IsUtf8 (text_of b)) }
+    ensures shows { IfOk result (λ b. attributes_in b ≡ scalars_of (named members.now.entries)) }
+    ensures ordered { IfOk result (λ b. InOrder (named members.now.entries)) }
+    ensures exact { IfOk result (λ b. HoldsExact content.now) }
+    ensures body { IfOk result (λ b. IsBody b) }
+    ensures source { IfOk result (λ b. source_in b ≡ words_or_empty
+        (value_at (codes "source") (scalars_of (named members.now.entries)))) }
+    ensures id { IfOk result (λ b. id_in b ≡ words_or_empty
+        (value_at (codes "id") (scalars_of (named members.now.entries)))) }
+    ensures refused { IfErr result (λ f. f ≢ OutOfMemory → (f ≡ TooLarge) × (nat_lt max_text
+        (length (text (view_of (scalars_of (named members.now.entries)) content.now))) ≡ true)) }
+{
+    let source = words_or_empty_at(members, "source");
+    let id = words_or_empty_at(members, "id");
+    let room = source.len().saturating_add(id.len()).saturating_add(3);
+    let draft = canonical(alloc, members, content, room)?;
+    if draft.text.len() > MAX_TEXT {
+        return Err(Fault::TooLarge);
+    }
+    Ok(sealed(draft, source, id)?)
+}
+
 impl Event {
     /// Tests the parts in the order of the faults, and answers the first one or the event. Want of
     /// memory may come in the place of `TooLarge` alone, since the text is made before it is
@@ -119,23 +167,12 @@ impl Event {
             → option_or (member_fault parts.members) (payload_fault parts.offered) ≡ Some f
             → result ≡ Err f }
     {
-        match first_member_fault(&parts.members) {
-            None => {}
-            Some(fault) => return Err(fault),
-        }
-        match first_payload_fault(&parts.offered) {
+        match first_fault(&parts.members, &parts.offered) {
             None => {}
             Some(fault) => return Err(fault),
         }
         let content = content_of(parts.offered);
-        let source = words_or_empty_at(&parts.members, "source");
-        let id = words_or_empty_at(&parts.members, "id");
-        let room = source.len().saturating_add(id.len()).saturating_add(3);
-        let draft = canonical(parts.alloc, &parts.members, &content, room)?;
-        if draft.text.len() > MAX_TEXT {
-            return Err(Fault::TooLarge);
-        }
-        let body = sealed(draft, source, id)?;
+        let body = body_of(parts.alloc, &parts.members, &content)?;
         let day = time_day(words_at(&parts.members, "time"));
         Ok(Event { body, content, day })
     }

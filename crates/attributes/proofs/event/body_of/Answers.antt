@@ -1,0 +1,36 @@
+use Rattle.std.proofs.Common.{◌∙◌, ℕ, List, length, ap, sym, subst, arith, IsUtf8}
+use Rattle.std.proofs.lemmas.Str.{IsUtf8-string_bytes}
+use Rattle.std.specs.Prelude.{codes}
+
+use Rattle.attributes.specs.Members.{named}
+use Rattle.attributes.proofs.BuildLemmas.{ordered_scalars}
+use Rattle.attributes.proofs.FaultLemmas.{given_words-or_empty, names_pass, values_pass}
+use Rattle.attributes.proofs.event.body_of.Goals as goal
+
+pub canonical-requires-clause-ordered : goal.canonical-requires-clause-ordered
+canonical-requires-clause-ordered c = λ order. ordered_scalars (named c.args.members.now.entries) c.requires.members order
+
+pub canonical-requires-clause-named : goal.canonical-requires-clause-named
+canonical-requires-clause-named c = names_pass (named c.args.members.now.entries) c.requires.members
+
+pub returns-clause-text : goal.returns-clause-text
+returns-clause-text c = c.in_ok-sealed.ensures.text ∙ c.in_ok-draft.ensures.text
+
+pub returns-clause-short : goal.returns-clause-short
+returns-clause-short c = omega (arith, c.if-len-gt-MAX_TEXT.false, c.len.ensures, ap (λ (t : List ℕ). length t) c.in_ok-sealed.ensures.text)
+
+pub returns-clause-utf8 : goal.returns-clause-utf8
+returns-clause-utf8 c = subst IsUtf8 (sym c.in_ok-sealed.ensures.text) (IsUtf8-string_bytes c.in_ok-draft.draft.text)
+
+pub returns-clause-shows : goal.returns-clause-shows
+returns-clause-shows c = c.in_ok-sealed.ensures.shows ∙ c.in_ok-draft.ensures.shows
+
+pub returns-clause-source : goal.returns-clause-source
+returns-clause-source c =
+    let ms = named c.args.members.now.entries in
+    c.in_ok-sealed.ensures.source ∙ (c.words_or_empty_at-source.ensures ∙ given_words-or_empty (codes "source") ms (values_pass ms c.requires.members))
+
+pub returns-clause-id : goal.returns-clause-id
+returns-clause-id c =
+    let ms = named c.args.members.now.entries in
+    c.in_ok-sealed.ensures.id ∙ (c.words_or_empty_at-id.ensures ∙ given_words-or_empty (codes "id") ms (values_pass ms c.requires.members))
