@@ -204,6 +204,11 @@ impl<S: Alter> Table<S> {
             → OnErr result ((state S.Store self.new.conn).now
             ≡ (state S.Store self.old.conn).now) }
         ensures rows_same { OnErr result (self.new.rows ≡ self.old.rows) }
+        ensures was_open { HasCleanDisk (state S.Store self.new.conn)
+            → IsTrue (state S.Store self.new.conn).is_open
+            → IsTrue (state S.Store self.old.conn).is_open }
+        ensures open { HasCleanDisk (state S.Store self.new.conn)
+            → OnOk result (IsTrue (state S.Store self.new.conn).is_open) }
         ensures fault { IfErr result IsOfStore }
         ensures crash { Survives (state S.Store self.old.conn) (state S.Store self.new.conn)
             (λ trees. Stands (state S.Store self.old.conn).now self.old.rows

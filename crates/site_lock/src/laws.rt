@@ -1,9 +1,15 @@
 //! Laws of shared sites, each as the contract of a function that does nothing.
 
-ghost use Rattle.site_lock.specs.Law.{UnsplitPassesSeeAll};
+ghost use Rattle.site_lock.specs.Law.{CallsFollow, UnsplitPassesSeeAll};
 
 /// Where the first pass was never split, nobody else made a call: the site that it closes comes out
 /// as its own calls left it.
 pub fn unsplit_passes_see_all()
     ensures { UnsplitPassesSeeAll }
+{}
+
+/// Each call of a pass, of whatever kind, comes behind what others added and is one call of the site
+/// machine, with the reply that it has there.
+pub fn calls_follow()
+    ensures { CallsFollow }
 {}

@@ -1,0 +1,36 @@
+-- What a table has of the arrivals of a site.
+use Rattle.std.specs.Prelude.{◌≡◌, ◌≤◌, ℕ, List, ◌++◌, length, take, IsTrue}
+use Rattle.sqlite.specs.Effect.{Database}
+use Rattle.sqlite.specs.State.{State, HasCleanDisk}
+use Rattle.attributes.specs.Event.{EventValue}
+use Rattle.inbox_table.specs.Rows.{IsInbox}
+use Rattle.site.specs.Machine.{call}
+use Rattle.site.specs.declared.call.Command.TheVariants as command
+use Rattle.site.specs.declared.call.Reply.{Reply}
+use Rattle.site_lock.specs.Pass.{Made, Shown}
+
+-- the most events that one step keeps
+abbrev pub max_page : ℕ
+max_page = 100
+
+-- the table of the database has the first so many of these arrivals, in their order, and no others
+pub record HasFirst (db : Database) (rows : ℕ) (arrivals : List EventValue) : Type 0 where
+  pub some : rows ≤ length arrivals
+  pub table : IsInbox db (take rows arrivals)
+
+-- it does so while the disk gives back what was written and the database is open
+abbrev pub KeepsUp : State → ℕ → List EventValue → Type 0
+KeepsUp s rows arrivals =
+    HasCleanDisk s → IsTrue s.is_open → HasFirst s.now rows arrivals
+
+-- from p to q the pass made one call: it asked for a page of the arrivals after the first so many
+abbrev pub Asks : ℕ → Shown → Shown → Type 0
+Asks rows p q = (reply : Reply) × Made p q (call (command.Fresh rows max_page) reply)
+
+-- whatever events the table had, it has them, and more behind them or none; this is so while the
+-- disk gives back what was written and the database is open, and then it was so before
+pub record Grows (old new : State) : Type 0 where
+  pub was_clean : HasCleanDisk new → HasCleanDisk old
+  pub was_open : HasCleanDisk new → IsTrue new.is_open → IsTrue old.is_open
+  pub list : HasCleanDisk new → IsTrue new.is_open → (held : List EventValue)
+      → IsInbox old.now held → (more : List EventValue) × IsInbox new.now (held ++ more)

@@ -1,0 +1,172 @@
+//! A table that keeps up with a shared site.
+
+ghost use Rattle.std.specs.Prelude.{◌≡◌, ◌≢◌, ◌+◌, ◌-◌, ◌≤◌, true, length, min, List, IsTrue, IfErr, IfOk, OnErr, OnOk};
+ghost use Rattle.sqlite.specs.Held.{state};
+ghost use Rattle.sqlite.specs.State.{HasCleanDisk, Survives};
+ghost use Rattle.attributes.specs.Event.{EventValue};
+ghost use Rattle.inbox_table.specs.Calls.{IsSettled, StandsFor};
+ghost use Rattle.inbox_table.specs.Rows.{IsInbox};
+ghost use Rattle.site_lock.specs.Pass.{leaves};
+ghost use Rattle.keeper.specs.Keep.{Asks, Grows, KeepsUp, max_page};
+ghost use Rattle.keeper.specs.declared.fault.KeepFault.TheVariants.{Foreign};
+
+use crate::fault::KeepFault;
+use inbox_table::Table;
+use site::Site;
+use site_lock::{Pass, SharedSite};
+use sqlite::Alter;
+use std::alloc::Global;
+use std::marker::Model;
+use std::sync::Wait;
+
+/// The most events that one step keeps.
+const MAX_PAGE: u64 = 100;
+
+/// A table that is kept up with a shared site. Contracts see it as its table: the connection, and
+/// the number of its events, which is the keeper's mark.
+#[derive(Drop)]
+pub struct Keeper<S: Alter> {
+    table: Table<S>,
+}
+
+/// A keeper, and a site with the events of its table.
+#[derive(Drop)]
+pub struct Kept<S: Alter> {
+    pub keeper: Keeper<S>,
+    pub site: Site,
+}
+
+/// A table of which no keeper was made, and why.
+#[derive(Drop)]
+pub struct NotKept<S: Alter> {
+    pub table: Table<S>,
+    pub fault: KeepFault,
+}
+
+impl<S: Alter> Model for Keeper<S> {
+    ghost use Rattle.inbox_table.specs.Calls.{Kept};
+    ghost use Rattle.inbox_table.specs.Codes.{kept_code};
+
+    ghost Value = { Kept S };
+
+    ghost coded = { kept_code S.code };
+
+    ghost view = { λ k. k.table };
+}
+
+impl<S: Alter + Drop> Keeper<S> {
+    /// Loads the table into a site. Time and memory in proportion to the events.
+    ///
+    /// `Store` where a transaction is open or the database refuses. The table comes back, and
+    /// nothing is changed.
+    pub fn begin(alloc: Global, table: Table<S>) -> Result<Kept<S>, NotKept<S>>
+        ensures loaded { IfOk result (λ k. HasCleanDisk (state S.Store k.keeper.conn)
+            → IsInbox (state S.Store table.conn).now k.site) }
+        ensures exact { IfOk result (λ k. HasCleanDisk (state S.Store k.keeper.conn)
+            → (held : List EventValue) → IsInbox (state S.Store table.conn).now held
+            → k.site ≡ held) }
+        ensures first { IfOk result (λ k.
+            KeepsUp (state S.Store k.keeper.conn) k.keeper.rows k.site) }
+        ensures count { IfOk result (λ k. HasCleanDisk (state S.Store k.keeper.conn)
+            → IsTrue (state S.Store k.keeper.conn).is_open → k.keeper.rows ≡ length k.site) }
+        ensures rows { IfOk result (λ k. k.keeper.rows ≡ table.rows) }
+        ensures unchanged { IfOk result (λ k. HasCleanDisk (state S.Store k.keeper.conn)
+            → IsTrue (state S.Store k.keeper.conn).is_open
+            → (state S.Store k.keeper.conn).now ≡ (state S.Store table.conn).now) }
+        ensures known { IfErr result (λ n. HasCleanDisk (state S.Store n.table.conn)
+            → IsTrue (state S.Store n.table.conn).is_open → n.fault ≢ Foreign) }
+        ensures rows_same { IfErr result (λ n. n.table.rows ≡ table.rows) }
+        ensures same { IfErr result (λ n. HasCleanDisk (state S.Store n.table.conn)
+            → IsTrue (state S.Store n.table.conn).is_open
+            → (state S.Store n.table.conn).now ≡ (state S.Store table.conn).now) }
+        ensures crash { IfOk result (λ k.
+            Survives (state S.Store table.conn) (state S.Store k.keeper.conn) (λ _. ⊥)) }
+        ensures crash_refused { IfErr result (λ n.
+            Survives (state S.Store table.conn) (state S.Store n.table.conn) (λ _. ⊥)) }
+    {
+        let mut table = table;
+        let mut site = Site::empty(alloc);
+        match table.load() {
+            Ok(mut events) => match site.take_batch(&mut events) {
+                Ok(_) => Ok(Kept {
+                    keeper: Keeper { table },
+                    site,
+                }),
+                Err(_) => Err(NotKept {
+                    table,
+                    fault: KeepFault::OutOfMemory,
+                }),
+            },
+            Err(fault) => Err(NotKept {
+                table,
+                fault: KeepFault::from(fault),
+            }),
+        }
+    }
+
+    /// Waits for a turn, takes the events that came to the site after the mark, 100 of them at
+    /// most, and keeps them in one transaction; then the mark rises. Answers how many they are.
+    ///
+    /// The table has the first arrivals after what the pass has seen; so it is once the keeper's
+    /// site began the shared one, and for each pass that met the last step's. A refusal leaves the
+    /// mark.
+    pub fn step<R: Wait>(
+        &mut self,
+        rt: &R,
+        shared: &SharedSite,
+        pass: &mut Pass,
+    ) -> Result<u64, KeepFault>
+        requires own { pass.old.table ≡ shared.now }
+        requires first { KeepsUp (state S.Store self.old.conn) self.old.rows (leaves pass.old) }
+        ensures asked { Asks self.old.rows pass.old pass.new }
+        ensures first { KeepsUp (state S.Store self.new.conn) self.new.rows (leaves pass.new) }
+        ensures grew { IfOk result (λ n. self.new.rows ≡ self.old.rows + n) }
+        ensures page { HasCleanDisk (state S.Store self.new.conn)
+            → IfOk result (λ n. n ≡ min max_page (length (leaves pass.new) - self.old.rows)) }
+        ensures settled { HasCleanDisk (state S.Store self.new.conn)
+            → OnOk result (IsSettled (state S.Store self.new.conn)) }
+        ensures mark_same { OnErr result (self.new.rows ≡ self.old.rows) }
+        ensures same { HasCleanDisk (state S.Store self.new.conn)
+            → IsTrue (state S.Store self.new.conn).is_open
+            → OnErr result ((state S.Store self.new.conn).now
+            ≡ (state S.Store self.old.conn).now) }
+        ensures known { IfErr result (λ fault. fault ≢ Foreign) }
+        ensures list { Grows (state S.Store self.old.conn) (state S.Store self.new.conn) }
+    {
+        let mark = self.table.rows();
+        match shared.fresh(rt, pass, mark, MAX_PAGE) {
+            Ok(page) => {
+                pass.stands();
+                match self.table.keep(&page) {
+                    Ok(fresh) => Ok(fresh),
+                    Err(fault) => Err(KeepFault::from(fault)),
+                }
+            }
+            Err(fault) => Err(KeepFault::from(fault)),
+        }
+    }
+
+    /// The mark: how many of the site's arrivals the table has, from the first on. Takes no time.
+    pub fn kept(&self) -> u64
+        ensures mark { result ≡ self.now.rows }
+        ensures stands { StandsFor (state S.Store self.now.conn) result }
+    {
+        self.table.rows()
+    }
+
+    /// Whether the first n arrivals are in the table.
+    pub fn acknowledged(&self, n: u64) -> bool
+        ensures yes { n ≤ self.now.rows → result ≡ true }
+        ensures no { result ≡ true → n ≤ self.now.rows }
+    {
+        n <= self.table.rows()
+    }
+
+    /// Gives the table back, as it is.
+    pub fn into_table(self) -> Table<S>
+        ensures { result ≡ self.entry }
+    {
+        let Keeper { table } = self;
+        table
+    }
+}
