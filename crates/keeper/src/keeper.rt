@@ -13,6 +13,7 @@ ghost use Rattle.keeper.specs.declared.fault.KeepFault.TheVariants.{Foreign};
 use crate::fault::KeepFault;
 use inbox_table::Table;
 use site::Site;
+use site_lock::laws::calls_follow;
 use site_lock::{Pass, SharedSite};
 use sqlite::Alter;
 use std::alloc::Global;
@@ -133,6 +134,7 @@ impl<S: Alter + Drop> Keeper<S> {
         ensures known { IfErr result (λ fault. fault ≢ Foreign) }
         ensures list { Grows (state S.Store self.old.conn) (state S.Store self.new.conn) }
     {
+        calls_follow();
         let mark = self.table.rows();
         match shared.fresh(rt, pass, mark, MAX_PAGE) {
             Ok(page) => {
@@ -164,7 +166,7 @@ impl<S: Alter + Drop> Keeper<S> {
 
     /// Gives the table back, as it is.
     pub fn into_table(self) -> Table<S>
-        ensures { result ≡ self.entry }
+        ensures { result ≡ self }
     {
         let Keeper { table } = self;
         table

@@ -1,0 +1,2 @@
+mod NewLemmas
+mod PageLemmas

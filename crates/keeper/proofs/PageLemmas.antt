@@ -1,0 +1,98 @@
+-- What a page adds to the first arrivals.
+use Rattle.std.proofs.Common.{◌≡◌, ◌+◌, ◌-◌, ◌≤◌, ℕ, List, [], ◌++◌, length, take, drop, refl, sym, ap, ◌∙◌, subst, append_assoc, append-nil, arith, IsTrue}
+use Rattle.std.specs.Prelude.{min}
+use Rattle.std.proofs.lemmas.List.{length-append, length-drop, length-take, length-take-le, take-append-drop, take-append-le}
+use Rattle.std.proofs.Math.Seq.{take-append_seam}
+use Rattle.sqlite.specs.State.{State, HasCleanDisk}
+use Rattle.attributes.specs.Event.{EventValue}
+use Rattle.inbox.specs.KeyOrder.{key_cmp}
+use Rattle.inbox.specs.Ordered.{append_new}
+use Rattle.inbox_table.specs.Calls.{AreFresh, Takes}
+use Rattle.inbox_table.specs.Rows.{IsInbox}
+use Rattle.site.specs.Arrival.{AreDistinct}
+use Rattle.site.specs.Machine.{Follows, call}
+use Rattle.site.specs.Page.{page}
+use Rattle.site.specs.declared.call.Command.TheVariants as command
+use Rattle.site.specs.declared.call.Reply.{Reply}
+use Rattle.site.specs.declared.call.Reply.TheVariants.{Paged}
+use Rattle.keeper.proofs.NewLemmas.{all_new, grows}
+use Rattle.keeper.specs.Keep.{Grows, HasFirst, KeepsUp, max_page}
+
+-- the page behind the first arrivals is new to them, and they are the first ones with it
+record IsNext (A : List EventValue) (rows : ℕ) (b : List EventValue) : Type 0 where
+  pub count : length b ≡ min max_page (length A - rows)
+  pub some : rows + length b ≤ length A
+  pub added : append_new key_cmp (take rows A) b ≡ take (rows + length b) A
+
+is_next : (A : List EventValue) (rows : ℕ) (b : List EventValue) → rows ≤ length A → b ≡ page A rows max_page → AreDistinct A → IsNext A rows b
+is_next A rows b low is once =
+    let k : List EventValue = take rows A in let l : List EventValue = drop rows A in let r : List EventValue = drop max_page l in
+    let rest : b ++ r ≡ l = ap (λ (z : List EventValue). z ++ r) is ∙ take-append-drop max_page l in
+    let all : k ++ (b ++ r) ≡ A = ap (λ (z : List EventValue). k ++ z) rest ∙ take-append-drop rows A in
+    let behind : (k ++ b) ++ r ≡ A = append_assoc k b r ∙ all in
+    let count_k : length k ≡ rows = length-take-le rows A low in
+    let both : length (k ++ b) ≡ rows + length b = length-append k b ∙ ap (λ n. n + length b) count_k in
+    let whole = ap (λ (z : List EventValue). length z) behind in
+    record {
+      count = ap (λ (z : List EventValue). length z) is ∙ (length-take max_page l ∙ ap (min max_page) (length-drop rows A));
+      some = (let e = length-append (k ++ b) r in omega (arith, both, whole, e));
+      added = all_new key_cmp k b r (subst (λ (z : List EventValue). append_new key_cmp [] z ≡ z) (sym all) once) ∙ (sym (take-append_seam (k ++ b) r) ∙ (λ i. take (both i) (behind i)));
+    }
+
+-- a question for a page only lets others add
+others_added : (A B : List EventValue) (rows : ℕ) (reply : Reply) → Follows A (call (command.Fresh rows max_page) reply) B → (others : List EventValue) × (B ≡ A ++ others)
+others_added A B rows reply f = (f.0, f.2)
+
+-- the first arrivals stay the first
+first_in : (s : State) (rows : ℕ) (A B : List EventValue) (others : List EventValue) → B ≡ A ++ others → HasFirst s.now rows A → HasFirst s.now rows B
+first_in s rows A B others is h = record {
+  some = (let e = ap (λ (z : List EventValue). length z) is in let l = length-append A others in omega (arith, e, l, h.some));
+  table = subst (IsInbox s.now) (sym (ap (take rows) is ∙ take-append-le rows A others h.some)) h.table;
+}
+
+-- a question alone, after which the table has what it had
+pub still_first : (old new : State) (rows rows' : ℕ) (A B : List EventValue) (reply : Reply) → Follows A (call (command.Fresh rows max_page) reply) B → KeepsUp old rows A → (HasCleanDisk new → HasCleanDisk old)
+    → (HasCleanDisk new → IsTrue new.is_open → IsTrue old.is_open) → (HasCleanDisk new → IsTrue new.is_open → new.now ≡ old.now) → rows' ≡ rows → KeepsUp new rows' B
+still_first old new rows rows' A B reply f first was_clean was_open same is clean is_open =
+    let o = others_added A B rows reply f in
+    let h : HasFirst old.now rows B = first_in old rows A B o.0 o.1 (first (was_clean clean) (was_open clean is_open)) in
+    subst (λ n. HasFirst new.now n B) (sym is) (subst (λ d. HasFirst d rows B) (sym (same clean is_open)) h)
+
+pub still_grows : (old new : State) → (HasCleanDisk new → HasCleanDisk old) → (HasCleanDisk new → IsTrue new.is_open → IsTrue old.is_open)
+    → (HasCleanDisk new → IsTrue new.is_open → new.now ≡ old.now) → Grows old new
+still_grows old new was_clean was_open same = record {
+  was_clean = was_clean;
+  was_open = was_open;
+  list = λ clean is_open held box. ([], subst (λ d. IsInbox d (held ++ [])) (sym (same clean is_open)) (subst (IsInbox old.now) (sym (append-nil held)) box));
+}
+
+module _ (old new : State) (rows rows' fresh : ℕ) (A B b : List EventValue) (f : Follows A (call (command.Fresh rows max_page) (Paged b)) B) (once : AreDistinct B) (first : KeepsUp old rows A)
+    (was_clean : HasCleanDisk new → HasCleanDisk old) (was_open : HasCleanDisk new → IsTrue new.is_open → IsTrue old.is_open) (stays : HasCleanDisk new → IsTrue new.is_open)
+    (takes : HasCleanDisk new → Takes b old.now new.now) (came : HasCleanDisk new → AreFresh b old.now fresh) (grew : rows' ≡ rows + fresh) where
+  was : HasCleanDisk new → HasFirst old.now rows B
+  was clean = first_in old rows A B f.0 f.2 (first (was_clean clean) (was_open clean (stays clean)))
+
+  next : HasCleanDisk new → IsNext B rows b
+  next clean = is_next B rows b (was clean).some (f.1 ∙ ap (λ (z : List EventValue). page z rows max_page) (sym f.2)) once
+
+  fresh_is : HasCleanDisk new → fresh ≡ length b
+  fresh_is clean =
+      let w = was clean in let n = next clean in
+      let e = came clean (take rows B) w.table in let k = length-take-le rows B w.some in let m = length-take-le (rows + length b) B n.some in
+      let s = ap (λ (z : List EventValue). length z) n.added in omega (arith, e, k, m, s)
+
+  pub page_first : KeepsUp new rows' B
+  page_first clean is_open =
+      let w = was clean in let n = next clean in
+      let to : rows + length b ≡ rows' = ap (λ k. rows + k) (sym (fresh_is clean)) ∙ sym grew in
+      subst (λ k. HasFirst new.now k B) to record { some = n.some; table = subst (IsInbox new.now) n.added (takes clean (take rows B) w.table) }
+
+  pub page_count : HasCleanDisk new → fresh ≡ min max_page (length B - rows)
+  page_count clean = fresh_is clean ∙ (next clean).count
+
+  pub page_grows : Grows old new
+  page_grows = record {
+    was_clean = was_clean;
+    was_open = was_open;
+    list = λ clean is_open held box. let g = grows key_cmp held b in (g.0, subst (IsInbox new.now) g.1 (takes clean held box));
+  }

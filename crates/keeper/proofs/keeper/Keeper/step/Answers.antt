@@ -1,0 +1,77 @@
+use Rattle.std.proofs.Common.{◌≡◌, ◌+◌, ◌-◌, ℕ, arith, length, refl, sym, ap, ◌∙◌, subst, IsTrue}
+use Rattle.std.specs.Prelude.{min}
+use Rattle.sqlite.specs.Held.{state}
+use Rattle.sqlite.specs.State.{HasCleanDisk}
+use Rattle.inbox_table.specs.Calls.{Kept}
+use Rattle.site.specs.Desk.{paged}
+use Rattle.site.specs.declared.call.Reply.TheVariants.{Paged}
+use Rattle.site_lock.specs.Pass.{leaves}
+use Rattle.keeper.proofs.PageLemmas.{page_count, page_first, page_grows, still_first, still_grows}
+use Rattle.keeper.proofs.keeper.Keeper.step.Goals as goal
+use Rattle.keeper.specs.Keep.{Grows, KeepsUp, max_page}
+
+pub returns-in-Ok-keep-clause-first : goal.returns-in-Ok-keep-clause-first
+returns-in-Ok-keep-clause-first g c =
+    let A = leaves c.args.pass.now in
+    let table = c.self.inside.table in
+    let old = state g.S.Store table.conn in
+    let new = state g.S.Store c.keep.new.self.conn in
+    let mark : c.rows-mark.result ≡ table.rows = c.rows-mark.ensures.rows in
+    let first : KeepsUp old c.rows-mark.result A = subst (λ n. KeepsUp old n A) (sym mark) (subst (λ (k : Kept _). KeepsUp (state g.S.Store k.conn) k.rows A) (sym c.self.view_is) c.requires.first) in
+    let was_clean : (HasCleanDisk new → HasCleanDisk old) = λ clean. omega (arith, c.in-Ok-keep.ensures.crash.clean, clean) in
+    page_first old new c.rows-mark.result c.keep.new.self.rows c.in-Ok-keep.fresh A (leaves c.fresh.new.pass) c.in-Ok.page (c.calls_follow.ensures _ _ _ c.in-Ok.ensures) c.stands.ensures.distinct first was_clean
+    c.in-Ok-keep.ensures.was_open c.in-Ok-keep.ensures.open c.in-Ok-keep.ensures.takes c.in-Ok-keep.ensures.fresh (c.in-Ok-keep.ensures.rows ∙ ap (λ n. n + c.in-Ok-keep.fresh) (sym mark))
+
+pub returns-in-Ok-keep-clause-page : goal.returns-in-Ok-keep-clause-page
+returns-in-Ok-keep-clause-page g c clean =
+    let A = leaves c.args.pass.now in
+    let table = c.self.inside.table in
+    let old = state g.S.Store table.conn in
+    let new = state g.S.Store c.keep.new.self.conn in
+    let mark : c.rows-mark.result ≡ table.rows = c.rows-mark.ensures.rows in
+    let first : KeepsUp old c.rows-mark.result A = subst (λ n. KeepsUp old n A) (sym mark) (subst (λ (k : Kept _). KeepsUp (state g.S.Store k.conn) k.rows A) (sym c.self.view_is) c.requires.first) in
+    let was_clean : (HasCleanDisk new → HasCleanDisk old) = λ clean. omega (arith, c.in-Ok-keep.ensures.crash.clean, clean) in
+    page_count old new c.rows-mark.result c.keep.new.self.rows c.in-Ok-keep.fresh A (leaves c.fresh.new.pass) c.in-Ok.page (c.calls_follow.ensures _ _ _ c.in-Ok.ensures) c.stands.ensures.distinct first was_clean
+    c.in-Ok-keep.ensures.was_open c.in-Ok-keep.ensures.open c.in-Ok-keep.ensures.takes c.in-Ok-keep.ensures.fresh (c.in-Ok-keep.ensures.rows ∙ ap (λ n. n + c.in-Ok-keep.fresh) (sym mark)) clean
+    ∙ ap (λ n. min max_page (length (leaves c.fresh.new.pass) - n)) (mark ∙ ap (λ (k : Kept _). k.rows) c.self.view_is)
+
+pub returns-in-Ok-keep-clause-list : goal.returns-in-Ok-keep-clause-list
+returns-in-Ok-keep-clause-list g c =
+    let A = leaves c.args.pass.now in
+    let table = c.self.inside.table in
+    let old = state g.S.Store table.conn in
+    let new = state g.S.Store c.keep.new.self.conn in
+    let mark : c.rows-mark.result ≡ table.rows = c.rows-mark.ensures.rows in
+    let first : KeepsUp old c.rows-mark.result A = subst (λ n. KeepsUp old n A) (sym mark) (subst (λ (k : Kept _). KeepsUp (state g.S.Store k.conn) k.rows A) (sym c.self.view_is) c.requires.first) in
+    let was_clean : (HasCleanDisk new → HasCleanDisk old) = λ clean. omega (arith, c.in-Ok-keep.ensures.crash.clean, clean) in
+    subst (λ (k : Kept _). Grows (state g.S.Store k.conn) new) c.self.view_is
+    (page_grows old new c.rows-mark.result c.keep.new.self.rows c.in-Ok-keep.fresh A (leaves c.fresh.new.pass) c.in-Ok.page (c.calls_follow.ensures _ _ _ c.in-Ok.ensures) c.stands.ensures.distinct first was_clean
+    c.in-Ok-keep.ensures.was_open c.in-Ok-keep.ensures.open c.in-Ok-keep.ensures.takes c.in-Ok-keep.ensures.fresh (c.in-Ok-keep.ensures.rows ∙ ap (λ n. n + c.in-Ok-keep.fresh) (sym mark)))
+
+pub returns-in-Ok-clause-first : goal.returns-in-Ok-clause-first
+returns-in-Ok-clause-first g c =
+    let A = leaves c.args.pass.now in
+    let table = c.self.inside.table in
+    let old = state g.S.Store table.conn in
+    let new = state g.S.Store c.keep.new.self.conn in
+    let mark : c.rows-mark.result ≡ table.rows = c.rows-mark.ensures.rows in
+    let first : KeepsUp old c.rows-mark.result A = subst (λ n. KeepsUp old n A) (sym mark) (subst (λ (k : Kept _). KeepsUp (state g.S.Store k.conn) k.rows A) (sym c.self.view_is) c.requires.first) in
+    let was_clean : (HasCleanDisk new → HasCleanDisk old) = λ clean. omega (arith, c.in-Err-keep.ensures.crash.clean, clean) in
+    still_first old new c.rows-mark.result c.keep.new.self.rows A (leaves c.fresh.new.pass) (Paged c.in-Ok.page) (c.calls_follow.ensures _ _ _ c.in-Ok.ensures) first was_clean c.in-Err-keep.ensures.was_open c.in-Err-keep.ensures.same
+    (c.in-Err-keep.ensures.rows_same ∙ sym mark)
+
+pub returns-in-Ok-clause-list : goal.returns-in-Ok-clause-list
+returns-in-Ok-clause-list g c =
+    let table = c.self.inside.table in
+    let old = state g.S.Store table.conn in
+    let new = state g.S.Store c.keep.new.self.conn in
+    let was_clean : (HasCleanDisk new → HasCleanDisk old) = λ clean. omega (arith, c.in-Err-keep.ensures.crash.clean, clean) in
+    subst (λ (k : Kept _). Grows (state g.S.Store k.conn) new) c.self.view_is (still_grows old new was_clean c.in-Err-keep.ensures.was_open c.in-Err-keep.ensures.same)
+
+pub returns-clause-first : goal.returns-clause-first
+returns-clause-first g c =
+    let A = leaves c.args.pass.now in
+    let at = state g.S.Store c.args.self.now.conn in
+    let mark : c.rows-mark.result ≡ c.args.self.now.rows = c.rows-mark.ensures.rows ∙ ap (λ (k : Kept _). k.rows) c.self.view_is in
+    let first : KeepsUp at c.rows-mark.result A = subst (λ n. KeepsUp at n A) (sym mark) c.requires.first in
+    still_first at at c.rows-mark.result c.args.self.now.rows A (leaves c.fresh.new.pass) (paged c.fresh.result) (c.calls_follow.ensures _ _ _ c.fresh.ensures) first (λ clean. clean) (λ clean is_open. is_open) (λ clean is_open. refl) (sym mark)
