@@ -1,2 +1,3 @@
 mod NewLemmas
 mod PageLemmas
+mod FlushLemmas

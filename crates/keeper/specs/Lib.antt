@@ -1,2 +1,5 @@
 pub mod Fault
 pub mod Keep
+pub mod Flush
+pub mod FlushCode
+pub mod steps

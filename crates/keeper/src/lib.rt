@@ -2,7 +2,9 @@
 #![tactic(auto)]
 
 mod fault;
+mod flusher;
 mod keeper;
 
 pub use fault::KeepFault;
+pub use flusher::{Flushed, Flusher};
 pub use keeper::{Keeper, Kept, NotKept};

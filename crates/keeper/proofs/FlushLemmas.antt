@@ -1,0 +1,59 @@
+-- What a step is to a flusher.
+use Rattle.std.proofs.Common.{◌≡◌, ◌+◌, ◌-◌, ◌≤◌, ℕ, List, [], ◌∷◌, ◌++◌, Bool, true, false, length, refl, ap, ◌∙◌, subst, append_assoc, arith, Option, Some, None}
+use Rattle.std.specs.Prelude.{IsSome, min}
+use Rattle.sqlite.specs.Held.{Held}
+use Rattle.sqlite.specs.State.{State, HasCleanDisk}
+use Rattle.atomic_table.specs.Seated.{TableId}
+use Rattle.inbox_table.specs.Calls.{Kept}
+use Rattle.site.specs.Machine.{call}
+use Rattle.site.specs.declared.call.Command.TheVariants as command
+use Rattle.turn_lock.specs.History.{StartsWith, entry}
+use Rattle.site_lock.specs.Pass.{IsSame, Shown, leaves}
+use Rattle.keeper.specs.Flush.{Flushes, Flushing, Steps, Turns}
+use Rattle.keeper.specs.Keep.{Asks, Grows, max_page}
+use Rattle.keeper.specs.declared.fault.KeepFault.{KeepFault}
+
+asked_more : (rows : ℕ) (p q : Shown) → Asks rows p q → StartsWith q.seen p.seen
+asked_more rows p q a = let e = entry p.number (call (command.Fresh rows max_page) a.0) in (a.1.others ++ e ∷ [], a.1.seen ∙ append_assoc p.seen a.1.others (e ∷ []))
+
+module _ {S : Type 0} (state : Held S → State) (site : TableId) (k l : Kept S) (p q : Shown) (fault : Option KeepFault) (none : fault ≡ None) (asked : Asks k.rows p q) (list : Grows (state k.conn) (state l.conn)) where
+  abbrev pub before : Flushing S
+  before = record { site = site; keeper = k; pass = p; fault = fault }
+
+  no_fault : IsSome fault → ⊥
+  no_fault some = let bad : false ≡ true = subst IsSome none some in cc
+
+  flushes : (after : Option KeepFault) → k.rows ≤ l.rows → Flushes state before record { site = site; keeper = l; pass = q; fault = after }
+  flushes after mark = record {
+    site = refl;
+    same = asked.1.same;
+    seen = asked_more k.rows p q asked;
+    mark = mark;
+    list = list;
+    stopped = λ some. absurd (no_fault some);
+  }
+
+  pub stepped : (n : ℕ) → l.rows ≡ k.rows + n → (HasCleanDisk (state l.conn) → n ≡ min max_page (length (leaves q) - k.rows))
+      → Turns state before record { site = site; keeper = l; pass = q; fault = fault } true
+  stepped n grew page = record {
+    flushes = flushes fault (omega (arith, grew));
+    step = λ _. record {
+      asked = asked;
+      went = λ _. none;
+      refused = λ no. absurd (cc);
+      page = λ _ clean. grew ∙ ap (λ m. k.rows + m) (page clean);
+    };
+    stopped = λ some. absurd (no_fault some);
+  }
+
+  pub refused : (why : KeepFault) → l.rows ≡ k.rows → Turns state before record { site = site; keeper = l; pass = q; fault = Some why } false
+  refused why stays = record {
+    flushes = flushes (Some why) (omega (arith, stays));
+    step = λ _. record {
+      asked = asked;
+      went = λ yes. absurd (cc);
+      refused = λ _. (refl, stays);
+      page = λ yes clean. absurd (cc);
+    };
+    stopped = λ _. refl;
+  }
