@@ -124,9 +124,9 @@ impl<'a, R: Wait, S: Alter + Drop> Aside for Flusher<'a, R, S> {
 
     ghost moves = { λ f g. Flushes (λ conn. state S.Store conn) f g };
 
-    ghost stays = { λ f. flushes_none (λ conn. state S.Store conn) f };
+    ghost stays = { λ f. flushes_none _ f };
 
-    ghost goes_on = { λ f g h. flushes_on (λ conn. state S.Store conn) f g h };
+    ghost goes_on = { λ f g h. flushes_on _ f g h };
 
     fn turn(&mut self) -> bool {
         self.flush()
