@@ -1,3 +1,4 @@
 mod NewLemmas
 mod PageLemmas
 mod FlushLemmas
+mod LawLemmas

@@ -1,13 +1,14 @@
 -- What a page adds to the first arrivals.
-use Rattle.std.proofs.Common.{◌≡◌, ◌+◌, ◌-◌, ◌≤◌, ℕ, List, [], ◌++◌, length, take, drop, refl, sym, ap, ◌∙◌, subst, append_assoc, append-nil, arith, IsTrue}
+use Rattle.std.proofs.Common.{◌≡◌, ◌⊎◌, ◌+◌, ◌-◌, ◌≤◌, ℕ, List, [], ◌++◌, length, take, drop, refl, sym, ap, ◌∙◌, subst, append_assoc, append-nil, arith, inl, inr, IsTrue}
 use Rattle.std.specs.Prelude.{min}
 use Rattle.std.proofs.lemmas.List.{length-append, length-drop, length-take, length-take-le, take-append-drop, take-append-le}
 use Rattle.std.proofs.Math.Seq.{take-append_seam}
-use Rattle.sqlite.specs.State.{State, HasCleanDisk}
+use Rattle.sqlite_trees.specs.Tree.{Trees}
+use Rattle.sqlite.specs.State.{State, HasCleanDisk, Survives}
 use Rattle.attributes.specs.Event.{EventValue}
 use Rattle.inbox.specs.KeyOrder.{key_cmp}
 use Rattle.inbox.specs.Ordered.{append_new}
-use Rattle.inbox_table.specs.Calls.{AreFresh, Takes}
+use Rattle.inbox_table.specs.Calls.{AreFresh, MayTake, Stands, Takes}
 use Rattle.inbox_table.specs.Rows.{IsInbox}
 use Rattle.site.specs.Arrival.{AreDistinct}
 use Rattle.site.specs.Machine.{Follows, call}
@@ -16,7 +17,7 @@ use Rattle.site.specs.declared.call.Command.TheVariants as command
 use Rattle.site.specs.declared.call.Reply.{Reply}
 use Rattle.site.specs.declared.call.Reply.TheVariants.{Paged}
 use Rattle.keeper.proofs.NewLemmas.{all_new, grows}
-use Rattle.keeper.specs.Keep.{Grows, HasFirst, KeepsUp, max_page}
+use Rattle.keeper.specs.Keep.{Grows, HasFirst, KeepsUp, MayKeep, max_page}
 
 -- the page behind the first arrivals is new to them, and they are the first ones with it
 record IsNext (A : List EventValue) (rows : ℕ) (b : List EventValue) : Type 0 where
@@ -96,3 +97,29 @@ module _ (old new : State) (rows rows' fresh : ℕ) (A B b : List EventValue) (f
     was_open = was_open;
     list = λ clean is_open held box. let g = grows key_cmp held b in (g.0, subst (IsInbox new.now) g.1 (takes clean held box));
   }
+
+pub survives_same : (s : State) (P : Trees → Type 0) → Survives s s P
+survives_same s P = record { clean = omega arith; shield = λ h. h; counts = omega arith; limit = refl; closes = λ clean h. inl h; crash = λ clean db h. inl h }
+
+-- what a crash may leave of a page that is being kept
+pub page_crash : (old new : State) (rows : ℕ) (A B b : List EventValue) → Follows A (call (command.Fresh rows max_page) (Paged b)) B → AreDistinct B
+    → Survives old new (λ trees. Stands old.now rows → MayTake b old.now trees) → Survives old new (λ trees. HasFirst old.now rows A → MayKeep rows B trees)
+page_crash old new rows A B b f once s = record {
+  clean = s.clean;
+  shield = s.shield;
+  counts = s.counts;
+  limit = s.limit;
+  closes = s.closes;
+  crash = λ clean trees may. either trees (s.crash clean trees may);
+}
+  where
+    kept : (trees : Trees) → (Stands old.now rows → MayTake b old.now trees) → HasFirst old.now rows A → MayKeep rows B trees
+    kept trees takes first =
+        let w : HasFirst old.now rows B = first_in old rows A B f.0 f.2 first in
+        let n : IsNext B rows b = is_next B rows b w.some (f.1 ∙ ap (λ (z : List EventValue). page z rows max_page) (sym f.2)) once in
+        let m = takes record { events = take rows B; table = w.table; count = sym (length-take-le rows B w.some) } in
+        (m.0, subst (λ k. HasFirst m.0 (rows + k) B) n.count record { some = n.some; table = subst (IsInbox m.0) n.added (m.1 (take rows B) w.table) }, m.2)
+
+    either : (trees : Trees) → old.may_leave trees ⊎ (Stands old.now rows → MayTake b old.now trees) → old.may_leave trees ⊎ (HasFirst old.now rows A → MayKeep rows B trees)
+    either trees (inl before) = inl before
+    either trees (inr takes) = inr (kept trees takes)

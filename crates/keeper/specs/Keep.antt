@@ -1,5 +1,6 @@
 -- What a table has of the arrivals of a site.
-use Rattle.std.specs.Prelude.{◌≡◌, ◌≤◌, ℕ, List, ◌++◌, length, take, IsTrue}
+use Rattle.std.specs.Prelude.{◌≡◌, ◌+◌, ◌-◌, ◌≤◌, ℕ, List, ◌++◌, length, min, take, IsTrue}
+use Rattle.sqlite_trees.specs.Tree.{Trees}
 use Rattle.sqlite.specs.Effect.{Database}
 use Rattle.sqlite.specs.State.{State, HasCleanDisk}
 use Rattle.attributes.specs.Event.{EventValue}
@@ -34,3 +35,9 @@ pub record Grows (old new : State) : Type 0 where
   pub was_open : HasCleanDisk new → IsTrue new.is_open → IsTrue old.is_open
   pub list : HasCleanDisk new → IsTrue new.is_open → (held : List EventValue)
       → IsInbox old.now held → (more : List EventValue) × IsInbox new.now (held ++ more)
+
+-- these are the trees of a database that has the first so many of the arrivals, and the page behind
+-- them
+abbrev pub MayKeep : ℕ → List EventValue → Trees → Type 0
+MayKeep rows arrivals trees = (db : Database)
+    × HasFirst db (rows + min max_page (length arrivals - rows)) arrivals × (trees ≡ db.trees)

@@ -7,7 +7,7 @@ ghost use Rattle.attributes.specs.Event.{EventValue};
 ghost use Rattle.inbox_table.specs.Calls.{IsSettled, StandsFor};
 ghost use Rattle.inbox_table.specs.Rows.{IsInbox};
 ghost use Rattle.site_lock.specs.Pass.{leaves};
-ghost use Rattle.keeper.specs.Keep.{Asks, Grows, KeepsUp, max_page};
+ghost use Rattle.keeper.specs.Keep.{Asks, Grows, HasFirst, KeepsUp, MayKeep, max_page};
 ghost use Rattle.keeper.specs.declared.fault.KeepFault.TheVariants.{Foreign};
 
 use crate::fault::KeepFault;
@@ -133,6 +133,9 @@ impl<S: Alter + Drop> Keeper<S> {
             ≡ (state S.Store self.old.conn).now) }
         ensures known { IfErr result (λ fault. fault ≢ Foreign) }
         ensures list { Grows (state S.Store self.old.conn) (state S.Store self.new.conn) }
+        ensures crash { Survives (state S.Store self.old.conn) (state S.Store self.new.conn)
+            (λ trees. HasFirst (state S.Store self.old.conn).now self.old.rows (leaves pass.old)
+            → MayKeep self.old.rows (leaves pass.new) trees) }
     {
         calls_follow();
         let mark = self.table.rows();

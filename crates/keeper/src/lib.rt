@@ -4,6 +4,7 @@
 mod fault;
 mod flusher;
 mod keeper;
+pub mod laws;
 
 pub use fault::KeepFault;
 pub use flusher::{Flushed, Flusher};

@@ -1,14 +1,14 @@
 use Rattle.std.proofs.Common.{◌≡◌, ◌+◌, ◌-◌, ℕ, arith, length, refl, sym, ap, ◌∙◌, subst, IsTrue}
 use Rattle.std.specs.Prelude.{min}
 use Rattle.sqlite.specs.Held.{state}
-use Rattle.sqlite.specs.State.{HasCleanDisk}
-use Rattle.inbox_table.specs.Calls.{Kept}
+use Rattle.sqlite.specs.State.{HasCleanDisk, Survives}
+use Rattle.inbox_table.specs.Calls.{Kept, MayTake, Stands}
 use Rattle.site.specs.Desk.{paged}
 use Rattle.site.specs.declared.call.Reply.TheVariants.{Paged}
 use Rattle.site_lock.specs.Pass.{leaves}
-use Rattle.keeper.proofs.PageLemmas.{page_count, page_first, page_grows, still_first, still_grows}
+use Rattle.keeper.proofs.PageLemmas.{page_count, page_crash, page_first, page_grows, still_first, still_grows, survives_same}
 use Rattle.keeper.proofs.keeper.Keeper.step.Goals as goal
-use Rattle.keeper.specs.Keep.{Grows, KeepsUp, max_page}
+use Rattle.keeper.specs.Keep.{Grows, HasFirst, KeepsUp, MayKeep, max_page}
 
 pub returns-in-Ok-keep-clause-first : goal.returns-in-Ok-keep-clause-first
 returns-in-Ok-keep-clause-first g c =
@@ -75,3 +75,32 @@ returns-clause-first g c =
     let mark : c.rows-mark.result ≡ c.args.self.now.rows = c.rows-mark.ensures.rows ∙ ap (λ (k : Kept _). k.rows) c.self.view_is in
     let first : KeepsUp at c.rows-mark.result A = subst (λ n. KeepsUp at n A) (sym mark) c.requires.first in
     still_first at at c.rows-mark.result c.args.self.now.rows A (leaves c.fresh.new.pass) (paged c.fresh.result) (c.calls_follow.ensures _ _ _ c.fresh.ensures) first (λ clean. clean) (λ clean is_open. is_open) (λ clean is_open. refl) (sym mark)
+
+pub returns-in-Ok-keep-clause-crash : goal.returns-in-Ok-keep-clause-crash
+returns-in-Ok-keep-clause-crash g c =
+    let A = leaves c.args.pass.now in
+    let B = leaves c.fresh.new.pass in
+    let table = c.self.inside.table in
+    let old = state g.S.Store table.conn in
+    let new = state g.S.Store c.keep.new.self.conn in
+    let mark : c.rows-mark.result ≡ table.rows = c.rows-mark.ensures.rows in
+    subst (λ (k : Kept _). Survives (state g.S.Store k.conn) new (λ trees. HasFirst (state g.S.Store k.conn).now k.rows A → MayKeep k.rows B trees)) c.self.view_is
+    (subst (λ n. Survives old new (λ trees. HasFirst old.now n A → MayKeep n B trees)) mark
+    (page_crash old new c.rows-mark.result A B c.in-Ok.page (c.calls_follow.ensures _ _ _ c.in-Ok.ensures) c.stands.ensures.distinct
+    (subst (λ n. Survives old new (λ trees. Stands old.now n → MayTake c.in-Ok.page old.now trees)) (sym mark) c.in-Ok-keep.ensures.crash)))
+
+pub returns-in-Ok-clause-crash : goal.returns-in-Ok-clause-crash
+returns-in-Ok-clause-crash g c =
+    let A = leaves c.args.pass.now in
+    let B = leaves c.fresh.new.pass in
+    let table = c.self.inside.table in
+    let old = state g.S.Store table.conn in
+    let new = state g.S.Store c.keep.new.self.conn in
+    let mark : c.rows-mark.result ≡ table.rows = c.rows-mark.ensures.rows in
+    subst (λ (k : Kept _). Survives (state g.S.Store k.conn) new (λ trees. HasFirst (state g.S.Store k.conn).now k.rows A → MayKeep k.rows B trees)) c.self.view_is
+    (subst (λ n. Survives old new (λ trees. HasFirst old.now n A → MayKeep n B trees)) mark
+    (page_crash old new c.rows-mark.result A B c.in-Ok.page (c.calls_follow.ensures _ _ _ c.in-Ok.ensures) c.stands.ensures.distinct
+    (subst (λ n. Survives old new (λ trees. Stands old.now n → MayTake c.in-Ok.page old.now trees)) (sym mark) c.in-Err-keep.ensures.crash)))
+
+pub returns-clause-crash : goal.returns-clause-crash
+returns-clause-crash g c = survives_same (state g.S.Store c.args.self.now.conn) _
