@@ -1,5 +1,5 @@
 -- What a step is to a flusher.
-use Rattle.std.proofs.Common.{◌≡◌, ◌+◌, ◌-◌, ◌≤◌, ℕ, List, [], ◌∷◌, ◌++◌, Bool, true, false, length, refl, ap, ◌∙◌, subst, append_assoc, arith, Option, Some, None}
+use Rattle.std.proofs.Common.{◌≡◌, ◌+◌, ◌-◌, ◌≤◌, ℕ, [], ◌∷◌, ◌++◌, true, false, length, refl, ap, ◌∙◌, subst, append_assoc, arith, Option, Some, None}
 use Rattle.std.specs.Prelude.{IsSome, min}
 use Rattle.sqlite.specs.Held.{Held}
 use Rattle.sqlite.specs.State.{State, HasCleanDisk}
@@ -8,8 +8,8 @@ use Rattle.inbox_table.specs.Calls.{Kept}
 use Rattle.site.specs.Machine.{call}
 use Rattle.site.specs.declared.call.Command.TheVariants as command
 use Rattle.turn_lock.specs.History.{StartsWith, entry}
-use Rattle.site_lock.specs.Pass.{IsSame, Shown, leaves}
-use Rattle.keeper.specs.Flush.{Flushes, Flushing, Steps, Turns}
+use Rattle.site_lock.specs.Pass.{Shown, leaves}
+use Rattle.keeper.specs.Flush.{Flushes, Flushing, Turns}
 use Rattle.keeper.specs.Keep.{Asks, Grows, max_page}
 use Rattle.keeper.specs.declared.fault.KeepFault.{KeepFault}
 

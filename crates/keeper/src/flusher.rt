@@ -46,10 +46,10 @@ impl<'a, R: Wait, S: Alter> Model for Flusher<'a, R, S> {
     ghost coded = { flushing_code S.code };
 
     ghost view = { λ f. record {
-        site = f.shared.now;
-        keeper = f.keeper;
-        pass = f.pass;
-        fault = f.fault;
+      site = f.shared.now;
+      keeper = f.keeper;
+      pass = f.pass;
+      fault = f.fault;
     } };
 
     ghost invariant = { λ f. (f.pass.table ≡ f.shared.now)

@@ -1,11 +1,9 @@
 -- Turns of a flusher, one after another.
-use Rattle.std.specs.Prelude.{ℕ, List, [], ◌++◌, IsSome, IsTrue, refl}
-use Rattle.std.proofs.Common.{◌≡◌, ◌≤◌, ◌∙◌, arith, sym, ap, subst, append_assoc, append-nil}
+use Rattle.std.specs.Prelude.{[], ◌++◌, IsSome, refl}
+use Rattle.std.proofs.Common.{◌∙◌, arith, sym, ap, subst, append_assoc, append-nil}
 use Rattle.sqlite.specs.Held.{Held}
 use Rattle.sqlite.specs.State.{State}
-use Rattle.attributes.specs.Event.{EventValue}
 use Rattle.inbox_table.specs.Rows.{IsInbox}
-use Rattle.site_lock.specs.Pass.{IsSame}
 use Rattle.keeper.specs.Flush.{Flushes, Flushing}
 use Rattle.keeper.specs.Keep.{Grows}
 
