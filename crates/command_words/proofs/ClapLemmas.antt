@@ -11,7 +11,7 @@ use Rattle.command_words.specs.declared.fault.Faulty.TheVariants.{OutOfMemory, W
 use Rattle.command_words.specs.Commands.{app_for, word_of}
 use Rattle.command_words.specs.Plans.{Blames}
 use Rattle.command_words.specs.declared.command.Command.{Command}
-use Rattle.command_words.specs.declared.command.Command.TheVariants.{Ask, Delta, Order, Relay, Scrub, Take}
+use Rattle.command_words.specs.declared.command.Command.TheVariants.{Ask, Delta, Order, Relay, Run, Scrub, Take}
 use Rattle.views.specs.declared.query.Query.TheVariants.{Conflicts, Cover, Days, Gaps, Kinds, Latest, Shown}
 
 -- what a command that is b matched at the words
@@ -42,6 +42,7 @@ app_for-simple (Ask query) = refl
 app_for-simple Take = refl
 app_for-simple Delta = refl
 app_for-simple Scrub = refl
+app_for-simple Run = refl
 app_for-simple Order = refl
 app_for-simple Relay = refl
 
@@ -53,7 +54,8 @@ of_word word =
     else if bytes_eq word (codes "kinds") then Ask Kinds else if bytes_eq word (codes "days") then Ask Days
     else if bytes_eq word (codes "conflicts") then Ask Conflicts else if bytes_eq word (codes "take") then Take
     else if bytes_eq word (codes "delta") then Delta else if bytes_eq word (codes "scrub") then Scrub
-    else if bytes_eq word (codes "order") then Order else Relay
+    else if bytes_eq word (codes "order") then Order
+    else if bytes_eq word (codes "run") then Run else Relay
 
 of_word_back : (command : Command) → of_word (word_of command) ≡ command
 of_word_back (Ask Cover) = refl
@@ -66,6 +68,7 @@ of_word_back (Ask Conflicts) = refl
 of_word_back Take = refl
 of_word_back Delta = refl
 of_word_back Scrub = refl
+of_word_back Run = refl
 of_word_back Order = refl
 of_word_back Relay = refl
 

@@ -3,7 +3,7 @@ use Rattle.std.specs.Prelude.{List, ℕ, [], ◌∷◌, codes, true, Some}
 use Rattle.clap.specs.Words.{App, Rule, new_app, new_rule, with_rule}
 use Rattle.clap.specs.declared.builder.action.ArgAction.TheVariants.{Append}
 use Rattle.command_words.specs.declared.command.Command.{Command}
-use Rattle.command_words.specs.declared.command.Command.TheVariants.{Ask, Delta, Order, Relay, Scrub, Take}
+use Rattle.command_words.specs.declared.command.Command.TheVariants.{Ask, Delta, Order, Relay, Run, Scrub, Take}
 use Rattle.views.specs.declared.query.Query.TheVariants.{Conflicts, Cover, Days, Gaps, Kinds, Latest, Shown}
 
 -- the word of a command
@@ -18,6 +18,7 @@ word_of (Ask Conflicts) = codes "conflicts"
 word_of Take = codes "take"
 word_of Delta = codes "delta"
 word_of Scrub = codes "scrub"
+word_of Run = codes "run"
 word_of Order = codes "order"
 word_of Relay = codes "relay"
 
@@ -59,6 +60,7 @@ app_for (Ask query) = with_rule (new_app (word_of (Ask query))) files_rule
 app_for Take = with_rule (with_db Take) files_rule
 app_for Delta = with_rule (with_rule (with_db Delta) from_rule) (place_rule (codes "summary"))
 app_for Scrub = with_rule (with_db Scrub) from_rule
+app_for Run = with_rule (with_rule (with_db Run) (option_rule (codes "peer"))) files_rule
 app_for Order = with_rule (with_rule (with_rule (with_rule (with_db Order)
     (default_rule (codes "source") (codes "/orders"))) (needed_rule (codes "at")))
     (place_rule (codes "action"))) (place_rule (codes "order"))

@@ -1,5 +1,6 @@
 -- What the words after the program's name ask for.
-use Rattle.std.specs.Prelude.{◌≡◌, ◌≢◌, ◌≤◌, ◌<◌, ◌^◌, ℕ, List, [], true, codes, length, None, Some, slice_get, unwrap_or}
+use Rattle.std.specs.Prelude.{◌≡◌, ◌≢◌, ◌≤◌, ◌<◌, ◌+◌, ◌^◌, Bool, ℕ, List, [], true, codes, length, None, Some, slice_get, unwrap_or, if◌then◌else◌}
+use Rattle.std.specs.Option.{is_some}
 use Rattle.std.specs.Str.Parse.{IsNumeral, digits_value}
 use Rattle.clap.specs.Words.{Row, Text, all_of, fault_of, first_of, matches_of}
 use Rattle.attributes.specs.Character.{is_filled}
@@ -22,6 +23,7 @@ command_of (plan.Ask query files) = command.Ask query
 command_of (plan.Take db files) = command.Take
 command_of (plan.Delta db from summary) = command.Delta
 command_of (plan.Scrub db from) = command.Scrub
+command_of (plan.Run db peer files) = command.Run
 command_of (plan.Order request) = command.Order
 command_of (plan.Relay db after) = command.Relay
 
@@ -57,6 +59,10 @@ pub record IsServiceSource (text : List ℕ) : Type 0 where
   pub short : length text ≤ 1024
   pub filled : is_filled text ≡ true
 
+-- so many files, and a peer's where there is one, are 16 at most
+abbrev pub AreFew : Bool → ℕ → Type 0
+AreFew has_peer files = (if has_peer then 1 + files else files) ≤ 16
+
 -- ---- plans
 
 -- the texts that were matched for an argument; none where it isn't given
@@ -87,6 +93,9 @@ HasTextsOf rows (plan.Delta db from summary) =
     × (summary ≡ text_in rows (codes "summary"))
 HasTextsOf rows (plan.Scrub db from) =
     (db ≡ text_in rows (codes "db")) × IsNumber (text_in rows (codes "from")) from
+HasTextsOf rows (plan.Run db peer files) =
+    (db ≡ text_in rows (codes "db")) × (peer ≡ first_of (codes "peer") rows)
+    × (files ≡ texts_in rows (codes "file")) × AreFew (is_some peer) (length files)
 HasTextsOf rows (plan.Order request) = HasRequestOf rows request
 HasTextsOf rows (plan.Relay db after) =
     (db ≡ text_in rows (codes "db")) × IsNumber (text_in rows (codes "after")) after

@@ -1,7 +1,7 @@
 //! The arguments of the commands, as clap declares them.
 ghost use Rattle.std.specs.Prelude.{◌≡◌, false, codes};
 ghost use Rattle.clap.specs.Words.{rule_of};
-ghost use Rattle.command_words.specs.Commands.{default_rule, files_rule, from_rule, needed_rule, place_rule};
+ghost use Rattle.command_words.specs.Commands.{default_rule, files_rule, from_rule, needed_rule, option_rule, place_rule};
 
 use clap::{Arg, ArgAction};
 use std::alloc::Global;
@@ -51,6 +51,17 @@ pub fn summary<'a>(alloc: Global) -> Arg<'a>
         .value_name("SUMMARY")
         .help("A file with the other site's summary, as cover prints it; - is standard input")
         .required(true)
+}
+
+/// `--peer FILE`
+pub fn peer<'a>(alloc: Global) -> Arg<'a>
+    ensures rule { rule_of result ≡ option_rule (codes "peer") }
+    ensures local { result.global ≡ false }
+{
+    Arg::new(alloc, "peer")
+        .long("peer")
+        .value_name("FILE")
+        .help("A file with another site's events; - is standard input")
 }
 
 /// `--source S`

@@ -4,7 +4,7 @@ ghost use Rattle.clap.specs.Words.{app_of, new_app, with_rule};
 ghost use Rattle.command_words.specs.Commands.{app_for, needed_rule, place_rule, word_of};
 ghost use Rattle.command_words.specs.declared.command.Command.{Command};
 
-use crate::argument::{action, after, at, db, files, from, order, source, summary};
+use crate::argument::{action, after, at, db, files, from, order, peer, source, summary};
 use std::alloc::{AllocError, Global};
 use views::Query;
 
@@ -19,6 +19,8 @@ pub enum Command {
     Delta,
     /// `scrub --db DB [--from N]`: a page of all events.
     Scrub,
+    /// `run --db DB [--peer FILE] FILE..`: takes files side by side into a database.
+    Run,
     /// `order --db DB [--source S] --at TIME ACTION ORDER`: a command to a service.
     Order,
     /// `relay --db DB --after N`: the next rows of a service's outbox.
@@ -38,7 +40,7 @@ pub struct Row<'a> {
 }
 
 /// The words of all commands, in the order in which help lists them.
-pub const WORDS: [&str; 12] = [
+pub const WORDS: [&str; 13] = [
     "cover",
     "gaps",
     "shown",
@@ -49,6 +51,7 @@ pub const WORDS: [&str; 12] = [
     "take",
     "delta",
     "scrub",
+    "run",
     "order",
     "relay",
 ];
@@ -120,6 +123,12 @@ pub fn row_of<'a>(word: &str) -> Option<Row<'a>>
             full_name: "site scrub",
             about: "Prints a batch of all events, page by page, to mend what a delta can't find",
         }),
+        "run" => Some(Row {
+            command: Command::Run,
+            word: "run",
+            full_name: "site run",
+            about: "Takes files side by side into a database, and prints its summary",
+        }),
         "order" => Some(Row {
             command: Command::Order,
             word: "order",
@@ -158,6 +167,7 @@ impl<'a> Row<'a> {
             Command::Take => bare.arg(db(alloc))?.arg(files(alloc)),
             Command::Delta => bare.arg(db(alloc))?.arg(from(alloc))?.arg(summary(alloc)),
             Command::Scrub => bare.arg(db(alloc))?.arg(from(alloc)),
+            Command::Run => bare.arg(db(alloc))?.arg(peer(alloc))?.arg(files(alloc)),
             Command::Order => {
                 let begun = bare.arg(db(alloc))?.arg(source(alloc))?;
                 with_request(alloc, begun)

@@ -24,6 +24,20 @@ pub fn text_of(alloc: Global, matches: &ArgMatches<'_>, id: &str) -> Result<Text
     Text::of(alloc, str_of(matches, id))
 }
 
+/// The text that was matched for an argument, as a text of its own; none where it wasn't given.
+pub fn given_text_of(
+    alloc: Global,
+    matches: &ArgMatches<'_>,
+    id: &str,
+) -> Result<Option<Text>, AllocError>
+    ensures { IfOk result (λ text. text ≡ first_of id.now (rows_of (found_of matches.now))) }
+{
+    match matches.get_str(id) {
+        Some(text) => Ok(Some(Text::of(alloc, text)?)),
+        None => Ok(None),
+    }
+}
+
 /// The texts that were matched for an argument, in their order; none where it wasn't given.
 pub fn texts_of(alloc: Global, matches: &ArgMatches<'_>, id: &str) -> Result<Texts, AllocError>
     ensures { IfOk result (λ texts. texts ≡ texts_in (rows_of (found_of matches.now)) id.now) }

@@ -13,6 +13,13 @@ pub enum Plan {
     Delta { db: Text, from: u64, summary: Text },
     /// The events of a database in key order, from a place on.
     Scrub { db: Text, from: u64 },
+    /// Files taken side by side into a database, each by a thread of its own, and with them the
+    /// events of another site's file, where one is given; 16 files at most, that one counted.
+    Run {
+        db: Text,
+        peer: Option<Text>,
+        files: Texts,
+    },
     /// A command to the service of a database.
     Order(Request),
     /// The rows of a service's outbox with a number greater than `after`.

@@ -1,6 +1,6 @@
 //! The values that texts of the command line write.
 ghost use Rattle.std.specs.Prelude.{◌≡◌, ◌≢◌, ℕ, true, IfErr, IfOk, IfSome, IsNone};
-ghost use Rattle.command_words.specs.Plans.{Blames, IsNumber, IsOrderNumber, IsServiceSource, IsTime, action_word};
+ghost use Rattle.command_words.specs.Plans.{AreFew, Blames, IsNumber, IsOrderNumber, IsServiceSource, IsTime, action_word};
 ghost use Rattle.command_words.specs.declared.request.Action.{Action};
 
 use crate::fault::Faulty;
@@ -12,6 +12,8 @@ use std::alloc::Global;
 const MAX_DIGITS: usize = 20;
 /// The greatest number of an order, 2^63 - 1.
 const MAX_ORDER: u64 = 9_223_372_036_854_775_807;
+/// The most files of a run.
+const MAX_WORKERS: u64 = 16;
 /// The most bytes of the time of a command.
 const MAX_TIME: usize = 64;
 /// The most bytes of a service's source.
@@ -95,6 +97,32 @@ pub fn time(alloc: Global, text: &str) -> Result<Moment, Faulty>
         Ok(at) => Ok(at),
         Err(Fault::OutOfMemory) => Err(Faulty::OutOfMemory),
         Err(_) => Err(not_allowed(alloc, "--at <TIME>", text, wanted)),
+    }
+}
+
+/// Whether a run may have so many files, with a peer's or without: each has a thread of its own.
+pub fn workers(alloc: Global, has_peer: bool, files: u64) -> Result<(), Faulty>
+    ensures ok { IfOk result (λ _. AreFew has_peer files) }
+    ensures err { IfErr result (Blames (AreFew has_peer files → ⊥)) }
+{
+    let most = if has_peer { MAX_WORKERS - 1 } else { MAX_WORKERS };
+    if files > most {
+        return Err(too_many(alloc));
+    }
+    Ok(())
+}
+
+/// What is said of a run of too many files.
+fn too_many(alloc: Global) -> Faulty {
+    match Text::of(
+        alloc,
+        "error: a run takes at most 16 files, its peer's counted\n\nFor more information, try '--help'.\n",
+    ) {
+        Ok(text) => Faulty::Words {
+            text,
+            is_help: false,
+        },
+        Err(_) => Faulty::OutOfMemory,
     }
 }
 

@@ -3,15 +3,16 @@ ghost use Rattle.std.specs.Prelude.{◌≡◌, IfOk, IfErr, map};
 ghost use Rattle.clap.specs.Words.{found_of, rows_of};
 ghost use Rattle.command_words.specs.Commands.{word_of};
 ghost use Rattle.command_words.specs.Plans.{AreFaulty, Blames, HasRequestOf, HasTextsOf, HaveNoPlan, IsPlan, IsPlanFor, command_of};
+ghost use Rattle.command_words.specs.declared.command.Command.TheVariants as command;
 ghost use Rattle.command_words.specs.declared.request.Plan.{Plan};
 ghost use Rattle.command_words.specs.declared.request.Request.{Request};
 
 use crate::command::{Command, row_of};
 use crate::fault::Faulty;
-use crate::matched::{str_of, text_of, texts_of};
+use crate::matched::{given_text_of, str_of, text_of, texts_of};
 use crate::program::{faulty_of, no_command};
 use crate::request::{Plan, Request};
-use crate::value::{action, number, order_number, source, time};
+use crate::value::{action, number, order_number, source, time, workers};
 use attributes::Text;
 use clap::ArgMatches;
 use std::alloc::{AllocError, Global};
@@ -78,6 +79,7 @@ fn matched(alloc: Global, command: Command, matches: &ArgMatches<'_>) -> Result<
                 Err(faulty) => Err(faulty),
             }
         }
+        Command::Run => run(alloc, matches),
         Command::Order => match request(alloc, matches) {
             Ok(request) => Ok(Plan::Order(request)),
             Err(faulty) => Err(faulty),
@@ -89,6 +91,21 @@ fn matched(alloc: Global, command: Command, matches: &ArgMatches<'_>) -> Result<
                 Err(faulty) => Err(faulty),
             }
         }
+    }
+}
+
+/// The plan of files that are taken side by side.
+fn run(alloc: Global, matches: &ArgMatches<'_>) -> Result<Plan, Faulty>
+    ensures command { IfOk result (λ plan. command_of plan ≡ command.Run) }
+    ensures texts { IfOk result (HasTextsOf (rows_of (found_of matches.now))) }
+    ensures err { IfErr result (Blames (HaveNoPlan (rows_of (found_of matches.now)) command.Run)) }
+{
+    let db = text_of(alloc, matches, "db")?;
+    let peer = given_text_of(alloc, matches, "peer")?;
+    let files = texts_of(alloc, matches, "file")?;
+    match workers(alloc, peer.is_some(), files.len()) {
+        Ok(()) => Ok(Plan::Run { db, peer, files }),
+        Err(faulty) => Err(faulty),
     }
 }
 

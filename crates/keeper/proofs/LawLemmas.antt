@@ -14,7 +14,8 @@ use Rattle.site_lock.specs.Law.{CallsFollow}
 use Rattle.site_lock.specs.Pass.{leave, leaves}
 use Rattle.turn_lock.specs.declared.machine.Entry.{Entry}
 use Rattle.keeper.proofs.NewLemmas.{grows}
-use Rattle.keeper.specs.Law.{AcknowledgedAreKept}
+use Rattle.keeper.proofs.PageLemmas.{first_in}
+use Rattle.keeper.specs.Law.{AcknowledgedAreKept, FirstArrivalsStay}
 
 none_left : {X : Type 0} → (l : List X) (limit : ℕ) → 1 ≤ limit → [] ≡ take limit l → l ≡ []
 none_left [] limit low is = refl
@@ -32,6 +33,12 @@ leave_grows A (e ∷ es) = let p = grows key_cmp A (handled_by e.call.command e.
 
 first_are : (A more : List EventValue) (mark : ℕ) → length A ≤ mark → take mark (A ++ more) ≡ A ++ take (mark - length A) more
 first_are A more mark low = let e : mark ≡ length A + (mark - length A) = omega (arith, low) in ap (λ k. take k (A ++ more)) e ∙ take-append-add A more (mark - length A)
+
+-- the first arrivals stay the first
+pub first_stay : FirstArrivalsStay
+first_stay s rows opening seen more first clean is_open =
+    let g = leave_grows (leave opening seen) more in
+    first_in s rows (leave opening seen) (leave opening (seen ++ more)) g.0 (leave-append opening seen more ∙ g.1) (first clean is_open)
 
 pub kept : CallsFollow → AcknowledgedAreKept
 kept follow db mark n limit p q r made low opening seen reached h =

@@ -17,7 +17,7 @@ use Rattle.site.specs.declared.call.Command.TheVariants as command
 use Rattle.site.specs.declared.call.Reply.{Reply}
 use Rattle.site.specs.declared.call.Reply.TheVariants.{Paged}
 use Rattle.keeper.proofs.NewLemmas.{all_new, grows}
-use Rattle.keeper.specs.Keep.{Grows, HasFirst, KeepsUp, MayKeep, max_page}
+use Rattle.keeper.specs.Keep.{Grows, HasAll, HasFirst, KeepsUp, MayKeep, max_page}
 
 -- the page behind the first arrivals is new to them, and they are the first ones with it
 record IsNext (A : List EventValue) (rows : ℕ) (b : List EventValue) : Type 0 where
@@ -45,7 +45,7 @@ others_added : (A B : List EventValue) (rows : ℕ) (reply : Reply) → Follows 
 others_added A B rows reply f = (f.0, f.2)
 
 -- the first arrivals stay the first
-first_in : (s : State) (rows : ℕ) (A B : List EventValue) (others : List EventValue) → B ≡ A ++ others → HasFirst s.now rows A → HasFirst s.now rows B
+pub first_in : (s : State) (rows : ℕ) (A B : List EventValue) (others : List EventValue) → B ≡ A ++ others → HasFirst s.now rows A → HasFirst s.now rows B
 first_in s rows A B others is h = record {
   some = (let e = ap (λ (z : List EventValue). length z) is in let l = length-append A others in omega (arith, e, l, h.some));
   table = subst (IsInbox s.now) (sym (ap (take rows) is ∙ take-append-le rows A others h.some)) h.table;
@@ -66,6 +66,36 @@ still_grows old new was_clean was_open same = record {
   was_open = was_open;
   list = λ clean is_open held box. ([], subst (λ d. IsInbox d (held ++ [])) (sym (same clean is_open)) (subst (IsInbox old.now) (sym (append-nil held)) box));
 }
+
+-- what a table takes comes behind what it had
+pub taken_grows : (old new : State) (b : List EventValue) → (HasCleanDisk new → HasCleanDisk old) → (HasCleanDisk new → IsTrue new.is_open → IsTrue old.is_open)
+    → (HasCleanDisk new → Takes b old.now new.now) → Grows old new
+taken_grows old new b was_clean was_open takes = record {
+  was_clean = was_clean;
+  was_open = was_open;
+  list = λ clean is_open held box. let g = grows key_cmp held b in (g.0, subst (IsInbox new.now) g.1 (takes clean held box));
+}
+
+-- what comes behind the first arrivals is new to them, and with it they are all
+rest_added : (A : List EventValue) (rows : ℕ) (b : List EventValue) → b ≡ drop rows A → AreDistinct A → append_new key_cmp (take rows A) b ≡ A
+rest_added A rows b is once =
+    let whole : take rows A ++ b ≡ A = ap (λ (z : List EventValue). take rows A ++ z) is ∙ take-append-drop rows A in
+    let all : take rows A ++ (b ++ []) ≡ A = ap (λ (z : List EventValue). take rows A ++ z) (append-nil b) ∙ whole in
+    all_new key_cmp (take rows A) b [] (subst (λ (z : List EventValue). append_new key_cmp [] z ≡ z) (sym all) once) ∙ whole
+
+-- with the rest of the arrivals the table has them all
+pub caught_up : (old new : State) (rows rows' fresh : ℕ) (A b : List EventValue) → b ≡ drop rows A → AreDistinct A → KeepsUp old rows A
+    → (HasCleanDisk new → HasCleanDisk old) → (HasCleanDisk new → IsTrue new.is_open → IsTrue old.is_open) → (HasCleanDisk new → IsTrue new.is_open)
+    → (HasCleanDisk new → Takes b old.now new.now) → (HasCleanDisk new → AreFresh b old.now fresh) → rows' ≡ rows + fresh → HasCleanDisk new → HasAll new rows' A
+caught_up old new rows rows' fresh A b is once first was_clean was_open stays takes came grew clean =
+    let h : HasFirst old.now rows A = first (was_clean clean) (was_open clean (stays clean)) in
+    let added = rest_added A rows b is once in
+    let e = came clean (take rows A) h.table in let k = length-take-le rows A h.some in let m = ap (λ (z : List EventValue). length z) added in
+    record {
+      is_open = stays clean;
+      table = subst (IsInbox new.now) added (takes clean (take rows A) h.table);
+      count = omega (arith, grew, e, k, m);
+    }
 
 module _ (old new : State) (rows rows' fresh : ℕ) (A B b : List EventValue) (f : Follows A (call (command.Fresh rows max_page) (Paged b)) B) (once : AreDistinct B) (first : KeepsUp old rows A)
     (was_clean : HasCleanDisk new → HasCleanDisk old) (was_open : HasCleanDisk new → IsTrue new.is_open → IsTrue old.is_open) (stays : HasCleanDisk new → IsTrue new.is_open)
@@ -92,11 +122,7 @@ module _ (old new : State) (rows rows' fresh : ℕ) (A B b : List EventValue) (f
   page_count clean = fresh_is clean ∙ (next clean).count
 
   pub page_grows : Grows old new
-  page_grows = record {
-    was_clean = was_clean;
-    was_open = was_open;
-    list = λ clean is_open held box. let g = grows key_cmp held b in (g.0, subst (IsInbox new.now) g.1 (takes clean held box));
-  }
+  page_grows = taken_grows old new b was_clean was_open takes
 
 pub survives_same : (s : State) (P : Trees → Type 0) → Survives s s P
 survives_same s P = record { clean = omega arith; shield = λ h. h; counts = omega arith; limit = refl; closes = λ clean h. inl h; crash = λ clean db h. inl h }

@@ -24,6 +24,12 @@ abbrev pub KeepsUp : State → ℕ → List EventValue → Type 0
 KeepsUp s rows arrivals =
     HasCleanDisk s → IsTrue s.is_open → HasFirst s.now rows arrivals
 
+-- the table has all these arrivals, in their order, and no others
+pub record HasAll (s : State) (rows : ℕ) (arrivals : List EventValue) : Type 0 where
+  pub is_open : IsTrue s.is_open
+  pub table : IsInbox s.now arrivals
+  pub count : rows ≡ length arrivals
+
 -- from p to q the pass made one call: it asked for a page of the arrivals after the first so many
 abbrev pub Asks : ℕ → Shown → Shown → Type 0
 Asks rows p q = (reply : Reply) × Made p q (call (command.Fresh rows max_page) reply)

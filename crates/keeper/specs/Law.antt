@@ -1,14 +1,22 @@
 -- What holds of keepers, whatever was done.
 use Rattle.std.specs.Prelude.{◌≡◌, ◌≤◌, ℕ, List, [], ◌++◌}
 use Rattle.sqlite.specs.Effect.{Database}
+use Rattle.sqlite.specs.State.{State}
 use Rattle.attributes.specs.Event.{EventValue}
 use Rattle.inbox_table.specs.Rows.{IsInbox}
 use Rattle.site.specs.Machine.{call}
+use Rattle.site.specs.declared.call.Call.{Call}
 use Rattle.site.specs.declared.call.Command.TheVariants as command
 use Rattle.site.specs.declared.call.Reply.TheVariants.{Paged}
 use Rattle.turn_lock.specs.History.{StartsWith}
-use Rattle.site_lock.specs.Pass.{Made, Shown, leaves}
-use Rattle.keeper.specs.Keep.{HasFirst}
+use Rattle.turn_lock.specs.declared.machine.Entry.{Entry}
+use Rattle.site_lock.specs.Pass.{Made, Shown, leave, leaves}
+use Rattle.keeper.specs.Keep.{HasFirst, KeepsUp}
+
+-- a table that has the first arrivals after a history has them after a longer one too
+abbrev pub FirstArrivalsStay : Type 0
+FirstArrivalsStay = (s : State) (rows : ℕ) (opening : List EventValue) (seen more : List (Entry Call))
+    → KeepsUp s rows (leave opening seen) → KeepsUp s rows (leave opening (seen ++ more))
 
 -- a caller's pass, which went from p to q, asked what came after the first n arrivals, and there was
 -- nothing; the keeper's pass r is of the same site and has seen that, and the database has the table

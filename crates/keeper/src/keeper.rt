@@ -1,22 +1,26 @@
 //! A table that keeps up with a shared site.
 
-ghost use Rattle.std.specs.Prelude.{◌≡◌, ◌≢◌, ◌+◌, ◌-◌, ◌≤◌, true, length, min, List, IsTrue, IfErr, IfOk, OnErr, OnOk};
+ghost use Rattle.std.specs.Prelude.{◌≡◌, ◌≢◌, ◌+◌, ◌-◌, ◌≤◌, [], true, drop, length, min, List, IsTrue, IfErr, IfOk, OnErr, OnOk};
 ghost use Rattle.sqlite.specs.Held.{state};
 ghost use Rattle.sqlite.specs.State.{HasCleanDisk, Survives};
 ghost use Rattle.attributes.specs.Event.{EventValue};
+ghost use Rattle.inbox.specs.KeyOrder.{key_cmp};
+ghost use Rattle.inbox.specs.Ordered.{append_new};
+ghost use Rattle.site.specs.Arrival.{AreDistinct};
 ghost use Rattle.inbox_table.specs.Calls.{IsSettled, StandsFor};
 ghost use Rattle.inbox_table.specs.Rows.{IsInbox};
 ghost use Rattle.site_lock.specs.Pass.{leaves};
-ghost use Rattle.keeper.specs.Keep.{Asks, Grows, HasFirst, KeepsUp, MayKeep, max_page};
-ghost use Rattle.keeper.specs.declared.fault.KeepFault.TheVariants.{Foreign};
+ghost use Rattle.keeper.specs.Keep.{Asks, Grows, HasAll, HasFirst, KeepsUp, MayKeep, max_page};
+ghost use Rattle.keeper.specs.declared.fault.KeepFault.TheVariants.{Foreign, OutOfMemory};
 
 use crate::fault::KeepFault;
+use attributes::Batch;
 use inbox_table::Table;
 use site::Site;
 use site_lock::laws::calls_follow;
 use site_lock::{Pass, SharedSite};
 use sqlite::Alter;
-use std::alloc::Global;
+use std::alloc::{AllocError, Global};
 use std::marker::Model;
 use std::sync::Wait;
 
@@ -28,6 +32,19 @@ const MAX_PAGE: u64 = 100;
 #[derive(Drop)]
 pub struct Keeper<S: Alter> {
     table: Table<S>,
+}
+
+/// The arrivals of a site behind the first n.
+fn rest_of(alloc: Global, site: &Site, n: u64) -> Result<Batch, AllocError>
+    ensures { IfOk result (λ rest. rest ≡ drop n site.now) }
+    ensures once { AreDistinct site.now }
+{
+    let mut rest = Batch::empty(alloc);
+    let count = site.arrived().saturating_sub(n);
+    for k in 0..count {
+        rest.push(site.arrived_at(n + k).copy()?)?;
+    }
+    Ok(rest)
 }
 
 /// A keeper, and a site with the events of its table.
@@ -86,21 +103,39 @@ impl<S: Alter + Drop> Keeper<S> {
             Survives (state S.Store table.conn) (state S.Store n.table.conn) (λ _. ⊥)) }
     {
         let mut table = table;
-        let mut site = Site::empty(alloc);
         match table.load() {
-            Ok(mut events) => match site.take_batch(&mut events) {
-                Ok(_) => Ok(Kept {
-                    keeper: Keeper { table },
-                    site,
-                }),
-                Err(_) => Err(NotKept {
-                    table,
-                    fault: KeepFault::OutOfMemory,
-                }),
-            },
+            Ok(events) => Keeper::of_loaded(alloc, table, events),
             Err(fault) => Err(NotKept {
                 table,
                 fault: KeepFault::from(fault),
+            }),
+        }
+    }
+
+    /// A keeper of a table whose events are at hand, as [`Table::adopt_and_load`] gives them, so
+    /// that its rows aren't read twice. Time and memory in proportion to the events.
+    ///
+    /// The table comes back after want of memory.
+    pub fn of_loaded(
+        alloc: Global,
+        table: Table<S>,
+        events: Batch,
+    ) -> Result<Kept<S>, NotKept<S>>
+        ensures site { IfOk result (λ k. k.site ≡ append_new key_cmp [] events) }
+        ensures keeper { IfOk result (λ k. k.keeper ≡ table) }
+        ensures back { IfErr result (λ n. n.table ≡ table) }
+        ensures fault { IfErr result (λ n. n.fault ≡ OutOfMemory) }
+    {
+        let mut events = events;
+        let mut site = Site::empty(alloc);
+        match site.take_batch(&mut events) {
+            Ok(_) => Ok(Kept {
+                keeper: Keeper { table },
+                site,
+            }),
+            Err(_) => Err(NotKept {
+                table,
+                fault: KeepFault::OutOfMemory,
             }),
         }
     }
@@ -148,6 +183,34 @@ impl<S: Alter + Drop> Keeper<S> {
                 }
             }
             Err(fault) => Err(KeepFault::from(fault)),
+        }
+    }
+
+    /// Keeps, in one transaction, all arrivals of a site of one's own that the table doesn't have
+    /// yet; then the mark is their number. The table has the first arrivals of that site. For a
+    /// site that was shared and is closed: no turn is needed any more.
+    ///
+    /// A refusal leaves the mark. Time and memory in proportion to what is kept.
+    pub fn catch_up(&mut self, alloc: Global, site: &Site) -> Result<(), KeepFault>
+        requires { KeepsUp (state S.Store self.old.conn) self.old.rows site.now }
+        ensures all { HasCleanDisk (state S.Store self.new.conn)
+            → OnOk result (HasAll (state S.Store self.new.conn) self.new.rows site.now) }
+        ensures settled { HasCleanDisk (state S.Store self.new.conn)
+            → OnOk result (IsSettled (state S.Store self.new.conn)) }
+        ensures mark_same { OnErr result (self.new.rows ≡ self.old.rows) }
+        ensures same { HasCleanDisk (state S.Store self.new.conn)
+            → IsTrue (state S.Store self.new.conn).is_open
+            → OnErr result ((state S.Store self.new.conn).now
+            ≡ (state S.Store self.old.conn).now) }
+        ensures known { IfErr result (λ fault. fault ≢ Foreign) }
+        ensures list { Grows (state S.Store self.old.conn) (state S.Store self.new.conn) }
+    {
+        match rest_of(alloc, site, self.table.rows()) {
+            Ok(rest) => match self.table.keep(&rest) {
+                Ok(_) => Ok(()),
+                Err(fault) => Err(KeepFault::from(fault)),
+            },
+            Err(_) => Err(KeepFault::OutOfMemory),
         }
     }
 

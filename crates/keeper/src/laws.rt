@@ -1,8 +1,16 @@
-//! A law of keepers, as the contract of a function that does nothing.
+//! Laws of keepers, each as the contract of a function that does nothing.
 
-ghost use Rattle.keeper.specs.Law.{AcknowledgedAreKept};
+ghost use Rattle.keeper.specs.Law.{AcknowledgedAreKept, FirstArrivalsStay};
 
 use site_lock::laws::calls_follow;
+
+/// What a table has of the first arrivals of a site, it has of them whatever is done with the site:
+/// a keeper that may make a step with one pass may make it with each pass of that site that has seen
+/// as much.
+pub fn first_arrivals_stay()
+    ensures { FirstArrivalsStay }
+{
+}
 
 /// Where n arrivals are acknowledged, a caller was told that none come after the first n, and the
 /// keeper's pass has seen that since, the table has all that the caller had seen by then: all that

@@ -1,0 +1,18 @@
+use Rattle.std.proofs.Common.{arith, refl, sym, ap, ◌∙◌, subst, drop}
+use Rattle.sqlite.specs.Held.{state}
+use Rattle.sqlite.specs.State.{HasCleanDisk}
+use Rattle.inbox_table.specs.Calls.{Kept}
+use Rattle.keeper.proofs.PageLemmas.{caught_up, still_grows, taken_grows}
+use Rattle.keeper.proofs.keeper.Keeper.catch_up.Goals as goal
+use Rattle.keeper.specs.Keep.{Grows, KeepsUp}
+
+pub returns-in-Ok-keep-clause-all : goal.returns-in-Ok-keep-clause-all
+returns-in-Ok-keep-clause-all g c clean =
+    let A = c.args.site.now in
+    let table = c.self.inside.table in
+    let old = state g.S.Store table.conn in
+    let new = state g.S.Store c.keep.new.self.conn in
+    let first : KeepsUp old table.rows A = subst (λ (k : Kept _). KeepsUp (state g.S.Store k.conn) k.rows A) (sym c.self.view_is) c.requires in
+    let was_clean : (HasCleanDisk new → HasCleanDisk old) = λ clean. omega (arith, c.in-Ok-keep.ensures.crash.clean, clean) in
+    caught_up old new table.rows c.keep.new.self.rows c.in-Ok-keep.result A c.in-Ok.rest (c.in-Ok.ensures ∙ ap (λ n. drop n A) c.rows.ensures.rows) c.rest_of.ensures.once first was_clean
+    c.in-Ok-keep.ensures.was_open c.in-Ok-keep.ensures.open c.in-Ok-keep.ensures.takes c.in-Ok-keep.ensures.fresh c.in-Ok-keep.ensures.rows clean
