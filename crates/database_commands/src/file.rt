@@ -147,7 +147,7 @@ fn closed(ended: Ended<FileStore<File>>) -> Result<Text, CommandFault>
 
 /// Opens the database of that name, and makes its file where there is none. `growth` is about how
 /// many bytes will be added, for the size of the cache alone.
-fn open(
+pub fn open(
     rt: &HostRuntime,
     name: &str,
     growth: u64,

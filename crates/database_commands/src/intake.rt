@@ -22,6 +22,9 @@ pub fn loaded<S: Alter + Drop>(alloc: Global, conn: Connection<S>) -> Result<Loa
     ensures table { IfOk result (λ l. HasCleanDisk (state S.Store l.table.conn)
         → (held : List EventValue) → Holds (state S.Store conn).now held
         → IsInbox (state S.Store l.table.conn).now held) }
+    ensures found { IfOk result (λ l. HasCleanDisk (state S.Store l.table.conn)
+        → IsInbox (state S.Store l.table.conn).now l.events) }
+    ensures rows { IfOk result (λ l. l.table.rows ≡ length l.events) }
 {
     match Table::create(alloc, conn) {
         Ok(table) => {

@@ -9,9 +9,9 @@ mod service;
 mod text;
 
 use attributes::Text;
-pub use fault::CommandFault;
-pub use file::Databases;
-pub use intake::take;
+pub use fault::{CommandFault, of_table};
+pub use file::{Databases, open};
+pub use intake::{loaded, take};
 pub use outbox::Status;
 pub use page::{delta, scrub};
 pub use service::{order, relay};

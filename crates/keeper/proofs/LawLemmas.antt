@@ -22,11 +22,11 @@ none_left [] limit low is = refl
 none_left (x ∷ xs) zero low is = absurd (omega (arith, low))
 none_left (x ∷ xs) (suc k) low is = absurd (cc)
 
-leave-append : (A : List EventValue) (xs ys : List (Entry Call)) → leave A (xs ++ ys) ≡ leave (leave A xs) ys
+pub leave-append : (A : List EventValue) (xs ys : List (Entry Call)) → leave A (xs ++ ys) ≡ leave (leave A xs) ys
 leave-append A [] ys = refl
 leave-append A (e ∷ es) ys = leave-append (arrivals_after A e.call) es ys
 
-leave_grows : (A : List EventValue) (log : List (Entry Call)) → (others : List EventValue) × (leave A log ≡ A ++ others)
+pub leave_grows : (A : List EventValue) (log : List (Entry Call)) → (others : List EventValue) × (leave A log ≡ A ++ others)
 leave_grows A [] = ([], sym (append-nil A))
 leave_grows A (e ∷ es) = let p = grows key_cmp A (handled_by e.call.command e.call.reply) in let q = leave_grows (arrivals_after A e.call) es in
     (p.0 ++ q.0, q.1 ∙ (ap (λ (z : List EventValue). z ++ q.0) p.1 ∙ append_assoc A p.0 q.0))

@@ -1,0 +1,2 @@
+mod FedLemmas
+mod ToldLemmas

@@ -1,0 +1,84 @@
+-- What reports without a fault tell of the feeds.
+use Rattle.std.proofs.Common.{◌≡◌, ◌≢◌, ◌+◌, ◌≤◌, ℕ, suc, List, [], ◌∷◌, ◌++◌, length, take, refl, sym, ap, subst, ◌∙◌, arith, length-append, Option, None, Some, inl, inr}
+use Rattle.std.specs.Option.{option_or}
+use Rattle.std.proofs.lemmas.List.Elements.{filter-append}
+use Rattle.attributes.specs.Event.{EventValue}
+use Rattle.event_json.specs.Reading.{Reads}
+use Rattle.event_json.specs.declared.fault.ReadFault.{ReadFault}
+use Rattle.event_json.specs.declared.fault.ReadFault.TheVariants as read
+use Rattle.site.specs.declared.call.Call.{Call}
+use Rattle.feeds.specs.Pull.{Holds}
+use Rattle.feeds.specs.Report.{Feeds, Tells, end_of, handled, has_number, sequenced, unread}
+use Rattle.feeds.specs.declared.report.Ended.{Ended}
+use Rattle.feeds.specs.declared.report.Ended.TheVariants.{BadInput, Done, GateShut, OutOfMemory}
+use Rattle.feeds.specs.declared.report.Report.{Report}
+use Rattle.run_command.specs.Fault.{of_end}
+use Rattle.run_command.specs.Run.{AreFed, EachSpells, IsFed, joined}
+use Rattle.run_command.specs.Tally.{first_fault, read_in, refused_in}
+use Rattle.run_command.specs.declared.fault.RunFault.{RunFault}
+use Rattle.run_command.proofs.FedLemmas.{holds_both}
+
+-- the feeds were read, all their events that have numbers are among the arrivals, and these are the
+-- counts
+pub record Told (arrivals : List EventValue) (bs : List (List ℕ)) (rs : List Report) : Type 0 where
+  pub lists : List (List EventValue)
+  pub read : EachSpells bs lists
+  pub fed : Holds arrivals (sequenced (joined lists))
+  pub all : read_in (take (length bs) rs) ≡ length (joined lists)
+  pub none : refused_in (take (length bs) rs) + length (sequenced (joined lists)) ≡ length (joined lists)
+
+-- a report without a fault is one of a worker that was done
+done_by : (place : ℕ) (e : Ended) → of_end place e ≡ None → e ≡ Done
+done_by place Done h = refl
+done_by place OutOfMemory h = absurd (cc)
+done_by place GateShut h = absurd (cc)
+done_by place (BadInput fault) h = absurd (cc)
+
+not_done : (fault : ReadFault) → end_of fault ≡ Done → ⊥
+not_done read.OutOfMemory h = absurd (cc)
+not_done read.NotJson h = absurd (cc)
+not_done read.NotEvent h = absurd (cc)
+not_done (read.BadEvent i f) h = absurd (cc)
+not_done read.InputTooLarge h = absurd (cc)
+
+no_first : {X : Type 0} → (a b : Option X) → option_or a b ≡ None → (a ≡ None) × (b ≡ None)
+no_first None b h = (refl, h)
+no_first (Some x) b h = absurd (cc)
+
+-- one feed that was read whole
+pub record Whole (arrivals : List EventValue) (b : List ℕ) (r : Report) : Type 0 where
+  pub events : List EventValue
+  pub reads : Reads b events
+  pub fed : Holds arrivals (sequenced events)
+  pub all : r.read ≡ length events
+  pub none : r.refused + length (sequenced events) ≡ length events
+
+whole : (arrivals : List EventValue) (b : List ℕ) (r : Report) → IsFed arrivals b r → r.ended ≡ Done → Whole arrivals b r
+whole arrivals b r fed done = elim fed.1 [
+  | inl f ↦ (let t : Tells f.0 fed.0 r = f.2 in let d = t.done done in let h = ap (λ (z : List EventValue). length z) d.0 in record {
+      events = f.0;
+      reads = f.1;
+      fed = subst (λ (z : List EventValue). Holds arrivals z) d.0 fed.2;
+      all = d.1;
+      none = omega (arith, t.counts.read, t.counts.handled, h, d.1);
+    })
+  | inr u ↦ absurd (not_done u.1.0 (sym (ap (λ (z : Report). z.ended) u.1.1) ∙ done))
+]
+
+pub told : (arrivals : List EventValue) (bs : List (List ℕ)) (rs : List Report) (place : ℕ) → AreFed arrivals bs rs → first_fault place rs ≡ None → Told arrivals bs rs
+told arrivals [] rs place fed none = record { lists = []; read = tt; fed = tt; all = refl; none = refl }
+told arrivals (b ∷ bs) [] place fed none = absurd fed
+told arrivals (b ∷ bs) (r ∷ rs) place fed none =
+    let n = no_first (of_end place r.ended) (first_fault (place + 1) rs) none in
+    let w = whole arrivals b r fed.0 (done_by place r.ended n.0) in
+    let t = told arrivals bs rs (place + 1) fed.1 n.1 in
+    let is : sequenced (w.events ++ joined t.lists) ≡ sequenced w.events ++ sequenced (joined t.lists) = filter-append has_number w.events (joined t.lists) in
+    let counted = ap (λ (z : List EventValue). length z) is ∙ length-append (sequenced w.events) (sequenced (joined t.lists)) in
+    let both = length-append w.events (joined t.lists) in
+    record {
+      lists = w.events ∷ t.lists;
+      read = (w.reads, t.read);
+      fed = subst (λ (z : List EventValue). Holds arrivals z) (sym is) (holds_both arrivals (sequenced w.events) (sequenced (joined t.lists)) w.fed t.fed);
+      all = omega (arith, w.all, t.all, both);
+      none = omega (arith, w.none, t.none, both, counted);
+    }

@@ -1,0 +1,29 @@
+-- The faults of the crates below, as those of runs.
+use Rattle.std.specs.Prelude.{ℕ, Option, None, Some}
+use Rattle.database_commands.specs.declared.fault.CommandFault.TheVariants as command
+use Rattle.feeds.specs.declared.report.Ended.{Ended}
+use Rattle.feeds.specs.declared.report.Ended.TheVariants.{BadInput, Done, GateShut, OutOfMemory}
+use Rattle.feeds.specs.declared.serving.ServeFault.{ServeFault}
+use Rattle.feeds.specs.declared.serving.ServeFault.TheVariants as serve
+use Rattle.keeper.specs.declared.fault.KeepFault.{KeepFault}
+use Rattle.keeper.specs.declared.fault.KeepFault.TheVariants as keep
+use Rattle.run_command.specs.declared.fault.RunFault.{RunFault}
+use Rattle.run_command.specs.declared.fault.RunFault.TheVariants as run
+
+-- the fault that one of a keeper is
+abbrev pub of_keep : KeepFault → RunFault
+of_keep keep.OutOfMemory = run.Database command.OutOfMemory
+of_keep keep.Store = run.Database command.Store
+of_keep keep.Foreign = run.Database command.Foreign
+
+-- the fault that one of the workers as a whole is
+abbrev pub of_serve : ServeFault → RunFault
+of_serve serve.OutOfMemory = run.Database command.OutOfMemory
+of_serve serve.NoThread = run.NoThread
+
+-- the fault of the worker at this place, where it has one
+abbrev pub of_end : ℕ → Ended → Option RunFault
+of_end place Done = None
+of_end place OutOfMemory = Some (run.Database command.OutOfMemory)
+of_end place GateShut = Some (run.Database command.OutOfMemory)
+of_end place (BadInput fault) = Some (run.Feed place fault)

@@ -1,0 +1,72 @@
+-- What a run comes to.
+use Rattle.std.specs.Prelude.{◌≡◌, ℕ, ◌+◌, List, [], ◌∷◌, ◌++◌, codes, length}
+use Rattle.std.specs.Fmt.{decimal}
+use Rattle.std.specs.List.{flat_map}
+use Rattle.sqlite.specs.Effect.{Database}
+use Rattle.attributes.specs.Event.{EventValue}
+use Rattle.event_json.specs.Reading.{Reads}
+use Rattle.inbox.specs.Sets.{set_of}
+use Rattle.views.specs.Question.{IsAnswer}
+use Rattle.views.specs.declared.query.Query.TheVariants.{Cover}
+use Rattle.site.specs.declared.call.Call.{Call}
+use Rattle.feeds.specs.Pull as pull
+use Rattle.feeds.specs.Report.{Feeds, handled, sequenced}
+use Rattle.feeds.specs.declared.report.Report.{Report}
+use Rattle.inbox_table.specs.Rows.{IsInbox}
+use Rattle.database_commands.specs.Held as database
+
+-- the first line: how many events were read, how many of them had no number, how many there are
+abbrev pub run_line : ℕ → ℕ → ℕ → List ℕ
+run_line read refused held = codes "read " ++ decimal read ++ codes " refused " ++ decimal refused
+    ++ codes " held " ++ decimal held ++ 10 ∷ []
+
+-- the first line, and behind it the summary of these arrivals
+abbrev pub IsRunText : ℕ → ℕ → List EventValue → List ℕ → Type 0
+IsRunText read refused arrivals text = (cover : List ℕ) × IsAnswer Cover (set_of arrivals) cover
+    × (text ≡ run_line read refused (length arrivals) ++ cover)
+
+-- each feed's bytes spell its list of events
+abbrev pub EachSpells : List (List ℕ) → List (List EventValue) → Type 0
+EachSpells [] [] = Unit {0}
+EachSpells (b ∷ bs) (events ∷ lists) = Reads b events × EachSpells bs lists
+EachSpells _ _ = ⊥
+
+-- the events of all lists
+abbrev pub joined : List (List EventValue) → List EventValue
+joined lists = flat_map (λ events. events) lists
+
+-- each feed was read, and the text counts its events: those that have numbers are all among these
+-- arrivals, whose number and summary the text tells
+pub record SaysRun (feeds : List (List ℕ)) (arrivals : List EventValue) (text : List ℕ) : Type 0 where
+  pub lists : List (List EventValue)
+  pub read : EachSpells feeds lists
+  pub fed : pull.Holds arrivals (sequenced (joined lists))
+  pub refused : ℕ
+  pub counted : refused + length (sequenced (joined lists)) ≡ length (joined lists)
+  pub text : IsRunText (length (joined lists)) refused arrivals text
+
+-- the database has these arrivals, which are what was held and more behind it or nothing, and the
+-- text tells of them
+pub record IsRun (feeds : List (List ℕ)) (held : List EventValue) (new : Database)
+    (text : List ℕ) : Type 0 where
+  pub arrivals : List EventValue
+  pub kept : IsInbox new arrivals
+  pub more : List EventValue
+  pub first : arrivals ≡ held ++ more
+  pub said : SaysRun feeds arrivals text
+
+-- so it is whatever the database held
+abbrev pub RunsInto : List (List ℕ) → Database → Database → List ℕ → Type 0
+RunsInto feeds old new text =
+    (held : List EventValue) → database.Holds old held → IsRun feeds held new text
+
+-- the report is that of a feed of these bytes, whose events that it handed over are all among these
+-- arrivals
+abbrev pub IsFed : List EventValue → List ℕ → Report → Type 0
+IsFed arrivals b r = (m : List Call) × Feeds b m r × pull.Holds arrivals (handled m)
+
+-- the first reports are those of these feeds
+abbrev pub AreFed : List EventValue → List (List ℕ) → List Report → Type 0
+AreFed arrivals [] rs = Unit {0}
+AreFed arrivals (b ∷ bs) [] = ⊥
+AreFed arrivals (b ∷ bs) (r ∷ rs) = IsFed arrivals b r × AreFed arrivals bs rs

@@ -1,0 +1,21 @@
+-- What reports come to together.
+use Rattle.std.specs.Prelude.{ℕ, ◌+◌, List, [], ◌∷◌, Option, None}
+use Rattle.std.specs.Option.{option_or}
+use Rattle.feeds.specs.declared.report.Report.{Report}
+use Rattle.run_command.specs.Fault.{of_end}
+use Rattle.run_command.specs.declared.fault.RunFault.{RunFault}
+
+-- the fault of the first worker that has one; the first stands at this place
+abbrev pub first_fault : ℕ → List Report → Option RunFault
+first_fault place [] = None
+first_fault place (r ∷ rs) = option_or (of_end place r.ended) (first_fault (place + 1) rs)
+
+-- how many events the workers read
+abbrev pub read_in : List Report → ℕ
+read_in [] = 0
+read_in (r ∷ rs) = r.read + read_in rs
+
+-- and how many of them had no number
+abbrev pub refused_in : List Report → ℕ
+refused_in [] = 0
+refused_in (r ∷ rs) = r.refused + refused_in rs

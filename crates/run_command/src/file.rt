@@ -1,0 +1,57 @@
+//! Runs over databases by the names of their files.
+ghost use Rattle.std.specs.Prelude.{◌≡◌, ◌≤◌, ◌+◌, length, List, IfOk};
+ghost use Rattle.attributes.specs.Event.{EventValue};
+ghost use Rattle.run_command.specs.Run.{SaysRun};
+
+use crate::ending::{RunEnded, run};
+use crate::fault::RunFault;
+use attributes::Text;
+use database_commands::open;
+use feeds::Jobs;
+use sqlite_std_file::File;
+use sqlite_store::FileStore;
+use std::alloc::Global;
+use std::sync::Wait;
+use std::thread::Threads;
+
+/// Runs over databases, by the names of their files. The file is made where there is none, and
+/// closed in the end. What it holds no clause can say: that of [`run`] does.
+pub trait Runs {
+    /// As [`run`]. `growth` is about how many bytes will be added, for the size of the cache alone.
+    fn run<R: Threads + Wait + Sync>(
+        &self,
+        rt: &R,
+        alloc: Global,
+        name: &str,
+        jobs: Jobs,
+        growth: u64,
+    ) -> Result<Text, RunFault>
+        requires { length jobs.feeds + length jobs.peers + length jobs.asks ≤ 16 }
+        ensures { IfOk result (λ text.
+            (arrivals : List EventValue) × SaysRun jobs.feeds arrivals text) };
+}
+
+impl Runs for HostRuntime {
+    fn run<R: Threads + Wait + Sync>(
+        &self,
+        rt: &R,
+        alloc: Global,
+        name: &str,
+        jobs: Jobs,
+        growth: u64,
+    ) -> Result<Text, RunFault> {
+        match open(self, name, growth) {
+            Ok(conn) => closed(run(rt, alloc, conn, jobs)),
+            Err(fault) => Err(RunFault::Database(fault)),
+        }
+    }
+}
+
+/// Closes the database of a run, and answers what it came to.
+fn closed(ended: RunEnded<FileStore<File>>) -> Result<Text, RunFault>
+    ensures { result ≡ ended.outcome }
+{
+    let RunEnded { conn, outcome } = ended;
+    let _closed = conn.close();
+    outcome
+}

@@ -1,0 +1,14 @@
+//! The command `run`: files taken side by side into a database.
+#![tactic(auto)]
+
+mod ending;
+mod fault;
+mod file;
+mod shared;
+mod tally;
+mod text;
+
+pub use ending::{RunEnded, run};
+pub use fault::RunFault;
+pub use feeds::Jobs;
+pub use file::Runs;

@@ -1,0 +1,68 @@
+//! The site of a database, shared while files are taken.
+ghost use Rattle.std.specs.Prelude.{◌≡◌, ◌≤◌, ◌+◌, IfErr, IfOk, length};
+ghost use Rattle.sqlite.specs.Held.{state};
+ghost use Rattle.keeper.specs.Keep.{KeepsUp};
+ghost use Rattle.run_command.specs.Shared.{IsClosed};
+
+use feeds::{Jobs, ServeFault, Served, serve};
+use keeper::laws::first_arrivals_stay;
+use keeper::{Flushed, Flusher, KeepFault, Keeper};
+use site::{Site, Wide};
+use site_lock::{Begun, SharedSite};
+use sqlite::Alter;
+use std::alloc::Global;
+use std::sync::Wait;
+use std::thread::Threads;
+
+/// What is left where workers have ended: the keeper, the site that was shared, what they reported,
+/// and why the keeper stopped, if it did.
+#[derive(Drop)]
+pub struct Closed<S: Alter + Drop> {
+    pub keeper: Keeper<S>,
+    pub site: Site,
+    pub served: Result<Served, ServeFault>,
+    pub stopped: Option<KeepFault>,
+}
+
+/// Shares a site for as long as jobs are done for it, each in a thread of its own, and keeps what
+/// came meanwhile. For want of memory the keeper comes back as it was.
+pub fn share<R: Threads + Wait + Sync, S: Alter + Drop>(
+    rt: &R,
+    alloc: Global,
+    keeper: Keeper<S>,
+    site: Site,
+    jobs: Jobs,
+) -> Result<Closed<S>, Keeper<S>>
+    requires first { KeepsUp (state S.Store keeper.conn) keeper.rows site }
+    requires few { length jobs.feeds + length jobs.peers + length jobs.asks ≤ 16 }
+    ensures ok { IfOk result (λ c.
+        IsClosed (λ conn. state S.Store conn) keeper site jobs.feeds c.keeper c.site c.served) }
+    ensures err { IfErr result (λ back. back ≡ keeper) }
+{
+    first_arrivals_stay();
+    let Begun { shared, mut pass } = match SharedSite::begin(alloc, site) {
+        Ok(begun) => begun,
+        Err(_) => return Err(keeper),
+    };
+    let Ok(own) = shared.split(&mut pass) else {
+        unreachable!()
+    };
+    let mut flusher = Flusher::of(rt, &shared, keeper, own);
+    let served = serve(rt, alloc, &shared, &mut pass, jobs, &Wide, &mut flusher);
+    let Flushed {
+        keeper,
+        pass: mut own,
+        fault: stopped,
+    } = flusher.end();
+    let Ok(()) = shared.meet(&mut pass, &mut own) else {
+        unreachable!()
+    };
+    pass.stands();
+    let site = shared.close(rt, pass);
+    Ok(Closed {
+        keeper,
+        site,
+        served,
+        stopped,
+    })
+}
