@@ -25,3 +25,10 @@ returns-in-Foreign-clause-table g c =
     (λ l f clean held holds. subst (λ d. IsInbox d held) (sym (f.0 clean (f.1 clean)))
     (subst (λ conn. IsInbox (state g.S.Store conn).now held) (sym untouched) (holds.there foreign)))
     (both_ok c.adopt_and_load.result _ _ c.adopt_and_load.ensures.unchanged c.adopt_and_load.ensures.open)
+
+pub returns-in-Foreign-clause-found : goal.returns-in-Foreign-clause-found
+returns-in-Foreign-clause-found g c =
+    IfOk-weaker c.adopt_and_load.result _ _
+    (λ l f clean. subst (λ d. IsInbox d l.events) (sym (f.1.0 clean (f.1.1 clean))) (f.0 clean))
+    (both_ok c.adopt_and_load.result _ _ c.adopt_and_load.ensures.adopted
+    (both_ok c.adopt_and_load.result _ _ c.adopt_and_load.ensures.unchanged c.adopt_and_load.ensures.open))
