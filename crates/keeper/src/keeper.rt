@@ -36,7 +36,7 @@ pub struct Keeper<S: Alter> {
 
 /// The arrivals of a site behind the first n.
 fn rest_of(alloc: Global, site: &Site, n: u64) -> Result<Batch, AllocError>
-    ensures { IfOk result (λ rest. rest ≡ drop n site.now) }
+    ensures rest { IfOk result (λ rest. rest ≡ drop n site.now) }
     ensures once { AreDistinct site.now }
 {
     let mut rest = Batch::empty(alloc);
