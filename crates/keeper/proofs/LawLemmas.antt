@@ -36,9 +36,9 @@ first_are A more mark low = let e : mark ≡ length A + (mark - length A) = omeg
 
 -- the first arrivals stay the first
 pub first_stay : FirstArrivalsStay
-first_stay s rows opening seen more first clean is_open =
+first_stay db rows opening seen more first =
     let g = leave_grows (leave opening seen) more in
-    first_in s rows (leave opening seen) (leave opening (seen ++ more)) g.0 (leave-append opening seen more ∙ g.1) (first clean is_open)
+    first_in db rows (leave opening seen) (leave opening (seen ++ more)) g.0 (leave-append opening seen more ∙ g.1) first
 
 pub kept : CallsFollow → AcknowledgedAreKept
 kept follow db mark n limit p q r made low opening seen reached h =

@@ -4,6 +4,7 @@ use Rattle.std.specs.Prelude.{min}
 use Rattle.std.proofs.lemmas.List.{length-append, length-drop, length-take, length-take-le, take-append-drop, take-append-le}
 use Rattle.std.proofs.Math.Seq.{take-append_seam}
 use Rattle.sqlite_trees.specs.Tree.{Trees}
+use Rattle.sqlite.specs.Effect.{Database}
 use Rattle.sqlite.specs.State.{State, HasCleanDisk, Survives}
 use Rattle.attributes.specs.Event.{EventValue}
 use Rattle.inbox.specs.KeyOrder.{key_cmp}
@@ -45,10 +46,10 @@ others_added : (A B : List EventValue) (rows : ℕ) (reply : Reply) → Follows 
 others_added A B rows reply f = (f.0, f.2)
 
 -- the first arrivals stay the first
-pub first_in : (s : State) (rows : ℕ) (A B : List EventValue) (others : List EventValue) → B ≡ A ++ others → HasFirst s.now rows A → HasFirst s.now rows B
-first_in s rows A B others is h = record {
+pub first_in : (db : Database) (rows : ℕ) (A B : List EventValue) (others : List EventValue) → B ≡ A ++ others → HasFirst db rows A → HasFirst db rows B
+first_in db rows A B others is h = record {
   some = (let e = ap (λ (z : List EventValue). length z) is in let l = length-append A others in omega (arith, e, l, h.some));
-  table = subst (IsInbox s.now) (sym (ap (take rows) is ∙ take-append-le rows A others h.some)) h.table;
+  table = subst (IsInbox db) (sym (ap (take rows) is ∙ take-append-le rows A others h.some)) h.table;
 }
 
 -- a question alone, after which the table has what it had
@@ -56,7 +57,7 @@ pub still_first : (old new : State) (rows rows' : ℕ) (A B : List EventValue) (
     → (HasCleanDisk new → IsTrue new.is_open → IsTrue old.is_open) → (HasCleanDisk new → IsTrue new.is_open → new.now ≡ old.now) → rows' ≡ rows → KeepsUp new rows' B
 still_first old new rows rows' A B reply f first was_clean was_open same is clean is_open =
     let o = others_added A B rows reply f in
-    let h : HasFirst old.now rows B = first_in old rows A B o.0 o.1 (first (was_clean clean) (was_open clean is_open)) in
+    let h : HasFirst old.now rows B = first_in old.now rows A B o.0 o.1 (first (was_clean clean) (was_open clean is_open)) in
     subst (λ n. HasFirst new.now n B) (sym is) (subst (λ d. HasFirst d rows B) (sym (same clean is_open)) h)
 
 pub still_grows : (old new : State) → (HasCleanDisk new → HasCleanDisk old) → (HasCleanDisk new → IsTrue new.is_open → IsTrue old.is_open)
@@ -101,7 +102,7 @@ module _ (old new : State) (rows rows' fresh : ℕ) (A B b : List EventValue) (f
     (was_clean : HasCleanDisk new → HasCleanDisk old) (was_open : HasCleanDisk new → IsTrue new.is_open → IsTrue old.is_open) (stays : HasCleanDisk new → IsTrue new.is_open)
     (takes : HasCleanDisk new → Takes b old.now new.now) (came : HasCleanDisk new → AreFresh b old.now fresh) (grew : rows' ≡ rows + fresh) where
   was : HasCleanDisk new → HasFirst old.now rows B
-  was clean = first_in old rows A B f.0 f.2 (first (was_clean clean) (was_open clean (stays clean)))
+  was clean = first_in old.now rows A B f.0 f.2 (first (was_clean clean) (was_open clean (stays clean)))
 
   next : HasCleanDisk new → IsNext B rows b
   next clean = is_next B rows b (was clean).some (f.1 ∙ ap (λ (z : List EventValue). page z rows max_page) (sym f.2)) once
@@ -141,7 +142,7 @@ page_crash old new rows A B b f once s = record {
   where
     kept : (trees : Trees) → (Stands old.now rows → MayTake b old.now trees) → HasFirst old.now rows A → MayKeep rows B trees
     kept trees takes first =
-        let w : HasFirst old.now rows B = first_in old rows A B f.0 f.2 first in
+        let w : HasFirst old.now rows B = first_in old.now rows A B f.0 f.2 first in
         let n : IsNext B rows b = is_next B rows b w.some (f.1 ∙ ap (λ (z : List EventValue). page z rows max_page) (sym f.2)) once in
         let m = takes record { events = take rows B; table = w.table; count = sym (length-take-le rows B w.some) } in
         (m.0, subst (λ k. HasFirst m.0 (rows + k) B) n.count record { some = n.some; table = subst (IsInbox m.0) n.added (m.1 (take rows B) w.table) }, m.2)

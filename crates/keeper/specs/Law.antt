@@ -1,7 +1,6 @@
 -- What holds of keepers, whatever was done.
 use Rattle.std.specs.Prelude.{◌≡◌, ◌≤◌, ℕ, List, [], ◌++◌}
 use Rattle.sqlite.specs.Effect.{Database}
-use Rattle.sqlite.specs.State.{State}
 use Rattle.attributes.specs.Event.{EventValue}
 use Rattle.inbox_table.specs.Rows.{IsInbox}
 use Rattle.site.specs.Machine.{call}
@@ -11,12 +10,13 @@ use Rattle.site.specs.declared.call.Reply.TheVariants.{Paged}
 use Rattle.turn_lock.specs.History.{StartsWith}
 use Rattle.turn_lock.specs.declared.machine.Entry.{Entry}
 use Rattle.site_lock.specs.Pass.{Made, Shown, leave, leaves}
-use Rattle.keeper.specs.Keep.{HasFirst, KeepsUp}
+use Rattle.keeper.specs.Keep.{HasFirst}
 
 -- a table that has the first arrivals after a history has them after a longer one too
 abbrev pub FirstArrivalsStay : Type 0
-FirstArrivalsStay = (s : State) (rows : ℕ) (opening : List EventValue) (seen more : List (Entry Call))
-    → KeepsUp s rows (leave opening seen) → KeepsUp s rows (leave opening (seen ++ more))
+FirstArrivalsStay = (db : Database) (rows : ℕ) (opening : List EventValue)
+    (seen more : List (Entry Call))
+    → HasFirst db rows (leave opening seen) → HasFirst db rows (leave opening (seen ++ more))
 
 -- a caller's pass, which went from p to q, asked what came after the first n arrivals, and there was
 -- nothing; the keeper's pass r is of the same site and has seen that, and the database has the table

@@ -1,9 +1,9 @@
 -- What reports without a fault tell of the feeds.
-use Rattle.std.proofs.Common.{◌≡◌, ◌≢◌, ◌+◌, ◌≤◌, ℕ, suc, List, [], ◌∷◌, ◌++◌, length, take, refl, sym, ap, subst, ◌∙◌, arith, length-append, Option, None, Some, inl, inr}
+use Rattle.std.proofs.Common.{◌≡◌, ◌≢◌, ◌+◌, ◌≤◌, ℕ, zero, suc, slice_get, List, [], ◌∷◌, ◌++◌, length, take, refl, sym, ap, subst, ◌∙◌, arith, length-append, Option, None, Some, inl, inr}
 use Rattle.std.specs.Option.{option_or}
 use Rattle.std.proofs.lemmas.List.Elements.{filter-append}
 use Rattle.attributes.specs.Event.{EventValue}
-use Rattle.event_json.specs.Reading.{Reads}
+use Rattle.event_json.specs.Reading.{Reads, Refuses}
 use Rattle.event_json.specs.declared.fault.ReadFault.{ReadFault}
 use Rattle.event_json.specs.declared.fault.ReadFault.TheVariants as read
 use Rattle.site.specs.declared.call.Call.{Call}
@@ -13,9 +13,11 @@ use Rattle.feeds.specs.declared.report.Ended.{Ended}
 use Rattle.feeds.specs.declared.report.Ended.TheVariants.{BadInput, Done, GateShut, OutOfMemory}
 use Rattle.feeds.specs.declared.report.Report.{Report}
 use Rattle.run_command.specs.Fault.{of_end}
+use Rattle.database_commands.specs.declared.fault.CommandFault.TheVariants as command
 use Rattle.run_command.specs.Run.{AreFed, EachSpells, IsFed, joined}
 use Rattle.run_command.specs.Tally.{first_fault, read_in, refused_in}
 use Rattle.run_command.specs.declared.fault.RunFault.{RunFault}
+use Rattle.run_command.specs.declared.fault.RunFault.TheVariants as run
 use Rattle.run_command.proofs.FedLemmas.{holds_both}
 
 -- the feeds were read, all their events that have numbers are among the arrivals, and these are the
@@ -28,11 +30,12 @@ pub record Told (arrivals : List EventValue) (bs : List (List ℕ)) (rs : List R
   pub none : refused_in (take (length bs) rs) + length (sequenced (joined lists)) ≡ length (joined lists)
 
 -- a report without a fault is one of a worker that was done
-done_by : (place : ℕ) (e : Ended) → of_end place e ≡ None → e ≡ Done
-done_by place Done h = refl
-done_by place OutOfMemory h = absurd (cc)
-done_by place GateShut h = absurd (cc)
-done_by place (BadInput fault) h = absurd (cc)
+done_by : (place feeds : ℕ) (e : Ended) → of_end place feeds e ≡ None → e ≡ Done
+done_by place feeds Done h = refl
+done_by place feeds OutOfMemory h = absurd (cc)
+done_by place feeds GateShut h = absurd (cc)
+done_by place zero (BadInput fault) h = absurd (cc)
+done_by place (suc n) (BadInput fault) h = absurd (cc)
 
 not_done : (fault : ReadFault) → end_of fault ≡ Done → ⊥
 not_done read.OutOfMemory h = absurd (cc)
@@ -65,12 +68,12 @@ whole arrivals b r fed done = elim fed.1 [
   | inr u ↦ absurd (not_done u.1.0 (sym (ap (λ (z : Report). z.ended) u.1.1) ∙ done))
 ]
 
-pub told : (arrivals : List EventValue) (bs : List (List ℕ)) (rs : List Report) (place : ℕ) → AreFed arrivals bs rs → first_fault place rs ≡ None → Told arrivals bs rs
+pub told : (arrivals : List EventValue) (bs : List (List ℕ)) (rs : List Report) (place : ℕ) → AreFed arrivals bs rs → first_fault place (length bs) rs ≡ None → Told arrivals bs rs
 told arrivals [] rs place fed none = record { lists = []; read = tt; fed = tt; all = refl; none = refl }
 told arrivals (b ∷ bs) [] place fed none = absurd fed
 told arrivals (b ∷ bs) (r ∷ rs) place fed none =
-    let n = no_first (of_end place r.ended) (first_fault (place + 1) rs) none in
-    let w = whole arrivals b r fed.0 (done_by place r.ended n.0) in
+    let n = no_first (of_end place (length (b ∷ bs)) r.ended) (first_fault (place + 1) (length bs) rs) none in
+    let w = whole arrivals b r fed.0 (done_by place (length (b ∷ bs)) r.ended n.0) in
     let t = told arrivals bs rs (place + 1) fed.1 n.1 in
     let is : sequenced (w.events ++ joined t.lists) ≡ sequenced w.events ++ sequenced (joined t.lists) = filter-append has_number w.events (joined t.lists) in
     let counted = ap (λ (z : List EventValue). length z) is ∙ length-append (sequenced w.events) (sequenced (joined t.lists)) in
@@ -82,3 +85,60 @@ told arrivals (b ∷ bs) (r ∷ rs) place fed none =
       all = omega (arith, w.all, t.all, both);
       none = omega (arith, w.none, t.none, both, counted);
     }
+
+-- the feed that is blamed is one whose bytes were refused, and this is why
+pub record Blamed (bs : List (List ℕ)) (place i : ℕ) (f : ReadFault) : Type 0 where
+  pub k : ℕ
+  pub at : i ≡ place + k
+  pub b : List ℕ
+  pub there : slice_get bs k ≡ Some b
+  pub refuses : Refuses b f
+
+not_memory : (place n : ℕ) (f : ReadFault) (i : ℕ) (g : ReadFault) → of_end place n (end_of f) ≡ Some (run.Feed i g) → (i ≡ place) × (f ≡ g) × (f ≢ read.OutOfMemory)
+not_memory place n read.OutOfMemory i g h = absurd (cc)
+not_memory place zero read.NotJson i g h = absurd (cc)
+not_memory place (suc n) read.NotJson i g h = (cc, cc, λ e. absurd (cc))
+not_memory place zero read.NotEvent i g h = absurd (cc)
+not_memory place (suc n) read.NotEvent i g h = (cc, cc, λ e. absurd (cc))
+not_memory place zero (read.BadEvent j x) i g h = absurd (cc)
+not_memory place (suc n) (read.BadEvent j x) i g h = (cc, cc, λ e. absurd (cc))
+not_memory place zero read.InputTooLarge i g h = absurd (cc)
+not_memory place (suc n) read.InputTooLarge i g h = (cc, cc, λ e. absurd (cc))
+
+is_bad : (place n : ℕ) (e : Ended) (i : ℕ) (f : ReadFault) → of_end place (suc n) e ≡ Some (run.Feed i f) → e ≡ BadInput f
+is_bad place n Done i f h = absurd (cc)
+is_bad place n OutOfMemory i f h = absurd (cc)
+is_bad place n GateShut i f h = absurd (cc)
+is_bad place n (BadInput g) i f h = cc
+
+-- no feed is blamed where there is none
+none_blamed : (rs : List Report) (place i : ℕ) (f : ReadFault) → first_fault place 0 rs ≡ Some (run.Feed i f) → ⊥
+none_blamed [] place i f h = absurd (cc)
+none_blamed (r ∷ rs) place i f h = by_end r.ended h
+  where
+    by_end : (e : Ended) → option_or (of_end place 0 e) (first_fault (place + 1) 0 rs) ≡ Some (run.Feed i f) → ⊥
+    by_end Done h = none_blamed rs (place + 1) i f h
+    by_end OutOfMemory h = absurd (cc)
+    by_end GateShut h = absurd (cc)
+    by_end (BadInput g) h = absurd (cc)
+
+pub blamed : (arrivals : List EventValue) (bs : List (List ℕ)) (rs : List Report) (place i : ℕ) (f : ReadFault) → AreFed arrivals bs rs
+    → first_fault place (length bs) rs ≡ Some (run.Feed i f) → Blamed bs place i f
+blamed arrivals [] rs place i f fed is = absurd (none_blamed rs place i f is)
+blamed arrivals (b ∷ bs) [] place i f fed is = absurd fed
+blamed arrivals (b ∷ bs) (r ∷ rs) place i f fed is = by_end (of_end place (suc (length bs)) r.ended) refl
+  where
+    rest : Option RunFault
+    rest = first_fault (place + 1) (length bs) rs
+
+    by_end : (o : Option RunFault) → of_end place (suc (length bs)) r.ended ≡ o → Blamed (b ∷ bs) place i f
+    by_end None e =
+        let t = blamed arrivals bs rs (place + 1) i f fed.1 (ap (λ (o : Option RunFault). option_or o rest) (sym e) ∙ is) in
+        record { k = suc t.k; at = omega (arith, t.at); b = t.b; there = t.there; refuses = t.refuses }
+    by_end (Some y) e =
+        let at : of_end place (suc (length bs)) r.ended ≡ Some (run.Feed i f) = e ∙ (ap (λ (o : Option RunFault). option_or o rest) (sym e) ∙ is) in
+        elim fed.0.1 [
+          | inl t ↦ absurd (t.2.input f (is_bad place (length bs) r.ended i f at))
+          | inr u ↦ (let n = not_memory place (suc (length bs)) u.1.0 i f (ap (λ (z : Report). of_end place (suc (length bs)) z.ended) (sym u.1.1) ∙ at) in
+              record { k = 0; at = omega (arith, n.0); b = b; there = refl; refuses = subst (λ g. Refuses b g) n.1.0 (u.1.2 n.1.1) })
+        ]

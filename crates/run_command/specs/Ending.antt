@@ -13,7 +13,7 @@ use Rattle.run_command.specs.declared.fault.RunFault.TheVariants.{Database}
 
 -- no worker has a fault, and the text counts what the first so many of them read, over these arrivals
 abbrev pub SaysCounts : Result Served ServeFault → ℕ → List EventValue → List ℕ → Type 0
-SaysCounts (Ok s) feeds arrivals text = (first_fault 0 s.reports.items ≡ None)
+SaysCounts (Ok s) feeds arrivals text = (first_fault 0 feeds s.reports.items ≡ None)
     × IsRunText (read_in (take feeds s.reports.items)) (refused_in (take feeds s.reports.items))
     arrivals text
 SaysCounts (Err fault) feeds arrivals text = ⊥
@@ -25,7 +25,7 @@ IsOfKeeper None why = ((fault : KeepFault) × (why ≡ of_keep fault)) ⊎ (why 
 
 -- the fault is the first, in this order: that of the workers as a whole, the first worker's, the
 -- keeper's
-abbrev pub IsOfRun : Result Served ServeFault → Option KeepFault → RunFault → Type 0
-IsOfRun (Err fault) stopped why = why ≡ of_serve fault
-IsOfRun (Ok s) stopped why = (first_fault 0 s.reports.items ≡ Some why)
-    ⊎ ((first_fault 0 s.reports.items ≡ None) × IsOfKeeper stopped why)
+abbrev pub IsOfRun : Result Served ServeFault → ℕ → Option KeepFault → RunFault → Type 0
+IsOfRun (Err fault) feeds stopped why = why ≡ of_serve fault
+IsOfRun (Ok s) feeds stopped why = (first_fault 0 feeds s.reports.items ≡ Some why)
+    ⊎ ((first_fault 0 feeds s.reports.items ≡ None) × IsOfKeeper stopped why)

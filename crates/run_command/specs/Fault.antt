@@ -1,5 +1,5 @@
 -- The faults of the crates below, as those of runs.
-use Rattle.std.specs.Prelude.{ℕ, Option, None, Some}
+use Rattle.std.specs.Prelude.{ℕ, zero, suc, Option, None, Some}
 use Rattle.database_commands.specs.declared.fault.CommandFault.TheVariants as command
 use Rattle.feeds.specs.declared.report.Ended.{Ended}
 use Rattle.feeds.specs.declared.report.Ended.TheVariants.{BadInput, Done, GateShut, OutOfMemory}
@@ -21,9 +21,11 @@ abbrev pub of_serve : ServeFault → RunFault
 of_serve serve.OutOfMemory = run.Database command.OutOfMemory
 of_serve serve.NoThread = run.NoThread
 
--- the fault of the worker at this place, where it has one
-abbrev pub of_end : ℕ → Ended → Option RunFault
-of_end place Done = None
-of_end place OutOfMemory = Some (run.Database command.OutOfMemory)
-of_end place GateShut = Some (run.Database command.OutOfMemory)
-of_end place (BadInput fault) = Some (run.Feed place fault)
+-- the fault of the worker at this place, where it has one; so many of those from it on are feeds.
+-- Nothing shuts the gate of a run, and a peer has no input
+abbrev pub of_end : ℕ → ℕ → Ended → Option RunFault
+of_end place feeds Done = None
+of_end place feeds OutOfMemory = Some (run.Database command.OutOfMemory)
+of_end place feeds GateShut = Some (run.Database command.OutOfMemory)
+of_end place zero (BadInput fault) = Some (run.Database command.OutOfMemory)
+of_end place (suc feeds) (BadInput fault) = Some (run.Feed place fault)

@@ -1,10 +1,10 @@
 -- What a run comes to.
-use Rattle.std.specs.Prelude.{◌≡◌, ℕ, ◌+◌, List, [], ◌∷◌, ◌++◌, codes, length}
+use Rattle.std.specs.Prelude.{◌≡◌, ℕ, ◌+◌, List, [], ◌∷◌, ◌++◌, codes, length, slice_get, Some}
 use Rattle.std.specs.Fmt.{decimal}
 use Rattle.std.specs.List.{flat_map}
 use Rattle.sqlite.specs.Effect.{Database}
 use Rattle.attributes.specs.Event.{EventValue}
-use Rattle.event_json.specs.Reading.{Reads}
+use Rattle.event_json.specs.Reading.{Reads, Refuses}
 use Rattle.inbox.specs.Sets.{set_of}
 use Rattle.views.specs.Question.{IsAnswer}
 use Rattle.views.specs.declared.query.Query.TheVariants.{Cover}
@@ -13,6 +13,8 @@ use Rattle.feeds.specs.Pull as pull
 use Rattle.feeds.specs.Report.{Feeds, handled, sequenced}
 use Rattle.feeds.specs.declared.report.Report.{Report}
 use Rattle.inbox_table.specs.Rows.{IsInbox}
+use Rattle.run_command.specs.declared.fault.RunFault.{RunFault}
+use Rattle.run_command.specs.declared.fault.RunFault.TheVariants as run
 use Rattle.database_commands.specs.Held as database
 
 -- the first line: how many events were read, how many of them had no number, how many there are
@@ -59,6 +61,13 @@ pub record IsRun (feeds : List (List ℕ)) (held : List EventValue) (new : Datab
 abbrev pub RunsInto : List (List ℕ) → Database → Database → List ℕ → Type 0
 RunsInto feeds old new text =
     (held : List EventValue) → database.Holds old held → IsRun feeds held new text
+
+-- a feed's fault is that of its bytes
+abbrev pub IsFeedFault : List (List ℕ) → RunFault → Type 0
+IsFeedFault feeds (run.Database why) = Unit {0}
+IsFeedFault feeds run.NoThread = Unit {0}
+IsFeedFault feeds (run.Feed feed fault) =
+    (b : List ℕ) × (slice_get feeds feed ≡ Some b) × Refuses b fault
 
 -- the report is that of a feed of these bytes, whose events that it handed over are all among these
 -- arrivals

@@ -1,5 +1,5 @@
 //! A run, from an open database to the printed text.
-ghost use Rattle.std.specs.Prelude.{◌≡◌, ◌≤◌, ◌+◌, ⊥, [], length, take, unwrap_or, List, IfErr, IfOk, OnOk};
+ghost use Rattle.std.specs.Prelude.{◌≡◌, ◌≤◌, ◌+◌, [], length, take, unwrap_or, List, Err, IfErr, IfOk, OnOk};
 ghost use Rattle.attributes.specs.Event.{EventValue};
 ghost use Rattle.sqlite.specs.Held.{state};
 ghost use Rattle.sqlite.specs.State.{HasCleanDisk};
@@ -8,7 +8,7 @@ ghost use Rattle.inbox.specs.Ordered.{append_new};
 ghost use Rattle.inbox_table.specs.Rows.{IsInbox};
 ghost use Rattle.keeper.specs.Keep.{KeepsUp};
 ghost use Rattle.run_command.specs.Ending.{IsOfRun, SaysCounts};
-ghost use Rattle.run_command.specs.Run.{IsRun, IsRunText, RunsInto, SaysRun};
+ghost use Rattle.run_command.specs.Run.{IsFeedFault, IsRun, IsRunText, RunsInto, SaysRun};
 ghost use Rattle.run_command.specs.Tally.{read_in, refused_in};
 ghost use Rattle.database_commands.specs.declared.fault.CommandFault.TheVariants.{OutOfMemory};
 ghost use Rattle.run_command.specs.declared.fault.RunFault.TheVariants.{Database};
@@ -55,6 +55,7 @@ pub fn run<R: Threads + Wait + Sync, S: Alter + Drop>(
         (RunsInto jobs.feeds (state S.Store conn).now (state S.Store result.conn).now) }
     ensures said { IfOk result.outcome (λ text.
         (arrivals : List EventValue) × SaysRun jobs.feeds arrivals text) }
+    ensures feed { IfErr result.outcome (IsFeedFault jobs.feeds) }
 {
     match loaded(alloc, conn) {
         Ok(loaded) => {
@@ -83,6 +84,7 @@ fn run_table<R: Threads + Wait + Sync, S: Alter + Drop>(
         (IsRun jobs.feeds (append_new key_cmp [] events) (state S.Store result.conn).now) }
     ensures said { IfOk result.outcome (λ text.
         (arrivals : List EventValue) × SaysRun jobs.feeds arrivals text) }
+    ensures feed { IfErr result.outcome (IsFeedFault jobs.feeds) }
     ensures was_clean { IfOk result.outcome (λ _. HasCleanDisk (state S.Store result.conn)
         → HasCleanDisk (state S.Store table.conn)) }
 {
@@ -104,7 +106,7 @@ fn run_table<R: Threads + Wait + Sync, S: Alter + Drop>(
 
 /// A run that wasn't begun, for want of memory.
 fn unbegun<S: Alter + Drop>(table: Table<S>) -> RunEnded<S>
-    ensures { IfOk result.outcome (λ _. ⊥) }
+    ensures { result.outcome ≡ Err (Database OutOfMemory) }
 {
     RunEnded {
         conn: table.into_connection(),
@@ -118,6 +120,7 @@ fn ended<S: Alter + Drop>(alloc: Global, closed: Closed<S>, feeds: u64) -> RunEn
     ensures kept { HasCleanDisk (state S.Store result.conn) → OnOk result.outcome
         (IsInbox (state S.Store result.conn).now closed.site) }
     ensures text { IfOk result.outcome (SaysCounts closed.served feeds closed.site) }
+    ensures fault { IfErr result.outcome (IsOfRun closed.served feeds closed.stopped) }
     ensures was_clean { HasCleanDisk (state S.Store result.conn)
         → HasCleanDisk (state S.Store closed.keeper.conn) }
 {
@@ -147,7 +150,7 @@ fn outcome_of<S: Alter + Drop>(
     ensures kept { HasCleanDisk (state S.Store keeper.new.conn) → OnOk result
         (IsInbox (state S.Store keeper.new.conn).now site.now) }
     ensures text { IfOk result (SaysCounts served.now feeds site.now) }
-    ensures fault { IfErr result (IsOfRun served.now stopped) }
+    ensures fault { IfErr result (IsOfRun served.now feeds stopped) }
     ensures was_clean { HasCleanDisk (state S.Store keeper.new.conn)
         → HasCleanDisk (state S.Store keeper.old.conn) }
 {
@@ -155,7 +158,7 @@ fn outcome_of<S: Alter + Drop>(
         Ok(served) => served.reports.as_slice(),
         Err(fault) => return Err(of_serve(*fault)),
     };
-    let first = first_fault(reports);
+    let first = first_fault(reports, feeds);
     if let Some(why) = stopped {
         return Err(either(first, of_keep(why)));
     }

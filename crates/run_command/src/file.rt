@@ -1,7 +1,7 @@
 //! Runs over databases by the names of their files.
-ghost use Rattle.std.specs.Prelude.{◌≡◌, ◌≤◌, ◌+◌, length, List, IfOk};
+ghost use Rattle.std.specs.Prelude.{◌≡◌, ◌≤◌, ◌+◌, length, List, IfErr, IfOk};
 ghost use Rattle.attributes.specs.Event.{EventValue};
-ghost use Rattle.run_command.specs.Run.{SaysRun};
+ghost use Rattle.run_command.specs.Run.{IsFeedFault, SaysRun};
 
 use crate::ending::{RunEnded, run};
 use crate::fault::RunFault;
@@ -27,8 +27,9 @@ pub trait Runs {
         growth: u64,
     ) -> Result<Text, RunFault>
         requires { length jobs.feeds + length jobs.peers + length jobs.asks ≤ 16 }
-        ensures { IfOk result (λ text.
-            (arrivals : List EventValue) × SaysRun jobs.feeds arrivals text) };
+        ensures said { IfOk result (λ text.
+            (arrivals : List EventValue) × SaysRun jobs.feeds arrivals text) }
+        ensures feed { IfErr result (IsFeedFault jobs.feeds) };
 }
 
 impl Runs for HostRuntime {

@@ -7,24 +7,31 @@ use crate::fault::RunFault;
 use database_commands::CommandFault;
 use feeds::{Ended, Report};
 
-/// The fault of a worker, by its place and why it ended. Nothing shuts the gate of a run.
-fn of_end(place: u64, ended: Ended) -> Option<RunFault>
-    ensures { result ≡ of_end place ended }
+/// The fault of a worker, by its place and why it ended; so many of those from its place on are
+/// feeds. Nothing shuts the gate of a run, and a peer has no input.
+fn of_end(place: u64, feeds: u64, ended: Ended) -> Option<RunFault>
+    ensures { result ≡ of_end place feeds ended }
 {
     match ended {
         Ended::Done => None,
         Ended::OutOfMemory => Some(RunFault::Database(CommandFault::OutOfMemory)),
         Ended::GateShut => Some(RunFault::Database(CommandFault::OutOfMemory)),
-        Ended::BadInput(fault) => Some(RunFault::Feed { feed: place, fault }),
+        Ended::BadInput(fault) => {
+            if feeds == 0 {
+                return Some(RunFault::Database(CommandFault::OutOfMemory));
+            }
+            Some(RunFault::Feed { feed: place, fault })
+        }
     }
 }
 
-/// The fault of the first worker that has one.
-pub fn first_fault(reports: &[Report]) -> Option<RunFault>
-    ensures { result ≡ first_fault 0 reports.now }
+/// The fault of the first worker that has one; so many of them are feeds, which come first.
+pub fn first_fault(reports: &[Report], feeds: u64) -> Option<RunFault>
+    ensures { result ≡ first_fault 0 feeds reports.now }
 {
     for (place, report) in reports.iter().enumerate() {
-        if let Some(fault) = of_end(place as u64, report.ended) {
+        let place = place as u64;
+        if let Some(fault) = of_end(place, feeds.saturating_sub(place), report.ended) {
             return Some(fault);
         }
     }

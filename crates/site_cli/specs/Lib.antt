@@ -1,4 +1,6 @@
+pub mod Names
 pub mod Lines
 pub mod Answers
 pub mod Endings
 pub mod Runs
+pub mod steps

@@ -17,6 +17,7 @@ use Rattle.command_words.specs.declared.request.Plan.{Plan}
 use Rattle.command_words.specs.declared.request.Plan.TheVariants as plan
 use Rattle.database_commands.specs.declared.fault.CommandFault.{CommandFault}
 use Rattle.database_commands.specs.declared.fault.CommandFault.TheVariants as database
+use Rattle.site_cli.specs.Names.{names_of}
 use Rattle.site_cli.specs.declared.line.Refusal.{Refusal}
 use Rattle.site_cli.specs.declared.line.Refusal.TheVariants as refusal
 
@@ -135,6 +136,7 @@ name_in (plan.Ask query files) file = name_at files file
 name_in (plan.Take db files) file = name_at files file
 name_in (plan.Delta db from name) file = name
 name_in (plan.Scrub db from) file = []
+name_in (plan.Run db peer files) file = name_at (names_of peer files) file
 name_in (plan.Order request) file = []
 name_in (plan.Relay db after) file = []
 
@@ -144,6 +146,7 @@ db_in (plan.Ask query files) = []
 db_in (plan.Take db files) = db
 db_in (plan.Delta db from name) = db
 db_in (plan.Scrub db from) = db
+db_in (plan.Run db peer files) = db
 db_in (plan.Order request) = request.db
 db_in (plan.Relay db after) = db
 
@@ -153,6 +156,7 @@ order_in (plan.Ask query files) = 0
 order_in (plan.Take db files) = 0
 order_in (plan.Delta db from name) = 0
 order_in (plan.Scrub db from) = 0
+order_in (plan.Run db peer files) = 0
 order_in (plan.Order request) = request.order
 order_in (plan.Relay db after) = 0
 
@@ -162,3 +166,4 @@ line_of plan (refusal.Unread at) = unread_line (name_in plan at.file) at.why
 line_of plan (refusal.File refused) = fault_line (name_in plan refused.file) refused.fault
 line_of plan (refusal.Summary why) = summary_line (name_in plan 0) why
 line_of plan (refusal.Database why) = database_line (db_in plan) (order_in plan) why
+line_of plan refusal.NoThread = codes "site: no thread" ++ 10 ∷ []

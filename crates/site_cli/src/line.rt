@@ -1,6 +1,7 @@
 //! The lines of refusals on standard error.
 ghost use Rattle.std.specs.Prelude.{◌≡◌, ◌<◌, ◌++◌, [], ◌∷◌, IfOk, OnOk, string_bytes};
 ghost use Rattle.std.specs.Char.{digit_char};
+ghost use Rattle.site_cli.specs.Names.{names_of};
 ghost use Rattle.site_cli.specs.Lines.{database_line, db_in, event_words, fault_line, fault_name, file_line, line_of, name_at, name_char, name_in, order_in, order_line, other_char, printed_name, summary_line, unread_line};
 
 use attributes::{Fault, Text};
@@ -22,6 +23,8 @@ pub enum Refusal {
     Summary(SummaryFault),
     /// The command over the database.
     Database(CommandFault),
+    /// A thread couldn't be started.
+    NoThread,
 }
 
 /// The line of a plan's refusal.
@@ -33,6 +36,7 @@ pub fn line_of(alloc: Global, plan: &Plan, refusal: Refusal) -> Result<Text, All
         Refusal::File(refused) => fault_line(alloc, name_in(plan, refused.file), refused.fault),
         Refusal::Summary(why) => summary_line(alloc, name_in(plan, 0), why),
         Refusal::Database(why) => database_line(alloc, db_in(plan), order_in(plan), why),
+        Refusal::NoThread => Text::of(alloc, "site: no thread\n"),
     }
 }
 
@@ -45,6 +49,7 @@ fn name_in(plan: &Plan, file: u64) -> &str
         Plan::Take { files, .. } => name_at(files.as_slice(), file),
         Plan::Delta { summary, .. } => summary.as_str(),
         Plan::Scrub { .. } => "",
+        Plan::Run { peer, files, .. } => name_beside(peer, files.as_slice(), file),
         Plan::Order(_) => "",
         Plan::Relay { .. } => "",
     }
@@ -59,6 +64,7 @@ fn db_in(plan: &Plan) -> &str
         Plan::Take { db, .. } => db.as_str(),
         Plan::Delta { db, .. } => db.as_str(),
         Plan::Scrub { db, .. } => db.as_str(),
+        Plan::Run { db, .. } => db.as_str(),
         Plan::Order(request) => request.db.as_str(),
         Plan::Relay { db, .. } => db.as_str(),
     }
@@ -71,6 +77,17 @@ fn order_in(plan: &Plan) -> u64
     match plan {
         Plan::Order(request) => request.order,
         _ => 0,
+    }
+}
+
+/// The name at a place of a run, from 0: its peer's is the first, where it has one.
+fn name_beside<'a>(peer: &'a Option<Text>, files: &'a [Text], file: u64) -> &'a str
+    ensures { result.now ≡ name_at (names_of peer.now files.now) file }
+{
+    match peer {
+        Some(name) if file == 0 => name.as_str(),
+        Some(_) => name_at(files, file - 1),
+        None => name_at(files, file),
     }
 }
 

@@ -1,5 +1,5 @@
 use Rattle.std.proofs.Common.{◌+◌, ◌-◌, ◌≤◌, ◌∷◌, ◌++◌, [], sym, ap, ◌∙◌, drop, length, arith}
-use Rattle.std.proofs.lemmas.List.{length-drop, take-all}
+use Rattle.std.proofs.lemmas.List.{length-drop}
 use Rattle.site.proofs.PageLemmas.{page_next}
 use Rattle.keeper.proofs.keeper.rest_of.Goals as goal
 

@@ -14,5 +14,5 @@ returns-in-Ok-keep-clause-all g c clean =
     let new = state g.S.Store c.keep.new.self.conn in
     let first : KeepsUp old table.rows A = subst (λ (k : Kept _). KeepsUp (state g.S.Store k.conn) k.rows A) (sym c.self.view_is) c.requires in
     let was_clean : (HasCleanDisk new → HasCleanDisk old) = λ clean. omega (arith, c.in-Ok-keep.ensures.crash.clean, clean) in
-    caught_up old new table.rows c.keep.new.self.rows c.in-Ok-keep.result A c.in-Ok.rest (c.in-Ok.ensures.rest ∙ ap (λ n. drop n A) c.rows.ensures.rows) c.rest_of.ensures.once first was_clean
+    caught_up old new table.rows c.keep.new.self.rows c.in-Ok-keep.field-0 A c.in-Ok.rest (c.in-Ok.ensures.rest ∙ ap (λ n. drop n A) c.rows.ensures.rows) c.rest_of.ensures.once first was_clean
     c.in-Ok-keep.ensures.was_open c.in-Ok-keep.ensures.open c.in-Ok-keep.ensures.takes c.in-Ok-keep.ensures.fresh c.in-Ok-keep.ensures.rows clean
