@@ -1,8 +1,8 @@
 -- What a page adds to the first arrivals.
-use Rattle.std.proofs.Common.{◌≡◌, ◌⊎◌, ◌+◌, ◌-◌, ◌≤◌, ℕ, List, [], ◌++◌, length, take, drop, refl, sym, ap, ◌∙◌, subst, append_assoc, append-nil, arith, inl, inr, IsTrue}
+use Rattle.std.proofs.Common.{◌≡◌, ◌⊎◌, ◌+◌, ◌-◌, ◌≤◌, ℕ, List, [], ◌++◌, length, take, drop, refl, sym, ap, ◌∙◌, subst, append_assoc, append-nil, arith, inl, inr, IsTrue, Result, Ok, Err, IfOk}
 use Rattle.std.specs.Prelude.{min}
 use Rattle.std.proofs.lemmas.List.{length-append, length-drop, length-take, length-take-le, take-append-drop, take-append-le}
-use Rattle.std.proofs.Math.Seq.{take-append_seam}
+use Rattle.std.proofs.Math.Seq.{take-append_seam, take-length}
 use Rattle.sqlite_trees.specs.Tree.{Trees}
 use Rattle.sqlite.specs.Effect.{Database}
 use Rattle.sqlite.specs.State.{State, HasCleanDisk, Survives}
@@ -66,6 +66,17 @@ still_grows old new was_clean was_open same = record {
   was_clean = was_clean;
   was_open = was_open;
   list = λ clean is_open held box. ([], subst (λ d. IsInbox d (held ++ [])) (sym (same clean is_open)) (subst (IsInbox old.now) (sym (append-nil held)) box));
+}
+
+pub both_ok : {T E : Type 0} (r : Result T E) (P Q : T → Type 0) → IfOk r P → IfOk r Q → IfOk r (λ x. P x × Q x)
+both_ok (Ok x) P Q p q = (p, q)
+both_ok (Err y) P Q p q = tt
+
+-- a table has the first arrivals of a site that took its events
+pub loaded_first : (s : State) (rows : ℕ) (events : List EventValue) (db : Database) → IsInbox db events → s.now ≡ db → rows ≡ length events → HasFirst s.now rows (append_new key_cmp [] events)
+loaded_first s rows events db box same count = record {
+  some = (let l = ap (λ (z : List EventValue). length z) box.once in omega (arith, count, l));
+  table = subst (λ (l : List EventValue). IsInbox s.now l) (sym (ap (take rows) box.once ∙ (ap (λ n. take n events) count ∙ take-length events))) (subst (λ d. IsInbox d events) (sym same) box);
 }
 
 -- what a table takes comes behind what it had
