@@ -6,6 +6,8 @@
 #[cfg(test)]
 mod fans;
 #[cfg(test)]
+mod keepers;
+#[cfg(test)]
 mod orders;
 #[cfg(test)]
 mod tables;

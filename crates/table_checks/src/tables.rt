@@ -9,10 +9,10 @@ use sqlite_disk::Memory;
 use std::alloc::{AllocError, Global};
 use std::test::Fail;
 
-const E1: &str =
+pub const E1: &str =
     r#"{"id":"a1","sequence":"00000000000000000001","source":"/orders","specversion":"1.0","subject":"x","type":"t.a"}"#;
 
-const E2: &str =
+pub const E2: &str =
     r#"{"id":"a2","sequence":"00000000000000000002","source":"/orders","specversion":"1.0","subject":"x","type":"t.b"}"#;
 
 const E3: &str =
@@ -31,7 +31,7 @@ const OUTBOX: &str =
 
 /// Why a test can't go on.
 #[derive(Debug, Drop, thiserror::Error)]
-enum Stop {
+pub enum Stop {
     #[error("out of memory")]
     Memory,
     #[error("no event")]
@@ -76,7 +76,7 @@ fn event(alloc: Global, text: &str) -> Result<Sequenced, Stop> {
 }
 
 /// The events of the texts.
-fn batch(alloc: Global, texts: &[&str]) -> Result<Batch, Stop> {
+pub fn batch(alloc: Global, texts: &[&str]) -> Result<Batch, Stop> {
     let mut batch = Batch::empty(alloc);
     for text in texts {
         match batch.push(event(alloc, text)?) {
@@ -88,7 +88,7 @@ fn batch(alloc: Global, texts: &[&str]) -> Result<Batch, Stop> {
 }
 
 /// Whether the events have these texts, in this order.
-fn has(events: &Batch, texts: &[&str]) -> bool {
+pub fn has(events: &Batch, texts: &[&str]) -> bool {
     if events.len() != texts.len() as u64 {
         return false;
     }
@@ -156,7 +156,7 @@ fn events_are_kept_once_and_in_their_order(rt: HostRuntime) -> Result<(), Fail> 
 }
 
 /// The table of a database, and what it has.
-fn adopted<S: Alter + Drop>(alloc: Global, conn: Connection<S>) -> Result<Loaded<S>, Stop> {
+pub fn adopted<S: Alter + Drop>(alloc: Global, conn: Connection<S>) -> Result<Loaded<S>, Stop> {
     match Table::adopt_and_load(alloc, conn) {
         Ok(loaded) => Ok(loaded),
         Err(refused) => Err(Stop::Fault(refused.fault.number())),
@@ -177,7 +177,7 @@ fn a_table_is_taken_as_it_was_left(rt: HostRuntime) -> Result<(), Fail> {
 }
 
 /// A database over two files in memory.
-fn opened(alloc: Global, files: Files<Memory>) -> Result<Connection<FileStore<Memory>>, Stop> {
+pub fn opened(alloc: Global, files: Files<Memory>) -> Result<Connection<FileStore<Memory>>, Stop> {
     if !files.may_be_used() {
         return Err(Stop::NoDatabase);
     }
@@ -199,7 +199,7 @@ fn made<S: Alter + Drop>(alloc: Global, conn: Connection<S>) -> Result<Table<S>,
 }
 
 /// The files of a connection, closed.
-fn close(conn: Connection<FileStore<Memory>>) -> Result<Files<Memory>, Stop> {
+pub fn close(conn: Connection<FileStore<Memory>>) -> Result<Files<Memory>, Stop> {
     match conn.close_files() {
         Ok(files) => Ok(files),
         Err((_error, store)) => {
