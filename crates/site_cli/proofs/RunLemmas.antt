@@ -5,7 +5,7 @@ use Rattle.command_words.specs.Plans.{AreFaulty}
 use Rattle.file_reports.specs.declared.input.Unread.{Unread}
 use Rattle.site_cli.specs.Endings.{Ends, Writes}
 use Rattle.site_cli.specs.Lines.{memory_line}
-use Rattle.site_cli.specs.Runs.{IsEnding, IsLine, PrintsAnswer}
+use Rattle.site_cli.specs.Runs.{IsEnding, IsLine, IsPlanEnding, PrintsAnswer}
 use Rattle.site_cli.specs.Answers.{IsAllowed, RefusesPlan}
 use Rattle.site_cli.specs.declared.ending.Ending.{Ending}
 use Rattle.site_cli.specs.declared.ending.Ending.TheVariants.{Answer, Help, Faulty, Refused, NoMemory}
@@ -46,13 +46,22 @@ module _ (C : List ℕ → List ℕ → Type 0) (U : List ℕ → Unread → Typ
   words_faulty NoMemory i h done = never_ends r 1 2 err err' memory_line _ h.0 (λ e. omega arith) (λ e. omega arith) done
 
 -- the line of a refused plan is the ending of its words
-pub refused_ending : (C : List ℕ → List ℕ → Type 0) (U : List ℕ → Unread → Type 0) (words : List (List ℕ)) (plan : Plan) (refusal : Refusal) (e : Ending)
-    → IsPlan words plan → RefusesPlan C U plan refusal → IsLine plan refusal e → IsEnding C U words e
-refused_ending C U words plan refusal (Answer text) p r line = absurd line
-refused_ending C U words plan refusal (Help text) p r line = absurd line
-refused_ending C U words plan refusal (Faulty text) p r line = absurd line
-refused_ending C U words plan refusal (Refused text) p r line = record { plan = plan; planned = p; refusal = refusal; refused = r; is_line = line }
-refused_ending C U words plan refusal NoMemory p r line = tt
+pub refused_ending : (C : List ℕ → List ℕ → Type 0) (U : List ℕ → Unread → Type 0) (plan : Plan) (refusal : Refusal) (e : Ending)
+    → RefusesPlan C U plan refusal → IsLine plan refusal e → IsPlanEnding C U plan e
+refused_ending C U plan refusal (Answer text) r line = absurd line
+refused_ending C U plan refusal (Help text) r line = absurd line
+refused_ending C U plan refusal (Faulty text) r line = absurd line
+refused_ending C U plan refusal (Refused text) r line = (refusal, r, line)
+refused_ending C U plan refusal NoMemory r line = tt
+
+-- what the plan comes to, its words come to
+pub planned_ending : (C : List ℕ → List ℕ → Type 0) (U : List ℕ → Unread → Type 0) (words : List (List ℕ)) (plan : Plan) (e : Ending)
+    → IsPlan words plan → IsPlanEnding C U plan e → IsEnding C U words e
+planned_ending C U words plan (Answer text) p h = record { plan = plan; planned = p; answered = h }
+planned_ending C U words plan (Help text) p h = absurd h
+planned_ending C U words plan (Faulty text) p h = absurd h
+planned_ending C U words plan (Refused text) p h = record { plan = plan; planned = p; refusal = h.0; refused = h.1; is_line = h.2 }
+planned_ending C U words plan NoMemory p h = tt
 
 -- what the words ask for is within what a service allows
 pub allowed_by : (words : List (List ℕ)) (p : Plan) → IsPlan words p → IsAllowed p
@@ -68,3 +77,4 @@ allowed_by words (plan.Order request) h = let r = h.1.texts in record {
   at = r.time.short;
 }
 allowed_by words (plan.Relay db after) h = tt
+allowed_by words (plan.Run db peer files) h = h.1.texts.1.1.1

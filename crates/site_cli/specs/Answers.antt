@@ -181,7 +181,17 @@ RefusesPlan C U (plan.Run db peer files) refusal = RefusesRun C U peer files ref
 RefusesPlan C U (plan.Order request) refusal = IsOfDatabase refusal
 RefusesPlan C U (plan.Relay db after) refusal = IsOfDatabase refusal
 
--- what is asked of an order is within what a service allows
+-- whether the plan is a run
+abbrev pub is_run : Plan → Bool
+is_run (plan.Ask query files) = false
+is_run (plan.Take db files) = false
+is_run (plan.Delta db from summary) = false
+is_run (plan.Scrub db from) = false
+is_run (plan.Run db peer files) = true
+is_run (plan.Order request) = false
+is_run (plan.Relay db after) = false
+
+-- what is asked of an order is within what a service allows, and of a run within what workers do
 abbrev pub IsAllowed : Plan → Type 0
 IsAllowed (plan.Ask query files) = Unit {0}
 IsAllowed (plan.Take db files) = Unit {0}

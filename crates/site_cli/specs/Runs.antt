@@ -35,6 +35,22 @@ IsLine plan refusal (ending.Faulty text) = ⊥
 IsLine plan refusal (ending.Refused text) = text ≡ line_of plan refusal
 IsLine plan refusal ending.NoMemory = Unit {0}
 
+-- what a plan comes to
+abbrev pub IsPlanEnding : (List ℕ → List ℕ → Type 0) → (List ℕ → Unread → Type 0)
+    → Plan → Ending → Type 0
+IsPlanEnding C U plan (ending.Answer text) = AnswersPlan C plan text
+IsPlanEnding C U plan (ending.Help text) = ⊥
+IsPlanEnding C U plan (ending.Faulty text) = ⊥
+IsPlanEnding C U plan (ending.Refused text) =
+    (refusal : Refusal) × RefusesPlan C U plan refusal × (text ≡ line_of plan refusal)
+IsPlanEnding C U plan ending.NoMemory = Unit {0}
+
+-- the run ended as the plan comes to
+abbrev pub RunsPlan : (List ℕ → List ℕ → Type 0) → (List ℕ → Unread → Type 0) → Plan → ℕ
+    → Option (List ℕ) → Option (List ℕ) → Option (List ℕ) → Option (List ℕ) → Type 0
+RunsPlan C U plan status out out' err err' =
+    (ending : Ending) × IsPlanEnding C U plan ending × Ends ending status out out' err err'
+
 -- what the words come to
 abbrev pub IsEnding : (List ℕ → List ℕ → Type 0) → (List ℕ → Unread → Type 0)
     → List (List ℕ) → Ending → Type 0

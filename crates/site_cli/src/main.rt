@@ -7,6 +7,7 @@ mod line;
 mod query;
 mod run;
 mod system;
+mod workers;
 #[cfg(test)]
 mod tests;
 

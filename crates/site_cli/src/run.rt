@@ -1,28 +1,36 @@
 //! The whole program, over any runtime and writers.
-ghost use Rattle.std.specs.Prelude.{◌≡◌, ◌≤◌, IfErr, IfOk, MatchResult};
+ghost use Rattle.std.specs.Prelude.{◌≡◌, ◌≤◌, false, true, IfErr, IfOk, MatchResult};
 ghost use Rattle.std.specs.Process.{exit_status};
 ghost use Rattle.command_words.specs.Plans.{AreFaulty};
-ghost use Rattle.site_cli.specs.Answers.{AnswersPlan, IsAllowed, RefusesPlan};
-ghost use Rattle.site_cli.specs.Runs.{EndsUnheard, IsEnding, IsLine, IsUnheard, PrintsAnswer, RunsWords};
+ghost use Rattle.site_cli.specs.Answers.{AnswersPlan, IsAllowed, RefusesPlan, is_run};
+ghost use Rattle.site_cli.specs.Runs.{EndsUnheard, IsEnding, IsLine, IsPlanEnding, IsUnheard, PrintsAnswer, RunsPlan, RunsWords};
 
 use crate::database::{delta, order, relay, scrub, take};
 use crate::ending::{Ending, finish};
 use crate::line::{Refusal, line_of};
 use crate::query::ask;
 use crate::system::SystemFiles;
+use crate::workers::run;
 use attributes::Text;
 use command_words::{Faulty, Plan, plan};
 use database_commands::Databases;
 use file_reports::Shelf;
+use run_command::Runs;
 use std::alloc::Global;
 use std::io;
 use std::io::{ErrorKind, Write};
 use std::process::ExitCode;
 use std::rt::Files;
+use std::sync::Wait;
+use std::thread::Threads;
 
 /// Runs the program on the words after its name, and answers its exit code. Words that couldn't be
 /// had are at fault, or memory was refused.
-pub fn exit<R: AllocGlobal + Files + Databases, O: Write, E: Write>(
+pub fn exit<
+    R: AllocGlobal + Files + Databases + Runs + Threads + Wait + Sync,
+    O: Write,
+    E: Write,
+>(
     rt: &R,
     words: io::Result<Vec<Text>>,
     out: &mut O,
@@ -43,10 +51,15 @@ pub fn exit<R: AllocGlobal + Files + Databases, O: Write, E: Write>(
 /// Runs the program on the words after its name, and answers its exit status: 0 for a result, 1 for
 /// a refusal and for output that can't be written, 2 for faulty words and for help.
 ///
-/// All files are read before any is judged, and judged before a database is opened. A result is written to `out` in one piece, a refusal as
-/// one line to `err`. Help that was asked for goes to `out`, what is said of faulty words to `err`.
-/// After a write that fails nothing more is written.
-pub fn perform<R: AllocGlobal + Files + Databases, O: Write, E: Write>(
+/// All files are read before any is judged, and judged before a database is opened, but for the
+/// feeds of `run`, which their workers judge. A result is written to `out` in one piece, a refusal
+/// as one line to `err`. Help that was asked for goes to `out`, what is said of faulty words to
+/// `err`. After a write that fails nothing more is written. It waits where `run` does.
+pub fn perform<
+    R: AllocGlobal + Files + Databases + Runs + Threads + Wait + Sync,
+    O: Write,
+    E: Write,
+>(
     rt: &R,
     words: &[Text],
     out: &mut O,
@@ -59,24 +72,25 @@ pub fn perform<R: AllocGlobal + Files + Databases, O: Write, E: Write>(
     ensures runs { RunsWords (λ _ _. Unit {0}) (λ _ _. Unit {0}) words.now result
         (O.contents out.old) (O.contents out.new) (E.contents err.old) (E.contents err.new) }
 {
-    let shelf = SystemFiles { rt };
-    finish(outcome(rt.alloc(), &shelf, rt, words), out, err)
+    finish(outcome(rt, words), out, err)
 }
 
-/// What the words come to over a shelf of files, before anything is written.
-fn outcome<S: Shelf, D: Databases>(
-    alloc: Global,
-    shelf: &S,
-    databases: &D,
+/// What the words come to, before anything is written.
+fn outcome<R: AllocGlobal + Files + Databases + Runs + Threads + Wait + Sync>(
+    rt: &R,
     words: &[Text],
 ) -> Ending
-    ensures { IsEnding (S.is_content shelf.now) (S.is_unread shelf.now) words.now result }
+    ensures { IsEnding (λ _ _. Unit {0}) (λ _ _. Unit {0}) words.now result }
 {
-    match plan(alloc, words) {
-        Ok(plan) => match carried_out(alloc, shelf, databases, &plan) {
-            Ok(text) => Ending::Answer(text),
-            Err(refusal) => refused(alloc, &plan, refusal),
-        },
+    let shelf = SystemFiles { rt };
+    match plan(rt.alloc(), words) {
+        Ok(plan) => {
+            if is_run(&plan) {
+                ending_of_run(rt, rt.alloc(), &shelf, rt, &plan)
+            } else {
+                ending_of(rt.alloc(), &shelf, rt, &plan)
+            }
+        }
         Err(Faulty::Words { text, is_help }) => {
             if is_help {
                 Ending::Help(text)
@@ -88,14 +102,79 @@ fn outcome<S: Shelf, D: Databases>(
     }
 }
 
-/// The answer to a plan.
+/// Carries out a plan that isn't a run, as [`perform`] does, and answers the exit status. It never
+/// waits.
+pub fn perform_alone<R: AllocGlobal + Files + Databases, O: Write, E: Write>(
+    rt: &R,
+    plan: &Plan,
+    out: &mut O,
+    err: &mut E,
+) -> u8
+    requires alone { is_run plan.now ≡ false }
+    requires allowed { IsAllowed plan.now }
+    ensures { RunsPlan (λ _ _. Unit {0}) (λ _ _. Unit {0}) plan.now result
+        (O.contents out.old) (O.contents out.new) (E.contents err.old) (E.contents err.new) }
+{
+    let shelf = SystemFiles { rt };
+    finish(ending_of(rt.alloc(), &shelf, rt, plan), out, err)
+}
+
+/// Whether the plan is a run.
+fn is_run(plan: &Plan) -> bool
+    ensures { result ≡ is_run plan.now }
+{
+    matches!(plan, Plan::Run { .. })
+}
+
+/// What a plan that isn't a run comes to over a shelf of files.
+fn ending_of<S: Shelf, D: Databases>(
+    alloc: Global,
+    shelf: &S,
+    databases: &D,
+    plan: &Plan,
+) -> Ending
+    requires alone { is_run plan.now ≡ false }
+    requires allowed { IsAllowed plan.now }
+    ensures { IsPlanEnding (S.is_content shelf.now) (S.is_unread shelf.now) plan.now result }
+{
+    match carried_out(alloc, shelf, databases, plan) {
+        Ok(text) => Ending::Answer(text),
+        Err(refusal) => refused(alloc, plan, refusal),
+    }
+}
+
+/// What a run comes to over a shelf of files.
+fn ending_of_run<R: Threads + Wait + Sync, S: Shelf, D: Runs>(
+    rt: &R,
+    alloc: Global,
+    shelf: &S,
+    databases: &D,
+    plan: &Plan,
+) -> Ending
+    requires run { is_run plan.now ≡ true }
+    requires allowed { IsAllowed plan.now }
+    ensures { IsPlanEnding (S.is_content shelf.now) (S.is_unread shelf.now) plan.now result }
+{
+    match plan {
+        Plan::Run { db, peer, files } => {
+            match run(rt, alloc, shelf, databases, db.as_str(), peer, files.as_slice()) {
+                Ok(text) => Ending::Answer(text),
+                Err(refusal) => refused(alloc, plan, refusal),
+            }
+        }
+        _ => unreachable!(),
+    }
+}
+
+/// The answer to a plan that isn't a run.
 fn carried_out<S: Shelf, D: Databases>(
     alloc: Global,
     shelf: &S,
     databases: &D,
     plan: &Plan,
 ) -> Result<Text, Refusal>
-    requires { IsAllowed plan.now }
+    requires alone { is_run plan.now ≡ false }
+    requires allowed { IsAllowed plan.now }
     ensures ok { IfOk result (AnswersPlan (S.is_content shelf.now) plan.now) }
     ensures err { IfErr result
         (RefusesPlan (S.is_content shelf.now) (S.is_unread shelf.now) plan.now) }
@@ -112,6 +191,7 @@ fn carried_out<S: Shelf, D: Databases>(
             summary.as_str(),
         ),
         Plan::Scrub { db, from } => scrub(alloc, databases, db.as_str(), *from),
+        Plan::Run { .. } => unreachable!(),
         Plan::Order(request) => order(alloc, databases, request),
         Plan::Relay { db, after } => relay(alloc, databases, db.as_str(), *after),
     }

@@ -1,10 +1,8 @@
-use Rattle.site_cli.proofs.RunLemmas.{allowed_by, refused_ending}
+use Rattle.site_cli.proofs.RunLemmas.{allowed_by, planned_ending}
 use Rattle.site_cli.proofs.run.outcome.Goals as goal
 
-pub carried_out-requires : goal.carried_out-requires
-carried_out-requires g c = allowed_by c.args.words.now c.in-Ok.plan c.in-Ok.ensures.ok
+pub ending_of-requires-allowed : goal.ending_of-requires-allowed
+ending_of-requires-allowed g c = allowed_by c.args.words.now c.in-Ok.plan c.in-Ok.ensures.ok
 
-pub returns-in-Ok : goal.returns-in-Ok
-returns-in-Ok g c =
-    refused_ending (g.S.Shelf.is_content c.args.shelf.now) (g.S.Shelf.is_unread c.args.shelf.now) c.args.words.now c.in-Ok.plan c.in-Err.refusal
-    c.refused.result c.in-Ok.ensures.ok c.in-Err.ensures.err c.refused.ensures
+pub ending_of_run-requires-allowed : goal.ending_of_run-requires-allowed
+ending_of_run-requires-allowed g c = allowed_by c.args.words.now c.in-Ok.plan c.in-Ok.ensures.ok
