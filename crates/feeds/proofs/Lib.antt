@@ -1,3 +1,4 @@
 pub mod TallyLemmas
 pub mod AskLemmas
 pub mod PullLemmas
+pub mod ServeLemmas
