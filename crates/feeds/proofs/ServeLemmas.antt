@@ -1,5 +1,6 @@
 -- Workers of one pass: their jobs, the passes that they work with, and what came of them.
 use Rattle.std.proofs.Common.{◌≡◌, ◌+◌, ◌≤◌, ℕ, true, List, [], ◌∷◌, ◌++◌, length, map, refl, sym, ap, subst, ◌∙◌, append_assoc, append-nil, arith, length-append}
+use Rattle.std.specs.Prelude.{IfSome, None, Option, Some}
 use Rattle.std.proofs.lemmas.List.{length-map, map-append}
 use Rattle.atomic_table.specs.Seated.{TableId}
 use Rattle.attributes.specs.Event.{EventValue}
@@ -97,7 +98,7 @@ job_of p r q place j same splits off is = record {
 }
 
 pub job_more : (p : Shown) (all ws : List Work) (js out : List Job) (j : Job) → EachAt (IsJobAt p) 0 ws js → IsJobAt p (length ws) j.work j → all ≡ ws ++ j.work ∷ [] → out ≡ js ++ j ∷ [] → EachAt (IsJobAt p) 0 all out
-job_more p all ws js out j h k more put = subst (λ z. EachAt (IsJobAt p) 0 z out) (sym more) (subst (λ z. EachAt (IsJobAt p) 0 (ws ++ j.work ∷ []) z) (sym put) (each_at_more (IsJobAt p) 0 ws js j.work j h k))
+job_more p all ws js out j h k more put = subst (λ z. EachAt (IsJobAt p) 0 z out) (sym more) (subst (λ z. EachAt (IsJobAt p) 0 (ws ++ j.work ∷ []) z) (sym put) (each_at_more (IsJobAt p) 0 ws js j.work j h (subst (λ n. IsJobAt p n j.work j) (omega arith) k)))
 
 pub each_at_length : {A : Type 0} → {B : Type 0} → (Holds : ℕ → A → B → Type 0) (at : ℕ) (xs : List A) (ys : List B) → EachAt Holds at xs ys → length ys ≡ length xs
 each_at_length Holds at [] [] h = refl
@@ -260,7 +261,8 @@ pub serves : (p q : Shown) (feeds : List (List ℕ)) (peers : List (List EventVa
     → s.reports.items ≡ reports_in os → s.asked.items ≡ answers_in os → Serves p q feeds peers asks s
 serves p q feeds peers asks s os h reports answers =
     let a = feeds_tell p q 0 feeds (map work.Pull peers ++ map work.Ask asks) os h in
-    let b = peers_tell p q (length feeds) peers (map work.Ask asks) a.1 a.4 in
+    let behind = subst (λ n. EachAt (WorkerTells p q) n (map work.Pull peers ++ map work.Ask asks) a.1) (omega arith) a.4 in
+    let b = peers_tell p q (length feeds) peers (map work.Ask asks) a.1 behind in
     let c = asks_tell p q (length feeds + length peers) asks b.1 b.4 in record {
       fed = a.0;
       pulled = b.0;
@@ -270,3 +272,7 @@ serves p q feeds peers asks s os h reports answers =
       each_ask = subst (λ l. EachAt (WorkerAsks p q) (length feeds + length peers) asks l)
           (sym (answers ∙ ap answers_in a.2 ∙ answers_behind a.0 a.1 ∙ ap answers_in b.2 ∙ answers_behind b.0 b.1 ∙ ap answers_in c.1 ∙ all_answers c.0)) c.2;
     }
+
+pub some_of : {X : Type 0} → (P : X → Type 0) (o : Option X) (x : X) → o ≡ Some x → IfSome o P → P x
+some_of P (Some y) x is h = let same : y ≡ x = cc in subst P same h
+some_of P None x is h = absurd (cc)

@@ -1,6 +1,6 @@
 //! The end of workers: what they saw, and what they report.
 
-ghost use Rattle.std.specs.Prelude.{◌≡◌, ◌≤◌, ◌<◌, ◌++◌, [], length, map};
+ghost use Rattle.std.specs.Prelude.{◌≡◌, ◌≤◌, ◌<◌, ◌++◌, ◌∷◌, [], length};
 ghost use Rattle.std.specs.Vec.{vec_capacity, vec_len};
 ghost use Rattle.turn_lock.specs.History.{StartsWith, made_by};
 ghost use Rattle.site_lock.specs.Pass.{IsSame};

@@ -12,6 +12,7 @@ use crate::feeding::feed;
 use crate::pulling::pull_from;
 use crate::serving::worker::{Finished, Job, Outcome, Work, put};
 use site::{Desk, Gate};
+use site_lock::laws::threads_share_a_site;
 use site_lock::{Caller, SharedSite};
 use std::alloc::Global;
 use std::snapshot::Snapshot;
@@ -124,6 +125,7 @@ fn run_jobs<R: Threads + Wait + Sync, G: Gate + Sync, A: Aside + Drop>(
                 × IfSome result.1 (λ v. Each Ends (jobs.items ++ job ∷ []) v.items
                 × (vec_capacity room ≤ vec_capacity v)) }
         {
+            threads_share_a_site();
             let child = scope.spawn_with(
                 promise,
                 move || -> Finished

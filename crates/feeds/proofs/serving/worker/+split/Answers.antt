@@ -9,4 +9,4 @@ put-requires t c = let jobs = c.split_all-jobs.result in
 
 pub returns-clause-jobs : goal.returns-clause-jobs
 returns-clause-jobs t c = let e = c.split_all-jobs.ensures in
-    job_more _ _ _ _ _ (record { work = c.in-Some.work; pass = c.in-Ok.theirs }) e.jobs (job_of _ _ _ _ _ e.same e.splits c.in-Ok.ensures.new refl) c.in-Some.ensures c.put.ensures.items
+    job_more _ _ _ _ _ (record { work = c.in-Some.work; pass = c.in-Ok.theirs }) e.jobs (job_of _ _ _ _ _ e.same.0 e.splits c.in-Ok.ensures.new refl) c.in-Some.ensures c.put.ensures.items
