@@ -46,7 +46,7 @@ or_true false = refl
 has_last : ((A : List EventValue) (e : EventValue) → Contains A e → has key_cmp A e ≡ true) → (A : List EventValue) (e : EventValue) → has key_cmp (A ++ e ∷ []) e ≡ true
 has_last is_found A e = list_any-append (λ y. is_eq (key_cmp e y)) A (e ∷ []) ∙ ap (λ b. has key_cmp A e || b) (found_itself is_found e) ∙ or_true (has key_cmp A e)
 
-keeps_having : (A L : List EventValue) (e : EventValue) → has key_cmp A e ≡ true → has key_cmp (append_new key_cmp A L) e ≡ true
+pub keeps_having : (A L : List EventValue) (e : EventValue) → has key_cmp A e ≡ true → has key_cmp (append_new key_cmp A L) e ≡ true
 keeps_having A [] e h = h
 keeps_having A (x ∷ xs) e h = elim (has key_cmp A x) as (λ b. has key_cmp (append_new key_cmp (if b then A else A ++ x ∷ []) xs) e ≡ true) [
   | true ↦ keeps_having A xs e h
@@ -62,7 +62,7 @@ holds_taken is_found A [] = tt
 holds_taken is_found A (x ∷ xs) = let B : List EventValue = if has key_cmp A x then A else A ++ x ∷ [] in
     (keeps_having B xs x (there is_found A x (has key_cmp A x) refl), holds_taken is_found B xs)
 
-holds_on : (A B L : List EventValue) → ((e : EventValue) → has key_cmp A e ≡ true → has key_cmp B e ≡ true) → Holds A L → Holds B L
+pub holds_on : (A B L : List EventValue) → ((e : EventValue) → has key_cmp A e ≡ true → has key_cmp B e ≡ true) → Holds A L → Holds B L
 holds_on A B [] more h = tt
 holds_on A B (x ∷ xs) more h = (more x h.0, holds_on A B xs more h.1)
 

@@ -1,4 +1,5 @@
 pub mod Report
 pub mod Ask
 pub mod Pull
+pub mod Serve
 pub mod steps

@@ -7,7 +7,7 @@ use Rattle.inbox.specs.KeyOrder.{key_cmp}
 use Rattle.inbox.specs.Ordered.{has}
 use Rattle.inbox.specs.Sets.{set_of}
 use Rattle.site.specs.Delta.{delta}
-use Rattle.site.specs.Machine.{call}
+use Rattle.site.specs.Machine.{Runs, call}
 use Rattle.site.specs.declared.call.Call.{Call}
 use Rattle.site.specs.declared.call.Command.TheVariants as command
 use Rattle.site.specs.declared.call.Reply.{Reply}
@@ -73,3 +73,8 @@ pub record Brings (A : List EventValue) (n : List Call) (B : List EventValue) : 
   pub told : n ≡ call command.Summary (Summed peer) ∷ takes
   pub handled_all : handled takes ≡ delta (set_of A) peer
   pub holds : Holds B (delta (set_of A) peer)
+
+-- a pull from a site of one's own with the arrivals A, by its calls of a desk that then has the
+-- arrivals B: the site stays as it was, and all that was lacking was brought, where it was done
+abbrev pub PullsFrom : List EventValue → List Call → List EventValue → Report → Type 0
+PullsFrom A n B r = (m : List Call) × Runs A m A × Pulls m n r × (r.ended ≡ Done → Brings A n B)

@@ -2,3 +2,4 @@
 pub mod Tally
 pub mod Ask
 pub mod Pull
+pub mod Serve

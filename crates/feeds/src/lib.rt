@@ -7,9 +7,11 @@ mod feeding;
 mod flush;
 mod pulling;
 mod report;
+mod serving;
 
 pub use aside::{Aside, Idle};
 pub use asking::{Answers, Asked, ask};
 pub use feeding::feed;
 pub use pulling::{pull, pull_from};
 pub use report::{Ended, Report};
+pub use serving::{Jobs, Questions, ServeFault, Served, serve};

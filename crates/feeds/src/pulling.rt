@@ -3,9 +3,8 @@
 ghost use Rattle.std.specs.Prelude.{◌≡◌, ◌+◌, ◌<◌, ◌^◌, List, None, Some};
 ghost use Rattle.inbox.specs.Sets.{set_of};
 ghost use Rattle.site.specs.Delta.{delta};
-ghost use Rattle.site.specs.Machine.{Runs};
 ghost use Rattle.site.specs.declared.call.Call.{Call};
-ghost use Rattle.feeds.specs.Pull.{Brings, Holds, Pulled, Pulls, replied};
+ghost use Rattle.feeds.specs.Pull.{Holds, Pulled, Pulls, PullsFrom, replied};
 ghost use Rattle.feeds.specs.Report.{reported};
 ghost use Rattle.feeds.specs.declared.report.Ended.TheVariants.{Done};
 ghost use Rattle.feeds.specs.steps.Pull.{HasSameCounts, Moves, Pages, Sums};
@@ -145,8 +144,8 @@ pub fn pull<D: Desk, E: Desk, G: Gate>(from: &mut D, to: &mut E, gate: &G, worke
 /// lacked of the site's events.
 pub fn pull_from<E: Desk, G: Gate>(from: &mut Site, to: &mut E, gate: &G, worker: u64) -> Report
     ensures same { from.new ≡ from.old }
-    ensures pulled { (m n : List Call) × Runs from.old m from.new × E.went to.old to.new n
-        × Pulls m n result × (result.ended ≡ Done → Brings from.old n (E.arrivals to.new)) }
+    ensures pulled { (n : List Call) × E.went to.old to.new n
+        × PullsFrom from.old n (E.arrivals to.new) result }
 {
     pull(from, to, gate, worker)
 }

@@ -33,30 +33,40 @@ fn event(alloc: Global, number: u64) -> Result<Text, AllocError> {
     Ok(Text::from_string(text))
 }
 
-/// The JSON text of the batch of the events with the numbers 1 to so many.
-fn batch(alloc: Global, count: u64) -> Result<Text, AllocError> {
+/// The JSON text of the batch of so many events, with the numbers from `first` on.
+pub fn batch_from(alloc: Global, first: u64, count: u64) -> Result<Text, AllocError> {
     let mut text = String::new(alloc);
     text.push('[')?;
     for i in 0..count {
         if i > 0 {
             text.push(',')?;
         }
-        text.push_str(event(alloc, i + 1)?.as_str())?;
+        text.push_str(event(alloc, first.saturating_add(i))?.as_str())?;
     }
     text.push(']')?;
     Ok(Text::from_string(text))
 }
 
-/// A site that took the events with the numbers 1 to so many.
-pub fn site_of(alloc: Global, count: u64) -> Result<Site, AllocError> {
+/// The JSON text of the batch of the events with the numbers 1 to so many.
+fn batch(alloc: Global, count: u64) -> Result<Text, AllocError> {
+    batch_from(alloc, 1, count)
+}
+
+/// A site that took so many events, with the numbers from `first` on.
+pub fn site_from(alloc: Global, first: u64, count: u64) -> Result<Site, AllocError> {
     let mut site = Site::empty(alloc);
-    let text = batch(alloc, count)?;
+    let text = batch_from(alloc, first, count)?;
     let _report = feed(alloc, &mut site, &Wide, 0, text.as_str().as_bytes());
     Ok(site)
 }
 
+/// A site that took the events with the numbers 1 to so many.
+pub fn site_of(alloc: Global, count: u64) -> Result<Site, AllocError> {
+    site_from(alloc, 1, count)
+}
+
 /// The report with these counts of new events, events that were there, and refused ones.
-fn report(fresh: u64, repeated: u64, refused: u64, ended: Ended) -> Report
+pub fn report(fresh: u64, repeated: u64, refused: u64, ended: Ended) -> Report
     requires { fresh + repeated + refused < 2 ^ 64 }
 {
     Report {

@@ -1,0 +1,97 @@
+-- Workers on their way: their jobs, and what came of them.
+use Rattle.std.specs.Prelude.{◌≡◌, ℕ, List, [], ◌∷◌, ◌++◌, map}
+use Rattle.atomic_table.specs.Seated.{TableId}
+use Rattle.attributes.specs.Event.{EventValue}
+use Rattle.site.specs.declared.call.Call.{Call}
+use Rattle.turn_lock.specs.declared.machine.Entry.{Entry}
+use Rattle.turn_lock.specs.History.{StartsWith, made_by}
+use Rattle.views.specs.declared.query.Query.{Query}
+use Rattle.site_lock.specs.Pass.{Shown, Steps, leaves}
+use Rattle.feeds.specs.Ask.{Asks}
+use Rattle.feeds.specs.Pull.{PullsFrom}
+use Rattle.feeds.specs.Report.{Feeds}
+use Rattle.feeds.specs.Serve.{HasCalls, worker_of}
+use Rattle.feeds.specs.declared.asking.Asked.{Asked}
+use Rattle.feeds.specs.declared.report.Report.{Report}
+use Rattle.feeds.specs.declared.serving.worker.Finished.{Finished}
+use Rattle.feeds.specs.declared.serving.worker.Job.{Job}
+use Rattle.feeds.specs.declared.serving.worker.Outcome.{Outcome}
+use Rattle.feeds.specs.declared.serving.worker.Outcome.TheVariants.{Answered, Reported}
+use Rattle.feeds.specs.declared.serving.worker.Pending.{Pending}
+use Rattle.feeds.specs.declared.serving.worker.Work.{Work}
+use Rattle.feeds.specs.declared.serving.worker.Work.TheVariants as work
+
+-- all the work, in the order of the workers
+abbrev pub works_of : List (List ℕ) → List (List EventValue) → List (List Query) → List Work
+works_of feeds peers asks = map work.Feed feeds ++ (map work.Pull peers ++ map work.Ask asks)
+
+abbrev pub pending_works : Pending → List Work
+pending_works p = works_of p.feeds.items p.peers.items p.asks.items
+
+-- by these calls of a desk, which then has these arrivals, this came of the work
+abbrev pub Performs : Work → List Call → List EventValue → Outcome → Type 0
+Performs (work.Feed b) m B (Reported r) = Feeds b m r
+Performs (work.Pull A) m B (Reported r) = PullsFrom A m B r
+Performs (work.Ask queries) m B (Answered r) = Asks queries m r
+Performs (work.Feed b) m B (Answered r) = ⊥
+Performs (work.Pull A) m B (Answered r) = ⊥
+Performs (work.Ask queries) m B (Reported r) = ⊥
+
+-- the job for this work, with the pass of the worker at this place
+pub record IsJobAt (p : Shown) (place : ℕ) (w : Work) (j : Job) : Type 0 where
+  pub work : j.work ≡ w
+  pub table : j.pass.table ≡ p.table
+  pub number : j.pass.number ≡ worker_of p place
+  pub opening : j.pass.opening ≡ p.opening
+  pub unused : j.pass.mine ≡ []
+
+-- a worker did this job
+abbrev pub Ends : Job → Finished → Type 0
+Ends j f = (m : List Call) × Steps j.pass f.pass m × Performs j.work m (leaves f.pass) f.outcome
+
+-- the two lists have one length, and this holds at each place
+abbrev pub Each : {A : Type 0} → {B : Type 0} → (A → B → Type 0) → List A → List B → Type 0
+Each Holds [] [] = Unit {0}
+Each Holds [] (y ∷ ys) = ⊥
+Each Holds (x ∷ xs) [] = ⊥
+Each Holds (x ∷ xs) (y ∷ ys) = Holds x y × Each Holds xs ys
+
+-- all passes are of this site
+abbrev pub AreAt : TableId → List Job → Type 0
+AreAt t [] = Unit {0}
+AreAt t (j ∷ js) = (j.pass.table ≡ t) × AreAt t js
+
+abbrev pub AllAt : TableId → List Finished → Type 0
+AllAt t [] = Unit {0}
+AllAt t (f ∷ fs) = (f.pass.table ≡ t) × AllAt t fs
+
+-- the history has all that each worker saw, and under its number just its own calls
+abbrev pub AllTold : List (Entry Call) → List Finished → Type 0
+AllTold seen [] = Unit {0}
+AllTold seen (f ∷ fs) = StartsWith seen f.pass.seen × (made_by f.pass.number seen ≡ f.pass.mine)
+    × AllTold seen fs
+
+abbrev pub outcomes : List Finished → List Outcome
+outcomes fs = map (λ f. f.outcome) fs
+
+-- the reports and the answers among what came of jobs
+abbrev pub reports_by : Outcome → List Report
+reports_by (Reported r) = r ∷ []
+reports_by (Answered r) = []
+
+abbrev pub answers_by : Outcome → List Asked
+answers_by (Reported r) = []
+answers_by (Answered r) = r ∷ []
+
+abbrev pub reports_in : List Outcome → List Report
+reports_in [] = []
+reports_in (o ∷ os) = reports_by o ++ reports_in os
+
+abbrev pub answers_in : List Outcome → List Asked
+answers_in [] = []
+answers_in (o ∷ os) = answers_by o ++ answers_in os
+
+-- what came of the work by the calls that q has seen of the worker at this place
+abbrev pub WorkerTells : Shown → Shown → ℕ → Work → Outcome → Type 0
+WorkerTells p q place w o =
+    (m : List Call) × HasCalls q.seen (worker_of p place) m × Performs w m (leaves q) o
