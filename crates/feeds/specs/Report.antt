@@ -85,6 +85,7 @@ pub record Tells (events : List EventValue) (m : List Call) (r : Report) : Type 
   pub counts : Counts m r
   pub refused : r.refused ≡ length (unsequenced passed)
   pub most : r.read ≤ length events
+  pub input : (fault : ReadFault) → r.ended ≢ BadInput fault
   pub done : r.ended ≡ Done → (handled m ≡ sequenced events) × (r.read ≡ length events)
 
 -- the report with these counts
