@@ -45,7 +45,7 @@ pub record SaysRun (feeds : List (List ℕ)) (arrivals : List EventValue) (text 
   pub fed : pull.Holds arrivals (sequenced (joined lists))
   pub refused : ℕ
   pub counted : refused + length (sequenced (joined lists)) ≡ length (joined lists)
-  pub text : IsRunText (length (joined lists)) refused arrivals text
+  pub prints : IsRunText (length (joined lists)) refused arrivals text
 
 -- the database has these arrivals, which are what was held and more behind it or nothing, and the
 -- text tells of them
