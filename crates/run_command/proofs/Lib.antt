@@ -1,2 +1,3 @@
 mod FedLemmas
+mod TallyLemmas
 mod ToldLemmas

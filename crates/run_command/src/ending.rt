@@ -181,13 +181,21 @@ fn either(first: Option<RunFault>, second: RunFault) -> RunFault
     }
 }
 
+/// The first so many reports.
+fn front(reports: &[Report], feeds: u64) -> &[Report]
+    ensures { result.now ≡ take feeds reports.now }
+{
+    let count = (feeds as usize).min(reports.len());
+    &reports[..count]
+}
+
 /// The text of a run without a fault.
 fn said(alloc: Global, reports: &[Report], feeds: u64, site: &Site) -> Result<Text, RunFault>
     ensures ok { IfOk result (IsRunText (read_in (take feeds reports.now))
         (refused_in (take feeds reports.now)) site.now) }
     ensures err { IfErr result (λ why. why ≡ Database OutOfMemory) }
 {
-    let (read, refused) = counts(reports, feeds);
+    let (read, refused) = counts(front(reports, feeds));
     match run_text(alloc, read, refused, site) {
         Ok(text) => Ok(text),
         Err(_) => Err(RunFault::Database(CommandFault::OutOfMemory)),

@@ -1,5 +1,5 @@
 //! What reports come to together.
-ghost use Rattle.std.specs.Prelude.{◌≡◌, ◌≤◌, length, take};
+ghost use Rattle.std.specs.Prelude.{◌≡◌, ◌≤◌, length};
 ghost use Rattle.run_command.specs.Fault.{of_end};
 ghost use Rattle.run_command.specs.Tally.{first_fault, read_in, refused_in};
 
@@ -38,14 +38,14 @@ pub fn first_fault(reports: &[Report], feeds: u64) -> Option<RunFault>
     None
 }
 
-/// How many events were read by the first so many workers, and how many of them had no number.
-pub fn counts(reports: &[Report], feeds: u64) -> (u128, u128)
-    ensures read { result.0 ≡ read_in (take feeds reports.now) }
-    ensures refused { result.1 ≡ refused_in (take feeds reports.now) }
+/// How many events were read, and how many of them had no number.
+pub fn counts(reports: &[Report]) -> (u128, u128)
+    ensures read { result.0 ≡ read_in reports.now }
+    ensures refused { result.1 ≡ refused_in reports.now }
 {
     let mut read: u128 = 0;
     let mut refused: u128 = 0;
-    for report in reports.iter().take(feeds as usize) {
+    for report in reports {
         read += report.read as u128;
         refused += report.refused as u128;
     }
