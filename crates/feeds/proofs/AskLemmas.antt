@@ -10,9 +10,10 @@ use Rattle.site.specs.declared.call.Reply.TheVariants.{Answered, Paged, Refused,
 use Rattle.views.specs.declared.query.Answer.{Answer}
 use Rattle.views.specs.declared.query.Query.{Query}
 use Rattle.feeds.specs.Ask.{Asks, KeepsAnswers, answers_by, answers_of, commands_of}
+use Rattle.feeds.specs.Report.{EndsEarly}
 use Rattle.feeds.specs.declared.asking.Asked.{Asked}
 use Rattle.feeds.specs.declared.report.Ended.{Ended}
-use Rattle.feeds.specs.declared.report.Ended.TheVariants.{BadInput, Done, GateShut, OutOfMemory}
+use Rattle.feeds.specs.declared.report.Ended.TheVariants.{Done, GateShut, OutOfMemory}
 use Rattle.feeds.specs.steps.Ask.{AsksOne, StopsAt}
 
 commands-append : (m n : List Call) → commands_of (m ++ n) ≡ commands_of m ++ commands_of n
@@ -55,7 +56,7 @@ stops_asking queries L rest query m n old new ended r split so_far kept (same, i
   split = split;
   calls = ap commands_of (ap (λ z. m ++ z) none ∙ append-nil m) ∙ so_far;
   answers = inl (answers ∙ same ∙ kept ∙ ap answers_of (sym (ap (λ z. m ++ z) none ∙ append-nil m)));
-  input = λ fault d. let wrong : GateShut ≡ BadInput fault = sym shut ∙ sym ends ∙ d in absurd (cc);
+  ended = inr (subst EndsEarly (sym (ends ∙ shut)) tt);
   done = λ d. let wrong : GateShut ≡ Done = sym shut ∙ sym ends ∙ d in absurd (cc);
 }
 stops_asking queries L rest query m n old new ended r split so_far kept (same, inr (short, one)) answers ends = record {
@@ -64,7 +65,7 @@ stops_asking queries L rest query m n old new ended r split so_far kept (same, i
   split = append_assoc L (query ∷ []) rest ∙ split;
   calls = asks_more L m n query one.0 so_far one.1;
   answers = subst (λ z. KeepsAnswers (m ++ z) r.answers r.ended) (sym one.1) (subst (λ z. KeepsAnswers (m ++ call (command.Query query) one.0 ∷ []) r.answers z) (sym (ends ∙ short)) (keeps_last m query one.0 r.answers (answers ∙ same ∙ kept)));
-  input = λ fault d. let wrong : OutOfMemory ≡ BadInput fault = sym short ∙ sym ends ∙ d in absurd (cc);
+  ended = inr (subst EndsEarly (sym (ends ∙ short)) tt);
   done = λ d. let wrong : OutOfMemory ≡ Done = sym short ∙ sym ends ∙ d in absurd (cc);
 }
 

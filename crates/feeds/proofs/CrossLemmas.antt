@@ -51,7 +51,7 @@ answer_is_send : IsSend answer.the_row
 answer_is_send = recorded_send (answer.the_field).row _ _ (answer.the_type).to_one (enum_send (enum_declared.shape answer.the_type) (
   (summary_is_send, tt), (
     (batch_is_send, tt), (
-      (search (conflict_is_send, batch_is_send, heap.crosses, sendable) depth 60 fits 20000, tt), (
+      (search (conflict_is_send, heap.crosses, sendable) depth 60 fits 20000, tt), (
         (batch_is_send, tt), (
           (search (heap.crosses, sendable) depth 60 fits 20000, tt), (
             (search (heap.crosses, sendable) depth 60 fits 20000, tt), (

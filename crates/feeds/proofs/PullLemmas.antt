@@ -19,7 +19,7 @@ use Rattle.site.specs.declared.call.Reply.TheVariants.{Answered, Paged, Refused,
 use Rattle.site.specs.declared.desk.DeskFault.{DeskFault}
 use Rattle.site.specs.declared.desk.DeskFault.TheVariants as desk
 use Rattle.feeds.specs.Pull.{ArePages, Brings, EndsEmpty, Holds, IsUnbegun, Pulled, Pulls, events_in, replied}
-use Rattle.feeds.specs.Report.{Handles, handled, reported}
+use Rattle.feeds.specs.Report.{EndsEarly, Handles, handled, reported}
 use Rattle.feeds.specs.declared.report.Ended.{Ended}
 use Rattle.feeds.specs.declared.report.Ended.TheVariants.{Done, OutOfMemory}
 use Rattle.feeds.specs.declared.report.Report.{Report}
@@ -103,14 +103,15 @@ ends-append [] n h = h
 ends-append (c ∷ cs) n h = ends-cons c (cs ++ n) (ends-append cs n h)
 
 -- no page was got
-moved_nothing : (peer : Sources) (m : List Call) (t u : Tally) (ended : Ended) → ended ≢ Done → ArePages peer (t.fresh + t.repeated) m → replied m ≡ [] → HasSameCounts t u → Moves peer m [] t u (Some ended)
-moved_nothing peer m t u ended never pages none same = record {
+moved_nothing : (peer : Sources) (m : List Call) (t u : Tally) (ended : Ended) → EndsEarly ended → ArePages peer (t.fresh + t.repeated) m → replied m ≡ [] → HasSameCounts t u → Moves peer m [] t u (Some ended)
+moved_nothing peer m t u ended early pages none same = record {
   pages = pages;
   handles = record { takes = tt; rest = []; order = sym none };
   counted = record { fresh = omega (arith, same.0); repeated = omega (arith, same.1); refused = same.2; all = refl };
   most = omega (arith, ap length none);
   whole = λ k. absurd (cc);
-  done = λ k. absurd (never (cc));
+  ended = λ e k. let is : ended ≡ e = cc in inr (subst EndsEarly is early);
+  done = λ k. let is : ended ≡ Done = cc in absurd (subst EndsEarly is early);
 }
 
 no_events : (fault : DeskFault) → events_in (refused fault) ≡ []
@@ -130,6 +131,7 @@ moved_last peer m t u [] page empty same = subst (λ z. Moves peer z [] t u (Som
   counted = record { fresh = omega (arith, same.0); repeated = omega (arith, same.1); refused = same.2; all = refl };
   most = omega arith;
   whole = λ k. absurd (cc);
+  ended = λ e k. let is : Done ≡ e = cc in inl (sym is);
   done = λ k. (refl, refl, refl);
 })
 
@@ -144,7 +146,8 @@ moved peer m n t s u L left o page same f = let is = replied_page peer (t.fresh 
   counted = record { fresh = omega (arith, same.0, k.fresh); repeated = omega (arith, same.1, k.repeated); refused = k.refused ∙ same.2; all = k.all };
   most = omega (arith, ap length is, page.1);
   whole = λ none. (f.whole none).0 ∙ sym is;
-  done = λ k. absurd (f.never_done k);
+  ended = λ e k. inr (f.early e k);
+  done = λ k. absurd (f.early Done k);
 }
 
 pub pulling_start : (peer : Sources) (t : Tally) → t ≡ record { calls = 1; fresh = 0; repeated = 0; refused = 0 } → Pulling peer [] [] t
@@ -188,6 +191,7 @@ pull_stops peer m n k l t u o ended is p moves = let c = moves.counted in let hs
     read = refl;
   };
   refused = c.refused ∙ p.refused;
+  ended = moves.ended ended is;
   done = λ d. let e = moves.done (is ∙ ap Some d) in
       (handled-append n l ∙ ap (λ z. z ++ handled l) p.order ∙ ap (λ z. replied m ++ z) e.0 ∙ sym (replied-append m k), ends-append m k e.2);
 }
@@ -198,16 +202,17 @@ pull_short peer m n t p = record {
   handles = record { takes = p.takes; rest = []; order = append-nil (handled n) ∙ p.order };
   counts = record { fresh = p.fresh; repeated = p.repeated; handled = omega (arith, p.fresh, p.repeated, p.all); read = refl };
   refused = p.refused;
+  ended = inr tt;
   done = λ d. absurd (cc);
 }
 
-pub unbegun : (n : List Call) (t : Tally) (ended : Ended) (r : Report) → ended ≢ Done → (n ≡ []) ⊎ ((reply : Reply) × (n ≡ call command.Summary reply ∷ []))
+pub unbegun : (n : List Call) (t : Tally) (ended : Ended) (r : Report) → EndsEarly ended → (n ≡ []) ⊎ ((reply : Reply) × (n ≡ call command.Summary reply ∷ []))
     → t ≡ record { calls = 0; fresh = 0; repeated = 0; refused = 0 } → r ≡ reported t ended → IsUnbegun [] n r
-unbegun n t ended r never asked start is =
+unbegun n t ended r early asked start is =
     let same : r ≡ reported (record { calls = 0; fresh = 0; repeated = 0; refused = 0 }) ended = is ∙ ap (λ z. reported z ended) start in record {
       no_pages = refl;
       asked = asked;
-      ended = λ d. never (sym (ap (λ z. z.ended) is) ∙ d);
+      early = subst EndsEarly (sym (ap (λ z. z.ended) is)) early;
       counts = same ∙ ap (λ z. reported (record { calls = 0; fresh = 0; repeated = 0; refused = 0 }) z) (sym (ap (λ z. z.ended) is));
     }
 
@@ -251,7 +256,7 @@ all_pages A B peer p (c ∷ d ∷ ds) runs pages ends =
     (all_pages A B peer (p + length (events_in c.reply)) (d ∷ ds) (subst (λ Z. Runs Z (d ∷ ds) B) same runs.1) pages.1 ends)
 
 pub pull_brings : (A B C : List EventValue) (m n : List Call) (r : Report) → Runs A m B → Pulls m n r → (r.ended ≡ Done → Holds C (replied m)) → r.ended ≡ Done → Brings A n C
-pull_brings A B C m n r runs (inl un) holds done = absurd (un.ended done)
+pull_brings A B C m n r runs (inl un) holds done = absurd (subst EndsEarly done un.early)
 pull_brings A B C m n r runs (inr p) holds done = let e = p.3.done done in
     let all = all_pages A B p.0 0 m runs p.3.pages e.1 in record {
       peer = p.0;

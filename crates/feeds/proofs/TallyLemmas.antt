@@ -15,10 +15,9 @@ use Rattle.site.specs.declared.call.Call.{Call}
 use Rattle.site.specs.declared.call.Command.TheVariants as command
 use Rattle.site.specs.declared.desk.DeskFault.{DeskFault}
 use Rattle.site.specs.declared.desk.DeskFault.TheVariants as desk
-use Rattle.feeds.specs.Report.{AreTakes, Tells, fresh_of, handled, has_number, repeated_of, reported, sequenced, unsequenced}
+use Rattle.feeds.specs.Report.{AreTakes, EndsEarly, Tells, fresh_of, handled, has_number, repeated_of, reported, sequenced, unsequenced}
 use Rattle.feeds.specs.declared.report.Ended.{Ended}
-use Rattle.event_json.specs.declared.fault.ReadFault.{ReadFault}
-use Rattle.feeds.specs.declared.report.Ended.TheVariants.{BadInput, Done, GateShut, OutOfMemory}
+use Rattle.feeds.specs.declared.report.Ended.TheVariants.{Done, GateShut, OutOfMemory}
 use Rattle.feeds.specs.declared.report.Report.{Report}
 use Rattle.feeds.specs.declared.report.Tally.{Tally}
 use Rattle.feeds.specs.steps.Tally.{Flushed, FlushedIfFull, Going, Passes, short_of}
@@ -49,8 +48,7 @@ flushed_ok A B L left counts t u o h e fresh repeated refused nothing = record {
     all = omega (arith, h.1.1, ap length (append-nil L));
   };
   whole = λ _. (append-nil L, e);
-  never_done = λ k. absurd (cc);
-  input = λ bad k. absurd (cc);
+  early = λ e k. absurd (cc);
 }
 
 pub flushed_short : (A B L left : List EventValue) (fault : DeskFault) (short : Short) (t u : Tally) (o : Option Ended) → Follows A (call (command.Take L) (took (Err fault))) B
@@ -65,8 +63,7 @@ flushed_short A B L left (desk.OutOfMemory taken fresh) short t u o h is grew ag
     all = let within = refused_within A B L (desk.OutOfMemory taken fresh) h in omega (arith, within.0, within.1, ap length (append-nil (take taken L)), length-take taken L);
   };
   whole = λ k. absurd (cc);
-  never_done = λ k. absurd (cc);
-  input = λ bad k. absurd (cc);
+  early = λ e k. let same : OutOfMemory ≡ e = cc in subst EndsEarly same tt;
 }
 
 pub flushed_not : (L left : List EventValue) (t u : Tally) (o : Option Ended) → u.fresh ≡ t.fresh → u.repeated ≡ t.repeated → u.refused ≡ t.refused → o ≡ Some GateShut
@@ -75,8 +72,7 @@ flushed_not L left t u o fresh repeated refused shut = record {
   handles = record { takes = tt; rest = L; order = refl };
   counted = record { fresh = omega (arith, fresh); repeated = omega (arith, repeated); refused = refused; all = refl };
   whole = λ k. absurd (cc);
-  never_done = λ k. absurd (cc);
-  input = λ bad k. absurd (cc);
+  early = λ e k. let same : GateShut ≡ e = cc in subst EndsEarly same tt;
 }
 
 pub handled-append : (m n : List Call) → handled (m ++ n) ≡ handled m ++ handled n
@@ -184,12 +180,12 @@ stops all L rest m n b left t u e r split g f is = let k = f.counted in let hs =
   };
   refused = ap (λ z. z.refused) is ∙ k.refused ∙ g.refused;
   most = omega (arith, ap (λ z. z.read) is, bounded L m b t g, k.fresh, k.repeated, k.refused, k.all, ap length hs.order, length-append (handled n) hs.rest, ap length split, length-append L rest);
-  input = λ bad k. absurd (f.input bad (ap Some (sym (ap (λ z. z.ended) is) ∙ k)));
-  done = λ d. absurd (f.never_done (ap Some (sym (ap (λ z. z.ended) is) ∙ d)));
+  ended = inr (subst EndsEarly (sym (ap (λ z. z.ended) is)) (f.early e refl));
+  done = λ d. absurd (subst EndsEarly (sym (ap (λ z. z.ended) is) ∙ d) (f.early e refl));
 }
 
-pub stops_here : (all L rest : List EventValue) (m : List Call) (b : List EventValue) (t : Tally) (e : Ended) (r : Report) → L ++ rest ≡ all → Going L m b t → e ≢ Done → ((fault : ReadFault) → e ≢ BadInput fault) → r ≡ reported t e → Tells all m r
-stops_here all L rest m b t e r split g never good is = record {
+pub stops_here : (all L rest : List EventValue) (m : List Call) (b : List EventValue) (t : Tally) (e : Ended) (r : Report) → L ++ rest ≡ all → Going L m b t → EndsEarly e → r ≡ reported t e → Tells all m r
+stops_here all L rest m b t e r split g early is = record {
   passed = L;
   behind = rest;
   split = split;
@@ -202,8 +198,8 @@ stops_here all L rest m b t e r split g never good is = record {
   };
   refused = ap (λ z. z.refused) is ∙ g.refused;
   most = omega (arith, ap (λ z. z.read) is, bounded L m b t g, ap length split, length-append L rest);
-  input = λ fault k. absurd (good fault (sym (ap (λ z. z.ended) is) ∙ k));
-  done = λ d. absurd (never (sym (ap (λ z. z.ended) is) ∙ d));
+  ended = inr (subst EndsEarly (sym (ap (λ z. z.ended) is)) early);
+  done = λ d. absurd (subst EndsEarly (sym (ap (λ z. z.ended) is) ∙ d) early);
 }
 
 pub empty_is : {X : Type 0} (b : List X) → length b ≡ 0 → b ≡ []
@@ -225,7 +221,7 @@ ends all L rest m b t r split none g empty is = let same : L ≡ all = sym (appe
       };
       refused = ap (λ z. z.refused) is ∙ g.refused;
       most = omega (arith, ap (λ z. z.read) is, bounded L m b t g, ap length same);
-      input = λ fault k. (let wrong : Done ≡ BadInput fault = sym (ap (λ z. z.ended) is) ∙ k in absurd (cc));
+      ended = inl (ap (λ z. z.ended) is);
       done = λ _. (handled_all ∙ ap sequenced same, omega (arith, ap (λ z. z.read) is, bounded L m b t g, ap length same, empty));
     }
 

@@ -1,6 +1,5 @@
 -- What a worker that asks questions was answered.
-use Rattle.std.specs.Prelude.{◌≡◌, ◌≢◌, ◌⊎◌, List, [], ◌∷◌, ◌++◌, length, map}
-use Rattle.event_json.specs.declared.fault.ReadFault.{ReadFault}
+use Rattle.std.specs.Prelude.{◌≡◌, ◌⊎◌, List, [], ◌∷◌, ◌++◌, length, map}
 use Rattle.site.specs.declared.call.Call.{Call}
 use Rattle.site.specs.declared.call.Command.{Command}
 use Rattle.site.specs.declared.call.Command.TheVariants as command
@@ -8,9 +7,10 @@ use Rattle.site.specs.declared.call.Reply.{Reply}
 use Rattle.site.specs.declared.call.Reply.TheVariants.{Answered}
 use Rattle.views.specs.declared.query.Answer.{Answer}
 use Rattle.views.specs.declared.query.Query.{Query}
+use Rattle.feeds.specs.Report.{EndsEarly}
 use Rattle.feeds.specs.declared.asking.Asked.{Asked}
 use Rattle.feeds.specs.declared.report.Ended.{Ended}
-use Rattle.feeds.specs.declared.report.Ended.TheVariants.{BadInput, Done, OutOfMemory}
+use Rattle.feeds.specs.declared.report.Ended.TheVariants.{Done, OutOfMemory}
 
 -- the commands of calls
 abbrev pub commands_of : List Call → List Command
@@ -41,6 +41,6 @@ pub record Asks (queries : List Query) (m : List Call) (r : Asked) : Type 0 wher
   pub split : asked ++ behind ≡ queries
   pub calls : commands_of m ≡ map command.Query asked
   pub answers : KeepsAnswers m r.answers r.ended
-  pub input : (fault : ReadFault) → r.ended ≢ BadInput fault
+  pub ended : (r.ended ≡ Done) ⊎ EndsEarly r.ended
   pub done : r.ended ≡ Done → (asked ≡ queries) × (r.answers ≡ answers_of m)
       × (length r.answers ≡ length queries)

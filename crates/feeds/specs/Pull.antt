@@ -1,5 +1,5 @@
 -- What a pull brings from one desk to another.
-use Rattle.std.specs.Prelude.{◌≡◌, ◌≢◌, ◌⊎◌, ◌+◌, ℕ, List, [], ◌∷◌, ◌++◌, length, true}
+use Rattle.std.specs.Prelude.{◌≡◌, ◌⊎◌, ◌+◌, ℕ, List, [], ◌∷◌, ◌++◌, length, true}
 use Rattle.std.specs.List.{AllByRecursion}
 use Rattle.attributes.specs.Event.{EventValue}
 use Rattle.coverage.specs.Summary.{Sources}
@@ -12,7 +12,7 @@ use Rattle.site.specs.declared.call.Call.{Call}
 use Rattle.site.specs.declared.call.Command.TheVariants as command
 use Rattle.site.specs.declared.call.Reply.{Reply}
 use Rattle.site.specs.declared.call.Reply.TheVariants.{Paged, Summed}
-use Rattle.feeds.specs.Report.{Counts, Handles, handled}
+use Rattle.feeds.specs.Report.{Counts, EndsEarly, Handles, handled}
 use Rattle.feeds.specs.declared.report.Ended.TheVariants.{Done}
 use Rattle.feeds.specs.declared.report.Report.{Report}
 
@@ -50,13 +50,14 @@ pub record Pulled (peer : Sources) (m n : List Call) (r : Report) : Type 0 where
   pub handles : Handles n (replied m)
   pub counts : Counts n r
   pub refused : r.refused ≡ 0
+  pub ended : (r.ended ≡ Done) ⊎ EndsEarly r.ended
   pub done : r.ended ≡ Done → (handled n ≡ replied m) × EndsEmpty m
 
 -- a pull that got no summary: it did nothing else
 pub record IsUnbegun (m n : List Call) (r : Report) : Type 0 where
   pub no_pages : m ≡ []
   pub asked : (n ≡ []) ⊎ ((reply : Reply) × (n ≡ call command.Summary reply ∷ []))
-  pub ended : r.ended ≢ Done
+  pub early : EndsEarly r.ended
   pub counts : r ≡ record { read = 0; fresh = 0; repeated = 0; refused = 0; ended = r.ended }
 
 -- a pull, by its calls of the one desk and those of the other, of which the first asks for the

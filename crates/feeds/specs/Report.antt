@@ -13,7 +13,7 @@ use Rattle.site.specs.declared.call.Command.TheVariants as command
 use Rattle.site.specs.declared.call.Reply.{Reply}
 use Rattle.site.specs.declared.call.Reply.TheVariants.{Refused, Took}
 use Rattle.feeds.specs.declared.report.Ended.{Ended}
-use Rattle.feeds.specs.declared.report.Ended.TheVariants.{BadInput, Done, OutOfMemory}
+use Rattle.feeds.specs.declared.report.Ended.TheVariants.{BadInput, Done, GateShut, OutOfMemory}
 use Rattle.feeds.specs.declared.report.Report.{Report}
 use Rattle.feeds.specs.declared.report.Tally.{Tally}
 
@@ -74,6 +74,13 @@ pub record Counts (m : List Call) (r : Report) : Type 0 where
   pub handled : r.fresh + r.repeated ≡ length (handled m)
   pub read : r.read ≡ r.fresh + r.repeated + r.refused
 
+-- a worker ends so before it is done: memory was wanted, or the gate was shut
+abbrev pub EndsEarly : Ended → Type 0
+EndsEarly OutOfMemory = Unit {0}
+EndsEarly GateShut = Unit {0}
+EndsEarly Done = ⊥
+EndsEarly (BadInput fault) = ⊥
+
 -- the report of a worker that brought these events by these calls: it read the first of them,
 -- passed over those without a number, and handed over the others as far as it came; all of them,
 -- where it was done
@@ -85,7 +92,7 @@ pub record Tells (events : List EventValue) (m : List Call) (r : Report) : Type 
   pub counts : Counts m r
   pub refused : r.refused ≡ length (unsequenced passed)
   pub most : r.read ≤ length events
-  pub input : (fault : ReadFault) → r.ended ≢ BadInput fault
+  pub ended : (r.ended ≡ Done) ⊎ EndsEarly r.ended
   pub done : r.ended ≡ Done → (handled m ≡ sequenced events) × (r.read ≡ length events)
 
 -- the report with these counts

@@ -102,6 +102,7 @@ pub fn serve<R: Threads + Wait + Sync, G: Gate + Sync, A: Aside>(
     ensures served { IfOk result (λ s.
         Serves pass.old pass.new jobs.feeds jobs.peers jobs.asks s) }
     ensures aside { A.moves aside.old aside.new }
+    ensures refused { IfErr result (λ _. pass.new.seen ≡ pass.old.seen) }
     ensures not_begun { IfErr result (λ fault. fault ≡ OutOfMemory
         → (pass.new ≡ pass.old) × (aside.new ≡ aside.old)) }
 {

@@ -1,5 +1,5 @@
 -- What a pull has brought on its way.
-use Rattle.std.specs.Prelude.{◌≡◌, ◌≢◌, ◌⊎◌, ◌+◌, ◌≤◌, ℕ, List, [], ◌∷◌, length}
+use Rattle.std.specs.Prelude.{◌≡◌, ◌⊎◌, ◌+◌, ◌≤◌, ℕ, List, [], ◌∷◌, length}
 use Rattle.std.specs.Prelude.{Option, None, Some, Result, Ok, Err}
 use Rattle.attributes.specs.Event.{EventValue}
 use Rattle.coverage.specs.Summary.{Sources}
@@ -11,7 +11,7 @@ use Rattle.site.specs.declared.call.Reply.{Reply}
 use Rattle.site.specs.declared.call.Reply.TheVariants.{Paged, Summed}
 use Rattle.site.specs.declared.desk.DeskFault.{DeskFault}
 use Rattle.feeds.specs.Pull.{ArePages, EndsEmpty, replied}
-use Rattle.feeds.specs.Report.{AreTakes, Handles, fresh_of, handled, repeated_of}
+use Rattle.feeds.specs.Report.{AreTakes, EndsEarly, Handles, fresh_of, handled, repeated_of}
 use Rattle.feeds.specs.declared.report.Ended.{Ended}
 use Rattle.feeds.specs.declared.report.Ended.TheVariants.{Done}
 use Rattle.feeds.specs.declared.report.Tally.{Tally}
@@ -20,14 +20,14 @@ use Rattle.feeds.specs.steps.Tally.{Counted}
 -- the call for the summary
 abbrev pub Sums : List Call → Result Sources Ended → Type 0
 Sums n (Ok peer) = n ≡ call command.Summary (Summed peer) ∷ []
-Sums n (Err ended) = (ended ≢ Done)
+Sums n (Err ended) = EndsEarly ended
     × ((n ≡ []) ⊎ ((reply : Reply) × (n ≡ call command.Summary reply ∷ [])))
 
 -- the call for a page
 abbrev pub Pages : Sources → ℕ → List Call → Result (List EventValue) Ended → Type 0
 Pages peer place m (Ok events) =
     (m ≡ call (command.DeltaPage peer place 100) (Paged events) ∷ []) × (length events ≤ 100)
-Pages peer place m (Err ended) = (ended ≢ Done)
+Pages peer place m (Err ended) = EndsEarly ended
     × ((m ≡ []) ⊎ ((fault : DeskFault)
     × (m ≡ call (command.DeltaPage peer place 100) (refused fault) ∷ [])))
 
@@ -42,6 +42,7 @@ pub record Moves (peer : Sources) (m n : List Call) (t u : Tally) (o : Option En
   pub counted : Counted n t u
   pub most : length (replied m) ≤ 100
   pub whole : o ≡ None → handled n ≡ replied m
+  pub ended : (e : Ended) → o ≡ Some e → (e ≡ Done) ⊎ EndsEarly e
   pub done : o ≡ Some Done → (handled n ≡ replied m) × (replied m ≡ []) × EndsEmpty m
 
 -- after these calls

@@ -1,18 +1,16 @@
 -- What a worker has counted on its way.
-use Rattle.std.specs.Prelude.{◌≡◌, ◌≢◌, ◌⊎◌, ◌+◌, ◌<◌, List, [], ◌∷◌, ◌++◌, length, true, false}
+use Rattle.std.specs.Prelude.{◌≡◌, ◌⊎◌, ◌+◌, ◌<◌, List, [], ◌∷◌, ◌++◌, length, true, false}
 use Rattle.std.specs.Prelude.{Option, None, Some}
 use Rattle.attributes.specs.Event.{EventValue}
-use Rattle.event_json.specs.declared.fault.ReadFault.{ReadFault}
 use Rattle.inbox.specs.KeyOrder.{key_cmp}
 use Rattle.inbox.specs.Ordered.{append_new}
 use Rattle.inbox.specs.declared.inbox.Short.{Short}
 use Rattle.site.specs.declared.call.Call.{Call}
 use Rattle.site.specs.declared.desk.DeskFault.{DeskFault}
 use Rattle.site.specs.declared.desk.DeskFault.TheVariants.{OutOfMemory}
-use Rattle.feeds.specs.Report.{AreTakes, Handles, fresh_of, handled, has_number, repeated_of}
+use Rattle.feeds.specs.Report.{AreTakes, EndsEarly, Handles, fresh_of, handled, has_number, repeated_of}
 use Rattle.feeds.specs.Report.{sequenced, unsequenced}
 use Rattle.feeds.specs.declared.report.Ended.{Ended}
-use Rattle.feeds.specs.declared.report.Ended.TheVariants.{BadInput, Done}
 use Rattle.feeds.specs.declared.report.Tally.{Tally}
 
 -- the tally grew by just these calls
@@ -28,8 +26,7 @@ pub record Flushed (m : List Call) (batch left : List EventValue) (t u : Tally) 
   pub handles : Handles m batch
   pub counted : Counted m t u
   pub whole : o ≡ None → (handled m ≡ batch) × (left ≡ [])
-  pub never_done : o ≡ Some Done → ⊥
-  pub input : (fault : ReadFault) → o ≢ Some (BadInput fault)
+  pub early : (e : Ended) → o ≡ Some e → EndsEarly e
 
 -- so, or the batch was not full and nothing was done
 abbrev pub FlushedIfFull : List Call → List EventValue → List EventValue → Tally → Tally

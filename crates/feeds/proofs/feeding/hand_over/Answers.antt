@@ -9,7 +9,7 @@ pass_on-requires g c = let i = c.loop-event.invariant in let next = c.in-Some.en
 
 pub returns-in-Err : goal.returns-in-Err
 returns-in-Err g c = let i = c.loop-event.invariant in
-    (i.1, i.3, stops_here _ _ _ _ _ _ OutOfMemory _ i.2 (still _ _ _ _ _ _ i.4 c.in-Err.ensures) (λ k. absurd (cc)) (λ fault k. absurd (cc)) refl)
+    (i.1, i.3, stops_here _ _ _ _ _ _ OutOfMemory _ i.2 (still _ _ _ _ _ _ i.4 c.in-Err.ensures) tt refl)
 
 pub flush_full-requires-clause-room : goal.flush_full-requires-clause-room
 flush_full-requires-clause-room g c = let i = c.loop-event.invariant in let next = c.in-Some.ensures.steps.0 in

@@ -19,5 +19,5 @@ returns g c = let p = c.in-Ok.ensures.page in let f = c.flush.ensures.flushed in
   f.1,
   moved _ _ _ _ _ _ _ _ _ p.2 c.in-Ok.ensures.same f.2,
   (λ none. subst (λ z. Gains (g.E.Desk.arrivals c.args.to.now) z (g.E.Desk.arrivals c.flush.new.desk)) (sym (replied_page _ _ _ _ p.2)) (c.flush.ensures.gains none)),
-  (λ done. absurd (f.2.never_done done)),
+  (λ done. absurd (f.2.early _ done)),
 )

@@ -1,5 +1,6 @@
 use Rattle.std.proofs.Common.{◌++◌, [], sym, ap, ◌∙◌, subst, inl, inr}
 use Rattle.feeds.specs.Pull.{Pulled}
+use Rattle.feeds.specs.Report.{EndsEarly}
 use Rattle.feeds.proofs.PullLemmas.{unbegun}
 use Rattle.feeds.proofs.pulling.pull.Goals as goal
 
@@ -20,5 +21,5 @@ returns-in-Err g c = let s = c.in-Err.ensures in (
   g.met.D.Desk.stays _,
   s.1,
   inl (unbegun s.0 _ _ _ s.2.0 s.2.1 c.start-tally.ensures c.report-in-Err.ensures),
-  (λ d. absurd (s.2.0 (sym (ap (λ z. z.ended) c.report-in-Err.ensures) ∙ d))),
+  (λ d. absurd (subst EndsEarly (sym (ap (λ z. z.ended) c.report-in-Err.ensures) ∙ d) s.2.0)),
 )
