@@ -8,7 +8,7 @@ use Rattle.event_json.specs.declared.fault.ReadFault.{ReadFault}
 use Rattle.event_json.specs.declared.fault.ReadFault.TheVariants as read
 use Rattle.site.specs.declared.call.Call.{Call}
 use Rattle.feeds.specs.Pull.{Holds}
-use Rattle.feeds.specs.Report.{Feeds, Tells, end_of, handled, has_number, sequenced, unread}
+use Rattle.feeds.specs.Report.{EndsEarly, Feeds, Tells, end_of, handled, has_number, sequenced, unread}
 use Rattle.feeds.specs.declared.report.Ended.{Ended}
 use Rattle.feeds.specs.declared.report.Ended.TheVariants.{BadInput, Done, GateShut, OutOfMemory}
 use Rattle.feeds.specs.declared.report.Report.{Report}
@@ -138,7 +138,10 @@ blamed arrivals (b ∷ bs) (r ∷ rs) place i f fed is = by_end (of_end place (s
     by_end (Some y) e =
         let at : of_end place (suc (length bs)) r.ended ≡ Some (run.Feed i f) = e ∙ (ap (λ (o : Option RunFault). option_or o rest) (sym e) ∙ is) in
         elim fed.0.1 [
-          | inl t ↦ absurd (t.2.input f (is_bad place (length bs) r.ended i f at))
+          | inl t ↦ (let bad = is_bad place (length bs) r.ended i f at in elim t.2.ended [
+              | inl done ↦ (let wrong : Done ≡ BadInput f = sym done ∙ bad in absurd (cc))
+              | inr early ↦ absurd (subst EndsEarly bad early)
+            ])
           | inr u ↦ (let n = not_memory place (suc (length bs)) u.1.0 i f (ap (λ (z : Report). of_end place (suc (length bs)) z.ended) (sym u.1.1) ∙ at) in
               record { k = 0; at = omega (arith, n.0); b = b; there = refl; refuses = subst (λ g. Refuses b g) n.1.0 (u.1.2 n.1.1) })
         ]
