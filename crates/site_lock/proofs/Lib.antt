@@ -2,3 +2,4 @@ mod SeatLemmas
 mod ArrivalLemmas
 mod StepLemmas
 mod LawLemmas
+mod ShareLemmas

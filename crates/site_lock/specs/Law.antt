@@ -1,8 +1,11 @@
 -- What holds of passes, whatever was done.
+use denote.Param.Send.{IsSend, IsSync}
 use Rattle.std.specs.Prelude.{◌≡◌, List, []}
 use Rattle.attributes.specs.Event.{EventValue}
 use Rattle.site.specs.Machine.{Follows}
 use Rattle.site.specs.declared.call.Call.{Call}
+use Rattle.site_lock.specs.contracts.pass.Pass as pass
+use Rattle.site_lock.specs.contracts.shared.SharedSite as shared
 use Rattle.site_lock.specs.Pass.{Closes, Made, Shown, leaves}
 
 -- a first pass that was never split has seen the whole history where it closes the site: no entry
@@ -14,3 +17,11 @@ UnsplitPassesSeeAll = (p : Shown) (A : List EventValue) → p.number ≡ [] → 
 -- a call of a pass is one of the site machine, behind what others added
 abbrev pub CallsFollow : Type 0
 CallsFollow = (p q : Shown) (c : Call) → Made p q c → Follows (leaves p) c (leaves q)
+
+-- a pass may go to another thread
+abbrev pub PassesAreSend : Type 0
+PassesAreSend = IsSend pass.the_row
+
+-- threads may use one shared site by a `&`
+abbrev pub SharedSitesAreSync : Type 0
+SharedSitesAreSync = IsSync shared.the_row
