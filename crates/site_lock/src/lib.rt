@@ -6,8 +6,6 @@ mod held;
 pub mod laws;
 mod pass;
 mod shared;
-#[cfg(test)]
-mod tests;
 
 pub use caller::Caller;
 pub use pass::Pass;

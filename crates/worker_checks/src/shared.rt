@@ -1,12 +1,11 @@
-//! What no contract says of shared sites: that calls succeed with ample memory, that turns come, and
-//! that `turns` isn't too high. Public calls alone are used.
+//! A shared site answers its passes and callers, and `turns` isn't too high.
 
 ghost use Rattle.std.specs.Prelude.{◌≡◌, IfOk};
 
-use crate::{Begun, Caller, Pass, SharedSite};
 use attributes::{Batch, Event, Given, Parts, Sequence, Sequenced, Text};
 use coverage::Summary;
 use site::{Desk, DeskFault, Site};
+use site_lock::{Begun, Caller, Pass, SharedSite};
 use std::alloc::{AllocError, Global};
 use std::sync::Wait;
 use views::{Query, print};
@@ -19,7 +18,7 @@ const A1: &str = concat!(
 
 /// Why a test has no answer.
 #[derive(Debug, Drop)]
-enum Failed {
+pub enum Failed {
     NoEvent,
     OutOfMemory,
 }
@@ -58,7 +57,7 @@ fn event(alloc: Global, id: &str, number: u64) -> Result<Sequenced, Failed> {
 }
 
 /// A batch of events with these ids and numbers.
-fn batch_of(alloc: Global, rows: &[(&str, u64)]) -> Result<Batch, Failed> {
+pub fn batch_of(alloc: Global, rows: &[(&str, u64)]) -> Result<Batch, Failed> {
     let mut batch = Batch::empty(alloc);
     for row in rows {
         if batch.push(event(alloc, row.0, row.1)?).is_err() {
@@ -82,7 +81,7 @@ fn has(batch: &Batch, ids: &[&str]) -> bool {
 }
 
 /// A shared site without events, and its first pass.
-fn begun(alloc: Global) -> Result<Begun, Failed>
+pub fn begun(alloc: Global) -> Result<Begun, Failed>
     ensures { IfOk result (λ b. b.pass.table ≡ b.shared) }
 {
     SharedSite::begin(alloc, Site::empty(alloc)).map_err(|_refused| Failed::OutOfMemory)
