@@ -16,7 +16,7 @@ use Rattle.sqlite_schema.specs.Rules.{agree, clashes, differ, passes}
 use Rattle.sqlite_rules.specs.Lists.{Has}
 use Rattle.sqlite_sql.specs.Ops.{binary, from_truth, is_true}
 use Rattle.sqlite.specs.Effect.{IsDatabase}
-use Rattle.sqlite.specs.State.{State, IsLive, Shown}
+use Rattle.sqlite.specs.State.{State, Shown}
 use Rattle.attributes.specs.Event.{EventValue, id_of, source_of, text}
 use Rattle.inbox.specs.KeyOrder.{key_cmp}
 use Rattle.inbox.specs.Ordered.{append_new, has}
@@ -25,7 +25,6 @@ use Rattle.inbox_table.specs.Rows.{AreNumbered, IsInbox, row_of, rows_from, show
 use Rattle.inbox_table.specs.Texts.{select_text}
 use Rattle.inbox_table.proofs.AdoptLemmas.{rule_of, stored}
 use Rattle.inbox_table.proofs.RowLemmas.{equal_text, has_permuted, key_columns, rows_snoc, same_tree}
-use Rattle.inbox_table.proofs.SameLemmas.{shown}
 
 told : (b : Bool) → is_true (from_truth (Some b)) ≡ b
 told true = refl
@@ -121,10 +120,9 @@ module _ (l : Layout) (db : Trees) (unique : AllByRecursion (λ r. passes Unique
 
 -- ---- a table that is adopted
 
-pub adopted : (old last : State) (events : List EventValue) (rows : List Row) → IsOurs old.now.schema → IsLive old → Shown select_text [] old last rows → rows ≡ shown_from 1 events → AreNumbered events → IsInbox old.now events
-adopted old last events found (l, is) live shows read numbered =
+pub adopted : (old last : State) (events : List EventValue) (rows : List Row) → IsOurs old.now.schema → IsDatabase old.now → Shown select_text [] old last rows → rows ≡ shown_from 1 events → AreNumbered events → IsInbox old.now events
+adopted old last events found (l, is) sound shows read numbered =
     let h = subst (Shown select_text [] old last) read shows in
-    let sound : IsDatabase old.now = (live (shown old last (shown_from 1 events) (l, is) h).0.was_open).0 in
     let perm = stored old last l events is sound h in
     let db = old.now.trees in
     let unique = rule_of l Unique db ((subst (λ s. Rattle.sqlite_schema.specs.Rules.Obeys s db) is sound.obeys).rules Unique) in

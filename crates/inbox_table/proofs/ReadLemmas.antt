@@ -1,44 +1,116 @@
 -- Rows read one after the other.
-use Rattle.std.proofs.Common.{◌≡◌, ◌≢◌, ℕ, zero, suc, ◌+◌, ◌<◌, ◌≤◌, ◌++◌, length, length-append, get_or, take, List, [], ◌∷◌, refl, sym, ap, ◌∙◌, arith}
-use Rattle.std.proofs.lemmas.List.{take_more, take_all}
+use Rattle.std.proofs.Common.{◌≡◌, ◌≢◌, ◌≤◌, inl, ℕ, suc, ◌+◌, ◌-◌, ◌++◌, length, length-append, List, [], ◌∷◌, Bool, Some, None, IsTrue, refl, sym, ap, subst, ◌∙◌, arith}
 use Rattle.sqlite_value.specs.Order.{Row}
-use Rattle.attributes.specs.Event.{EventValue}
-use Rattle.inbox_table.specs.Rows.{AreNumbered, IsNumbered, shown_from, shown_of}
-use Rattle.inbox_table.specs.steps.Reads.{HaveRead}
+use Rattle.sqlite_trees.specs.View.{doubt}
+use Rattle.sqlite_trees.specs.declared.store.Store.{Ghosts}
+use Rattle.sqlite_resolve.specs.declared.compiled.Compiled.{Compiled}
+use Rattle.sqlite.specs.Clock.{timed}
+use Rattle.sqlite.specs.Effect.{Database, IsDatabase}
+use Rattle.sqlite.specs.Given.{Advances, HasBegun, HasGiven}
+use Rattle.sqlite.specs.Held.{Held, state}
+use Rattle.sqlite.specs.Listing.{understood}
+use Rattle.sqlite.specs.State.{State, HasCleanDisk, IsLive, IsStatement, IsUnchanged, Survives}
+use Rattle.sqlite.proofs.StateLemmas.{unchanged}
+use Rattle.sqlite.proofs.Callers.{EndsIn, begins_shown, begun_plain, command_of, given_begin, unchanged_then}
+use Rattle.attributes.specs.Event.{EventValue, text}
+use Rattle.attributes.specs.Fault.{IsEvent}
+use Rattle.inbox_table.specs.Calls.{Stands}
+use Rattle.inbox_table.specs.Rows.{AreNumbered, IsInbox, IsNumbered, shown_from, shown_of}
+use Rattle.inbox_table.specs.Schema.{IsOurs}
+use Rattle.inbox_table.specs.Texts.{select_text}
+use Rattle.inbox_table.specs.steps.Reads.{HasRead, IsAtStart}
 use Rattle.inbox_table.proofs.EventLemmas.{numbered_more}
+use Rattle.inbox_table.proofs.LoadLemmas.{loads, tells}
+use Rattle.inbox_table.proofs.OnceLemmas.{adopted}
+use Rattle.inbox_table.proofs.SameLemmas.{plain_in}
+use Rattle.inbox_table.proofs.TextLemmas.{select_is}
 
 shown_snoc : (p : ℕ) (events : List EventValue) (e : EventValue) → shown_from p (events ++ e ∷ []) ≡ shown_from p events ++ shown_of (p + length events) e ∷ []
 shown_snoc p [] e = ap (λ k. shown_of k e ∷ []) (let k : p ≡ p + 0 = omega arith in k)
 shown_snoc p (x ∷ events) e =
     ap (λ rows. shown_of p x ∷ rows) (shown_snoc (suc p) events e ∙ ap (λ k. shown_from (suc p) events ++ shown_of k e ∷ []) (let k : suc p + length events ≡ p + suc (length events) = omega arith in k))
 
-pub read_none : (rows : List Row) → HaveRead rows 0 []
-read_none rows = record { rows_are = refl; count = refl; numbered = tt }
+-- a row behind those of some events is that of the next event
+met : (p : ℕ) (A : List EventValue) (row : Row) (tail : List Row) (l : List EventValue) → AreNumbered l → (shown_from p A ++ row ∷ []) ++ tail ≡ shown_from p l → (e : EventValue) × IsNumbered e × (row ≡ shown_of (p + length A) e)
+met p [] row tail [] n h = absurd (cc)
+met p [] row tail (x ∷ l) n h = (x, n.0, (let one : row ≡ shown_of p x = cc in one) ∙ ap (λ k. shown_of k x) (let k : p ≡ p + 0 = omega arith in k))
+met p (a ∷ A) row tail [] n h = absurd (cc)
+met p (a ∷ A) row tail (x ∷ l) n h =
+    let rest : (shown_from (suc p) A ++ row ∷ []) ++ tail ≡ shown_from (suc p) l = cc in
+    let it = met (suc p) A row tail l n.1 rest in
+    (it.0, it.1, it.2 ∙ ap (λ k. shown_of k it.0) (let k : suc p + length A ≡ p + suc (length A) = omega arith in k))
 
-pub read_on : (rows : List Row) (at : ℕ) (row : Row) (events : List EventValue) (e : EventValue) → at < length rows → row ≡ get_or rows at row → IsNumbered e → row ≡ shown_of (length events + 1) e
-    → HaveRead rows at events → HaveRead rows (at + 1) (events ++ e ∷ [])
-read_on rows at row events e low is numbered shown h = record {
-  rows_are = take_more rows at row low ∙ ap (λ r. take at rows ++ r ∷ []) (sym is) ∙ ap (λ xs. xs ++ row ∷ []) h.rows_are
-      ∙ ap (λ r. shown_from 1 events ++ r ∷ []) (shown ∙ ap (λ k. shown_of k e) (let k : length events + 1 ≡ 1 + length events = omega arith in k)) ∙ sym (shown_snoc 1 events e);
-  count = (let n : length (events ++ e ∷ []) ≡ at + 1 = omega (arith, length-append events (e ∷ []), h.count) in n);
-  numbered = numbered_more events e h.numbered numbered;
-}
+-- the question has no recursion
+ends : (s : State) → IsOurs s.now.schema → (c : Compiled) (db : Database) (it : IsStatement s select_text [] c) → EndsIn c.command db (timed [] c.formats it.now)
+ends s (l, is) c db it =
+    let known = ap command_of (sym it.is ∙ ap (λ q. understood q select_text) is) ∙ (select_is l).0 in
+    subst (λ k. EndsIn k db (timed [] c.formats it.now)) (sym known) tt
 
-pub read_all : (rows : List Row) (at : ℕ) (events : List EventValue) → length rows ≤ at → HaveRead rows at events → rows ≡ shown_from 1 events
-read_all rows at events high h = sym (take_all at rows high) ∙ h.rows_are
+pub survives_none : (s : State) → Survives s s (λ _. ⊥)
+survives_none s = record { clean = (let e : doubt s.is_clean ≤ doubt s.is_clean = omega arith in e); shield = λ h. h; counts = (let e : s.faults ≤ s.faults = omega arith in e); limit = refl; closes = λ clean still. inl still; crash = λ clean db may. inl may }
 
--- ---- a row that isn't that of an event
+-- a question that began
+pub at_start : {S : Type 0} (g : Ghosts S) (old now : Held S) → IsOurs old.schema → IsLive (state g old) → HasBegun g select_text [] old now → IsAtStart g now × IsUnchanged (state g old) (state g now)
+at_start g old now ours live h =
+    let it = begun_plain g select_text [] old now (plain_in (state g old) ours) h in
+    let same = it.1.0 in (
+      record {
+        ours = subst (λ (db : Database). IsOurs db.schema) (sym same.now_is) ours;
+        live = subst IsDatabase (sym same.now_is) (live same.was_open).0;
+        given = it.0;
+        is_open = same.is_open;
+      },
+      it.1,
+    )
 
-nth : (p at : ℕ) (l : List EventValue) (d : Row) → AreNumbered l → at < length (shown_from p l) → (e : EventValue) × IsNumbered e × (get_or (shown_from p l) at d ≡ shown_of (p + at) e)
-nth p at [] d h low = absurd (omega arith)
-nth p zero (x ∷ l) d h low = (x, h.0, ap (λ k. shown_of k x) (let k : p ≡ p + 0 = omega arith in k))
-nth p (suc at) (x ∷ l) d h low =
-    let it = nth (suc p) at l d h.1 (omega arith) in
-    (it.0, it.1, it.2 ∙ ap (λ k. shown_of k it.0) (let k : suc p + at ≡ p + suc at = omega arith in k))
+pub begun_same : {S : Type 0} (g : Ghosts S) (old start now : Held S) → IsOurs old.schema → IsLive (state g old) → (HasCleanDisk (state g start) → HasBegun g select_text [] old start) → Survives (state g start) (state g now) (λ _. ⊥) → HasCleanDisk (state g now)
+    → IsUnchanged (state g old) (state g start)
+begun_same g old start now ours live begun survives clean =
+    let clean_start : HasCleanDisk (state g start) = omega (arith, survives.clean, clean) in
+    (at_start g old start ours live (begun clean_start)).1
 
-pub refuses : (rows : List Row) (at : ℕ) (row : Row) (place : ℕ) (events : List EventValue) → at < length rows → row ≡ get_or rows at row → place ≡ length events + 1 → HaveRead rows at events
-    → ((e : EventValue) → IsNumbered e → row ≢ shown_of place e) → (l : List EventValue) → AreNumbered l → rows ≢ shown_from 1 l
-refuses rows at row place events low is here h none_is l numbered same =
-    let it = nth 1 at l row numbered (let low : at < length (shown_from 1 l) = omega (arith, low, ap length same) in low) in
-    let n : 1 + at ≡ place = omega (arith, here, h.count) in
-    none_is it.0 it.1 (is ∙ ap (λ xs. get_or xs at row) same ∙ it.2 ∙ ap (λ k. shown_of k it.0) n)
+module _ {S : Type 0} (g : Ghosts S) (start : Held S) (keeps : Bool) where
+  pub read_none : IsAtStart g start → HasRead g start start keeps 1 []
+  read_none h = record { events = []; given = h.given; same = unchanged (state g start) h.is_open; numbered = tt; count = refl; kept = λ _. refl }
+
+  pub read_on : (mid now : Held S) (place : ℕ) (batch more : List EventValue) (e : EventValue) → HasRead g start mid keeps place batch → IsNumbered e × Advances g mid now (Some (shown_of place e)) → IsUnchanged (state g mid) (state g now)
+      → (IsTrue keeps → more ≡ batch ++ e ∷ []) → HasRead g start now keeps (place + 1) more
+  read_on mid now place batch more e it moves same grows =
+      let rows = ap (λ k. shown_from 1 it.events ++ shown_of k e ∷ []) (let k : place ≡ 1 + length it.events = omega (arith, it.count) in k) ∙ sym (shown_snoc 1 it.events e) in
+      record {
+        events = it.events ++ e ∷ [];
+        given = subst (HasGiven g select_text [] now) rows (moves.1 select_text [] (shown_from 1 it.events) it.given);
+        same = unchanged_then (state g start) (state g mid) (state g now) it.same same;
+        numbered = numbered_more it.events e it.numbered moves.0;
+        count = (let n : place + 1 ≡ suc (length (it.events ++ e ∷ [])) = omega (arith, it.count, length-append it.events (e ∷ [])) in n);
+        kept = λ yes. grows yes ∙ ap (λ xs. xs ++ e ∷ []) (it.kept yes);
+      }
+
+  module _ (first : IsAtStart g start) (mid now : Held S) (place : ℕ) (batch : List EventValue) (it : HasRead g start mid keeps place batch) where
+    -- the rows that were read are all
+    pub read_all : Advances g mid now None → IsInbox (state g start).now it.events
+    read_all moves =
+        let same = it.same.0 in
+        let db : IsDatabase (state g mid).now = subst IsDatabase (sym same.now_is) first.live in
+        let found = adopted (state g mid) (state g now) it.events (shown_from 1 it.events) (subst (λ (db : Database). IsOurs db.schema) (sym same.now_is) first.ours) db (moves select_text [] (shown_from 1 it.events) it.given) refl it.numbered in
+        subst (λ db. IsInbox db it.events) same.now_is found
+
+    pub read_them : ((e f : EventValue) → IsEvent e → IsEvent f → text e ≡ text f → e ≡ f) → Advances g mid now None → (m : List EventValue) → IsInbox (state g start).now m → it.events ≡ m
+    read_them law moves m box =
+        let here = subst (λ db. IsInbox db m) (sym it.same.0.now_is) box in
+        tells law 1 it.events m it.numbered box.numbered (loads (state g mid) (state g now) m (shown_from 1 it.events) here (moves select_text [] (shown_from 1 it.events) it.given))
+
+    pub read_so_many : Advances g mid now None → (rows : ℕ) → rows ≡ place - 1 → Stands (state g start).now rows
+    read_so_many moves rows is = record { events = it.events; table = read_all moves; count = (let n : rows ≡ length it.events = omega (arith, is, it.count) in n) }
+
+    -- a row that isn't that of an event
+    pub refuses : ((row : Row) × Advances g mid now (Some row) × ((e : EventValue) → IsNumbered e → row ≢ shown_of place e)) → IsUnchanged (state g mid) (state g now) → (l : List EventValue) → IsInbox (state g start).now l → ⊥
+    refuses (row, moves, none_is) same l box =
+        let last = state g now in
+        let was : last.now ≡ (state g start).now = same.0.now_is ∙ it.same.0.now_is in
+        let here : IsOurs last.now.schema = subst (λ (db : Database). IsOurs db.schema) (sym was) first.ours in
+        let begun = given_begin g select_text [] now (shown_from 1 it.events ++ row ∷ []) (moves select_text [] (shown_from 1 it.events) it.given) in
+        let whole = begins_shown select_text [] last last (shown_from 1 it.events ++ row ∷ []) begun (unchanged last same.0.is_open) (λ c db st _. ends last here c db st) in
+        let rows = loads last last l ((shown_from 1 it.events ++ row ∷ []) ++ whole.0) (subst (λ db. IsInbox db l) (sym was) box) whole.1 in
+        let one = met 1 it.events row whole.0 l box.numbered rows in
+        none_is one.0 one.1 (one.2 ∙ ap (λ k. shown_of k one.0) (let k : 1 + length it.events ≡ place = omega (arith, it.count) in k))

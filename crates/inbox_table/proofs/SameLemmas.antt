@@ -1,22 +1,21 @@
 -- A reading changes nothing.
-use Rattle.std.proofs.Common.{◌≡◌, ◌⊎◌, inl, inr, ℕ, ◌≤◌, List, [], Option, Some, None, Ok, Err, Result, IsTrue, OnErr, OnOk, true, false, refl, sym, ap, subst, ◌∙◌}
+use Rattle.std.proofs.Common.{◌≡◌, ◌⊎◌, inl, inr, ℕ, List, [], Option, Some, None, Ok, Err, Result, IsTrue, OnErr, OnOk, false, sym, subst, ◌∙◌}
 use Rattle.sqlite_value.specs.Order.{Row}
 use Rattle.sqlite_trees.specs.Tree.{Trees}
-use Rattle.sqlite_trees.specs.View.{doubt}
 use Rattle.sqlite_schema.specs.declared.command.Returning.{Returning}
 use Rattle.sqlite.specs.declared.error.Error.{Error}
 use Rattle.sqlite.specs.Clock.{timed}
 use Rattle.sqlite.specs.Listing.{understood}
-use Rattle.sqlite.specs.State.{State, HasCleanDisk, Survives, IsUnchanged, IsRolledBack, FailsToQuery, FailsToShow, IsNotRun, Shown, ShowsRows, CommitsShowing, Executes, ExecutesIn, RunsCommand, shows_rows}
+use Rattle.sqlite.specs.State.{State, HasCleanDisk, Survives, IsUnchanged, IsRolledBack, FailsToQuery, FailsToShow, IsNotRun, CommitsShowing, Executes, ExecutesIn, RunsCommand, shows_rows}
 use Rattle.std.proofs.lemmas.Bool.{cases_Bool}
-use Rattle.sqlite.proofs.Callers.{IsPlain, never_commits}
+use Rattle.sqlite.proofs.Callers.{IsPlain, never_commits, unchanged_then}
 use Rattle.sqlite.proofs.StateLemmas.{survives_weaker}
 use Rattle.inbox_table.specs.Schema.{IsOurs}
 use Rattle.inbox_table.specs.Texts.{select_text}
 use Rattle.inbox_table.specs.steps.Reads.{IsSame}
 use Rattle.inbox_table.proofs.TextLemmas.{select_plain}
 
-plain_in : (s : State) → IsOurs s.now.schema → IsPlain (understood s.now.schema select_text)
+pub plain_in : (s : State) → IsOurs s.now.schema → IsPlain (understood s.now.schema select_text)
 plain_in s (l, has) = subst (λ q. IsPlain (understood q select_text)) (sym has) (select_plain l)
 
 not_shown : (old new : State) (e : Error) → FailsToQuery select_text [] old new e → IsUnchanged old new ⊎ IsRolledBack old new
@@ -30,13 +29,6 @@ not_shown old new e (inr (c, it, shows)) = go c.returning shows
     go (Some what) (inl h) = inl h.1
     go (Some what) (inr h) = inr h.3
 
--- the answer of a query that writes nothing
-pub shown : (old new : State) (rows : List Row) → IsOurs old.now.schema → Shown select_text [] old new rows → IsUnchanged old new
-unfolding Shown
-shown old new rows ours h =
-    let bare = subst IsPlain h.1.is (plain_in old ours) in
-    (rw bare.0 at h.2).3
-
 pub same_where : (old new : State) → old.now ≡ old.committed → IsUnchanged old new ⊎ IsRolledBack old new → IsTrue new.is_open → (new.now ≡ old.now) × (new.committed ≡ old.committed)
 same_where old new settled (inl h) still = (h.0.now_is, h.0.committed_is)
 same_where old new settled (inr h) still = ((h.undone still).0 ∙ sym settled, (h.undone still).1)
@@ -45,43 +37,30 @@ pub open_where : (old new : State) → IsUnchanged old new ⊎ IsRolledBack old 
 open_where old new (inl h) still = h.0.was_open
 open_where old new (inr h) still = h.was_open still
 
+pub kept_same : (old new : State) (P : Trees → Type 0) → Survives old new P → (IsTrue old.is_open → old.now ≡ old.committed) → (HasCleanDisk new → IsUnchanged old new ⊎ IsRolledBack old new) → IsSame old new
+kept_same old new P survives settled keeps = record {
+  clean = survives.clean;
+  was_open = λ clean still. open_where old new (keeps clean) still;
+  same = λ clean still ours. let how = keeps clean in same_where old new (settled (open_where old new how still)) how still;
+}
+
 pub refused_same : (old new : State) (e : Error) (P : Trees → Type 0) → Survives old new P → (IsTrue old.is_open → old.now ≡ old.committed) → (HasCleanDisk new → FailsToQuery select_text [] old new e) → IsSame old new
-refused_same old new e P survives settled fails = record {
-  clean = survives.clean;
-  was_open = λ clean still. open_where old new (not_shown old new e (fails clean)) still;
-  same = λ clean still ours. let how = not_shown old new e (fails clean) in same_where old new (settled (open_where old new how still)) how still;
-}
+refused_same old new e P survives settled fails = kept_same old new P survives settled (λ clean. not_shown old new e (fails clean))
 
-shown_open : (old new : State) (rows : List Row) → Shown select_text [] old new rows → IsTrue old.is_open
-unfolding Shown
-shown_open old new rows h = go h.0.returning h.2
-  where
-    go : (r : Option Returning) → ShowsRows old new select_text h.0 (timed [] h.0.formats h.1.now) rows r → IsTrue old.is_open
-    go None k = k.3.0.was_open
-    go (Some what) k = k.1.shown.was_open
+-- what a call keeps that comes after calls that changed nothing
+pub kept_then : (a b c : State) → IsUnchanged a b → IsUnchanged b c ⊎ IsRolledBack b c → IsUnchanged a c ⊎ IsRolledBack a c
+kept_then a b c same (inl more) = inl (unchanged_then a b c same more)
+kept_then a b c same (inr back) = inr (record {
+  was_open = λ still. same.0.was_open;
+  undone = λ still. ((back.undone still).0 ∙ same.0.committed_is, (back.undone still).1 ∙ same.0.committed_is);
+  autocommit = back.autocommit;
+  unmarked = back.unmarked;
+  counts = record { changes = back.counts.changes ∙ same.1.changes; last_rowid = back.counts.last_rowid ∙ same.1.last_rowid };
+})
 
--- what a question answered, it answered from a database that stays open
-pub shown_stays_open : (old new : State) (rows : List Row) → Shown select_text [] old new rows → IsTrue new.is_open
-unfolding Shown
-shown_stays_open old new rows h = go h.0.returning h.2
-  where
-    go : (r : Option Returning) → ShowsRows old new select_text h.0 (timed [] h.0.formats h.1.now) rows r → IsTrue new.is_open
-    go None k = k.3.0.is_open
-    go (Some what) k = k.1.shown.is_open
-
-pub on_ok : {T E : Type 0} (r : Result T E) (P : Type 0) → P → OnOk r P
-on_ok (Ok x) P p = p
-on_ok (Err y) P p = tt
-
-pub answered_same : (old new : State) (rows : List Row) (P : Trees → Type 0) → Survives old new P → (HasCleanDisk new → Shown select_text [] old new rows) → IsSame old new
-answered_same old new rows P survives shows = record {
-  clean = survives.clean;
-  was_open = λ clean still. shown_open old new rows (shows clean);
-  same = λ clean still ours. let is = shown old new rows ours (shows clean) in (is.0.now_is, is.0.committed_is);
-}
-
-pub same_same : (s : State) → IsSame s s
-same_same s = record { clean = (let e : doubt s.is_clean ≤ doubt s.is_clean = omega Rattle.std.proofs.Common.arith in e); was_open = λ clean h. h; same = λ clean h ours. (refl, refl) }
+pub on_weaker : {T E : Type 0} (r : Result T E) (P Q : Type 0) → (P → Q) → OnOk r P → OnOk r Q
+on_weaker (Ok x) P Q f p = f p
+on_weaker (Err y) P Q f p = tt
 
 -- and commits nothing
 pub survives_reading : (old new : State) → IsOurs old.now.schema → Survives old new (CommitsShowing select_text [] old) → Survives old new (λ _. ⊥)

@@ -4,17 +4,15 @@ ghost use Rattle.std.specs.Prelude.{◌≡◌, ◌≢◌, true, false, Err, List
 ghost use Rattle.sqlite.specs.Held.{state};
 ghost use Rattle.sqlite.specs.State.{HasCleanDisk, Survives};
 ghost use Rattle.attributes.specs.Event.{EventValue};
-ghost use Rattle.inbox_table.specs.Calls.{MayMake};
+ghost use Rattle.inbox_table.specs.Calls.{MayMake, Stands};
 ghost use Rattle.inbox_table.specs.Rows.{IsInbox};
 ghost use Rattle.inbox_table.specs.Schema.{HasForm, IsOurs, has_inbox};
 ghost use Rattle.inbox_table.specs.declared.fault.TableFault.TheVariants.{Foreign};
 
 use crate::fault::TableFault;
-use crate::row::events_of;
+use crate::reading::{Found, read};
 use crate::schema::{has_form, has_inbox, has_room, is_ours};
-use crate::statement::{make, rows_of};
-use attributes::Batch;
-use attributes::laws::text_tells_events;
+use crate::statement::make;
 use sqlite::{Alter, Connection};
 use std::alloc::Global;
 
@@ -44,15 +42,19 @@ pub(crate) fn create<S: Alter>(conn: &mut Connection<S>) -> Result<(), TableFaul
     }
 }
 
-/// The events of the table, where there is one whose rows the calls can have left so.
-pub(crate) fn events_in<S: Alter>(
+/// How many rows the table has, and their events where these are to be kept, where there is one
+/// whose rows the calls can have left so.
+pub(crate) fn found_in<S: Alter>(
     alloc: Global,
     conn: &mut Connection<S>,
-) -> Result<Batch, TableFault>
-    ensures events { HasCleanDisk (state S.Store conn.new)
-        → IfOk result (IsInbox (state S.Store conn.old).now) }
-    ensures exact { HasCleanDisk (state S.Store conn.new) → IfOk result (λ l.
-        (m : List EventValue) → IsInbox (state S.Store conn.old).now m → l ≡ m) }
+    keeps: bool,
+) -> Result<Found, TableFault>
+    ensures rows { HasCleanDisk (state S.Store conn.new)
+        → IfOk result (λ f. Stands (state S.Store conn.old).now f.rows) }
+    ensures events { HasCleanDisk (state S.Store conn.new) → IsTrue keeps
+        → IfOk result (λ f. IsInbox (state S.Store conn.old).now f.events) }
+    ensures exact { HasCleanDisk (state S.Store conn.new) → IsTrue keeps → IfOk result (λ f.
+        (m : List EventValue) → IsInbox (state S.Store conn.old).now m → f.events ≡ m) }
     ensures missing { has_inbox (state S.Store conn.old).now.schema ≡ false
         → result ≡ Err Foreign }
     ensures foreign { HasCleanDisk (state S.Store conn.new) → IfErr result (λ f. f ≡ Foreign
@@ -67,7 +69,6 @@ pub(crate) fn events_in<S: Alter>(
         → OnOk result (IsTrue (state S.Store conn.new).is_open) }
     ensures survives { Survives (state S.Store conn.old) (state S.Store conn.new) (λ _. ⊥) }
 {
-    text_tells_events();
     if !has_inbox(conn.schema()) {
         return Err(TableFault::Foreign);
     }
@@ -77,8 +78,5 @@ pub(crate) fn events_in<S: Alter>(
         }
         return Err(TableFault::Foreign);
     }
-    match rows_of(conn) {
-        Ok(rows) => events_of(alloc, &rows),
-        Err(fault) => Err(fault),
-    }
+    read(alloc, conn, keeps)
 }

@@ -3,6 +3,7 @@
 
 mod adoption;
 mod fault;
+mod reading;
 mod row;
 mod schema;
 mod statement;

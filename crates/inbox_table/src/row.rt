@@ -110,7 +110,7 @@ fn event_in(alloc: Global, body: &[u8]) -> Result<Sequenced, TableFault>
 }
 
 /// The event of the row, where it is that of one at this place; else `Foreign`.
-fn event_of(alloc: Global, row: &Row, place: u64) -> Result<Sequenced, TableFault>
+pub(crate) fn event_of(alloc: Global, row: &Row, place: u64) -> Result<Sequenced, TableFault>
     ensures event { IfOk result (λ e. IsNumbered e × (row.now ≡ shown_of place e)) }
     ensures foreign { IfErr result (λ f. f ≡ Foreign
         → (e : EventValue) → IsNumbered e → row.now ≢ shown_of place e) }
@@ -126,24 +126,4 @@ fn event_of(alloc: Global, row: &Row, place: u64) -> Result<Sequenced, TableFaul
     } else {
         Err(TableFault::Foreign)
     }
-}
-
-/// The events of the rows, where these are those of events at the places 1, 2 and so on; else
-/// `Foreign`.
-#[tactic(auto, using(crate::proofs::ReadLemmas::read_none, crate::proofs::ReadLemmas::read_on, crate::proofs::ReadLemmas::read_all, crate::proofs::ReadLemmas::refuses))]
-pub(crate) fn events_of(alloc: Global, rows: &[Row]) -> Result<Batch, TableFault>
-    ensures events { IfOk result (λ l. AreNumbered l × (rows.now ≡ shown_from 1 l)) }
-    ensures foreign { IfErr result (λ f. f ≡ Foreign
-        → (l : List EventValue) → AreNumbered l → rows.now ≢ shown_from 1 l) }
-    ensures fault { IfErr result (λ f. (f ≡ OutOfMemory) ⊎ (f ≡ Foreign)) }
-{
-    let mut events = Batch::empty(alloc);
-    for row in rows {
-        let event = match event_of(alloc, row, events.len() + 1) {
-            Ok(event) => event,
-            Err(fault) => return Err(fault),
-        };
-        events.push(event)?;
-    }
-    Ok(events)
 }

@@ -142,23 +142,3 @@ pub(crate) fn keep<S: Alter>(
     tx.commit()?;
     Ok(fresh)
 }
-
-/// The rows by place, as a question shows them.
-pub(crate) fn rows_of<S: Alter>(conn: &mut Connection<S>) -> Result<Vec<Row>, TableFault>
-    requires { IsOurs (state S.Store conn.old).now.schema }
-    ensures shown { HasCleanDisk (state S.Store conn.new) → IfOk result (λ rows.
-        Shown select_text [] (state S.Store conn.old) (state S.Store conn.new) rows.items) }
-    ensures same { IsSame (state S.Store conn.old) (state S.Store conn.new) }
-    ensures live { IsLive (state S.Store conn.old) }
-    ensures survives { Survives (state S.Store conn.old) (state S.Store conn.new) (λ _. ⊥) }
-    ensures fault { IfErr result IsOfStore }
-{
-    let _schema = conn.schema();
-    if !conn.is_autocommit() {
-        return Err(TableFault::Store);
-    }
-    Ok(conn.query_all(
-        "SELECT place, source, id, number, body FROM inbox ORDER BY place",
-        &[],
-    )?)
-}

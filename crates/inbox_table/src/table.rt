@@ -10,8 +10,9 @@ ghost use Rattle.inbox_table.specs.Rows.{IsInbox};
 ghost use Rattle.inbox_table.specs.Schema.{HasForm, IsOurs, has_inbox};
 ghost use Rattle.inbox_table.specs.declared.fault.TableFault.TheVariants.{Foreign};
 
-use crate::adoption::{create, events_in};
+use crate::adoption::{create, found_in};
 use crate::fault::TableFault;
+use crate::reading::Found;
 use crate::statement::keep;
 use attributes::Batch;
 use sqlite::{Alter, Connection};
@@ -143,8 +144,9 @@ impl<S: Alter> Table<S> {
             Survives (state S.Store conn) (state S.Store n.conn) (λ _. ⊥)) }
     {
         let mut conn = conn;
-        match events_in(alloc, &mut conn) {
-            Ok(events) => {
+        match found_in(alloc, &mut conn, true) {
+            Ok(found) => {
+                let Found { rows: _, events } = found;
                 let rows = events.len();
                 let table = Table { conn, rows, alloc };
                 Ok(Loaded { table, events })
@@ -157,6 +159,8 @@ impl<S: Alter> Table<S> {
     pub fn adopt(alloc: Global, conn: Connection<S>) -> Result<Table<S>, NotMade<S>>
         ensures adopted { IfOk result (λ t. HasCleanDisk (state S.Store t.conn)
             → Stands (state S.Store conn).now t.rows) }
+        ensures open { IfOk result (λ t. HasCleanDisk (state S.Store t.conn)
+            → IsTrue (state S.Store t.conn).is_open) }
         ensures unchanged { IfOk result (λ t. HasCleanDisk (state S.Store t.conn)
             → IsTrue (state S.Store t.conn).is_open
             → (state S.Store t.conn).now ≡ (state S.Store conn).now) }
@@ -176,12 +180,13 @@ impl<S: Alter> Table<S> {
         ensures crash_refused { IfErr result (λ n.
             Survives (state S.Store conn) (state S.Store n.conn) (λ _. ⊥)) }
     {
-        match Table::adopt_and_load(alloc, conn) {
-            Ok(loaded) => {
-                let Loaded { table, events: _ } = loaded;
-                Ok(table)
+        let mut conn = conn;
+        match found_in(alloc, &mut conn, false) {
+            Ok(found) => {
+                let Found { rows, events: _ } = found;
+                Ok(Table { conn, rows, alloc })
             }
-            Err(refused) => Err(refused),
+            Err(fault) => Err(NotMade { conn, fault }),
         }
     }
 
@@ -246,7 +251,11 @@ impl<S: Alter> Table<S> {
         ensures rows { self.new.rows ≡ self.old.rows }
         ensures crash { Survives (state S.Store self.old.conn) (state S.Store self.new.conn) (λ _. ⊥) }
     {
-        events_in(self.alloc, &mut self.conn)
+        let found = match found_in(self.alloc, &mut self.conn, true) {
+            Ok(found) => found,
+            Err(fault) => return Err(fault),
+        };
+        Ok(found.events)
     }
 
     /// How many events there are. Takes no time.

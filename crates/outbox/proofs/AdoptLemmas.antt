@@ -188,3 +188,36 @@ adopts_service old last l source base has sound h =
     let back = all_whole_service (schema_in l) (first_tree l) db (db (first_tree l)) (service_passes db Datatype l obeys) (service_passes db NotNull l obeys) in
     let stored : IsPermutation (db (first_tree l)) (map unshow_service rows) = subst (λ x. IsPermutation x (map unshow_service rows)) back (IsPermutation-map unshow_service _ _ cut) in
     one_permutation (service_row source base) (db (first_tree l)) (IsPermutation-sym _ _ stored)
+
+-- ---- what the questions show of a service
+
+pub loads_orders : (old last : State) (l : Layout) (rows : List Row) (commands : List Accepted) → old.now.schema ≡ schema_in l → AreOrders (old.now.trees (suc (first_tree l))) commands → Shown all_orders_text [] old last rows → ShowOrders rows commands
+loads_orders old last l rows commands has olds h =
+    let db = old.now.trees in
+    let t = suc (first_tree l) in
+    let read = reads_as all_orders_text [] old last (schema_in l) has _ (all_orders_is l).0 (all_orders_plain l) (all_orders_is l).1 rows h in
+    let a : IsAnswerAs Null (all_orders_query t) (overlay db []) [] rows = read.answer Null in
+    let kept = a.distinct ∙ ap (map (output (all_orders_query t))) (a.grouped ∙ ap (λ rows. flat_map (λ r. matches_as Null (overlay db []) [] end ([] ∷ r ∷ [])) rows) (no_overlay db t)) in
+    let shown : map (λ (o : Output). o.1) a.kept ≡ map show_order (db t) = ap (map (λ (o : Output). o.1)) kept ∙ outs_order Null (overlay db []) (db t) in
+    let cut : IsPermutation (map show_order (db t)) rows =
+    subst (λ x. IsPermutation x rows) shown (subst (IsPermutation (map (λ (o : Output). o.1) a.kept)) (sym a.shown) (IsPermutation-map (λ (o : Output). o.1) a.kept a.ordered a.same)) in
+    record {
+      sound = λ r k.
+          let s = has_mapped show_order (db t) r (has_permuted rows (map show_order (db t)) (IsPermutation-sym _ _ cut) r k) in
+          let it = olds.sound s.0 s.1 in
+          (it.0, it.1, s.2 ∙ ap show_order it.2, it.3);
+      complete = λ order status is. has_permuted (map show_order (db t)) rows cut _ (mapped_has show_order (db t) _ (olds.complete order status is));
+    }
+
+pub loads_service : (old last : State) (l : Layout) (source : List ℕ) (base : ℕ) (rows : List Row) → old.now.schema ≡ schema_in l → old.now.trees (first_tree l) ≡ service_row source base ∷ [] → Shown service_row_text [] old last rows
+    → rows ≡ shown_service source base ∷ []
+loads_service old last l source base rows has is h =
+    let db = old.now.trees in
+    let t = first_tree l in
+    let read = reads_as service_row_text [] old last (schema_in l) has _ (service_row_is l).0 (service_row_plain l) (service_row_is l).1 rows h in
+    let a : IsAnswerAs Null (service_query t) (overlay db []) [] rows = read.answer Null in
+    let kept = a.distinct ∙ ap (map (output (service_query t))) (a.grouped ∙ ap (λ rows. flat_map (λ r. matches_as Null (overlay db []) [] end ([] ∷ r ∷ [])) rows) (no_overlay db t)) in
+    let shown : map (λ (o : Output). o.1) a.kept ≡ map show_service (db t) = ap (map (λ (o : Output). o.1)) kept ∙ outs_service Null (overlay db []) (db t) in
+    let cut : IsPermutation (map show_service (db t)) rows =
+    subst (λ x. IsPermutation x rows) shown (subst (IsPermutation (map (λ (o : Output). o.1) a.kept)) (sym a.shown) (IsPermutation-map (λ (o : Output). o.1) a.kept a.ordered a.same)) in
+    one_permutation (shown_service source base) rows (subst (λ stored. IsPermutation (map show_service stored) rows) is cut)

@@ -1,20 +1,24 @@
 -- The tables that were found are those of a service.
-use Rattle.std.proofs.Common.{◌≡◌, ℕ, suc, List, [], ◌∷◌, IsTrue, sym, ap, subst, ◌∙◌, arith, IsPermutation}
+use Rattle.std.proofs.Common.{◌≡◌, ◌≢◌, Bool, true, false, ℕ, suc, List, [], ◌∷◌, IsTrue, refl, sym, ap, subst, ◌∙◌, arith, IsPermutation}
 use Rattle.sqlite_value.specs.Order.{Row}
 use Rattle.sqlite.specs.Effect.{Database}
 use Rattle.sqlite.specs.State.{State, HasCleanDisk, IsLive, Shown}
 use Rattle.std.specs.BTreeMap.{get}
 use Rattle.std.proofs.Common.{nat_cmp}
-use Rattle.outbox.specs.Order.{Accepted, status_of}
-use Rattle.outbox.specs.Schema.{schema_in, first_tree}
-use Rattle.outbox.specs.Service.{service_row, outbox_rows, AreOrders}
-use Rattle.outbox.specs.Shown.{Stands}
+use Rattle.outbox.specs.Order.{Accepted, AreAccepted, status_of}
+use Rattle.outbox.specs.Schema.{first_tree, lacks_name, schema_in}
+use Rattle.outbox.specs.Service.{service_row, outbox_rows, AreOrders, IsService}
+use Rattle.outbox.specs.Shown.{IsAllowed, IsNoService, Stands}
 use Rattle.outbox.specs.Call.{IsSame}
-use Rattle.outbox.specs.steps.Change.{ShowOrders, shown_service}
+use Rattle.outbox.specs.steps.Change.{ShowOrders, shown_rows, shown_service}
 use Rattle.outbox.specs.steps.Replay.{IsReplay}
 use Rattle.outbox.specs.declared.adoption.Replayed.{Replayed}
 use Rattle.outbox.specs.declared.layout.Layout.{Layout}
-use Rattle.outbox.proofs.AdoptLemmas.{adopts_rows, adopts_orders, adopts_service}
+use Rattle.outbox.specs.declared.layout.Layout.TheVariants.{Alone, BehindInbox, BeforeInbox}
+use Rattle.sqlite_tied.specs.Compute.{everything}
+use Rattle.outbox.proofs.AdoptLemmas.{adopts_rows, adopts_orders, adopts_service, loads_orders, loads_service}
+use Rattle.outbox.proofs.LoadLemmas.{loads_rows}
+use Rattle.outbox.proofs.ReplayLemmas.{rows_tell}
 use Rattle.outbox.proofs.TextLemmas.{all_rows_text, all_orders_text, service_row_text}
 
 pub found : (a b c d : State) (l : Layout) (source : List ℕ) (base : ℕ) (services rows orders : List Row) (r : Replayed) → a.now.schema ≡ schema_in l → HasCleanDisk d → IsTrue d.is_open
@@ -71,3 +75,40 @@ two_same a b c l has one two clean still =
 
 pub one_same : (a b : State) (l : Layout) → a.now.schema ≡ schema_in l → IsSame a b → HasCleanDisk b → IsTrue b.is_open → b.now ≡ a.now
 one_same a b l has one clean still = (one.same clean still l has).0
+
+-- ---- a database that is no service's
+
+pub no_source : (a b : State) (services : List Row) → Shown service_row_text [] a b services → ((source : List ℕ) (base : ℕ) → IsAllowed source base → services ≢ shown_service source base ∷ []) → IsNoService a.now
+no_source a b services shows refuses source base commands allowed box = refuses source base allowed (loads_service a b box.layout source base services box.schema box.service shows)
+
+module _ (a b c : State) (services rows : List Row) (source : List ℕ) (base : ℕ) (first : Shown service_row_text [] a b services) (is : services ≡ shown_service source base ∷ []) (ab : b.now ≡ a.now) (second : Shown all_rows_text [] b c rows) where
+  same_base : (other : List ℕ) (n : ℕ) (commands : List Accepted) → IsService a.now other n commands → base ≡ n
+  same_base other n commands box =
+      let both : shown_service source base ∷ [] ≡ shown_service other n ∷ [] = sym is ∙ loads_service a b box.layout other n services box.schema box.service first in
+      cc
+
+  rows_of : (other : List ℕ) (n : ℕ) (commands : List Accepted) → IsService a.now other n commands → rows ≡ shown_rows (suc base) commands
+  rows_of other n commands box =
+      let here = subst (λ (d : Database). IsService d other n commands) (sym ab) box in
+      loads_rows b c here.layout (suc n) commands rows here.schema here.outbox second ∙ ap (λ k. shown_rows (suc k) commands) (sym (same_base other n commands box))
+
+  pub no_rows : ((commands : List Accepted) → AreAccepted base [] commands → rows ≢ shown_rows (suc base) commands) → IsNoService a.now
+  no_rows refuses other n commands allowed box =
+      refuses commands (subst (λ k. AreAccepted k [] commands) (sym (same_base other n commands box)) box.accepted) (rows_of other n commands box)
+
+  pub no_orders : (d : State) (orders : List Row) (r : Replayed) → c.now ≡ b.now → Shown all_orders_text [] c d orders → IsReplay base rows r
+      → ((commands : List Accepted) → ((order : ℕ) → get nat_cmp r.statuses order ≡ status_of commands order) → ¬ ShowOrders orders commands) → IsNoService a.now
+  no_orders d orders r bc third replay refuses other n commands allowed box =
+      let here = subst (λ (x : Database). IsService x other n commands) (sym (bc ∙ ab)) box in
+      let same : replay.commands ≡ commands = rows_tell (suc base) replay.commands commands (sym replay.rows_are ∙ rows_of other n commands box) in
+      refuses commands (λ order. replay.statuses order ∙ ap (λ l. status_of l order) same) (loads_orders c d here.layout orders commands here.schema here.orders third)
+
+pub not_both : (b : Bool) → b ≡ true → b ≡ false → ⊥
+not_both b holds fails = absurd (let e : ◌≡◌ {A = Bool} true false = sym holds ∙ fails in cc)
+
+-- the schema of a service lacks none of its tables
+pub all_named : (l : Layout) → lacks_name (schema_in l) ≡ false
+unfolding everything
+all_named Alone = refl
+all_named BehindInbox = refl
+all_named BeforeInbox = refl

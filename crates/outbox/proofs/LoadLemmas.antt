@@ -33,7 +33,7 @@ use Rattle.outbox.proofs.StepLemmas.{has_permuted}
 use Rattle.outbox.proofs.PutLemmas.{same_int}
 use Rattle.outbox.proofs.ListLemmas.{has_flat, flat_has}
 use Rattle.outbox.proofs.LayoutLemmas.{no_overlay}
-use Rattle.outbox.proofs.TextLemmas.{status_text, status_is, status_plain, status_query, page_text, page_is, page_plain, page_query}
+use Rattle.outbox.proofs.TextLemmas.{status_text, status_is, status_plain, status_query, page_text, page_is, page_plain, page_query, all_rows_text, all_rows_is, all_rows_plain, all_rows_query}
 
 told : (b : Bool) → is_true (from_truth (Some b)) ≡ b
 told true = refl
@@ -177,3 +177,26 @@ pages old last l base commands n limit rows has same h =
     let ordered : a.ordered ≡ outputs (suc base + d) (drop d commands) =
     sorted_unique (output_cmp (page_query (suc (suc (first_tree l))))) (output_cmp_total (page_query (suc (suc (first_tree l))))) (outputs (suc base + d) (drop d commands)) a.ordered (rises (page_query (suc (suc (first_tree l)))) (λ p r c e. refl) (suc base + d) (drop d commands)) (subst (λ k. IsPermutation k a.ordered) outs perm) a.sorted in
     a.shown ∙ ap (λ outs. take limit (map (λ (o : Output). o.1) outs)) ordered ∙ ap (take limit) (cut (suc base + d) (drop d commands))
+
+-- ---- all rows
+
+abbrev all : Trees → Row → List Env
+all db r = matches_as Null db [] end ([] ∷ r ∷ [])
+
+out_each : (db : Trees) (n : ℕ) (commands : List Accepted) → map (output (all_rows_query 0)) (flat_map (all db) (outbox_rows n commands)) ≡ outputs n commands
+out_each db n [] = refl
+out_each db n (c ∷ commands) = ap (λ outs. out_of n c ∷ outs) (out_each db (suc n) commands)
+
+pub loads_rows : (old last : State) (l : Layout) (n : ℕ) (commands : List Accepted) (rows : List Row) → old.now.schema ≡ schema_in l → IsPermutation (outbox_rows n commands) (old.now.trees (suc (suc (first_tree l)))) → Shown all_rows_text [] old last rows
+    → rows ≡ shown_rows n commands
+loads_rows old last l n commands rows has same h =
+    let t = suc (suc (first_tree l)) in
+    let db = overlay old.now.trees [] in
+    let read = reads_as all_rows_text [] old last (schema_in l) has _ (all_rows_is l).0 (all_rows_plain l) (all_rows_is l).1 rows h in
+    let a : IsAnswerAs Null (all_rows_query t) db [] rows = read.answer Null in
+    let kept : a.kept ≡ map (output (all_rows_query t)) (flat_map (all db) (old.now.trees t)) = a.distinct ∙ ap (map (output (all_rows_query t))) (a.grouped ∙ ap (λ rows. flat_map (all db) rows) (no_overlay old.now.trees t)) in
+    let perm : IsPermutation (map (output (all_rows_query t)) (flat_map (all db) (outbox_rows n commands))) a.ordered =
+    IsPermutation-trans _ _ _ (IsPermutation-map (output (all_rows_query t)) _ _ (IsPermutation-flat_map (all db) _ _ same)) (subst (λ k. IsPermutation k a.ordered) kept a.same) in
+    let ordered : a.ordered ≡ outputs n commands =
+    sorted_unique (output_cmp (all_rows_query t)) (output_cmp_total (all_rows_query t)) (outputs n commands) a.ordered (rises (all_rows_query t) (λ p r c e. refl) n commands) (subst (λ k. IsPermutation k a.ordered) (out_each db n commands) perm) a.sorted in
+    a.shown ∙ ap (map (λ (o : Output). o.1)) ordered ∙ cut n commands

@@ -1,5 +1,5 @@
 -- What a service stands for, from call to call.
-use Rattle.std.proofs.Common.{◌≡◌, ◌≢◌, ◌⊎◌, inl, inr, ℕ, zero, suc, ◌+◌, ◌-◌, ◌≤◌, ◌<◌, eqb, length, take, drop, pos, List, [], ◌∷◌, ◌++◌, Option, Some, None, if◌then◌else◌, Bool, true, false, IsTrue, ℤ, refl, sym, ap, subst, ◌∙◌, arith, get_or, drop-cons, add-one, append_assoc, append-nil, length-append}
+use Rattle.std.proofs.Common.{◌≡◌, ◌≢◌, ◌⊎◌, inl, inr, ℕ, zero, suc, ◌+◌, ◌-◌, ◌≤◌, ◌<◌, eqb, length, take, drop, pos, List, [], ◌∷◌, ◌++◌, Option, Some, None, if◌then◌else◌, Bool, true, false, IsTrue, IsUtf8, ℤ, refl, sym, ap, subst, ◌∙◌, arith, get_or, drop-cons, add-one, append_assoc, append-nil, length-append}
 use Rattle.std.specs.Option.{option_or}
 use Rattle.std.proofs.lemmas.Bool.Decides.{nat_tests}
 use Rattle.std.proofs.lemmas.List.{drop_all}
@@ -40,8 +40,8 @@ refused_none base commands status order is room =
     ap (λ o. option_or o (if eqb (base + length commands) max_sequence then Some Full else None)) is ∙ ap (λ b. if b then Some Full else None) test
 
 -- what the calls ask for makes a command
-pub commanded : (status : Status) (order : ℕ) (at : List ℕ) (day : ℤ) → (1 ≤ order) × (order ≤ max_sequence) → length at ≤ 64 → time_day at ≡ Some day → IsCommand (record { status = status; order = order; at = at })
-commanded status order at day range short is = record { low = range.0; high = range.1; time = λ none. let no : ◌≡◌ {A = Option ℤ} None (Some day) = sym none ∙ is in cc; short = short }
+pub commanded : (status : Status) (order : ℕ) (at : List ℕ) (day : ℤ) → (1 ≤ order) × (order ≤ max_sequence) → IsUtf8 at → length at ≤ 64 → time_day at ≡ Some day → IsCommand (record { status = status; order = order; at = at })
+commanded status order at day range text short is = record { low = range.0; high = range.1; text = text; time = λ none. let no : ◌≡◌ {A = Option ℤ} None (Some day) = sym none ∙ is in cc; short = short }
 
 pub not_foreign : (s : Status) (old : Option Status) (f : OutboxFault) → status_fault s old ≡ Some f → f ≢ Foreign
 not_foreign Placed None f h = absurd (cc)
@@ -204,7 +204,7 @@ page_beyond source base after top limit commands high far =
     ap (take limit) (drop_high (top - base) (events_from source (suc base) commands) (let e : length (events_from source (suc base) commands) ≤ top - base = omega (arith, high, length_events source (suc base) commands) in e)
     ∙ sym (drop_high (after - base) (events_from source (suc base) commands) (let e : length (events_from source (suc base) commands) ≤ after - base = omega (arith, high, far, length_events source (suc base) commands) in e)))
 
-not_full : (x : Option OutboxFault) (b : Bool) → option_or x (if b then Some Full else None) ≡ None → b ≡ false
+pub not_full : (x : Option OutboxFault) (b : Bool) → option_or x (if b then Some Full else None) ≡ None → b ≡ false
 not_full None true h = absurd (cc)
 not_full None false h = refl
 not_full (Some f) b h = absurd (cc)

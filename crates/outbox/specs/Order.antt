@@ -1,5 +1,5 @@
 -- Orders, the commands that a service accepts, and why it refuses one.
-use Rattle.std.specs.Prelude.{◌≡◌, ◌≢◌, ⊤, ℕ, ◌+◌, ◌≤◌, ◌==◌, List, [], ◌∷◌, ◌++◌, length, fold, Option, Some, None, if◌then◌else◌}
+use Rattle.std.specs.Prelude.{◌≡◌, ◌≢◌, ⊤, IsUtf8, ℕ, ◌+◌, ◌≤◌, ◌==◌, List, [], ◌∷◌, ◌++◌, length, fold, Option, Some, None, if◌then◌else◌}
 use Rattle.std.specs.Option.{option_or}
 use Rattle.attributes.specs.Sequence.{max_sequence}
 use Rattle.attributes.specs.Time.{time_day}
@@ -14,10 +14,11 @@ pub record Accepted : Type 0 where
   pub order : ℕ
   pub at : List ℕ
 
--- the order is in 1..=2^63-1, and the time is one of RFC 3339 and has at most 64 bytes
+-- the order is in 1..=2^63-1, and the time is a text, one of RFC 3339, and has at most 64 bytes
 pub record IsCommand (c : Accepted) : Type 0 where
   pub low : 1 ≤ c.order
   pub high : c.order ≤ max_sequence
+  pub text : IsUtf8 c.at
   pub time : time_day c.at ≢ None
   pub short : length c.at ≤ 64
 

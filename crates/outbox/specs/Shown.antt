@@ -1,5 +1,5 @@
 -- What a `Service` shows, and what holds of it.
-use Rattle.std.specs.Prelude.{◌≡◌, ◌≤◌, ℕ, ◌+◌, List, length, true, IsTrue, refl}
+use Rattle.std.specs.Prelude.{◌≡◌, ◌≤◌, ℕ, ◌+◌, List, length, true, IsTrue, IsUtf8, refl}
 use Rattle.std.specs.Coded.{Coded, code_by, coded×, coded_ℕ, coded_list}
 use Rattle.sqlite.specs.Effect.{Database}
 use Rattle.sqlite.specs.State.{State, HasCleanDisk}
@@ -26,6 +26,20 @@ shown_code {S} store = code_by (Held S × (List ℕ × (ℕ × ℕ)))
 -- the most bytes that a source may have
 abbrev pub max_source : ℕ
 max_source = 1024
+
+-- the source is a text of at least one character, with no control character and at most 1,024
+-- bytes, and the base is in 0..=2^63-1
+pub record IsAllowed (source : List ℕ) (base : ℕ) : Type 0 where
+  pub text : IsUtf8 source
+  pub filled : is_filled source ≡ true
+  pub short : length source ≤ max_source
+  pub high : base ≤ max_sequence
+
+-- the database is not that of a service, whatever source and base are allowed, and whatever commands
+-- it accepted
+abbrev pub IsNoService : Database → Type 0
+IsNoService db = (source : List ℕ) (base : ℕ) (commands : List Accepted)
+    → IsAllowed source base → IsService db source base commands → ⊥
 
 -- the database is that of a service with so many rows
 pub record Stands (db : Database) (source : List ℕ) (base last : ℕ) : Type 0 where

@@ -1,6 +1,6 @@
 //! A service of the tables that a database has.
 
-ghost use Rattle.std.specs.Prelude.{◌≡◌, ◌⊎◌, IsTrue, true, [], ◌∷◌, ◌≤◌, ◌≢◌, ℕ, List, None, Err, length, IfOk, IfErr, IfSome, string_bytes};
+ghost use Rattle.std.specs.Prelude.{◌≡◌, ◌⊎◌, IsTrue, true, [], ◌∷◌, ◌≤◌, ◌≢◌, ◌↔◌, ℕ, suc, List, None, Err, length, IfOk, IfErr, IfSome, IfNone, OnOk};
 ghost use Rattle.std.specs.BTreeMap.{get};
 ghost use Rattle.std.specs.Result.{IsErrAnd};
 ghost use Rattle.std.specs.Ordering.{nat_cmp};
@@ -11,19 +11,20 @@ ghost use Rattle.sqlite.specs.Held.{state};
 ghost use Rattle.attributes.specs.Character.{is_filled};
 ghost use Rattle.attributes.specs.Sequence.{max_sequence};
 ghost use Rattle.attributes.specs.Time.{time_day};
-ghost use Rattle.outbox.specs.Order.{Accepted, IsCommand, status_of};
+ghost use Rattle.outbox.specs.Order.{Accepted, AreAccepted, IsCommand, status_of};
 ghost use Rattle.outbox.specs.Schema.{lacks_name, schema_in};
-ghost use Rattle.outbox.specs.Shown.{Stands, StandsFor, max_source};
+ghost use Rattle.outbox.specs.Shown.{IsAllowed, IsNoService, Stands, StandsFor, max_source};
 ghost use Rattle.outbox.specs.Call.{IsAsItWas, IsSame};
-ghost use Rattle.outbox.specs.steps.Change.{ShowOrders, shown_order, shown_row, shown_service};
+ghost use Rattle.outbox.specs.steps.Change.{ShowOrders, shown_row, shown_rows, shown_service};
 ghost use Rattle.outbox.specs.steps.Replay.{IsReplay};
 ghost use Rattle.outbox.specs.declared.fault.OutboxFault.TheVariants.{OutOfMemory, Store, Foreign};
 ghost use Rattle.outbox.specs.declared.layout.Layout.{Layout};
 
 use crate::fault::OutboxFault;
 use crate::layout::{Layout, lacks_name, layout_of};
-use crate::service::{MAX, NotMade, Service, Stored, read_row};
+use crate::service::{MAX, NotMade, Service};
 use crate::status::Status;
+use crate::stored::{Stored, order_in, read_row, source_in};
 use attributes::{Fault, Moment, Text};
 use sqlite::{Alter, Connection, Row};
 use std::alloc::Global;
@@ -38,8 +39,8 @@ pub(crate) struct Replayed {
 
 /// Whether it is a time of at most 64 bytes.
 fn is_time(alloc: Global, text: &str) -> Result<bool, OutboxFault>
-    ensures time { IfOk result (λ b. IsTrue b → (time_day text.now ≢ None)
-        × (length text.now ≤ 64)) }
+    ensures time { IfOk result (λ b.
+        IsTrue b ↔ ((time_day text.now ≢ None) × (length text.now ≤ 64))) }
     ensures fault { IfErr result (λ f. f ≡ OutOfMemory) }
 {
     if text.len() > 64 {
@@ -53,26 +54,22 @@ fn is_time(alloc: Global, text: &str) -> Result<bool, OutboxFault>
 }
 
 /// The command of a row that has this number, where a call can have left the row so.
-fn command_in(alloc: Global, row: &Row, number: u64) -> Result<Option<Stored>, OutboxFault>
+fn command_in(alloc: Global, row: &Row, number: u64) -> Result<Option<Stored<'_>>, OutboxFault>
     ensures row { IfOk result (λ o. IfSome o (λ s. row.now ≡ shown_row number
-        (record { status = s.status; order = s.order; at = string_bytes s.at }))) }
+        (record { status = s.status; order = s.order; at = s.at.now }))) }
     ensures command { IfOk result (λ o. IfSome o (λ s. IsCommand
-        (record { status = s.status; order = s.order; at = string_bytes s.at }))) }
+        (record { status = s.status; order = s.order; at = s.at.now }))) }
+    ensures none { IfOk result (λ o. IfNone o ((c : Accepted) → IsCommand c
+        → row.now ≢ shown_row number c)) }
     ensures fault { IfErr result (λ f. f ≡ OutOfMemory) }
 {
-    let stored = match read_row(row) {
-        Ok(stored) => stored,
-        Err(OutboxFault::OutOfMemory) => return Err(OutboxFault::OutOfMemory),
-        Err(_) => return Ok(None),
+    let Some(stored) = read_row(row) else {
+        return Ok(None);
     };
-    if row.column_count() != 4
-        || stored.number != number
-        || stored.order == 0
-        || stored.order > MAX
-    {
+    if stored.number != number || stored.order == 0 || stored.order > MAX {
         return Ok(None);
     }
-    if is_time(alloc, stored.at.as_str())? {
+    if is_time(alloc, stored.at)? {
         Ok(Some(stored))
     } else {
         Ok(None)
@@ -99,6 +96,8 @@ pub(crate) fn replay(
     requires { base ≤ max_sequence }
     ensures replay { IfOk result (λ o. IfSome o (IsReplay base rows.now)) }
     ensures range { IfOk result (λ o. IfSome o (λ r. (base ≤ r.last) × (r.last ≤ max_sequence))) }
+    ensures none { IfOk result (λ o. IfNone o ((commands : List Accepted)
+        → AreAccepted base [] commands → rows.now ≢ shown_rows (suc base) commands)) }
     ensures fault { IfErr result (λ f. f ≡ OutOfMemory) }
 {
     let mut statuses = BTreeMap::new(alloc);
@@ -126,36 +125,19 @@ pub(crate) fn replay(
     Ok(Some(Replayed { statuses, last }))
 }
 
-/// The order and status of a row of `orders`, where a call can have left it so.
-fn order_in(row: &Row) -> Result<Option<(u64, Status)>, OutboxFault>
-    ensures row { IfOk result (λ o. IfSome o (λ p. row.now ≡ shown_order p.0 p.1)) }
-    ensures fault { IfErr result (λ f. (f ≡ OutOfMemory) ⊎ (f ≡ Store)) }
-{
-    if row.column_count() != 2 {
-        return Ok(None);
-    }
-    let order: u64 = row.get(0)?;
-    let code: i64 = row.get(1)?;
-    match Status::of_code(code) {
-        Some(status) => Ok(Some((order, status))),
-        None => Ok(None),
-    }
-}
-
 /// Whether the rows of `orders` are just those of the orders and their statuses.
-#[tactic(auto, using(crate::proofs::ReplayLemmas::match_none))]
 pub(crate) fn are_orders(rows: &[Row], statuses: BTreeMap<u64, Status>) -> Result<bool, OutboxFault>
-    ensures orders { IfOk result (λ b. IsTrue b → (commands : List Accepted)
+    ensures orders { IfOk result (λ b. (commands : List Accepted)
         → ((order : ℕ) → get nat_cmp statuses order ≡ status_of commands order)
-        → ShowOrders rows.now commands) }
-    ensures fault { IfErr result (λ f. (f ≡ OutOfMemory) ⊎ (f ≡ Store)) }
+        → IsTrue b ↔ ShowOrders rows.now commands) }
+    ensures fault { IfErr result (λ f. f ≡ OutOfMemory) }
 {
-    let mut left = statuses;
+    let mut left = statuses.clone()?;
     for row in rows {
-        let Some((order, status)) = order_in(row)? else {
+        let Some((order, status)) = order_in(row) else {
             return Ok(false);
         };
-        match left.remove(&order) {
+        match status_at(&statuses, order) {
             Some(found) => {
                 if found != status {
                     return Ok(false);
@@ -163,6 +145,7 @@ pub(crate) fn are_orders(rows: &[Row], statuses: BTreeMap<u64, Status>) -> Resul
             }
             None => return Ok(false),
         }
+        let _found = left.remove(&order);
     }
     Ok(left.is_empty())
 }
@@ -176,22 +159,23 @@ pub(crate) struct Found {
 }
 
 /// The source and base in the one row of `service`, where a call can have left them so.
-fn service_in(rows: &[Row]) -> Result<Option<(Text, u64)>, OutboxFault>
+fn service_in(alloc: Global, rows: &[Row]) -> Result<Option<(Text, u64)>, OutboxFault>
     ensures row { IfOk result (λ o. IfSome o (λ p. rows.now ≡ shown_service p.0 p.1 ∷ [])) }
-    ensures range { IfOk result (λ o. IfSome o (λ p. (is_filled p.0 ≡ true)
-        × (length p.0 ≤ max_source) × (p.1 ≤ max_sequence))) }
-    ensures fault { IfErr result (λ f. (f ≡ OutOfMemory) ⊎ (f ≡ Store)) }
+    ensures range { IfOk result (λ o. IfSome o (λ p. IsAllowed p.0 p.1)) }
+    ensures none { IfOk result (λ o. IfNone o ((source : List ℕ) (base : ℕ)
+        → IsAllowed source base → rows.now ≢ shown_service source base ∷ [])) }
+    ensures fault { IfErr result (λ f. f ≡ OutOfMemory) }
 {
-    if rows.len() != 1 || rows[0].column_count() != 3 {
+    if rows.len() != 1 {
         return Ok(None);
     }
-    let one: u64 = rows[0].get(0)?;
-    let source: String = rows[0].get(1)?;
-    let base: u64 = rows[0].get(2)?;
-    if one != 1 || base > MAX || source.as_str().len() > 1024 {
+    let Some((source, base)) = source_in(&rows[0]) else {
+        return Ok(None);
+    };
+    if base > MAX || source.len() > 1024 {
         return Ok(None);
     }
-    let source = Text::from_string(source);
+    let source = Text::of(alloc, source)?;
     if source.is_source() {
         Ok(Some((source, base)))
     } else {
@@ -206,6 +190,8 @@ fn all_of<S: Alter>(conn: &mut Connection<S>, sql: &str) -> Result<Vec<Row>, Out
         Shown sql.now [] (state S.Store conn.old) (state S.Store conn.new) rows.items) }
     ensures same { IsSame (state S.Store conn.old) (state S.Store conn.new) }
     ensures live { IsLive (state S.Store conn.old) }
+    ensures open { HasCleanDisk (state S.Store conn.new)
+        → OnOk result (IsTrue (state S.Store conn.old).is_open) }
     ensures fault { IfErr result (λ f. (f ≡ OutOfMemory) ⊎ (f ≡ Store)) }
 {
     let _schema = conn.schema();
@@ -228,11 +214,13 @@ pub(crate) fn found_in<S: Alter>(
         → Stands (state S.Store conn.new).now f.source f.base f.last)) }
     ensures range { IfOk result (λ o. IfSome o (λ f. (is_filled f.source ≡ true)
         × (length f.source ≤ max_source) × (f.base ≤ f.last) × (f.last ≤ max_sequence))) }
+    ensures none { HasCleanDisk (state S.Store conn.new) → IfOk result (λ o.
+        IfNone o (IsNoService (state S.Store conn.old).now)) }
     ensures same { IsAsItWas (state S.Store conn.old) (state S.Store conn.new) }
     ensures fault { IfErr result (λ f. (f ≡ OutOfMemory) ⊎ (f ≡ Store)) }
 {
     let services = all_of(conn, "SELECT one, source, base FROM service ORDER BY one")?;
-    let Some((source, base)) = service_in(&services)? else {
+    let Some((source, base)) = service_in(alloc, &services)? else {
         return Ok(None);
     };
     let rows = all_of(
@@ -260,6 +248,8 @@ fn read<S: Alter>(alloc: Global, conn: &mut Connection<S>) -> Result<Found, Outb
     ensures range { IfOk result (λ f. (is_filled f.source ≡ true)
         × (length f.source ≤ max_source) × (f.base ≤ f.last) × (f.last ≤ max_sequence)) }
     ensures same { IsAsItWas (state S.Store conn.old) (state S.Store conn.new) }
+    ensures foreign { HasCleanDisk (state S.Store conn.new) → IfErr result (λ f.
+        f ≡ Foreign → IsNoService (state S.Store conn.old).now) }
     ensures missing { lacks_name (state S.Store conn.old).now.schema ≡ true → result ≡ Err Foreign }
     ensures fault { IfErr result (λ f. (f ≡ OutOfMemory) ⊎ ((f ≡ Store) ⊎ (f ≡ Foreign))) }
 {
@@ -288,6 +278,8 @@ impl<S: Alter + Drop> Service<S> {
             StandsFor (state S.Store s.conn) s.source s.base s.last) }
         ensures same { IfOk result (λ s. IsAsItWas (state S.Store conn) (state S.Store s.conn)) }
         ensures back { IfErr result (λ e. IsAsItWas (state S.Store conn) (state S.Store e.conn)) }
+        ensures foreign { IfErr result (λ e. HasCleanDisk (state S.Store e.conn)
+            → e.fault ≡ Foreign → IsNoService (state S.Store conn).now) }
 
         // A table that is missing is found before any memory is asked for.
         ensures missing { lacks_name (state S.Store conn).now.schema ≡ true

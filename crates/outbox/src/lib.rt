@@ -9,6 +9,7 @@ mod row;
 mod service;
 mod statement;
 mod status;
+mod stored;
 
 pub use fault::OutboxFault;
 pub use service::{NotMade, Service};

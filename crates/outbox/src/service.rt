@@ -19,6 +19,7 @@ use crate::fault::OutboxFault;
 use crate::row::event;
 use crate::statement::{page, status_rows, write};
 use crate::status::Status;
+use crate::stored::{read_row, status_in_row};
 use attributes::{Batch, Moment, Sequenced, Text};
 use sqlite::{Alter, Connection, Row};
 use std::alloc::Global;
@@ -71,53 +72,23 @@ pub struct NotMade<S: Alter + Drop> {
     pub fault: OutboxFault,
 }
 
-/// What a row of `outbox` holds.
-#[derive(Drop)]
-pub(crate) struct Stored {
-    pub(crate) number: u64,
-    pub(crate) status: Status,
-    pub(crate) order: u64,
-    pub(crate) at: String,
-}
-
-/// Reads a row of `outbox`.
-pub(crate) fn read_row(row: &Row) -> Result<Stored, OutboxFault>
-    ensures number { IfOk result (λ s. column row.now 0 ≡ Int (pos s.number)) }
-    ensures status { IfOk result (λ s. column row.now 1 ≡ Int (pos (code s.status))) }
-    ensures order { IfOk result (λ s. column row.now 2 ≡ Int (pos s.order)) }
-    ensures at { IfOk result (λ s. column row.now 3 ≡ Words (string_bytes s.at)) }
-    ensures fault { IfErr result (λ f. (f ≡ OutOfMemory) ⊎ (f ≡ Store)) }
-{
-    let number: u64 = row.get(0)?;
-    let kind: i64 = row.get(1)?;
-    let order: u64 = row.get(2)?;
-    let at: String = row.get(3)?;
-    match Status::of_code(kind) {
-        Some(status) => Ok(Stored {
-            number,
-            status,
-            order,
-            at,
-        }),
-        None => Err(OutboxFault::Store),
-    }
-}
-
 /// The event of a row of `outbox`.
 fn stored_event(alloc: Global, source: &str, row: &Row) -> Result<Sequenced, OutboxFault>
     ensures event { IfOk result (λ e. (number : ℕ) (c : Accepted)
         → row.now ≡ shown_row number c → e ≡ row_event source.now number c) }
     ensures fault { IfErr result (λ f. (f ≡ OutOfMemory) ⊎ (f ≡ Store)) }
 {
-    let stored = read_row(row)?;
-    event(
-        alloc,
-        source,
-        stored.number,
-        stored.status,
-        stored.order,
-        stored.at.as_str(),
-    )
+    match read_row(row) {
+        Some(stored) => event(
+            alloc,
+            source,
+            stored.number,
+            stored.status,
+            stored.order,
+            stored.at,
+        ),
+        None => Err(OutboxFault::Store),
+    }
 }
 
 /// The events of rows of `outbox`.
@@ -152,8 +123,7 @@ fn status_in<S: Alter>(conn: &mut Connection<S>, order: u64) -> Result<Option<St
     if rows.is_empty() {
         return Ok(None);
     }
-    let kind: i64 = rows[0].get(0)?;
-    match Status::of_code(kind) {
+    match status_in_row(&rows[0], 0) {
         Some(status) => Ok(Some(status)),
         None => Err(OutboxFault::Store),
     }

@@ -1,8 +1,9 @@
 //! The statuses of orders.
 
-ghost use Rattle.std.specs.Prelude.{◌≡◌, pos, IfSome};
+ghost use Rattle.std.specs.Prelude.{◌≡◌, ◌≢◌, pos, IfSome, IfNone};
 ghost use Rattle.outbox.specs.Order.{status_fault};
 ghost use Rattle.outbox.specs.Service.{code};
+ghost use Rattle.outbox.specs.declared.status.Status.{Status};
 
 use crate::fault::OutboxFault;
 
@@ -28,8 +29,9 @@ impl Status {
     }
 
     /// The status with this number, where there is one.
-    pub(crate) fn of_code(number: i64) -> Option<Status>
-        ensures { IfSome result (λ s. number ≡ pos (code s)) }
+    pub(crate) fn of_code(number: u64) -> Option<Status>
+        ensures some { IfSome result (λ s. number ≡ code s) }
+        ensures none { IfNone result ((s : Status) → number ≢ code s) }
     {
         match number {
             1 => Some(Status::Placed),

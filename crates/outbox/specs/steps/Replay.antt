@@ -1,5 +1,5 @@
 -- Rows that are those of accepted commands.
-use Rattle.std.specs.Prelude.{◌≡◌, ◌⊎◌, Some, ◌≤◌, ℕ, suc, ◌+◌, List, [], length, take}
+use Rattle.std.specs.Prelude.{◌≡◌, ◌⊎◌, Some, None, ◌≤◌, ℕ, suc, ◌+◌, List, [], length, take}
 use Rattle.std.specs.BTreeMap.{get}
 use Rattle.std.specs.BTreeMap.{BTreeMap}
 use Rattle.std.specs.Ordering.{nat_cmp}
@@ -30,7 +30,7 @@ pub record HasReplayed (base : ℕ) (rows : List Row) (at : ℕ) (m : BTreeMap �
   pub last_is : last ≡ base + length commands
   pub high : last ≤ max_sequence
 
--- of the statuses, these are left, and the others have their rows among the first
+-- of the statuses, these are left, and just the others have their rows among the first
 pub record HasMatched (rows : List Row) (at : ℕ) (all left : BTreeMap ℕ Status) : Type 0 where
   pub sound : (r : Row) → Has (take at rows) r
       → (order : ℕ) × (status : Status)
@@ -39,3 +39,5 @@ pub record HasMatched (rows : List Row) (at : ℕ) (all left : BTreeMap ℕ Stat
       → (get nat_cmp left order ≡ Some status) ⊎ Has (take at rows) (shown_order order status)
   pub within : (order : ℕ) (status : Status) → get nat_cmp left order ≡ Some status
       → get nat_cmp all order ≡ Some status
+  pub gone : (order : ℕ) (status : Status) → Has (take at rows) (shown_order order status)
+      → get nat_cmp left order ≡ None

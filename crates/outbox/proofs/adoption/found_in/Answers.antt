@@ -1,8 +1,10 @@
-use Rattle.std.proofs.Common.{◌≡◌, [], ◌∷◌, sym, ◌∙◌}
+use Rattle.std.proofs.Common.{◌≡◌, [], ◌∷◌, sym, ◌∙◌, ap, arith, subst}
+use Rattle.sqlite.specs.Effect.{Database}
+use Rattle.sqlite.specs.State.{HasCleanDisk}
 use Rattle.sqlite.specs.Held.{state}
-use Rattle.outbox.specs.steps.Change.{shown_service}
+use Rattle.outbox.specs.steps.Change.{ShowOrders, shown_service}
 use Rattle.outbox.specs.steps.Replay.{IsReplay}
-use Rattle.outbox.proofs.FoundLemmas.{found}
+use Rattle.outbox.proofs.FoundLemmas.{found, not_both, no_orders, no_rows, no_source}
 use Rattle.outbox.proofs.TextLemmas.{service_row_plain, all_rows_plain, all_orders_plain}
 use Rattle.outbox.proofs.adoption.found_in.Goals as goal
 
@@ -21,4 +23,36 @@ returns-then-branch-clause-stands g c clean still =
     let replayed : IsReplay c.in-Some.base c.in_ok-rows.rows.items c.in-Some-2.replayed = rw (c.in-Some-2.is, c.deref-2.ensures.value) at c.in_ok-replayed.ensures.replay in
     found (state g.S.Store c.args.conn.now) (state g.S.Store c.all_of.new.conn) (state g.S.Store c.all_of-2.new.conn) (state g.S.Store c.all_of-3.new.conn) c.args.layout c.in-Some.source c.in-Some.base c.in_ok-services.services.items c.in_ok-rows.rows.items
     c.in_ok-orders.orders.items c.in-Some-2.replayed c.requires clean still c.all_of.ensures.same c.all_of-2.ensures.same c.all_of-3.ensures.same c.all_of.ensures.live c.all_of-2.ensures.live c.all_of-3.ensures.live c.in_ok-services.ensures.shown
-    c.in_ok-rows.ensures.shown c.in_ok-orders.ensures.shown service_is replayed (λ commands told. rw c.deref-3.ensures.value at (c.in_ok-are_orders.ensures.orders c.if-branch.true commands told))
+    c.in_ok-rows.ensures.shown c.in_ok-orders.ensures.shown service_is replayed (λ commands told. rw c.deref-3.ensures.value at ((c.in_ok-are_orders.ensures.orders commands told).0 c.if-branch.true))
+
+pub returns-in_default-clause-none : goal.returns-in_default-clause-none
+returns-in_default-clause-none g c clean =
+    no_source (state g.S.Store c.args.conn.now) (state g.S.Store c.all_of.new.conn) c.in_ok-services.services.items (c.in_ok-services.ensures.shown clean) (λ source base allowed is. (rw c.in_default.is at c.in_ok-source.ensures.none) source base allowed (c.deref.ensures.value ∙ is))
+
+pub returns-in_default-2-clause-none : goal.returns-in_default-2-clause-none
+returns-in_default-2-clause-none g c clean =
+    let a = state g.S.Store c.args.conn.now in
+    let b = state g.S.Store c.all_of.new.conn in
+    let d = state g.S.Store c.all_of-2.new.conn in
+    let clean_b : HasCleanDisk b = omega (arith, c.all_of-2.ensures.same.clean, clean) in
+    let ab = (c.all_of.ensures.same.same clean_b (c.in_ok-rows.ensures.open clean) c.args.layout c.requires).0 in
+    let service_is : c.in_ok-services.services.items ≡ shown_service c.in-Some.source c.in-Some.base ∷ [] = sym c.deref.ensures.value ∙ (rw c.in-Some.is at c.in_ok-source.ensures.row) in
+    no_rows a b d c.in_ok-services.services.items c.in_ok-rows.rows.items c.in-Some.source c.in-Some.base (c.in_ok-services.ensures.shown clean_b) service_is ab (c.in_ok-rows.ensures.shown clean)
+    (λ commands accepted is. (rw c.in_default-2.is at c.in_ok-replayed.ensures.none) commands accepted (c.deref-2.ensures.value ∙ is))
+
+pub returns-clause-none : goal.returns-clause-none
+returns-clause-none g c clean =
+    let a = state g.S.Store c.args.conn.now in
+    let b = state g.S.Store c.all_of.new.conn in
+    let d = state g.S.Store c.all_of-2.new.conn in
+    let e = state g.S.Store c.all_of-3.new.conn in
+    let clean_d : HasCleanDisk d = omega (arith, c.all_of-3.ensures.same.clean, clean) in
+    let clean_b : HasCleanDisk b = omega (arith, c.all_of-2.ensures.same.clean, clean_d) in
+    let ab : b.now ≡ a.now = (c.all_of.ensures.same.same clean_b (c.in_ok-rows.ensures.open clean_d) c.args.layout c.requires).0 in
+    let has_b = ap (λ (x : Database). x.schema) ab ∙ c.requires in
+    let bd : d.now ≡ b.now = (c.all_of-2.ensures.same.same clean_d (c.in_ok-orders.ensures.open clean) c.args.layout has_b).0 in
+    let service_is : c.in_ok-services.services.items ≡ shown_service c.in-Some.source c.in-Some.base ∷ [] = sym c.deref.ensures.value ∙ (rw c.in-Some.is at c.in_ok-source.ensures.row) in
+    let replayed : IsReplay c.in-Some.base c.in_ok-rows.rows.items c.in-Some-2.replayed = rw (c.in-Some-2.is, c.deref-2.ensures.value) at c.in_ok-replayed.ensures.replay in
+    no_orders a b d c.in_ok-services.services.items c.in_ok-rows.rows.items c.in-Some.source c.in-Some.base (c.in_ok-services.ensures.shown clean_b) service_is ab (c.in_ok-rows.ensures.shown clean_d)
+    e c.in_ok-orders.orders.items c.in-Some-2.replayed bd (c.in_ok-orders.ensures.shown clean) replayed
+    (λ commands told orders. let yes = (c.in_ok-are_orders.ensures.orders commands told).1 (subst (λ rows. ShowOrders rows commands) (sym c.deref-3.ensures.value) orders) in not_both c.in_ok-are_orders.field-0 yes c.if-branch.false)

@@ -1,4 +1,4 @@
-use Rattle.std.proofs.Common.{◌≡◌, ◌+◌, ◌++◌, ◌∷◌, [], List, suc, length, None, Some, ◌∙◌, ap, refl, arith, subst}
+use Rattle.std.proofs.Common.{◌≡◌, ◌+◌, ◌++◌, ◌∷◌, [], List, suc, length, None, Some, ◌∙◌, ap, refl, arith, subst, IsUtf8}
 use Rattle.sqlite.specs.State.{HasCleanDisk}
 use Rattle.sqlite.specs.Held.{state}
 use Rattle.outbox.specs.Order.{Accepted, refusal}
@@ -25,7 +25,7 @@ invariant_of-self-2 g c =
           let stays = c.in-Ok-write.ensures.stays clean in
           let made : Accepted = record { status = c.args.status; order = c.args.order; at = c.args.at.now } in
           let adds : Adds (c.self.inside.last + 1) made mid.now new.now = rw c.as_str-3.ensures at (c.in-Ok-write.ensures.added clean) in
-          stands_after old mid new c.self.inside.source c.self.inside.base c.self.inside.last (c.self.inside.last + 1) made (commanded c.args.status c.args.order c.args.at.now c.day-day.result c.requires.order c.requires.short c.day-day.ensures) refl c.decide.ensures.same clean_mid stays.1 it.stands (c.in-Ok.ensures.accepted clean_mid) adds;
+          stands_after old mid new c.self.inside.source c.self.inside.base c.self.inside.last (c.self.inside.last + 1) made (commanded c.args.status c.args.order c.args.at.now c.day-day.result c.requires.order (subst IsUtf8 c.as_str-3.ensures c.as_str-3.utf8) c.requires.short c.day-day.ensures) refl c.decide.ensures.same clean_mid stays.1 it.stands (c.in-Ok.ensures.accepted clean_mid) adds;
     }
 
 pub invariant_of-self-in-Err-write : goal.invariant_of-self-in-Err-write
@@ -67,5 +67,5 @@ returns-clause-accepted g c clean =
     × (c.in_ok-event.event ≡ row_event v.source (suc (v.base + length commands)) it))
     c.self.view_is
     (λ commands box.
-    let done = after_write old mid new c.self.inside.source c.self.inside.base c.self.inside.last (c.self.inside.last + 1) it (commanded c.args.status c.args.order c.args.at.now c.day-day.result c.requires.order c.requires.short c.day-day.ensures) refl c.decide.ensures.same clean_mid stays.1 c.self.invariant.stands (c.in-Ok.ensures.accepted clean_mid) adds commands box in
+    let done = after_write old mid new c.self.inside.source c.self.inside.base c.self.inside.last (c.self.inside.last + 1) it (commanded c.args.status c.args.order c.args.at.now c.day-day.result c.requires.order (subst IsUtf8 c.as_str-3.ensures c.as_str-3.utf8) c.requires.short c.day-day.ensures) refl c.decide.ensures.same clean_mid stays.1 c.self.invariant.stands (c.in-Ok.ensures.accepted clean_mid) adds commands box in
     (done.0, done.1, event ∙ ap (λ n. row_event c.self.inside.source n it) done.2))
