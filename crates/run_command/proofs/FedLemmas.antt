@@ -25,7 +25,7 @@ use Rattle.run_command.specs.Run.{AreFed, EachSpells, IsFed, joined}
 use Rattle.run_command.specs.Tally.{first_fault, read_in, refused_in}
 use Rattle.run_command.specs.declared.fault.RunFault.{RunFault}
 
-abbrev IsFound : Type 0
+abbrev pub IsFound : Type 0
 IsFound = (A : List EventValue) (e : EventValue) → Contains A e → has key_cmp A e ≡ true
 
 -- what is there stays there where more comes
@@ -62,7 +62,7 @@ all_there is_found n (e ∷ es) A m is =
         holds_both (leave B es) L (handled cs) (holds_later is_found B (leave B es) L g.0 g.1 now) (all_there is_found n es B cs rest)
 
 -- what the workers of feeds handed over is among the arrivals
-each_fed : IsFound → (p q : Shown) (later : List (Entry Call)) (place : ℕ) (feeds : List (List ℕ)) (fed behind : List Report) → EachAt (WorkerFeeds p q) place feeds fed
+pub each_fed : IsFound → (p q : Shown) (later : List (Entry Call)) (place : ℕ) (feeds : List (List ℕ)) (fed behind : List Report) → EachAt (WorkerFeeds p q) place feeds fed
     → AreFed (leave q.opening (q.seen ++ later)) feeds (fed ++ behind)
 each_fed is_found p q later place [] fed behind each = tt
 each_fed is_found p q later place (b ∷ bs) [] behind each = absurd each

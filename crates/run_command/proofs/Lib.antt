@@ -1,3 +1,4 @@
 mod FedLemmas
+mod SharedLemmas
 mod TallyLemmas
 mod ToldLemmas

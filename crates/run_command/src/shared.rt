@@ -5,6 +5,7 @@ ghost use Rattle.keeper.specs.Keep.{KeepsUp};
 ghost use Rattle.run_command.specs.Shared.{IsClosed};
 
 use feeds::{Jobs, ServeFault, Served, serve};
+use inbox::laws::sets_are_members;
 use keeper::laws::first_arrivals_stay;
 use keeper::{Flushed, Flusher, KeepFault, Keeper};
 use site::{Site, Wide};
@@ -40,6 +41,7 @@ pub fn share<R: Threads + Wait + Sync, S: Alter + Drop>(
     ensures err { IfErr result (λ back. back ≡ keeper) }
 {
     first_arrivals_stay();
+    sets_are_members();
     let Begun { shared, mut pass } = match SharedSite::begin(alloc, site) {
         Ok(begun) => begun,
         Err(_) => return Err(keeper),
