@@ -1,6 +1,6 @@
 use Rattle.std.proofs.Common.{◌≡◌, ◌+◌, ◌∙◌, ap, arith, length, subst}
 use Rattle.feeds.specs.Serve.{EachAt}
-use Rattle.feeds.specs.steps.Serve.{AreAt, IsJobAt, works_of}
+use Rattle.feeds.specs.steps.Serve.{AreAt, IsJobAt}
 use Rattle.feeds.proofs.ServeLemmas.{all_tell, at_finished, at_jobs, each_at_length, each_length, serves, works_length}
 use Rattle.feeds.proofs.serving.serve.Goals as goal
 

@@ -1,6 +1,6 @@
 use denote.Exit.{no}
 use denote.Param.Send.{arg_send, param_send}
-use Rattle.std.proofs.Common.{◌≡◌, ◌≤◌, [], ◌∷◌, ◌++◌, length, arith, rules, subst, sym}
+use Rattle.std.proofs.Common.{◌≤◌, [], ◌∷◌, ◌++◌, arith, rules, subst, sym}
 use Rattle.std.specs.Vec.{vec_capacity}
 use Rattle.feeds.specs.steps.Serve.{Each, Ends}
 use Rattle.feeds.proofs.CrossLemmas.{finished_is_send, worker_is_send}
