@@ -49,19 +49,26 @@ conflict_is_send = search (maps.crosses, heap.crosses, tree.crosses, sendable) d
 
 answer_is_send : IsSend answer.the_row
 answer_is_send = recorded_send (answer.the_field).row _ _ (answer.the_type).to_one (enum_send (enum_declared.shape answer.the_type) (
-  (summary_is_send, tt), (
-    (batch_is_send, tt), (
-      (search (conflict_is_send, heap.crosses, sendable) depth 60 fits 20000, tt), (
-        (batch_is_send, tt), (
-          (search (heap.crosses, sendable) depth 60 fits 20000, tt), (
-            (search (heap.crosses, sendable) depth 60 fits 20000, tt), (
-              (search (intervals_is_send, heap.crosses, sendable) depth 60 fits 20000, tt), tt
-            )
-          )
-        )
-      )
-    )
-  )
+  (summary_is_send, tt),
+  (
+    (batch_is_send, tt),
+    (
+      (search (conflict_is_send, heap.crosses, sendable) depth 60 fits 20000, tt),
+      (
+        (batch_is_send, tt),
+        (
+          (search (heap.crosses, sendable) depth 60 fits 20000, tt),
+          (
+            (search (heap.crosses, sendable) depth 60 fits 20000, tt),
+            (
+              (search (intervals_is_send, heap.crosses, sendable) depth 60 fits 20000, tt),
+              tt,
+            ),
+          ),
+        ),
+      ),
+    ),
+  ),
 ))
 
 asked_is_send : IsSend (Struct (declared.shape asked.the_type))
@@ -89,17 +96,24 @@ captured a b c d R G = ShrRef a.mir a.lft (param 0 R) ∷ global.the_row ∷ Shr
 pub worker_is_send : (δ : Ty) (name : Sym) (a b c d : NamedLft) (R G : RattleType) → IsSync R → IsSync G → PassesAreSend → SharedSitesAreSync
     → IsSend (param 2 (arg δ no (TupleAt name (captured a b c d R G))))
 worker_is_send δ name a b c d R G runtime gate pass site = closure_is_send 2 δ name (captured a b c d R G) (
-  shr_send _ _ _ (param_sync 0 R runtime), (
-    search (heap.crosses, sendable) depth 30, (
-      shr_send _ _ _ site, (
-        shr_send _ _ _ (param_sync 1 G gate), (
-          search sendable, (
-            job_is_send pass, (
-              search (heap.crosses, sendable) depth 30, tt
-            )
-          )
-        )
-      )
-    )
-  )
+  shr_send _ _ _ (param_sync 0 R runtime),
+  (
+    search (heap.crosses, sendable) depth 30,
+    (
+      shr_send _ _ _ site,
+      (
+        shr_send _ _ _ (param_sync 1 G gate),
+        (
+          search sendable,
+          (
+            job_is_send pass,
+            (
+              search (heap.crosses, sendable) depth 30,
+              tt,
+            ),
+          ),
+        ),
+      ),
+    ),
+  ),
 )

@@ -180,13 +180,18 @@ seen_still p q e on same h = subst (λ z. has key_cmp z e ≡ true)
 
 performs_still : (w : Work) (m : List Call) (A B : List EventValue) (o : Outcome) → ((e : EventValue) → has key_cmp A e ≡ true → has key_cmp B e ≡ true) → Performs w m A o → Performs w m B o
 performs_still (work.Feed b) m A B (Reported r) more h = h
-performs_still (work.Pull C) m A B (Reported r) more h = (h.0, h.1, h.2, λ d. let k = h.3 d in record {
-  peer = k.peer;
-  takes = k.takes;
-  told = k.told;
-  handled_all = k.handled_all;
-  holds = holds_on A B (delta (set_of C) k.peer) more k.holds;
-})
+performs_still (work.Pull C) m A B (Reported r) more h = (
+  h.0,
+  h.1,
+  h.2,
+  λ d. let k = h.3 d in record {
+    peer = k.peer;
+    takes = k.takes;
+    told = k.told;
+    handled_all = k.handled_all;
+    holds = holds_on A B (delta (set_of C) k.peer) more k.holds;
+  },
+)
 performs_still (work.Ask queries) m A B (Answered r) more h = h
 performs_still (work.Feed b) m A B (Answered r) more h = absurd h
 performs_still (work.Pull C) m A B (Answered r) more h = absurd h

@@ -1,7 +1,6 @@
 //! Workers over one shared site, each in a thread of its own.
 
 mod close;
-
 mod threads;
 mod worker;
 
@@ -16,7 +15,6 @@ use crate::asking::Asked;
 use crate::report::Report;
 use attributes::{List, Octets};
 use close::close_all;
-
 use site::{Gate, Site};
 use site_lock::{Pass, SharedSite};
 use std::alloc::Global;

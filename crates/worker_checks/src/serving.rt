@@ -155,8 +155,10 @@ fn workers_run_at_the_same_time(rt: HostRuntime) {
         turns: &gate.turns,
     };
     let jobs = jobs(alloc).expect(&rt, "no memory");
-    let served = serve(&rt, alloc, &shared, &mut pass, jobs, &gate, &mut aside)
-        .expect(&rt, "no thread");
+    let served = serve(&rt, alloc, &shared, &mut pass, jobs, &gate, &mut aside).expect(
+        &rt,
+        "no thread",
+    );
     assert!(rt; is_done(&served));
     assert!(rt; aside.count >= 3);
     assert_eq!(rt; shared.turns(&mut pass), 6);
@@ -169,8 +171,16 @@ fn workers_run_at_the_same_time(rt: HostRuntime) {
 fn no_jobs_are_done_at_once(rt: HostRuntime) {
     let alloc = rt.alloc();
     let Begun { shared, mut pass } = begun(alloc).expect(&rt, "no memory");
-    let served = serve(&rt, alloc, &shared, &mut pass, nothing(alloc), &Wide, &mut Idle)
-        .expect(&rt, "no memory");
+    let served = serve(
+        &rt,
+        alloc,
+        &shared,
+        &mut pass,
+        nothing(alloc),
+        &Wide,
+        &mut Idle,
+    )
+    .expect(&rt, "no memory");
     assert!(rt; served.reports.is_empty() && served.asked.is_empty());
     assert_eq!(rt; ServeFault::OutOfMemory.number(), 1);
     assert_eq!(rt; ServeFault::NoThread.number(), 2);

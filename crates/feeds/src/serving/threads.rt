@@ -136,8 +136,7 @@ fn run_jobs<R: Threads + Wait + Sync, G: Gate + Sync, A: Aside + Drop>(
             match child {
                 Err(_) => (aside, None),
                 Ok(child) => {
-                    let (aside, rest) =
-                        run_jobs(rt, alloc, shared, gate, jobs, room, left, aside);
+                    let (aside, rest) = run_jobs(rt, alloc, shared, gate, jobs, room, left, aside);
                     let last = child.join(rt);
                     match rest {
                         None => (aside, None),
@@ -167,8 +166,10 @@ impl<'a, A: Aside> Aside for Lent<'a, A> {
 
     ghost stays = { λ a. (refl, A.stays a.aside.now) };
 
-    ghost goes_on = { λ a b c first then. (then.0 ∙ first.0,
-        A.goes_on a.aside.now b.aside.now c.aside.now first.1 then.1) };
+    ghost goes_on = { λ a b c first then. (
+      then.0 ∙ first.0,
+      A.goes_on a.aside.now b.aside.now c.aside.now first.1 then.1,
+    ) };
 
     fn turn(&mut self) -> bool {
         self.aside.turn()

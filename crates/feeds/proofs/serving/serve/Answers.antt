@@ -1,6 +1,6 @@
 use Rattle.std.proofs.Common.{◌≡◌, ◌+◌, ◌∙◌, ap, arith, length, subst}
 use Rattle.feeds.specs.Serve.{EachAt}
-use Rattle.feeds.specs.steps.Serve.{AreAt, IsJobAt, works_of}
+use Rattle.feeds.specs.steps.Serve.{AreAt, IsJobAt}
 use Rattle.feeds.proofs.ServeLemmas.{all_tell, at_finished, at_jobs, each_at_length, each_length, serves, works_length}
 use Rattle.feeds.proofs.serving.serve.Goals as goal
 
@@ -26,8 +26,7 @@ close_all-requires-clause-each g c =
 pub close_all-requires-clause-room : goal.close_all-requires-clause-room
 close_all-requires-clause-room g c =
     let count : length c.in-Some.all.items ≡ length c.args.jobs.feeds + length c.args.jobs.peers + length c.args.jobs.asks =
-        each_length _ _ c.in-Some.ensures.each.0 ∙ each_at_length _ _ _ _ c.split_all-jobs.ensures.jobs ∙ ap length c.of.ensures ∙ works_length c.args.jobs.feeds c.args.jobs.peers c.args.jobs.asks in
-    (
+    each_length _ _ c.in-Some.ensures.each.0 ∙ each_at_length _ _ _ _ c.split_all-jobs.ensures.jobs ∙ ap length c.of.ensures ∙ works_length c.args.jobs.feeds c.args.jobs.peers c.args.jobs.asks in (
       omega (arith, count, c.len.ensures, c.len-2.ensures, c.len-3.ensures, c.in-Ok-with_capacity-2.ensures.capacity),
       omega (arith, count, c.len.ensures, c.len-2.ensures, c.len-3.ensures, c.in-Ok-with_capacity-3.ensures.capacity),
     )

@@ -27,8 +27,7 @@ pub add-requires : goal.add-requires
 add-requires t c =
     let e = c.close_all-served.ensures in
     let r = c.close_all-served.result in
-    let more = ap length c.in-Some.ensures.items ∙ length-append c.pop.new.self.items (c.in-Some.last ∷ []) in
-    (
+    let more = ap length c.in-Some.ensures.items ∙ length-append c.pop.new.self.items (c.in-Some.last ∷ []) in (
       omega (arith, ap length e.reports, reports_few c.pop.new.self.items, r.reports.ok.0, e.room.0, c.requires.room.0, more),
       omega (arith, ap length e.asked, answers_few c.pop.new.self.items, r.asked.ok.0, e.room.1, c.requires.room.1, more),
     )

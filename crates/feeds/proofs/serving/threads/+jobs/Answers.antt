@@ -1,6 +1,6 @@
 use denote.Exit.{no}
 use denote.Param.Send.{arg_send, param_send}
-use Rattle.std.proofs.Common.{◌≡◌, ◌≤◌, [], ◌∷◌, ◌++◌, length, arith, rules, subst, sym}
+use Rattle.std.proofs.Common.{◌≤◌, [], ◌∷◌, ◌++◌, arith, rules, subst, sym}
 use Rattle.std.specs.Vec.{vec_capacity}
 use Rattle.feeds.specs.steps.Serve.{Each, Ends}
 use Rattle.feeds.proofs.CrossLemmas.{finished_is_send, worker_is_send}
@@ -24,8 +24,7 @@ pub scope-returns-in-Some : goal.scope-returns-in-Some
 scope-returns-in-Some g t c =
     let all = c.in-Some.all in
     let e = some_of (λ v. Each Ends c.captures.jobs.items v.items × (vec_capacity c.captures.room ≤ vec_capacity v)) c.run_jobs-aside.result.1 all c.in-Some.is c.run_jobs-aside.ensures.each in
-    let last : Ends c.captures.job c.join-last.result = search rules in
-    (
+    let last : Ends c.captures.job c.join-last.result = search rules in (
       c.run_jobs-aside.ensures.aside,
       (subst (λ l. Each Ends (c.captures.jobs.items ++ c.captures.job ∷ []) l) (sym c.put.ensures.items) (one_more _ _ _ _ e.0 last), omega (arith, e.1, c.put.ensures.room)),
     )
