@@ -1,4 +1,4 @@
 mod NewLemmas
 mod PageLemmas
 mod FlushLemmas
-mod LawLemmas
+pub mod LawLemmas

@@ -1,6 +1,6 @@
 //! The text of a run.
-ghost use Rattle.std.specs.Prelude.{IfOk};
-ghost use Rattle.run_command.specs.Run.{IsRunText};
+ghost use Rattle.std.specs.Prelude.{◌≡◌, IfOk, string_bytes};
+ghost use Rattle.run_command.specs.Run.{IsRunText, run_line};
 
 use attributes::Text;
 use site::Site;
@@ -17,8 +17,19 @@ pub fn run_text(
 ) -> Result<Text, AllocError>
     ensures { IfOk result (IsRunText read refused site.now) }
 {
-    let held = site.arrived();
-    let mut text = format!(in alloc; "read {read} refused {refused} held {held}\n")?;
+    let mut text = first_line(alloc, read, refused, site.arrived())?;
     text.push_str(site.lines(Query::Cover)?.as_str())?;
     Ok(Text::from_string(text))
+}
+
+/// The line of the counts.
+fn first_line(
+    alloc: Global,
+    read: u128,
+    refused: u128,
+    held: u64,
+) -> Result<String, AllocError>
+    ensures { IfOk result (λ line. string_bytes line ≡ run_line read refused held) }
+{
+    format!(in alloc; "read {read} refused {refused} held {held}\n")
 }
