@@ -32,6 +32,10 @@ module _ {K : Type 0} (R : K → K → Ordering) where
   grows A (x ∷ xs) = let p = one_more (has R A x) A x in let q = grows (if has R A x then A else A ++ x ∷ []) xs in
       (p.0 ++ q.0, q.1 ∙ (ap (λ (z : List K). z ++ q.0) p.1 ∙ append_assoc A p.0 q.0))
 
+pub leave-append : (A : List EventValue) (xs ys : List (Entry Call)) → leave A (xs ++ ys) ≡ leave (leave A xs) ys
+leave-append A [] ys = refl
+leave-append A (e ∷ es) ys = leave-append (arrivals_after A e.call) es ys
+
 pub leave_distinct : (A : List EventValue) (log : List (Entry Call)) → AreDistinct A → AreDistinct (leave A log)
 leave_distinct A [] once = once
 leave_distinct A (e ∷ es) once = leave_distinct (arrivals_after A e.call) es (stays_once key_cmp A (handled_by e.call.command e.call.reply) once)

@@ -8,12 +8,12 @@ use Rattle.site.specs.Machine.{Answers, arrivals_after}
 use Rattle.site.specs.declared.call.Call.{Call}
 use Rattle.turn_lock.specs.declared.machine.Entry.{Entry}
 use Rattle.turn_lock.specs.History.{GoesOnBelow, entry, made_by}
-use Rattle.turn_lock.specs.Turn.{Adds, Hears, IsIdle}
+use Rattle.turn_lock.specs.Turn.{Adds, HasTurn, Hears, IsIdle}
 use Rattle.turn_lock.specs.Turn as turn
-use Rattle.site_lock.specs.Pass.{Closes, IsHistory, IsSplitOff, IsTrueOf, Made, Meets, Shown, Splits, leave}
+use Rattle.site_lock.specs.Pass.{Closes, IsHistory, IsSplitOff, IsTrueOf, Made, Meets, Shown, Splits, leave, leaves}
 use Rattle.site_lock.specs.Seat.{IsAtRest, MayEnd, Seat, SiteView, arrivals_of, number_of, shown}
 use Rattle.site_lock.specs.declared.held.Held.{Held}
-use Rattle.site_lock.proofs.ArrivalLemmas.{leave_distinct}
+use Rattle.site_lock.proofs.ArrivalLemmas.{leave-append, leave_distinct}
 
 pub rests_on : (v : SiteView) (m : Seat) → AreDistinct v.opening → m.0.opening ≡ v.opening → IsIdle arrivals_of arrivals_after Answers m → IsAtRest m
 rests_on v m once same idle = record { idle = idle; once = subst AreDistinct (sym same) once }
@@ -86,3 +86,10 @@ splits_from t t' p v w is same c = subst (λ (q : Shown). Splits q (shown t' w))
 
 pub meets_from : (t t' t'' : TableId) (p o : Shown) (v u w : SiteView) → shown t v ≡ p → shown t'' u ≡ o → t' ≡ t → turn.Meets v u w → Meets p o (shown t' w)
 meets_from t t' t'' p o v u w is is' same c = subst (λ (z : Shown × Shown). Meets z.0 z.1 (shown t' w)) (λ i. (is i, is' i)) record { longer = c.longer; all_own = c.all_mine; all_others = c.all_others; mine = c.mine; splits = c.splits; same = record { table = same; number = ap number_of c.same.number; opening = c.same.opening } }
+
+-- after the call of its turn a pass shows the arrivals that the site has then
+pub shows_site : (t : TableId) (m m' : Seat) (A : List EventValue) (c : Call) (said : Option Call) → HasTurn arrivals_of arrivals_after Answers m A → said ≡ Some c
+    → ((n : List ℕ) (d : Call) → m.0.number ≡ Some n → said ≡ Some d → Adds n d m.0 m'.0) → arrivals_after A c ≡ leaves (shown t m'.0)
+shows_site t m m' A c said turn says adds =
+    let v : SiteView = m.0 in let a : Adds turn.number c m.0 m'.0 = adds turn.number c turn.named says in
+    sym ((λ i. leave (a.same.opening i) (a.seen i)) ∙ (leave-append v.opening v.seen (entry turn.number c ∷ []) ∙ ap (λ (z : List EventValue). arrivals_after z c) (sym turn.stands)))

@@ -6,7 +6,7 @@ use Rattle.site.specs.declared.call.Call.{Call}
 use Rattle.turn_lock.specs.declared.machine.Entry.{Entry}
 use Rattle.turn_lock.specs.History.{entry}
 use Rattle.site_lock.specs.Pass.{IsHistory, Made, Shown, Steps, leave, leaves}
-use Rattle.site_lock.proofs.ArrivalLemmas.{leave_grows}
+use Rattle.site_lock.proofs.ArrivalLemmas.{leave-append, leave_grows}
 
 pub made_steps : (p q : Shown) (c : Call) → Made p q c → Steps p q (c ∷ [])
 made_steps p q c m = record {
@@ -15,10 +15,6 @@ made_steps p q c m = record {
   splits = m.splits;
   same = m.same;
 }
-
-leave-append : (A : List EventValue) (xs ys : List (Entry Call)) → leave A (xs ++ ys) ≡ leave (leave A xs) ys
-leave-append A [] ys = refl
-leave-append A (e ∷ es) ys = leave-append (arrivals_after A e.call) es ys
 
 -- the last call of a history has its reply where those before it led
 last_answers : (A : List EventValue) (log : List (Entry Call)) (e : Entry Call) → IsHistory A (log ++ e ∷ []) → Answers (leave A log) e.call

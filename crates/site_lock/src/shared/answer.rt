@@ -1,10 +1,13 @@
 //! Questions asked in a turn.
 
-ghost use Rattle.std.specs.Prelude.{◌≡◌, ◌≤◌};
+ghost use Rattle.std.specs.Prelude.{◌≡◌, ◌≢◌, ◌≤◌, [], OnErr};
+ghost use Rattle.inbox.specs.Sets.{set_of};
+ghost use Rattle.site.specs.Delta.{delta};
 ghost use Rattle.site.specs.Desk.{answered, paged, summed};
 ghost use Rattle.site.specs.Machine.{Answers, call};
+ghost use Rattle.site.specs.Page.{page};
 ghost use Rattle.site.specs.declared.call.Command.TheVariants as command;
-ghost use Rattle.site_lock.specs.Pass.{Made};
+ghost use Rattle.site_lock.specs.Pass.{Made, leaves};
 
 use super::SharedSite;
 use crate::held::Held;
@@ -16,11 +19,38 @@ use std::marker::Brand;
 use std::sync::Wait;
 use views::{Answer, Query};
 
+/// What a peer lacks, as a desk answers.
+fn delta_page(
+    site: &Site,
+    peer: &Summary,
+    from: u64,
+    limit: u64,
+) -> Result<Batch, DeskFault>
+    requires low { 1 ≤ limit }
+    requires high { limit ≤ 100 }
+    ensures answers { Answers site.now
+        (call (command.DeltaPage peer.now from limit) (paged result)) }
+    ensures err { OnErr result (page (delta (set_of site.now) peer.now) from limit ≢ []) }
+{
+    Ok(site.delta_page(peer, from, limit)?)
+}
+
+/// A page in key order, as a desk answers.
+fn key_page(site: &Site, from: u64, limit: u64) -> Result<Batch, DeskFault>
+    requires low { 1 ≤ limit }
+    requires high { limit ≤ 100 }
+    ensures answers { Answers site.now (call (command.Page from limit) (paged result)) }
+    ensures err { OnErr result (page (set_of site.now) from limit ≢ []) }
+{
+    Ok(site.page(from, limit)?)
+}
+
 /// The events that came after the first n, as a desk answers.
 fn arrivals_after(site: &Site, n: u64, limit: u64) -> Result<Batch, DeskFault>
     requires low { 1 ≤ limit }
     requires high { limit ≤ 100 }
-    ensures { Answers site.now (call (command.Fresh n limit) (paged result)) }
+    ensures answers { Answers site.now (call (command.Fresh n limit) (paged result)) }
+    ensures err { OnErr result (page site.now n limit ≢ []) }
 {
     Ok(site.arrivals_after(n, limit)?)
 }
@@ -62,12 +92,16 @@ impl SharedSite {
         requires own { pass.old.table ≡ self.now }
         requires low { 1 ≤ limit }
         requires high { limit ≤ 100 }
-        ensures { Made pass.old pass.new
+        ensures made { Made pass.old pass.new
             (call (command.DeltaPage peer.now from limit) (paged result)) }
+
+        // Memory is wanted for events alone.
+        ensures err { OnErr result
+            (page (delta (set_of (leaves pass.new)) peer.now) from limit ≢ []) }
     {
         let seat = &mut pass.seat;
-        let Held { mut site } = self.turns.enter(rt, seat);
-        let reply = Desk::delta_page(&mut site, peer, from, limit);
+        let Held { site } = self.turns.enter(rt, seat);
+        let reply = delta_page(&site, peer, from, limit);
         self.end::<Brand, _, _>(seat, site, &(peer, from, limit), &reply);
         reply
     }
@@ -83,11 +117,14 @@ impl SharedSite {
         requires own { pass.old.table ≡ self.now }
         requires low { 1 ≤ limit }
         requires high { limit ≤ 100 }
-        ensures { Made pass.old pass.new (call (command.Page from limit) (paged result)) }
+        ensures made { Made pass.old pass.new (call (command.Page from limit) (paged result)) }
+
+        // Memory is wanted for events alone.
+        ensures err { OnErr result (page (set_of (leaves pass.new)) from limit ≢ []) }
     {
         let seat = &mut pass.seat;
-        let Held { mut site } = self.turns.enter(rt, seat);
-        let reply = Desk::page(&mut site, from, limit);
+        let Held { site } = self.turns.enter(rt, seat);
+        let reply = key_page(&site, from, limit);
         self.end::<Brand, _, _>(seat, site, &(from, limit), &reply);
         reply
     }
@@ -104,7 +141,10 @@ impl SharedSite {
         requires own { pass.old.table ≡ self.now }
         requires low { 1 ≤ limit }
         requires high { limit ≤ 100 }
-        ensures { Made pass.old pass.new (call (command.Fresh n limit) (paged result)) }
+        ensures made { Made pass.old pass.new (call (command.Fresh n limit) (paged result)) }
+
+        // Memory is wanted for events alone.
+        ensures err { OnErr result (page (leaves pass.new) n limit ≢ []) }
     {
         let seat = &mut pass.seat;
         let Held { site } = self.turns.enter(rt, seat);

@@ -19,7 +19,7 @@ returns-in-Ok-keep-clause-first g c =
     let mark : c.rows-mark.result ≡ table.rows = c.rows-mark.ensures.rows in
     let first : KeepsUp old c.rows-mark.result A = subst (λ n. KeepsUp old n A) (sym mark) (subst (λ (k : Kept _). KeepsUp (state g.S.Store k.conn) k.rows A) (sym c.self.view_is) c.requires.first) in
     let was_clean : (HasCleanDisk new → HasCleanDisk old) = λ clean. omega (arith, c.in-Ok-keep.ensures.crash.clean, clean) in
-    page_first old new c.rows-mark.result c.keep.new.self.rows c.in-Ok-keep.fresh A (leaves c.fresh.new.pass) c.in-Ok.page (c.calls_follow.ensures _ _ _ c.in-Ok.ensures) c.stands.ensures.distinct first was_clean
+    page_first old new c.rows-mark.result c.keep.new.self.rows c.in-Ok-keep.fresh A (leaves c.fresh.new.pass) c.in-Ok.page (c.calls_follow.ensures _ _ _ c.in-Ok.ensures.made) c.stands.ensures.distinct first was_clean
     c.in-Ok-keep.ensures.was_open c.in-Ok-keep.ensures.open c.in-Ok-keep.ensures.takes c.in-Ok-keep.ensures.fresh (c.in-Ok-keep.ensures.rows ∙ ap (λ n. n + c.in-Ok-keep.fresh) (sym mark))
 
 pub returns-in-Ok-keep-clause-page : goal.returns-in-Ok-keep-clause-page
@@ -31,7 +31,7 @@ returns-in-Ok-keep-clause-page g c clean =
     let mark : c.rows-mark.result ≡ table.rows = c.rows-mark.ensures.rows in
     let first : KeepsUp old c.rows-mark.result A = subst (λ n. KeepsUp old n A) (sym mark) (subst (λ (k : Kept _). KeepsUp (state g.S.Store k.conn) k.rows A) (sym c.self.view_is) c.requires.first) in
     let was_clean : (HasCleanDisk new → HasCleanDisk old) = λ clean. omega (arith, c.in-Ok-keep.ensures.crash.clean, clean) in
-    page_count old new c.rows-mark.result c.keep.new.self.rows c.in-Ok-keep.fresh A (leaves c.fresh.new.pass) c.in-Ok.page (c.calls_follow.ensures _ _ _ c.in-Ok.ensures) c.stands.ensures.distinct first was_clean
+    page_count old new c.rows-mark.result c.keep.new.self.rows c.in-Ok-keep.fresh A (leaves c.fresh.new.pass) c.in-Ok.page (c.calls_follow.ensures _ _ _ c.in-Ok.ensures.made) c.stands.ensures.distinct first was_clean
     c.in-Ok-keep.ensures.was_open c.in-Ok-keep.ensures.open c.in-Ok-keep.ensures.takes c.in-Ok-keep.ensures.fresh (c.in-Ok-keep.ensures.rows ∙ ap (λ n. n + c.in-Ok-keep.fresh) (sym mark)) clean
     ∙ ap (λ n. min max_page (length (leaves c.fresh.new.pass) - n)) (mark ∙ ap (λ (k : Kept _). k.rows) c.self.view_is)
 
@@ -45,7 +45,7 @@ returns-in-Ok-keep-clause-list g c =
     let first : KeepsUp old c.rows-mark.result A = subst (λ n. KeepsUp old n A) (sym mark) (subst (λ (k : Kept _). KeepsUp (state g.S.Store k.conn) k.rows A) (sym c.self.view_is) c.requires.first) in
     let was_clean : (HasCleanDisk new → HasCleanDisk old) = λ clean. omega (arith, c.in-Ok-keep.ensures.crash.clean, clean) in
     subst (λ (k : Kept _). Grows (state g.S.Store k.conn) new) c.self.view_is
-    (page_grows old new c.rows-mark.result c.keep.new.self.rows c.in-Ok-keep.fresh A (leaves c.fresh.new.pass) c.in-Ok.page (c.calls_follow.ensures _ _ _ c.in-Ok.ensures) c.stands.ensures.distinct first was_clean
+    (page_grows old new c.rows-mark.result c.keep.new.self.rows c.in-Ok-keep.fresh A (leaves c.fresh.new.pass) c.in-Ok.page (c.calls_follow.ensures _ _ _ c.in-Ok.ensures.made) c.stands.ensures.distinct first was_clean
     c.in-Ok-keep.ensures.was_open c.in-Ok-keep.ensures.open c.in-Ok-keep.ensures.takes c.in-Ok-keep.ensures.fresh (c.in-Ok-keep.ensures.rows ∙ ap (λ n. n + c.in-Ok-keep.fresh) (sym mark)))
 
 pub returns-in-Ok-clause-first : goal.returns-in-Ok-clause-first
@@ -57,7 +57,7 @@ returns-in-Ok-clause-first g c =
     let mark : c.rows-mark.result ≡ table.rows = c.rows-mark.ensures.rows in
     let first : KeepsUp old c.rows-mark.result A = subst (λ n. KeepsUp old n A) (sym mark) (subst (λ (k : Kept _). KeepsUp (state g.S.Store k.conn) k.rows A) (sym c.self.view_is) c.requires.first) in
     let was_clean : (HasCleanDisk new → HasCleanDisk old) = λ clean. omega (arith, c.in-Err-keep.ensures.crash.clean, clean) in
-    still_first old new c.rows-mark.result c.keep.new.self.rows A (leaves c.fresh.new.pass) (Paged c.in-Ok.page) (c.calls_follow.ensures _ _ _ c.in-Ok.ensures) first was_clean c.in-Err-keep.ensures.was_open c.in-Err-keep.ensures.same
+    still_first old new c.rows-mark.result c.keep.new.self.rows A (leaves c.fresh.new.pass) (Paged c.in-Ok.page) (c.calls_follow.ensures _ _ _ c.in-Ok.ensures.made) first was_clean c.in-Err-keep.ensures.was_open c.in-Err-keep.ensures.same
     (c.in-Err-keep.ensures.rows_same ∙ sym mark)
 
 pub returns-in-Ok-clause-list : goal.returns-in-Ok-clause-list
@@ -74,7 +74,7 @@ returns-clause-first g c =
     let at = state g.S.Store c.args.self.now.conn in
     let mark : c.rows-mark.result ≡ c.args.self.now.rows = c.rows-mark.ensures.rows ∙ ap (λ (k : Kept _). k.rows) c.self.view_is in
     let first : KeepsUp at c.rows-mark.result A = subst (λ n. KeepsUp at n A) (sym mark) c.requires.first in
-    still_first at at c.rows-mark.result c.args.self.now.rows A (leaves c.fresh.new.pass) (paged c.fresh.result) (c.calls_follow.ensures _ _ _ c.fresh.ensures) first (λ clean. clean) (λ clean is_open. is_open) (λ clean is_open. refl) (sym mark)
+    still_first at at c.rows-mark.result c.args.self.now.rows A (leaves c.fresh.new.pass) (paged c.fresh.result) (c.calls_follow.ensures _ _ _ c.fresh.ensures.made) first (λ clean. clean) (λ clean is_open. is_open) (λ clean is_open. refl) (sym mark)
 
 pub returns-in-Ok-keep-clause-crash : goal.returns-in-Ok-keep-clause-crash
 returns-in-Ok-keep-clause-crash g c =
@@ -86,7 +86,7 @@ returns-in-Ok-keep-clause-crash g c =
     let mark : c.rows-mark.result ≡ table.rows = c.rows-mark.ensures.rows in
     subst (λ (k : Kept _). Survives (state g.S.Store k.conn) new (λ trees. HasFirst (state g.S.Store k.conn).now k.rows A → MayKeep k.rows B trees)) c.self.view_is
     (subst (λ n. Survives old new (λ trees. HasFirst old.now n A → MayKeep n B trees)) mark
-    (page_crash old new c.rows-mark.result A B c.in-Ok.page (c.calls_follow.ensures _ _ _ c.in-Ok.ensures) c.stands.ensures.distinct
+    (page_crash old new c.rows-mark.result A B c.in-Ok.page (c.calls_follow.ensures _ _ _ c.in-Ok.ensures.made) c.stands.ensures.distinct
     (subst (λ n. Survives old new (λ trees. Stands old.now n → MayTake c.in-Ok.page old.now trees)) (sym mark) c.in-Ok-keep.ensures.crash)))
 
 pub returns-in-Ok-clause-crash : goal.returns-in-Ok-clause-crash
@@ -99,7 +99,7 @@ returns-in-Ok-clause-crash g c =
     let mark : c.rows-mark.result ≡ table.rows = c.rows-mark.ensures.rows in
     subst (λ (k : Kept _). Survives (state g.S.Store k.conn) new (λ trees. HasFirst (state g.S.Store k.conn).now k.rows A → MayKeep k.rows B trees)) c.self.view_is
     (subst (λ n. Survives old new (λ trees. HasFirst old.now n A → MayKeep n B trees)) mark
-    (page_crash old new c.rows-mark.result A B c.in-Ok.page (c.calls_follow.ensures _ _ _ c.in-Ok.ensures) c.stands.ensures.distinct
+    (page_crash old new c.rows-mark.result A B c.in-Ok.page (c.calls_follow.ensures _ _ _ c.in-Ok.ensures.made) c.stands.ensures.distinct
     (subst (λ n. Survives old new (λ trees. Stands old.now n → MayTake c.in-Ok.page old.now trees)) (sym mark) c.in-Err-keep.ensures.crash)))
 
 pub returns-clause-crash : goal.returns-clause-crash
