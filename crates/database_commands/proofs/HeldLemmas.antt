@@ -1,5 +1,5 @@
 -- What a database holds for a command, before and after.
-use Rattle.std.proofs.Common.{◌≡◌, ℕ, List, [], Bool, true, false, Ok, Err, Result, sym, subst, refl}
+use Rattle.std.proofs.Common.{◌≡◌, List, [], Bool, true, false, Ok, Err, Result, sym, subst, refl}
 use Rattle.std.specs.Result.{IfOk}
 use Rattle.std.proofs.lemmas.Bool.{false_from_ne_true}
 use Rattle.sqlite.specs.Effect.{Database}

@@ -6,7 +6,7 @@ ghost use Rattle.attributes.specs.Sequence.{max_sequence};
 ghost use Rattle.database_commands.specs.Print.{batch_line, counts_line, event_line};
 
 use crate::Ended;
-use crate::fault::CommandFault;
+use crate::fault::{CommandFault, of_kind, of_store};
 use crate::intake::take;
 use crate::page::{delta, scrub};
 use crate::service::{order, relay};
@@ -21,12 +21,15 @@ use sqlite_store::FileStore;
 use std::alloc::Global;
 use std::fs;
 use std::hash::{BuildHasher, RandomState};
-use std::io::ErrorKind;
 
 /// The bytes of a database's page.
 const PAGE: u64 = 4_096;
 /// The fewest pages that are kept in memory.
 const LEAST_PAGES: u64 = 200;
+/// The most pages that are kept in memory, 256 MiB. The cache is made before the file is looked at,
+/// so a huge file that is no database may not ask for more; of a database past this size an open
+/// reads pages again.
+const MOST_PAGES: u64 = 65_536;
 
 /// The commands over databases, by the names of their files. Each opens the database, makes its
 /// file where there is none, and closes it in the end; what was committed stays, also where the
@@ -157,12 +160,10 @@ pub fn open(
     match sqlite_std_file::open(rt, name, Unknown) {
         Ok(files) => match Connection::open_files(rt.alloc(), files, options) {
             Ok(conn) => Ok(conn),
-            Err(_) => Err(CommandFault::Store),
+            Err((error, _)) => Err(of_store(error)),
         },
         Err(OpenError::OutOfMemory) => Err(CommandFault::OutOfMemory),
-        Err(OpenError::Io(error)) if error.kind() == ErrorKind::OutOfMemory => {
-            Err(CommandFault::OutOfMemory)
-        }
+        Err(OpenError::Io(error)) => Err(of_kind(error.kind())),
         Err(_) => Err(CommandFault::Store),
     }
 }
@@ -178,15 +179,20 @@ fn length_of(rt: &HostRuntime, name: &str) -> u64 {
 /// The pages that are to be kept in memory: all of the file with what is added to it, and a tenth
 /// more, since the cache finds a page by its number modulo its size. An open looks each row up in
 /// its index, so that a page which isn't kept is read over and over.
-fn pages_for(length: u64, growth: u64) -> u64 {
+fn pages_for(length: u64, growth: u64) -> u64
+    ensures { (200 ≤ result) × (result ≤ 65536) }
+{
     let pages = length.saturating_add(growth) / PAGE;
-    pages.saturating_add(pages / 10).max(LEAST_PAGES)
+    pages
+        .saturating_add(pages / 10)
+        .clamp(LEAST_PAGES, MOST_PAGES)
 }
 
 /// How a database is opened, with a seed drawn at random.
 fn options(rt: &HostRuntime, pages: u64) -> Result<Options, CommandFault> {
-    let Ok(state) = RandomState::new(rt) else {
-        return Err(CommandFault::Store);
+    let state = match RandomState::new(rt) {
+        Ok(state) => state,
+        Err(error) => return Err(of_kind(error.kind())),
     };
     let mut options = Options::new(state.hash_one(&0u8));
     options.cache_pages = pages as usize;

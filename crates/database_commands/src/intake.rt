@@ -19,9 +19,6 @@ use std::alloc::Global;
 pub fn loaded<S: Alter + Drop>(alloc: Global, conn: Connection<S>) -> Result<Loaded<S>, NotMade<S>>
     ensures events { IfOk result (λ l. HasCleanDisk (state S.Store l.table.conn)
         → (held : List EventValue) → Holds (state S.Store conn).now held → l.events ≡ held) }
-    ensures table { IfOk result (λ l. HasCleanDisk (state S.Store l.table.conn)
-        → (held : List EventValue) → Holds (state S.Store conn).now held
-        → IsInbox (state S.Store l.table.conn).now held) }
     ensures found { IfOk result (λ l. HasCleanDisk (state S.Store l.table.conn)
         → IsInbox (state S.Store l.table.conn).now l.events) }
     ensures rows { IfOk result (λ l. l.table.rows ≡ length l.events) }
@@ -64,18 +61,21 @@ pub fn take<S: Alter + Drop>(alloc: Global, conn: Connection<S>, events: &Batch)
     }
 }
 
-/// The table of a database, made where there is none.
+/// The table of a database, made where there is none. Its events are read once and not kept.
 fn adopted<S: Alter + Drop>(alloc: Global, conn: Connection<S>) -> Result<Table<S>, NotMade<S>>
     ensures { IfOk result (λ t. HasCleanDisk (state S.Store t.conn)
         → (held : List EventValue) → Holds (state S.Store conn).now held
         → IsInbox (state S.Store t.conn).now held) }
 {
-    match loaded(alloc, conn) {
-        Ok(loaded) => {
-            let Loaded { table, events: _ } = loaded;
-            Ok(table)
+    match Table::create(alloc, conn) {
+        Ok(table) => Ok(table),
+        Err(refused) => {
+            let NotMade { conn, fault } = refused;
+            match fault {
+                TableFault::Foreign => Table::adopt(alloc, conn),
+                _ => Err(NotMade { conn, fault }),
+            }
         }
-        Err(refused) => Err(refused),
     }
 }
 

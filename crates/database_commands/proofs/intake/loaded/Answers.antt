@@ -2,12 +2,8 @@ use Rattle.std.proofs.Common.{◌≡◌, sym, subst, rules}
 use Rattle.std.proofs.lemmas.Result.{IfOk-weaker}
 use Rattle.sqlite.specs.Held.{state}
 use Rattle.inbox_table.specs.Rows.{IsInbox}
-use Rattle.database_commands.proofs.HeldLemmas.{both_ok, made_holds}
+use Rattle.database_commands.proofs.HeldLemmas.{both_ok}
 use Rattle.database_commands.proofs.intake.loaded.Goals as goal
-
-pub returns-in-Ok-clause-table : goal.returns-in-Ok-clause-table
-returns-in-Ok-clause-table g c clean held holds =
-    made_holds (state g.S.Store c.args.conn).now (state g.S.Store c.in-Ok.table.conn).now held c.in-Ok.ensures.there (c.in-Ok.ensures.made clean) holds
 
 pub returns-in-Foreign-clause-events : goal.returns-in-Foreign-clause-events
 returns-in-Foreign-clause-events g c =
@@ -16,15 +12,6 @@ returns-in-Foreign-clause-events g c =
     IfOk-weaker c.adopt_and_load.result _ _
     (λ l exact clean held holds. exact clean held (subst (λ conn. IsInbox (state g.S.Store conn).now held) (sym untouched) (holds.there foreign)))
     c.adopt_and_load.ensures.exact
-
-pub returns-in-Foreign-clause-table : goal.returns-in-Foreign-clause-table
-returns-in-Foreign-clause-table g c =
-    let untouched : c.in-Err.refused.conn ≡ c.args.conn = search rules in
-    let foreign = c.in-Err.ensures.foreign (search rules) in
-    IfOk-weaker c.adopt_and_load.result _ _
-    (λ l f clean held holds. subst (λ d. IsInbox d held) (sym (f.0 clean (f.1 clean)))
-    (subst (λ conn. IsInbox (state g.S.Store conn).now held) (sym untouched) (holds.there foreign)))
-    (both_ok c.adopt_and_load.result _ _ c.adopt_and_load.ensures.unchanged c.adopt_and_load.ensures.open)
 
 pub returns-in-Foreign-clause-found : goal.returns-in-Foreign-clause-found
 returns-in-Foreign-clause-found g c =

@@ -1,4 +1,4 @@
-use Rattle.std.proofs.Common.{◌≡◌, ◌∙◌, List, ap, [], rules}
+use Rattle.std.proofs.Common.{◌≡◌, ◌∙◌, List, ap, []}
 use Rattle.std.proofs.lemmas.Result.{IfOk-at_ok, IfOk-weaker}
 use Rattle.sqlite.specs.Held.{state}
 use Rattle.attributes.specs.Event.{EventValue}
