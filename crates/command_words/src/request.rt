@@ -6,13 +6,26 @@ use views::Query;
 #[derive(Drop)]
 pub enum Plan {
     /// The answer to a query for the events of all files together.
-    Ask { query: Query, files: Texts },
+    Ask {
+        query: Query,
+        files: Texts,
+    },
     /// The files' events into a database.
-    Take { db: Text, files: Texts },
+    Take {
+        db: Text,
+        files: Texts,
+    },
     /// The events of a database that a summary lacks, from a place on.
-    Delta { db: Text, from: u64, summary: Text },
+    Delta {
+        db: Text,
+        from: u64,
+        summary: Text,
+    },
     /// The events of a database in key order, from a place on.
-    Scrub { db: Text, from: u64 },
+    Scrub {
+        db: Text,
+        from: u64,
+    },
     /// Files taken side by side into a database, each by a thread of its own, and with them the
     /// events of another site's file, where one is given; 16 files at most, that one counted.
     Run {
@@ -23,7 +36,10 @@ pub enum Plan {
     /// A command to the service of a database.
     Order(Request),
     /// The rows of a service's outbox with a number greater than `after`.
-    Relay { db: Text, after: u64 },
+    Relay {
+        db: Text,
+        after: u64,
+    },
 }
 
 /// A command to a service: what is done with which order, and when.

@@ -105,7 +105,11 @@ pub fn workers(alloc: Global, has_peer: bool, files: u64) -> Result<(), Faulty>
     ensures ok { IfOk result (λ _. AreFew has_peer files) }
     ensures err { IfErr result (Blames (AreFew has_peer files → ⊥)) }
 {
-    let most = if has_peer { MAX_WORKERS - 1 } else { MAX_WORKERS };
+    let most = if has_peer {
+        MAX_WORKERS - 1
+    } else {
+        MAX_WORKERS
+    };
     if files > most {
         return Err(too_many(alloc));
     }

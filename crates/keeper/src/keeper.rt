@@ -116,11 +116,7 @@ impl<S: Alter + Drop> Keeper<S> {
     /// that its rows aren't read twice. Time and memory in proportion to the events.
     ///
     /// The table comes back after want of memory.
-    pub fn of_loaded(
-        alloc: Global,
-        table: Table<S>,
-        events: Batch,
-    ) -> Result<Kept<S>, NotKept<S>>
+    pub fn of_loaded(alloc: Global, table: Table<S>, events: Batch) -> Result<Kept<S>, NotKept<S>>
         ensures site { IfOk result (λ k. k.site ≡ append_new key_cmp [] events) }
         ensures keeper { IfOk result (λ k. k.keeper ≡ table) }
         ensures back { IfErr result (λ n. n.table ≡ table) }

@@ -9,8 +9,7 @@ use site_lock::laws::calls_follow;
 /// as much.
 pub fn first_arrivals_stay()
     ensures { FirstArrivalsStay }
-{
-}
+{}
 
 /// Where n arrivals are acknowledged, a caller was told that none come after the first n, and the
 /// keeper's pass has seen that since, the table has all that the caller had seen by then: all that

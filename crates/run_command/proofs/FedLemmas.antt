@@ -68,6 +68,7 @@ each_fed is_found p q later place [] fed behind each = tt
 each_fed is_found p q later place (b ∷ bs) [] behind each = absurd each
 each_fed is_found p q later place (b ∷ bs) (r ∷ rs) behind each =
     let w = each.0 in let A = leave q.opening q.seen in let g = leave_grows A later in
-    let is = leave-append q.opening q.seen later ∙ g.1 in
-    ((w.0, w.2, holds_later is_found A (leave q.opening (q.seen ++ later)) (handled w.0) g.0 is (all_there is_found (worker_of p place) q.seen q.opening w.0 w.1)),
-      each_fed is_found p q later (place + 1) bs rs behind each.1)
+    let is = leave-append q.opening q.seen later ∙ g.1 in (
+      (w.0, w.2, holds_later is_found A (leave q.opening (q.seen ++ later)) (handled w.0) g.0 is (all_there is_found (worker_of p place) q.seen q.opening w.0 w.1)),
+      each_fed is_found p q later (place + 1) bs rs behind each.1,
+    )

@@ -59,12 +59,12 @@ pub record Whole (arrivals : List EventValue) (b : List ℕ) (r : Report) : Type
 whole : (arrivals : List EventValue) (b : List ℕ) (r : Report) → IsFed arrivals b r → r.ended ≡ Done → Whole arrivals b r
 whole arrivals b r fed done = elim fed.1 [
   | inl f ↦ (let t : Tells f.0 fed.0 r = f.2 in let d = t.done done in let h = ap (λ (z : List EventValue). length z) d.0 in record {
-      events = f.0;
-      reads = f.1;
-      fed = subst (λ (z : List EventValue). Holds arrivals z) d.0 fed.2;
-      all = d.1;
-      none = omega (arith, t.counts.read, t.counts.handled, h, d.1);
-    })
+    events = f.0;
+    reads = f.1;
+    fed = subst (λ (z : List EventValue). Holds arrivals z) d.0 fed.2;
+    all = d.1;
+    none = omega (arith, t.counts.read, t.counts.handled, h, d.1);
+  })
   | inr u ↦ absurd (not_done u.1.0 (sym (ap (λ (z : Report). z.ended) u.1.1) ∙ done))
 ]
 
@@ -139,9 +139,9 @@ blamed arrivals (b ∷ bs) (r ∷ rs) place i f fed is = by_end (of_end place (s
         let at : of_end place (suc (length bs)) r.ended ≡ Some (run.Feed i f) = e ∙ (ap (λ (o : Option RunFault). option_or o rest) (sym e) ∙ is) in
         elim fed.0.1 [
           | inl t ↦ (let bad = is_bad place (length bs) r.ended i f at in elim t.2.ended [
-              | inl done ↦ (let wrong : Done ≡ BadInput f = sym done ∙ bad in absurd (cc))
-              | inr early ↦ absurd (subst EndsEarly bad early)
-            ])
+            | inl done ↦ (let wrong : Done ≡ BadInput f = sym done ∙ bad in absurd (cc))
+            | inr early ↦ absurd (subst EndsEarly bad early)
+          ])
           | inr u ↦ (let n = not_memory place (suc (length bs)) u.1.0 i f (ap (λ (z : Report). of_end place (suc (length bs)) z.ended) (sym u.1.1) ∙ at) in
               record { k = 0; at = omega (arith, n.0); b = b; there = refl; refuses = subst (λ g. Refuses b g) n.1.0 (u.1.2 n.1.1) })
         ]

@@ -9,12 +9,7 @@ use views::Query;
 
 /// How many events were read, how many of them had no number, how many the site has now, and its
 /// summary.
-pub fn run_text(
-    alloc: Global,
-    read: u128,
-    refused: u128,
-    site: &Site,
-) -> Result<Text, AllocError>
+pub fn run_text(alloc: Global, read: u128, refused: u128, site: &Site) -> Result<Text, AllocError>
     ensures { IfOk result (IsRunText read refused site.now) }
 {
     let mut text = first_line(alloc, read, refused, site.arrived())?;
@@ -23,12 +18,7 @@ pub fn run_text(
 }
 
 /// The line of the counts.
-fn first_line(
-    alloc: Global,
-    read: u128,
-    refused: u128,
-    held: u64,
-) -> Result<String, AllocError>
+fn first_line(alloc: Global, read: u128, refused: u128, held: u64) -> Result<String, AllocError>
     ensures { IfOk result (λ line. string_bytes line ≡ run_line read refused held) }
 {
     format!(in alloc; "read {read} refused {refused} held {held}\n")

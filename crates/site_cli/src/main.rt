@@ -7,9 +7,9 @@ mod line;
 mod query;
 mod run;
 mod system;
-mod workers;
 #[cfg(test)]
 mod tests;
+mod workers;
 
 use run::exit;
 use std::process::ExitCode;

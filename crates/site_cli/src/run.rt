@@ -26,11 +26,7 @@ use std::thread::Threads;
 
 /// Runs the program on the words after its name, and answers its exit code. Words that couldn't be
 /// had are at fault, or memory was refused.
-pub fn exit<
-    R: AllocGlobal + Files + Databases + Runs + Threads + Wait + Sync,
-    O: Write,
-    E: Write,
->(
+pub fn exit<R: AllocGlobal + Files + Databases + Runs + Threads + Wait + Sync, O: Write, E: Write>(
     rt: &R,
     words: io::Result<Vec<Text>>,
     out: &mut O,
@@ -59,12 +55,7 @@ pub fn perform<
     R: AllocGlobal + Files + Databases + Runs + Threads + Wait + Sync,
     O: Write,
     E: Write,
->(
-    rt: &R,
-    words: &[Text],
-    out: &mut O,
-    err: &mut E,
-) -> u8
+>(rt: &R, words: &[Text], out: &mut O, err: &mut E) -> u8
     ensures status { result ≤ 2 }
     ensures answer { result ≡ 0
         → PrintsAnswer (λ _ _. Unit {0}) words.now (O.contents out.old) (O.contents out.new) }
@@ -127,12 +118,7 @@ fn is_run(plan: &Plan) -> bool
 }
 
 /// What a plan that isn't a run comes to over a shelf of files.
-fn ending_of<S: Shelf, D: Databases>(
-    alloc: Global,
-    shelf: &S,
-    databases: &D,
-    plan: &Plan,
-) -> Ending
+fn ending_of<S: Shelf, D: Databases>(alloc: Global, shelf: &S, databases: &D, plan: &Plan) -> Ending
     requires alone { is_run plan.now ≡ false }
     requires allowed { IsAllowed plan.now }
     ensures { IsPlanEnding (S.is_content shelf.now) (S.is_unread shelf.now) plan.now result }
@@ -157,7 +143,15 @@ fn ending_of_run<R: Threads + Wait + Sync, S: Shelf, D: Runs>(
 {
     match plan {
         Plan::Run { db, peer, files } => {
-            match run(rt, alloc, shelf, databases, db.as_str(), peer, files.as_slice()) {
+            match run(
+                rt,
+                alloc,
+                shelf,
+                databases,
+                db.as_str(),
+                peer,
+                files.as_slice(),
+            ) {
                 Ok(text) => Ending::Answer(text),
                 Err(refusal) => refused(alloc, plan, refusal),
             }

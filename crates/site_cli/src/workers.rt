@@ -105,15 +105,7 @@ fn run_feeds<R: Threads + Wait + Sync, D: Runs>(
     ensures ok { IfOk result (AnswersJobs false contents.items) }
     ensures err { IfErr result (RefusesJobs false contents.items) }
 {
-    run_jobs(
-        rt,
-        alloc,
-        databases,
-        db,
-        contents,
-        List::empty(alloc),
-        0,
-    )
+    run_jobs(rt, alloc, databases, db, contents, List::empty(alloc), 0)
 }
 
 /// Runs; the feeds' files stand from the place `first` on.

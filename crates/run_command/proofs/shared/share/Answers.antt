@@ -19,6 +19,6 @@ returns-clause-ok g c =
     c.of-flusher.result flusher c.serve-served.result c.in-Ok.ensures.begun c.in-Ok-split.ensures.old c.in-Ok-split.ensures.new c.of-flusher.ensures.keeper c.of-flusher.ensures.pass
     c.serve-served.ensures.aside c.serve-served.ensures.same.0 c.serve-served.ensures.served
     (subst (λ (p : Shown). KeepsUp (state g.S.Store flusher.keeper.conn) flusher.keeper.rows (leaves p)) own
-      (subst (λ (z : Kept _). KeepsUp (state g.S.Store z.conn) z.rows (leaves last.pass)) keeper c.end-keeper.ensures.first))
+    (subst (λ (z : Kept _). KeepsUp (state g.S.Store z.conn) z.rows (leaves last.pass)) keeper c.end-keeper.ensures.first))
     (subst (λ (p : Shown). Meets c.serve-served.new.pass p c.meet.new.me) own c.in-Ok-meet.ensures.met)
     c.close-site.ensures)
