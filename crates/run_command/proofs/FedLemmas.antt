@@ -40,26 +40,28 @@ pub holds_both : (A L M : List EventValue) → Holds A L → Holds A M → Holds
 holds_both A [] M h k = k
 holds_both A (x ∷ xs) M h k = (h.0, holds_both A xs M h.1 k)
 
+-- one call of the pass more, where what comes behind it is there
+mine_there : IsFound → (n : List ℕ) (e : Entry Call) (es : List (Entry Call)) (A : List EventValue) → ((cs : List Call) → made_by n es ≡ map (entry n) cs → Holds (leave (arrivals_after A e.call) es) (handled cs))
+    → (m : List Call) → e ∷ made_by n es ≡ map (entry n) m → Holds (leave (arrivals_after A e.call) es) (handled m)
+mine_there is_found n e es A behind [] is = absurd (cc)
+mine_there is_found n e es A behind (c ∷ cs) is =
+    let first : e ≡ entry n c = cc in
+    let rest : made_by n es ≡ map (entry n) cs = cc in
+    let L : List EventValue = handled_by c.command c.reply in
+    let B = arrivals_after A e.call in
+    let g = leave_grows B es in
+    let now : Holds B L = subst (λ (x : Entry Call). Holds (arrivals_after A x.call) L) (sym first) (holds_handled is_found A L) in
+    holds_both (leave B es) L (handled cs) (holds_later is_found B (leave B es) L g.0 g.1 now) (behind cs rest)
+
 -- the events that one pass handled are there after a history that has its calls
 all_there : IsFound → (n : List ℕ) (log : List (Entry Call)) (A : List EventValue) (m : List Call) → made_by n log ≡ map (entry n) m → Holds (leave A log) (handled m)
 all_there is_found n [] A [] is = tt
 all_there is_found n [] A (c ∷ cs) is = absurd (cc)
 all_there is_found n (e ∷ es) A m is =
     (elim (same_number e.number n) as (λ b. cond b (e ∷ made_by n es) (made_by n es) ≡ map (entry n) m → Holds (leave (arrivals_after A e.call) es) (handled m)) [
-      | true ↦ mine m
+      | true ↦ mine_there is_found n e es A (λ cs rest. all_there is_found n es (arrivals_after A e.call) cs rest) m
       | false ↦ (λ others. all_there is_found n es (arrivals_after A e.call) m others)
     ]) is
-  where
-    mine : (m : List Call) → e ∷ made_by n es ≡ map (entry n) m → Holds (leave (arrivals_after A e.call) es) (handled m)
-    mine [] is = absurd (cc)
-    mine (c ∷ cs) is =
-        let first : e ≡ entry n c = cc in
-        let rest : made_by n es ≡ map (entry n) cs = cc in
-        let L : List EventValue = handled_by c.command c.reply in
-        let B = arrivals_after A e.call in
-        let g = leave_grows B es in
-        let now : Holds B L = subst (λ (x : Entry Call). Holds (arrivals_after A x.call) L) (sym first) (holds_handled is_found A L) in
-        holds_both (leave B es) L (handled cs) (holds_later is_found B (leave B es) L g.0 g.1 now) (all_there is_found n es B cs rest)
 
 -- what the workers of feeds handed over is among the arrivals
 pub each_fed : IsFound → (p q : Shown) (later : List (Entry Call)) (place : ℕ) (feeds : List (List ℕ)) (fed behind : List Report) → EachAt (WorkerFeeds p q) place feeds fed

@@ -1,3 +1,4 @@
+mod EndLemmas
 mod FedLemmas
 mod SharedLemmas
 mod TallyLemmas

@@ -1,5 +1,5 @@
 -- What reports without a fault tell of the feeds.
-use Rattle.std.proofs.Common.{◌≡◌, ◌≢◌, ◌+◌, ◌≤◌, ℕ, zero, suc, slice_get, List, [], ◌∷◌, ◌++◌, length, take, refl, sym, ap, subst, ◌∙◌, arith, length-append, Option, None, Some, inl, inr}
+use Rattle.std.proofs.Common.{◌≡◌, ◌≢◌, ◌+◌, ◌-◌, ◌≤◌, ℕ, zero, suc, slice_get, List, [], ◌∷◌, ◌++◌, length, take, refl, sym, ap, subst, ◌∙◌, arith, length-append, Option, None, Some, inl, inr}
 use Rattle.std.specs.Option.{option_or}
 use Rattle.std.proofs.lemmas.List.Elements.{filter-append}
 use Rattle.attributes.specs.Event.{EventValue}
@@ -68,12 +68,16 @@ whole arrivals b r fed done = elim fed.1 [
   | inr u ↦ absurd (not_done u.1.0 (sym (ap (λ (z : Report). z.ended) u.1.1) ∙ done))
 ]
 
+-- the first report of a feed, and those behind it
+at_first : (place n : ℕ) (r : Report) (rs : List Report) → first_fault place (suc n) (r ∷ rs) ≡ option_or (of_end place (suc n) r.ended) (first_fault (place + 1) n rs)
+at_first place n r rs = let less : suc n - 1 ≡ n = omega arith in ap (λ k. option_or (of_end place (suc n) r.ended) (first_fault (place + 1) k rs)) less
+
 pub told : (arrivals : List EventValue) (bs : List (List ℕ)) (rs : List Report) (place : ℕ) → AreFed arrivals bs rs → first_fault place (length bs) rs ≡ None → Told arrivals bs rs
 told arrivals [] rs place fed none = record { lists = []; read = tt; fed = tt; all = refl; none = refl }
 told arrivals (b ∷ bs) [] place fed none = absurd fed
 told arrivals (b ∷ bs) (r ∷ rs) place fed none =
-    let n = no_first (of_end place (length (b ∷ bs)) r.ended) (first_fault (place + 1) (length bs) rs) none in
-    let w = whole arrivals b r fed.0 (done_by place (length (b ∷ bs)) r.ended n.0) in
+    let n = no_first (of_end place (suc (length bs)) r.ended) (first_fault (place + 1) (length bs) rs) (sym (at_first place (length bs) r rs) ∙ none) in
+    let w = whole arrivals b r fed.0 (done_by place (suc (length bs)) r.ended n.0) in
     let t = told arrivals bs rs (place + 1) fed.1 n.1 in
     let is : sequenced (w.events ++ joined t.lists) ≡ sequenced w.events ++ sequenced (joined t.lists) = filter-append has_number w.events (joined t.lists) in
     let counted = ap (λ (z : List EventValue). length z) is ∙ length-append (sequenced w.events) (sequenced (joined t.lists)) in
@@ -112,36 +116,38 @@ is_bad place n GateShut i f h = absurd (cc)
 is_bad place n (BadInput g) i f h = cc
 
 -- no feed is blamed where there is none
+no_end : (place i : ℕ) (f : ReadFault) (rest : Option RunFault) (e : Ended) → (rest ≡ Some (run.Feed i f) → ⊥) → option_or (of_end place 0 e) rest ≡ Some (run.Feed i f) → ⊥
+no_end place i f rest Done never h = never h
+no_end place i f rest OutOfMemory never h = absurd (cc)
+no_end place i f rest GateShut never h = absurd (cc)
+no_end place i f rest (BadInput g) never h = absurd (cc)
+
 none_blamed : (rs : List Report) (place i : ℕ) (f : ReadFault) → first_fault place 0 rs ≡ Some (run.Feed i f) → ⊥
 none_blamed [] place i f h = absurd (cc)
-none_blamed (r ∷ rs) place i f h = by_end r.ended h
-  where
-    by_end : (e : Ended) → option_or (of_end place 0 e) (first_fault (place + 1) 0 rs) ≡ Some (run.Feed i f) → ⊥
-    by_end Done h = none_blamed rs (place + 1) i f h
-    by_end OutOfMemory h = absurd (cc)
-    by_end GateShut h = absurd (cc)
-    by_end (BadInput g) h = absurd (cc)
+none_blamed (r ∷ rs) place i f h = no_end place i f (first_fault (place + 1) 0 rs) r.ended (none_blamed rs (place + 1) i f) h
+
+-- the first of the reports ends so
+by_end : (arrivals : List EventValue) (b : List ℕ) (bs : List (List ℕ)) (r : Report) (place i : ℕ) (f : ReadFault) (rest : Option RunFault) → IsFed arrivals b r
+    → (rest ≡ Some (run.Feed i f) → Blamed bs (place + 1) i f) → (o : Option RunFault) → of_end place (suc (length bs)) r.ended ≡ o
+    → option_or (of_end place (suc (length bs)) r.ended) rest ≡ Some (run.Feed i f) → Blamed (b ∷ bs) place i f
+by_end arrivals b bs r place i f rest fed later None e is =
+    let t = later (ap (λ (o : Option RunFault). option_or o rest) (sym e) ∙ is) in
+    record { k = suc t.k; at = omega (arith, t.at); b = t.b; there = t.there; refuses = t.refuses }
+by_end arrivals b bs r place i f rest fed later (Some y) e is =
+    let at : of_end place (suc (length bs)) r.ended ≡ Some (run.Feed i f) = e ∙ (ap (λ (o : Option RunFault). option_or o rest) (sym e) ∙ is) in
+    elim fed.1 [
+      | inl t ↦ (let bad = is_bad place (length bs) r.ended i f at in elim t.2.ended [
+          | inl done ↦ (let wrong : Done ≡ BadInput f = sym done ∙ bad in absurd (cc))
+          | inr early ↦ absurd (subst EndsEarly bad early)
+        ])
+      | inr u ↦ (let n = not_memory place (suc (length bs)) u.1.0 i f (ap (λ (z : Report). of_end place (suc (length bs)) z.ended) (sym u.1.1) ∙ at) in
+          record { k = 0; at = omega (arith, n.0); b = b; there = refl; refuses = subst (λ g. Refuses b g) n.1 (u.1.2 n.2) })
+    ]
 
 pub blamed : (arrivals : List EventValue) (bs : List (List ℕ)) (rs : List Report) (place i : ℕ) (f : ReadFault) → AreFed arrivals bs rs
     → first_fault place (length bs) rs ≡ Some (run.Feed i f) → Blamed bs place i f
 blamed arrivals [] rs place i f fed is = absurd (none_blamed rs place i f is)
 blamed arrivals (b ∷ bs) [] place i f fed is = absurd fed
-blamed arrivals (b ∷ bs) (r ∷ rs) place i f fed is = by_end (of_end place (suc (length bs)) r.ended) refl
-  where
-    rest : Option RunFault
-    rest = first_fault (place + 1) (length bs) rs
-
-    by_end : (o : Option RunFault) → of_end place (suc (length bs)) r.ended ≡ o → Blamed (b ∷ bs) place i f
-    by_end None e =
-        let t = blamed arrivals bs rs (place + 1) i f fed.1 (ap (λ (o : Option RunFault). option_or o rest) (sym e) ∙ is) in
-        record { k = suc t.k; at = omega (arith, t.at); b = t.b; there = t.there; refuses = t.refuses }
-    by_end (Some y) e =
-        let at : of_end place (suc (length bs)) r.ended ≡ Some (run.Feed i f) = e ∙ (ap (λ (o : Option RunFault). option_or o rest) (sym e) ∙ is) in
-        elim fed.0.1 [
-          | inl t ↦ (let bad = is_bad place (length bs) r.ended i f at in elim t.2.ended [
-            | inl done ↦ (let wrong : Done ≡ BadInput f = sym done ∙ bad in absurd (cc))
-            | inr early ↦ absurd (subst EndsEarly bad early)
-          ])
-          | inr u ↦ (let n = not_memory place (suc (length bs)) u.1.0 i f (ap (λ (z : Report). of_end place (suc (length bs)) z.ended) (sym u.1.1) ∙ at) in
-              record { k = 0; at = omega (arith, n.0); b = b; there = refl; refuses = subst (λ g. Refuses b g) n.1.0 (u.1.2 n.1.1) })
-        ]
+blamed arrivals (b ∷ bs) (r ∷ rs) place i f fed is =
+    by_end arrivals b bs r place i f (first_fault (place + 1) (length bs) rs) fed.0 (blamed arrivals bs rs (place + 1) i f fed.1) (of_end place (suc (length bs)) r.ended) refl
+    (sym (at_first place (length bs) r rs) ∙ is)

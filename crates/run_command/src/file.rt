@@ -1,5 +1,6 @@
 //! Runs over databases by the names of their files.
 ghost use Rattle.std.specs.Prelude.{◌≡◌, ◌≤◌, ◌+◌, length, List, IfErr, IfOk};
+ghost use Rattle.std.specs.Thread.{IsSync};
 ghost use Rattle.attributes.specs.Event.{EventValue};
 ghost use Rattle.run_command.specs.Run.{IsFeedFault, SaysRun};
 
@@ -26,7 +27,8 @@ pub trait Runs {
         jobs: Jobs,
         growth: u64,
     ) -> Result<Text, RunFault>
-        requires { length jobs.feeds + length jobs.peers + length jobs.asks ≤ 16 }
+        requires few { length jobs.feeds + length jobs.peers + length jobs.asks ≤ 16 }
+        requires sync { IsSync R.row }
         ensures said { IfOk result (λ text.
             (arrivals : List EventValue) × SaysRun jobs.feeds arrivals text) }
         ensures feed { IfErr result (IsFeedFault jobs.feeds) };

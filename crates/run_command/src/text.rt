@@ -21,5 +21,6 @@ pub fn run_text(alloc: Global, read: u128, refused: u128, site: &Site) -> Result
 fn first_line(alloc: Global, read: u128, refused: u128, held: u64) -> Result<String, AllocError>
     ensures { IfOk result (λ line. string_bytes line ≡ run_line read refused held) }
 {
-    format!(in alloc; "read {read} refused {refused} held {held}\n")
+    let line = format!(in alloc; "read {read} refused {refused} held {held}\n")?;
+    Ok(line)
 }
