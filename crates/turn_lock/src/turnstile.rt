@@ -14,6 +14,10 @@ use std::marker::Model;
 use std::snapshot::Snapshot;
 use std::sync::Wait;
 use std::thread;
+use std::time::Duration;
+
+/// How often a pass that waits yields before it sleeps.
+const YIELDS: u32 = 100;
 
 /// The rule of the table: one history, turns in the order of their tickets.
 pub struct ByTurns;
@@ -185,6 +189,25 @@ impl<O: Machine<A, C> + Drop, A, C> Turnstile<O, A, C> {
         unreachable!()
     }
 
+    /// Lets time pass between two looks for the turn of a ticket, after so many looks of which the
+    /// last found that so many turns ended. At first it yields. A pass that waits longer sleeps from
+    /// look to look, for 1 microsecond and then twice as long each time: up to 64 where its turn is
+    /// the next, and up to 1,024 where many are before it. It sleeps not at all where a turn ended
+    /// since the look. So waiting for long costs little time of the processor, and a pass comes to
+    /// its turn late by no more than it has waited, as far as the operating system keeps time.
+    fn pause<R: Wait>(&self, rt: &R, looks: u32, ended: u64, ticket: u64) {
+        if looks < YIELDS {
+            thread::yield_now();
+            return;
+        }
+        let before = ticket.saturating_sub(ended).min(5) as u32;
+        let doublings = (looks - YIELDS).min(5 + before);
+        let found = (ended & 0xffff_ffff) as u32;
+        self.table
+            .shared
+            .park_timeout(rt, 0, found, Duration::from_micros(1 << doublings));
+    }
+
     /// Waits for the turn of the ticket, and takes the slot.
     fn wait<R: Wait>(&self, rt: &R, pass: &mut Pass<O, A, C>, ticket: u64)
         requires own { pass.old.table_id ≡ self.now }
@@ -194,11 +217,14 @@ impl<O: Machine<A, C> + Drop, A, C> Turnstile<O, A, C> {
         ensures own { (pass.new.table_id ≡ pass.old.table_id) × (pass.new.id ≡ pass.old.id) }
         ensures come { Comes O.state O.next O.fits pass.old.me pass.new.me }
     {
+        let mut looks = 0u32;
         for _ in rt.forever() {
-            if self.table.shared.load::<Come>(pass, 0) == ticket {
+            let ended = self.table.shared.load::<Come>(pass, 0);
+            if ended == ticket {
                 return;
             }
-            thread::yield_now();
+            self.pause(rt, looks, ended, ticket);
+            looks = looks.saturating_add(1);
         }
         unreachable!()
     }
