@@ -1,5 +1,7 @@
 //! Work for the thread that waits for workers.
 
+ghost use Rattle.std.specs.Prelude.{◌≡◌, false};
+
 /// Work that the calling thread does beside workers, one turn after another, until they have ended.
 /// It means a relation of two states: what the work may have come to.
 pub trait Aside {
@@ -31,7 +33,10 @@ impl Aside for Idle {
 
     ghost goes_on = { λ a b c first then. then ∙ first };
 
-    fn turn(&mut self) -> bool {
+    fn turn(&mut self) -> bool
+        ensures moves { self.new ≡ self.old }
+        ensures stops { result ≡ false }
+    {
         false
     }
 }

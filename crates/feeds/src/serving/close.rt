@@ -45,6 +45,7 @@ fn add(served: &mut Served, outcome: Outcome)
 /// The pass meets each worker, and each worker then the pass. What came of the jobs is put into the
 /// room that was made for it, in their order.
 #[cycle(close)]
+#[tactic(auto, using(crate::proofs::ServeLemmas::all_at_last))]
 pub(super) fn close_all(
     shared: &SharedSite,
     pass: &mut Pass,

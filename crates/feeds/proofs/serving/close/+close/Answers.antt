@@ -5,9 +5,6 @@ use Rattle.feeds.specs.steps.Serve.{AllAt, reports_in, answers_in}
 use Rattle.feeds.proofs.ServeLemmas.{all_at_last, answers_few, answers_more, closes, reports_few, reports_more}
 use Rattle.feeds.proofs.serving.close.+close.Goals as goal
 
-pub meet-requires-clause-others : goal.meet-requires-clause-others
-meet-requires-clause-others t c = (all_at_last _ _ _ (subst (λ l. AllAt c.args.shared.now l) c.in-Some.ensures.items c.requires.each)).1
-
 pub close_all-served-requires : goal.close_all-served-requires
 close_all-served-requires t c =
     let at : AllAt c.args.shared.now c.pop.new.self.items = (all_at_last _ _ _ (subst (λ l. AllAt c.args.shared.now l) c.in-Some.ensures.items c.requires.each)).0 in
