@@ -26,9 +26,9 @@ use std::hash::{BuildHasher, RandomState};
 const PAGE: u64 = 4_096;
 /// The fewest pages that are kept in memory.
 const LEAST_PAGES: u64 = 200;
-/// The most pages that are kept in memory, 256 MiB. The cache is made before the file is looked at,
-/// so a huge file that is no database may not ask for more; of a database past this size an open
-/// reads pages again.
+/// The most pages that are kept in memory, 256 MiB. The cache is made once the first page is found
+/// to be a database's, so a huge file that only begins like one may not ask for more; of a database
+/// past this size an open reads pages again.
 const MOST_PAGES: u64 = 65_536;
 
 /// The commands over databases, by the names of their files. Each opens the database, makes its
