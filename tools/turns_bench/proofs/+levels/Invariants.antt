@@ -1,5 +1,5 @@
 use Rattle.std.proofs.Common.{◌-◌, ◌*◌}
-use Rattle.site_lock.proofs.tests.+levels.Given as goal
+use Rattle.turns_bench.proofs.+levels.Given as goal
 
 abbrev pub decreases-join+arg2 : goal.decreases-join+arg2
 decreases-join+arg2 g l = 2 * l.levels - 1
@@ -7,5 +7,5 @@ decreases-join+arg2 g l = 2 * l.levels - 1
 abbrev pub decreases-join+arg3 : goal.decreases-join+arg3
 decreases-join+arg3 g l = 2 * l.levels - 1
 
-abbrev pub decreases-take_by_many : goal.decreases-take_by_many
-decreases-take_by_many g l = 2 * l.levels
+abbrev pub decreases-ask_together : goal.decreases-ask_together
+decreases-ask_together g l = 2 * l.levels
