@@ -121,7 +121,17 @@ fn work_together<R: Threads + Wait + Sync>(
         || -> Pass
             requires { IsSync R.row × (second.table ≡ shared.now) × (0 < levels) }
             ensures { result.table ≡ second.table }
-        { work_together(rt, alloc, shared, second, left.wrapping_add(1), work, levels - 1) },
+        {
+            work_together(
+                rt,
+                alloc,
+                shared,
+                second,
+                left.wrapping_add(1),
+                work,
+                levels - 1,
+            )
+        },
     );
     let _ = shared.meet(&mut first, &mut second);
     first
