@@ -121,7 +121,17 @@ fn work_together<R: Threads + Wait + Sync>(
         || -> Pass
             requires { IsSync R.row × (second.table ≡ shared.now) × (0 < levels) }
             ensures { result.table ≡ second.table }
-        { work_together(rt, alloc, shared, second, left.wrapping_add(1), work, levels - 1) },
+        {
+            work_together(
+                rt,
+                alloc,
+                shared,
+                second,
+                left.wrapping_add(1),
+                work,
+                levels - 1,
+            )
+        },
     );
     let _ = shared.meet(&mut first, &mut second);
     first
@@ -156,4 +166,13 @@ fn two_threads_take_turns(rt: HostRuntime) {
 fn sixteen_threads_take_turns(rt: HostRuntime) {
     let counts = after_work(&rt, rt.alloc(), 4, Work::Ask(6250)).expect(&rt, "no memory");
     assert!(rt; counts == (0, 100_001, 0));
+}
+
+/// With ample memory it says less than the two above. Run with each allocation refused in turn, some
+/// within a turn, it says that a refused call has its turn and adds nothing but what it took.
+#[test]
+fn what_was_refused_is_not_there(rt: HostRuntime) {
+    if let Ok((shown, turns, arrived)) = after_work(&rt, rt.alloc(), 1, Work::Take(5)) {
+        assert!(rt; shown == arrived && arrived <= 10 && arrived < turns && turns <= 11);
+    }
 }

@@ -20,12 +20,7 @@ use std::sync::Wait;
 use views::{Answer, Query};
 
 /// What a peer lacks, as a desk answers.
-fn delta_page(
-    site: &Site,
-    peer: &Summary,
-    from: u64,
-    limit: u64,
-) -> Result<Batch, DeskFault>
+fn delta_page(site: &Site, peer: &Summary, from: u64, limit: u64) -> Result<Batch, DeskFault>
     requires low { 1 ≤ limit }
     requires high { limit ≤ 100 }
     ensures answers { Answers site.now
