@@ -1,5 +1,5 @@
 -- What a database holds for a command.
-use Rattle.std.specs.Prelude.{◌≡◌, ◌+◌, ℕ, List, [], length, true, false}
+use Rattle.std.specs.Prelude.{◌≡◌, ◌⊎◌, ◌+◌, ◌++◌, ℕ, suc, List, [], ◌∷◌, Some, None, length, true, false}
 use Rattle.sqlite.specs.Effect.{Database}
 use Rattle.attributes.specs.Event.{EventValue}
 use Rattle.inbox.specs.KeyOrder.{key_cmp}
@@ -10,8 +10,16 @@ use Rattle.site.specs.Delta.{delta}
 use Rattle.site.specs.Page.{page}
 use Rattle.inbox_table.specs.Rows.{IsInbox}
 use Rattle.inbox_table.specs.Schema.{has_inbox}
+use Rattle.outbox.specs.Order.{Accepted, refusal}
+use Rattle.outbox.specs.Row.{row_event, rows_after}
+use Rattle.outbox.specs.Schema.{has_name}
+use Rattle.outbox.specs.Service.{IsService}
+use Rattle.outbox.specs.declared.fault.OutboxFault.{OutboxFault}
+use Rattle.outbox.specs.declared.status.Status.{Status}
 use Rattle.relay.specs.Route.{AreIn}
-use Rattle.database_commands.specs.Print.{batch_line, counts_line}
+use Rattle.database_commands.specs.Fault.{of_outbox}
+use Rattle.database_commands.specs.Print.{batch_line, counts_line, event_line}
+use Rattle.database_commands.specs.declared.fault.CommandFault.{CommandFault}
 
 -- the database has an inbox with these events, or none, and then they are none
 pub record Holds (db : Database) (events : List EventValue) : Type 0 where
@@ -46,9 +54,56 @@ abbrev pub ShowsPage : ℕ → Database → List ℕ → Type 0
 ShowsPage from db text = (held : List EventValue) → Holds db held
     → text ≡ batch_line (page (set_of held) from max_page)
 
+-- a service that is new has the source that is given, the base 0, and no commands
+pub record IsNew (given source : List ℕ) (base : ℕ) (commands : List Accepted) : Type 0 where
+  pub source_is : source ≡ given
+  pub base_is : base ≡ 0
+  pub none : commands ≡ []
+
+-- the database has a service with this source and base, which accepted these commands; or it has no
+-- table of a service's names, and then they are those of a service that is new
+abbrev pub Serves : Database → List ℕ → List ℕ → ℕ → List Accepted → Type 0
+Serves db given source base commands = IsService db source base commands
+    ⊎ ((has_name db.schema ≡ false) × IsNew given source base commands)
+
+-- this is the source and the base of the service that the database had, or would have with the source
+-- that is given, and the new database is that of this service
+abbrev pub IsServed : List ℕ → Database → List ℕ → ℕ → Database → Type 0
+IsServed given old source base new = (s : List ℕ) (b : ℕ) (commands : List Accepted)
+    → Serves old given s b commands → (source ≡ s) × (base ≡ b) × IsService new s b commands
+
+-- a service accepted one command more, and the text is the event of its row
+pub record IsOrdered (source : List ℕ) (base : ℕ) (commands : List Accepted) (c : Accepted)
+    (new : Database) (text : List ℕ) : Type 0 where
+  pub fits : refusal base commands c.status c.order ≡ None
+  pub kept : IsService new source base (commands ++ c ∷ [])
+  pub line : text ≡ event_line (row_event source (suc (base + length commands)) c)
+
+-- so it is whatever the database held
+abbrev pub Orders : List ℕ → Accepted → Database → Database → List ℕ → Type 0
+Orders given c old new text = (source : List ℕ) (base : ℕ) (commands : List Accepted)
+    → Serves old given source base commands → IsOrdered source base commands c new text
+
+-- the service refuses to give the order the status, for this fault
+abbrev pub RefusesOrder : List ℕ → Status → ℕ → Database → CommandFault → Type 0
+RefusesOrder given status order db f = (source : List ℕ) (base : ℕ) (commands : List Accepted)
+    → Serves db given source base commands
+    → (why : OutboxFault) × (refusal base commands status order ≡ Some why) × (f ≡ of_outbox why)
+
+-- the service is as it was, and made where there was none or not
+abbrev pub KeepsService : List ℕ → Database → Database → Type 0
+KeepsService given old new = (source : List ℕ) (base : ℕ) (commands : List Accepted)
+    → Serves old given source base commands → Serves new given source base commands
+
 -- the text is the batch of these events, in some order and with repeats
 pub record PrintsRows (text : List ℕ) (rows : List EventValue) : Type 0 where
   pub events : List EventValue
   pub line : text ≡ batch_line events
   pub complete : AreIn rows events
   pub sound : AreIn events rows
+
+-- the text is the batch of the next rows after a number, at most a page of them
+abbrev pub ShowsRows : List ℕ → ℕ → Database → List ℕ → Type 0
+ShowsRows given after db text = (source : List ℕ) (base : ℕ) (commands : List Accepted)
+    → Serves db given source base commands
+    → PrintsRows text (rows_after source base commands after max_page)

@@ -1,14 +1,17 @@
 //! The service of a database: commands on its orders, and the rows of its outbox.
-ghost use Rattle.std.specs.Prelude.{◌≡◌, ◌≢◌, ◌≤◌, ◌⊎◌, ℕ, List, length, true, IfErr, IfOk, IsTrue};
+ghost use Rattle.std.specs.Prelude.{◌≡◌, ◌≢◌, ◌≤◌, ◌⊎◌, ℕ, List, length, true, IfErr, IfOk, IsTrue, OnErr};
 ghost use Rattle.sqlite.specs.Held.{state};
 ghost use Rattle.sqlite.specs.State.{HasCleanDisk};
 ghost use Rattle.attributes.specs.Character.{is_filled};
 ghost use Rattle.attributes.specs.Event.{EventValue};
 ghost use Rattle.attributes.specs.Sequence.{max_sequence};
-ghost use Rattle.outbox.specs.Call.{Accepts, Refuses};
+ghost use Rattle.outbox.specs.Call.{Accepts, IsAsItWas, IsSame, Refuses};
+ghost use Rattle.outbox.specs.declared.fault.OutboxFault.{OutboxFault};
 ghost use Rattle.outbox.specs.declared.fault.OutboxFault.TheVariants.{Foreign, OutOfMemory, Store};
 ghost use Rattle.relay.specs.Relay.{ForNextRows};
-ghost use Rattle.database_commands.specs.Held.{PrintsRows};
+ghost use Rattle.database_commands.specs.declared.fault.CommandFault.TheVariants as command;
+ghost use Rattle.database_commands.specs.Fault.{of_outbox};
+ghost use Rattle.database_commands.specs.Held.{IsServed, KeepsService, Orders, PrintsRows, RefusesOrder, ShowsRows};
 ghost use Rattle.database_commands.specs.Print.{batch_line, event_line};
 
 use crate::Ended;
@@ -30,7 +33,12 @@ fn service_of<S: Alter + Drop>(
     source: &Text,
 ) -> Result<Service<S>, NotMade<S>>
     requires { (is_filled source.now ≡ true) × (length source.now ≤ 1024) }
-    ensures { IfErr result (λ e. (e.fault ≡ OutOfMemory) ⊎ ((e.fault ≡ Store) ⊎ (e.fault ≡ Foreign))) }
+    ensures served { IfOk result (λ s. HasCleanDisk (state S.Store s.conn)
+        → IsServed source.now (state S.Store conn).now s.source s.base
+        (state S.Store s.conn).now) }
+    ensures back { IfErr result (λ e. IsAsItWas (state S.Store conn) (state S.Store e.conn)) }
+    ensures fault { IfErr result (λ e.
+        (e.fault ≡ OutOfMemory) ⊎ ((e.fault ≡ Store) ⊎ (e.fault ≡ Foreign))) }
 {
     match Service::create(alloc, conn, source, BASE) {
         Ok(service) => Ok(service),
@@ -62,6 +70,10 @@ fn command<S: Alter>(
         → IfErr result (λ f. f ≢ OutOfMemory → f ≢ Store
         → Refuses service.old.source service.old.base status order
         (state S.Store service.old.conn).now f) }
+    ensures same { OnErr result
+        (IsAsItWas (state S.Store service.old.conn) (state S.Store service.new.conn)) }
+    ensures clean { HasCleanDisk (state S.Store service.new.conn)
+        → HasCleanDisk (state S.Store service.old.conn) }
 {
     match status {
         Status::Placed => service.place(order, at),
@@ -83,7 +95,18 @@ pub fn order<S: Alter + Drop>(
     requires source { (is_filled source.now ≡ true) × (length source.now ≤ 1024) }
     requires order { (1 ≤ order) × (order ≤ max_sequence) }
     requires short { length at.now ≤ 64 }
-    ensures { IfOk result.outcome (λ text. (e : EventValue) × (text ≡ event_line e)) }
+    ensures ordered { HasCleanDisk (state S.Store result.conn) → IfOk result.outcome
+        (Orders source.now (record { status = status; order = order; at = at.now })
+        (state S.Store conn).now (state S.Store result.conn).now) }
+    ensures refused { HasCleanDisk (state S.Store result.conn)
+        → IsTrue (state S.Store result.conn).is_open → IfErr result.outcome (λ f.
+        f ≢ command.OutOfMemory → f ≢ command.Store → f ≢ command.Foreign
+        → RefusesOrder source.now status order (state S.Store conn).now f) }
+    ensures kept { HasCleanDisk (state S.Store result.conn)
+        → IsTrue (state S.Store result.conn).is_open → IfErr result.outcome (λ f.
+        f ≢ command.OutOfMemory
+        → KeepsService source.now (state S.Store conn).now (state S.Store result.conn).now) }
+    ensures line { IfOk result.outcome (λ text. (e : EventValue) × (text ≡ event_line e)) }
 {
     match service_of(alloc, conn, source) {
         Ok(mut service) => {
@@ -114,6 +137,15 @@ fn command_line<S: Alter>(
         × Accepts service.old.source service.old.base
         (record { status = status; order = order; at = at.now })
         (state S.Store service.old.conn).now (state S.Store service.new.conn).now e) }
+    ensures refused { HasCleanDisk (state S.Store service.new.conn)
+        → IsTrue (state S.Store service.new.conn).is_open → IfErr result (λ f.
+        f ≢ command.OutOfMemory → f ≢ command.Store → (why : OutboxFault) × (f ≡ of_outbox why)
+        × Refuses service.old.source service.old.base status order
+        (state S.Store service.old.conn).now why) }
+    ensures same { IfErr result (λ f. f ≢ command.OutOfMemory
+        → IsAsItWas (state S.Store service.old.conn) (state S.Store service.new.conn)) }
+    ensures clean { HasCleanDisk (state S.Store service.new.conn)
+        → HasCleanDisk (state S.Store service.old.conn) }
     ensures line { IfOk result (λ text. (e : EventValue) × (text ≡ event_line e)) }
 {
     match command(service, status, order, at) {
@@ -124,7 +156,8 @@ fn command_line<S: Alter>(
 
 /// The line of an event.
 fn said(alloc: Global, event: &Sequenced) -> Result<Text, CommandFault>
-    ensures { IfOk result (λ text. text ≡ event_line event.now) }
+    ensures line { IfOk result (λ text. text ≡ event_line event.now) }
+    ensures fault { IfErr result (λ f. f ≡ command.OutOfMemory) }
 {
     match event_line(alloc, event) {
         Ok(text) => Ok(text),
@@ -141,7 +174,12 @@ pub fn relay<S: Alter + Drop>(
     after: u64,
 ) -> Ended<S>
     requires { (is_filled source.now ≡ true) × (length source.now ≤ 1024) }
-    ensures { IfOk result.outcome (λ text.
+    ensures shown { HasCleanDisk (state S.Store result.conn) → IfOk result.outcome
+        (ShowsRows source.now after (state S.Store conn).now) }
+    ensures kept { HasCleanDisk (state S.Store result.conn)
+        → IsTrue (state S.Store result.conn).is_open
+        → KeepsService source.now (state S.Store conn).now (state S.Store result.conn).now }
+    ensures line { IfOk result.outcome (λ text.
         (events : List EventValue) × (text ≡ batch_line events)) }
 {
     match service_of(alloc, conn, source) {
@@ -167,6 +205,7 @@ fn rows_line<S: Alter>(
     ensures rows { HasCleanDisk (state S.Store service.new.conn) → IfOk result (λ text.
         ForNextRows service.old.source service.old.base after
         (state S.Store service.old.conn).now (PrintsRows text)) }
+    ensures same { IsSame (state S.Store service.old.conn) (state S.Store service.new.conn) }
     ensures line { IfOk result (λ text.
         (events : List EventValue) × (text ≡ batch_line events)) }
 {

@@ -6,9 +6,9 @@ use Rattle.sqlite.specs.State.{State, HasCleanDisk, IsLive, Shown}
 use Rattle.std.specs.BTreeMap.{get}
 use Rattle.std.proofs.Common.{nat_cmp}
 use Rattle.outbox.specs.Order.{Accepted, AreAccepted, status_of}
-use Rattle.outbox.specs.Schema.{first_tree, lacks_name, schema_in}
+use Rattle.outbox.specs.Schema.{first_tree, has_name, lacks_name, schema_in}
 use Rattle.outbox.specs.Service.{service_row, outbox_rows, AreOrders, IsService}
-use Rattle.outbox.specs.Shown.{IsAllowed, IsNoService, Stands}
+use Rattle.outbox.specs.Shown.{HasNoOther, IsAllowed, IsNoService, Stands}
 use Rattle.outbox.specs.Call.{IsSame}
 use Rattle.outbox.specs.steps.Change.{ShowOrders, shown_rows, shown_service}
 use Rattle.outbox.specs.steps.Replay.{IsReplay}
@@ -81,6 +81,13 @@ one_same a b l has one clean still = (one.same clean still l has).0
 pub no_source : (a b : State) (services : List Row) → Shown service_row_text [] a b services → ((source : List ℕ) (base : ℕ) → IsAllowed source base → services ≢ shown_service source base ∷ []) → IsNoService a.now
 no_source a b services shows refuses source base commands allowed box = refuses source base allowed (loads_service a b box.layout source base services box.schema box.service shows)
 
+pub no_other : (a b : State) (services : List Row) (source : List ℕ) (base : ℕ) → Shown service_row_text [] a b services → services ≡ shown_service source base ∷ [] → HasNoOther a.now source base
+no_other a b services source base shows is other n commands box =
+    let both : shown_service source base ∷ [] ≡ shown_service other n ∷ [] = sym is ∙ loads_service a b box.layout other n services box.schema box.service shows in
+    let one : source ≡ other = cc in
+    let two : base ≡ n = cc in
+    (one, two)
+
 module _ (a b c : State) (services rows : List Row) (source : List ℕ) (base : ℕ) (first : Shown service_row_text [] a b services) (is : services ≡ shown_service source base ∷ []) (ab : b.now ≡ a.now) (second : Shown all_rows_text [] b c rows) where
   same_base : (other : List ℕ) (n : ℕ) (commands : List Accepted) → IsService a.now other n commands → base ≡ n
   same_base other n commands box =
@@ -112,3 +119,9 @@ unfolding everything
 all_named Alone = refl
 all_named BehindInbox = refl
 all_named BeforeInbox = refl
+
+pub has_all : (l : Layout) → has_name (schema_in l) ≡ true
+unfolding everything
+has_all Alone = refl
+has_all BehindInbox = refl
+has_all BeforeInbox = refl

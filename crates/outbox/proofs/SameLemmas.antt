@@ -54,6 +54,14 @@ shown_open sql params old new rows h = go h.0.returning h.2
     go None k = k.3.0.was_open
     go (Some what) k = k.1.shown.was_open
 
+pub shown_stays_open : (sql : List ℕ) (params : Row) (old new : State) (rows : List Row) → Shown sql params old new rows → IsTrue new.is_open
+unfolding Shown
+shown_stays_open sql params old new rows h = go h.0.returning h.2
+  where
+    go : (r : Option Returning) → ShowsRows old new sql h.0 (timed params h.0.formats h.1.now) rows r → IsTrue new.is_open
+    go None k = k.3.0.is_open
+    go (Some what) k = k.1.shown.is_open
+
 pub answered_same : (sql : List ℕ) (params : Row) (old new : State) (rows : List Row) (P : Trees → Type 0) → ((l : Layout) → IsPlain (understood (schema_in l) sql)) → Survives old new P → (HasCleanDisk new → Shown sql params old new rows) → IsSame old new
 answered_same sql params old new rows P plain survives shows = record {
   clean = survives.clean;

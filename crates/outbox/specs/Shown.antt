@@ -41,6 +41,11 @@ abbrev pub IsNoService : Database → Type 0
 IsNoService db = (source : List ℕ) (base : ℕ) (commands : List Accepted)
     → IsAllowed source base → IsService db source base commands → ⊥
 
+-- a service whose database this is has this source and base, whatever commands it accepted
+abbrev pub HasNoOther : Database → List ℕ → ℕ → Type 0
+HasNoOther db source base = (s : List ℕ) (b : ℕ) (commands : List Accepted)
+    → IsService db s b commands → (source ≡ s) × (base ≡ b)
+
 -- the database is that of a service with so many rows
 pub record Stands (db : Database) (source : List ℕ) (base last : ℕ) : Type 0 where
   pub commands : List Accepted

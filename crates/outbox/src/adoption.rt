@@ -13,7 +13,7 @@ ghost use Rattle.attributes.specs.Sequence.{max_sequence};
 ghost use Rattle.attributes.specs.Time.{time_day};
 ghost use Rattle.outbox.specs.Order.{Accepted, AreAccepted, IsCommand, status_of};
 ghost use Rattle.outbox.specs.Schema.{lacks_name, schema_in};
-ghost use Rattle.outbox.specs.Shown.{IsAllowed, IsNoService, Stands, StandsFor, max_source};
+ghost use Rattle.outbox.specs.Shown.{HasNoOther, IsAllowed, IsNoService, Stands, StandsFor, max_source};
 ghost use Rattle.outbox.specs.Call.{IsAsItWas, IsSame};
 ghost use Rattle.outbox.specs.steps.Change.{ShowOrders, shown_row, shown_rows, shown_service};
 ghost use Rattle.outbox.specs.steps.Replay.{IsReplay};
@@ -190,8 +190,8 @@ fn all_of<S: Alter>(conn: &mut Connection<S>, sql: &str) -> Result<Vec<Row>, Out
         Shown sql.now [] (state S.Store conn.old) (state S.Store conn.new) rows.items) }
     ensures same { IsSame (state S.Store conn.old) (state S.Store conn.new) }
     ensures live { IsLive (state S.Store conn.old) }
-    ensures open { HasCleanDisk (state S.Store conn.new)
-        → OnOk result (IsTrue (state S.Store conn.old).is_open) }
+    ensures open { HasCleanDisk (state S.Store conn.new) → OnOk result
+        (IsTrue (state S.Store conn.old).is_open × IsTrue (state S.Store conn.new).is_open) }
     ensures fault { IfErr result (λ f. (f ≡ OutOfMemory) ⊎ (f ≡ Store)) }
 {
     let _schema = conn.schema();
@@ -216,6 +216,10 @@ pub(crate) fn found_in<S: Alter>(
         × (length f.source ≤ max_source) × (f.base ≤ f.last) × (f.last ≤ max_sequence))) }
     ensures none { HasCleanDisk (state S.Store conn.new) → IfOk result (λ o.
         IfNone o (IsNoService (state S.Store conn.old).now)) }
+    ensures exact { HasCleanDisk (state S.Store conn.new) → IfOk result (λ o. IfSome o (λ f.
+        HasNoOther (state S.Store conn.old).now f.source f.base)) }
+    ensures open { HasCleanDisk (state S.Store conn.new)
+        → IfOk result (λ o. IfSome o (λ _. IsTrue (state S.Store conn.new).is_open)) }
     ensures same { IsAsItWas (state S.Store conn.old) (state S.Store conn.new) }
     ensures fault { IfErr result (λ f. (f ≡ OutOfMemory) ⊎ (f ≡ Store)) }
 {
@@ -250,6 +254,10 @@ fn read<S: Alter>(alloc: Global, conn: &mut Connection<S>) -> Result<Found, Outb
     ensures same { IsAsItWas (state S.Store conn.old) (state S.Store conn.new) }
     ensures foreign { HasCleanDisk (state S.Store conn.new) → IfErr result (λ f.
         f ≡ Foreign → IsNoService (state S.Store conn.old).now) }
+    ensures exact { HasCleanDisk (state S.Store conn.new)
+        → IfOk result (λ f. HasNoOther (state S.Store conn.old).now f.source f.base) }
+    ensures open { HasCleanDisk (state S.Store conn.new)
+        → OnOk result (IsTrue (state S.Store conn.new).is_open) }
     ensures missing { lacks_name (state S.Store conn.old).now.schema ≡ true → result ≡ Err Foreign }
     ensures fault { IfErr result (λ f. (f ≡ OutOfMemory) ⊎ ((f ≡ Store) ⊎ (f ≡ Foreign))) }
 {
@@ -280,6 +288,10 @@ impl<S: Alter + Drop> Service<S> {
         ensures back { IfErr result (λ e. IsAsItWas (state S.Store conn) (state S.Store e.conn)) }
         ensures foreign { IfErr result (λ e. HasCleanDisk (state S.Store e.conn)
             → e.fault ≡ Foreign → IsNoService (state S.Store conn).now) }
+        ensures exact { IfOk result (λ s. HasCleanDisk (state S.Store s.conn)
+            → HasNoOther (state S.Store conn).now s.source s.base) }
+        ensures open { IfOk result (λ s. HasCleanDisk (state S.Store s.conn)
+            → IsTrue (state S.Store s.conn).is_open) }
 
         // A table that is missing is found before any memory is asked for.
         ensures missing { lacks_name (state S.Store conn).now.schema ≡ true

@@ -8,6 +8,7 @@ ghost use Rattle.sqlite.specs.Held.{state};
 ghost use Rattle.attributes.specs.Character.{is_filled};
 ghost use Rattle.attributes.specs.Sequence.{max_sequence};
 ghost use Rattle.outbox.specs.Schema.{has_name};
+ghost use Rattle.outbox.specs.Order.{Accepted};
 ghost use Rattle.outbox.specs.Service.{IsService};
 ghost use Rattle.outbox.specs.Shown.{max_source};
 ghost use Rattle.outbox.specs.Call.{IsAsItWas};
@@ -177,6 +178,8 @@ impl<S: Alter + Drop> Service<S> {
             → IsService (state S.Store s.conn).now source.now base []) }
         ensures given { IfOk result (λ s. (s.source ≡ source.now) × (s.base ≡ base)
             × (s.last ≡ base)) }
+        ensures first { IfOk result (λ _. (source : List ℕ) (base : ℕ) (commands : List Accepted)
+            → IsService (state S.Store conn).now source base commands → ⊥) }
         ensures back { IfErr result (λ e. IsAsItWas (state S.Store conn) (state S.Store e.conn)) }
         ensures foreign { IfErr result (λ e.
             e.fault ≡ Foreign → has_name (state S.Store conn).now.schema ≡ true) }

@@ -214,6 +214,8 @@ impl<S: Alter> Service<S> {
         ensures fault { IfErr result (λ f. f ≢ Foreign) }
         ensures same { OnErr result ((self.new.last ≡ self.old.last)
             × IsAsItWas (state S.Store self.old.conn) (state S.Store self.new.conn)) }
+        ensures clean { HasCleanDisk (state S.Store self.new.conn)
+            → HasCleanDisk (state S.Store self.old.conn) }
     {
         // The day tells that the time is one.
         let _day = at.day();
@@ -259,6 +261,8 @@ impl<S: Alter> Service<S> {
         ensures fault { IfErr result (λ f. f ≢ Foreign) }
         ensures same { OnErr result ((self.new.last ≡ self.old.last)
             × IsAsItWas (state S.Store self.old.conn) (state S.Store self.new.conn)) }
+        ensures clean { HasCleanDisk (state S.Store self.new.conn)
+            → HasCleanDisk (state S.Store self.old.conn) }
     {
         self.accept(Status::Placed, order, at)
     }
@@ -284,6 +288,8 @@ impl<S: Alter> Service<S> {
         ensures fault { IfErr result (λ f. f ≢ Foreign) }
         ensures same { OnErr result ((self.new.last ≡ self.old.last)
             × IsAsItWas (state S.Store self.old.conn) (state S.Store self.new.conn)) }
+        ensures clean { HasCleanDisk (state S.Store self.new.conn)
+            → HasCleanDisk (state S.Store self.old.conn) }
     {
         self.accept(Status::Shipped, order, at)
     }
@@ -309,6 +315,8 @@ impl<S: Alter> Service<S> {
         ensures fault { IfErr result (λ f. f ≢ Foreign) }
         ensures same { OnErr result ((self.new.last ≡ self.old.last)
             × IsAsItWas (state S.Store self.old.conn) (state S.Store self.new.conn)) }
+        ensures clean { HasCleanDisk (state S.Store self.new.conn)
+            → HasCleanDisk (state S.Store self.old.conn) }
     {
         self.accept(Status::Cancelled, order, at)
     }

@@ -1,6 +1,6 @@
 use Rattle.std.proofs.Common.{IsTrue, rules}
 use Rattle.sqlite.specs.Held.{state}
-use Rattle.outbox.proofs.SameLemmas.{refused_same, answered_same, shown_open}
+use Rattle.outbox.proofs.SameLemmas.{refused_same, answered_same, shown_open, shown_stays_open}
 use Rattle.outbox.proofs.adoption.all_of.Goals as goal
 
 pub returns-in_err-query_all-clause-same : goal.returns-in_err-query_all-clause-same
@@ -12,4 +12,8 @@ pub returns-clause-same : goal.returns-clause-same
 returns-clause-same g c = answered_same c.args.sql.now _ (state g.S.Store c.args.conn.now) (state g.S.Store c.query_all.new.self) _ _ c.requires.plain c.query_all.ensures.survives c.in_ok-query_all.ensures.ok
 
 pub returns-clause-open : goal.returns-clause-open
-returns-clause-open g c clean = shown_open c.args.sql.now _ (state g.S.Store c.args.conn.now) (state g.S.Store c.query_all.new.self) _ (c.in_ok-query_all.ensures.ok clean)
+returns-clause-open g c clean =
+    let old = state g.S.Store c.args.conn.now in
+    let last = state g.S.Store c.query_all.new.self in
+    let shows = c.in_ok-query_all.ensures.ok clean in
+    (shown_open c.args.sql.now _ old last _ shows, shown_stays_open c.args.sql.now _ old last _ shows)

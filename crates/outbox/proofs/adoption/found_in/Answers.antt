@@ -4,7 +4,7 @@ use Rattle.sqlite.specs.State.{HasCleanDisk}
 use Rattle.sqlite.specs.Held.{state}
 use Rattle.outbox.specs.steps.Change.{ShowOrders, shown_service}
 use Rattle.outbox.specs.steps.Replay.{IsReplay}
-use Rattle.outbox.proofs.FoundLemmas.{found, not_both, no_orders, no_rows, no_source}
+use Rattle.outbox.proofs.FoundLemmas.{found, not_both, no_orders, no_other, no_rows, no_source}
 use Rattle.outbox.proofs.TextLemmas.{service_row_plain, all_rows_plain, all_orders_plain}
 use Rattle.outbox.proofs.adoption.found_in.Goals as goal
 
@@ -35,7 +35,7 @@ returns-in_default-2-clause-none g c clean =
     let b = state g.S.Store c.all_of.new.conn in
     let d = state g.S.Store c.all_of-2.new.conn in
     let clean_b : HasCleanDisk b = omega (arith, c.all_of-2.ensures.same.clean, clean) in
-    let ab = (c.all_of.ensures.same.same clean_b (c.in_ok-rows.ensures.open clean) c.args.layout c.requires).0 in
+    let ab = (c.all_of.ensures.same.same clean_b (c.in_ok-rows.ensures.open clean).0 c.args.layout c.requires).0 in
     let service_is : c.in_ok-services.services.items ≡ shown_service c.in-Some.source c.in-Some.base ∷ [] = sym c.deref.ensures.value ∙ (rw c.in-Some.is at c.in_ok-source.ensures.row) in
     no_rows a b d c.in_ok-services.services.items c.in_ok-rows.rows.items c.in-Some.source c.in-Some.base (c.in_ok-services.ensures.shown clean_b) service_is ab (c.in_ok-rows.ensures.shown clean)
     (λ commands accepted is. (rw c.in_default-2.is at c.in_ok-replayed.ensures.none) commands accepted (c.deref-2.ensures.value ∙ is))
@@ -48,11 +48,20 @@ returns-clause-none g c clean =
     let e = state g.S.Store c.all_of-3.new.conn in
     let clean_d : HasCleanDisk d = omega (arith, c.all_of-3.ensures.same.clean, clean) in
     let clean_b : HasCleanDisk b = omega (arith, c.all_of-2.ensures.same.clean, clean_d) in
-    let ab : b.now ≡ a.now = (c.all_of.ensures.same.same clean_b (c.in_ok-rows.ensures.open clean_d) c.args.layout c.requires).0 in
+    let ab : b.now ≡ a.now = (c.all_of.ensures.same.same clean_b (c.in_ok-rows.ensures.open clean_d).0 c.args.layout c.requires).0 in
     let has_b = ap (λ (x : Database). x.schema) ab ∙ c.requires in
-    let bd : d.now ≡ b.now = (c.all_of-2.ensures.same.same clean_d (c.in_ok-orders.ensures.open clean) c.args.layout has_b).0 in
+    let bd : d.now ≡ b.now = (c.all_of-2.ensures.same.same clean_d (c.in_ok-orders.ensures.open clean).0 c.args.layout has_b).0 in
     let service_is : c.in_ok-services.services.items ≡ shown_service c.in-Some.source c.in-Some.base ∷ [] = sym c.deref.ensures.value ∙ (rw c.in-Some.is at c.in_ok-source.ensures.row) in
     let replayed : IsReplay c.in-Some.base c.in_ok-rows.rows.items c.in-Some-2.replayed = rw (c.in-Some-2.is, c.deref-2.ensures.value) at c.in_ok-replayed.ensures.replay in
     no_orders a b d c.in_ok-services.services.items c.in_ok-rows.rows.items c.in-Some.source c.in-Some.base (c.in_ok-services.ensures.shown clean_b) service_is ab (c.in_ok-rows.ensures.shown clean_d)
     e c.in_ok-orders.orders.items c.in-Some-2.replayed bd (c.in_ok-orders.ensures.shown clean) replayed
     (λ commands told orders. let yes = (c.in_ok-are_orders.ensures.orders commands told).1 (subst (λ rows. ShowOrders rows commands) (sym c.deref-3.ensures.value) orders) in not_both c.in_ok-are_orders.field-0 yes c.if-branch.false)
+
+pub returns-then-branch-clause-exact : goal.returns-then-branch-clause-exact
+returns-then-branch-clause-exact g c clean =
+    let b = state g.S.Store c.all_of.new.conn in
+    let d = state g.S.Store c.all_of-2.new.conn in
+    let clean_d : HasCleanDisk d = omega (arith, c.all_of-3.ensures.same.clean, clean) in
+    let clean_b : HasCleanDisk b = omega (arith, c.all_of-2.ensures.same.clean, clean_d) in
+    let service_is : c.in_ok-services.services.items ≡ shown_service c.in-Some.source c.in-Some.base ∷ [] = sym c.deref.ensures.value ∙ (rw c.in-Some.is at c.in_ok-source.ensures.row) in
+    no_other (state g.S.Store c.args.conn.now) b c.in_ok-services.services.items c.in-Some.source c.in-Some.base (c.in_ok-services.ensures.shown clean_b) service_is

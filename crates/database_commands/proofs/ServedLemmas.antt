@@ -1,0 +1,68 @@
+-- The service that a database has, before and after a command.
+use Rattle.std.proofs.Common.{◌≡◌, inl, inr, Bool, ℕ, List, [], true, false, Some, IsTrue, sym, ap, subst, ◌∙◌}
+use Rattle.sqlite.specs.Effect.{Database}
+use Rattle.sqlite.specs.State.{State, HasCleanDisk}
+use Rattle.attributes.specs.Event.{EventValue}
+use Rattle.outbox.specs.Call.{Accepts, IsSame, Refuses}
+use Rattle.outbox.specs.Order.{Accepted}
+use Rattle.outbox.specs.Schema.{has_name}
+use Rattle.outbox.specs.Service.{IsService}
+use Rattle.outbox.specs.Shown.{HasNoOther}
+use Rattle.outbox.specs.declared.fault.OutboxFault.{OutboxFault}
+use Rattle.outbox.specs.declared.status.Status.{Status}
+use Rattle.relay.specs.Relay.{ForNextRows}
+use Rattle.database_commands.specs.Fault.{of_outbox}
+use Rattle.database_commands.specs.Held.{IsOrdered, IsServed, KeepsService, Orders, PrintsRows, RefusesOrder, Serves, ShowsRows}
+use Rattle.database_commands.specs.Print.{event_line}
+use Rattle.database_commands.specs.declared.fault.CommandFault.{CommandFault}
+
+-- a service that is new
+pub made_served : (old new : Database) (given source : List ℕ) (base : ℕ) → ((s : List ℕ) (b : ℕ) (commands : List Accepted) → IsService old s b commands → ⊥) → IsService new given 0 [] → source ≡ given → base ≡ 0 → IsServed given old source base new
+made_served old new given source base first made source_is base_is s b commands (inl box) = absurd (first s b commands box)
+made_served old new given source base first made source_is base_is s b commands (inr (lacks, it)) = (
+  source_is ∙ sym it.source_is,
+  base_is ∙ sym it.base_is,
+  subst (λ x. IsService new x b commands) (sym it.source_is) (subst (λ n. IsService new given n commands) (sym it.base_is) (subst (λ l. IsService new given 0 l) (sym it.none) made)),
+)
+
+-- a service that was there
+pub taken_served : (old new : Database) (given source : List ℕ) (base : ℕ) → has_name old.schema ≡ true → HasNoOther old source base → new ≡ old → IsServed given old source base new
+taken_served old new given source base there only is s b commands (inl box) =
+    let same = only s b commands box in
+    (same.0, same.1, subst (λ db. IsService db s b commands) (sym is) box)
+taken_served old new given source base there only is s b commands (inr (lacks, it)) = absurd (let e : ◌≡◌ {A = Bool} true false = sym there ∙ lacks in cc)
+
+module _ (given : List ℕ) (old mid : Database) (source : List ℕ) (base : ℕ) (served : IsServed given old source base mid) where
+  here : (s : List ℕ) (b : ℕ) (commands : List Accepted) → Serves old given s b commands → IsService mid source base commands
+  here s b commands h =
+      let it = served s b commands h in
+      subst (λ x. IsService mid x base commands) (sym it.0) (subst (λ n. IsService mid s n commands) (sym it.1) it.2)
+
+  pub ordered : (new : Database) (c : Accepted) (e : EventValue) (text : List ℕ) → Accepts source base c mid new e → text ≡ event_line e → Orders given c old new text
+  ordered new c e text accepts line s b commands h =
+      let it = served s b commands h in
+      let done = accepts commands (here s b commands h) in
+      subst (λ x. IsOrdered x b commands c new text) it.0 (subst (λ n. IsOrdered source n commands c new text) it.1 (record { fits = done.0; kept = done.1; line = line ∙ ap event_line done.2 }))
+
+  pub refused_order : (status : Status) (order : ℕ) (f : CommandFault) → ((why : OutboxFault) × (f ≡ of_outbox why) × Refuses source base status order mid why) → RefusesOrder given status order old f
+  refused_order status order f (why, is, refuses) s b commands h =
+      let it = served s b commands h in
+      (why, subst (λ n. Rattle.outbox.specs.Order.refusal n commands status order ≡ Some why) it.1 (refuses commands (here s b commands h)), is)
+
+  pub kept_served : (new : Database) → new ≡ mid → KeepsService given old new
+  kept_served new is s b commands h = inl (subst (λ db. IsService db s b commands) (sym is) (served s b commands h).2)
+
+  pub shown_rows : (after : ℕ) (text : List ℕ) → ForNextRows source base after mid (PrintsRows text) → ShowsRows given after old text
+  shown_rows after text shows s b commands h =
+      let it = served s b commands h in
+      subst (λ x. PrintsRows text (Rattle.outbox.specs.Row.rows_after x b commands after 100)) it.0 (subst (λ n. PrintsRows text (Rattle.outbox.specs.Row.rows_after source n commands after 100)) it.1 (shows commands (here s b commands h)))
+
+-- a service that was only read
+pub kept_read : (given : List ℕ) (old : Database) (mid new : State) (source : List ℕ) (base : ℕ) → IsServed given old source base mid.now → IsSame mid new → HasCleanDisk new → IsTrue new.is_open → KeepsService given old new.now
+kept_read given old mid new source base served same clean still s b commands h =
+    let box = (served s b commands h).2 in
+    inl (subst (λ db. IsService db s b commands) (sym (same.same clean still box.layout box.schema).0) box)
+
+-- a database that is as it was
+pub kept_all : (given : List ℕ) (old new : Database) → new ≡ old → KeepsService given old new
+kept_all given old new is s b commands h = subst (λ db. Serves db given s b commands) (sym is) h

@@ -1,0 +1,30 @@
+use Rattle.std.proofs.Common.{IsTrue, arith, subst, sym}
+use Rattle.std.proofs.lemmas.Result.{IfOk-weaker}
+use Rattle.sqlite.specs.Held.{state}
+use Rattle.sqlite.specs.State.{HasCleanDisk}
+use Rattle.database_commands.specs.Held.{KeepsService}
+use Rattle.database_commands.proofs.ServedLemmas.{kept_all, kept_read, shown_rows}
+use Rattle.database_commands.proofs.service.relay.Goals as goal
+
+pub returns-in-Ok-clause-shown : goal.returns-in-Ok-clause-shown
+returns-in-Ok-clause-shown g c clean =
+    let mid = c.in-Ok.service in
+    let last = c.rows_line-outcome.new.service in
+    let late : HasCleanDisk (state g.S.Store last.conn) = subst (λ h. HasCleanDisk (state g.S.Store h)) c.into_connection-conn.ensures clean in
+    let early : HasCleanDisk (state g.S.Store mid.conn) = omega (arith, c.rows_line-outcome.ensures.same.clean, late) in
+    IfOk-weaker c.rows_line-outcome.result _ _
+    (λ text rows. shown_rows c.args.source.now (state g.S.Store c.args.conn).now (state g.S.Store mid.conn).now mid.source mid.base (c.in-Ok.ensures.served early) c.args.after text rows)
+    (c.rows_line-outcome.ensures.rows late)
+
+pub returns-in-Ok-clause-kept : goal.returns-in-Ok-clause-kept
+returns-in-Ok-clause-kept g c clean still =
+    let mid = c.in-Ok.service in
+    let last = c.rows_line-outcome.new.service in
+    let late : HasCleanDisk (state g.S.Store last.conn) = subst (λ h. HasCleanDisk (state g.S.Store h)) c.into_connection-conn.ensures clean in
+    let open_late : IsTrue (state g.S.Store last.conn).is_open = subst (λ h. IsTrue (state g.S.Store h).is_open) c.into_connection-conn.ensures still in
+    let early : HasCleanDisk (state g.S.Store mid.conn) = omega (arith, c.rows_line-outcome.ensures.same.clean, late) in
+    subst (λ h. KeepsService c.args.source.now (state g.S.Store c.args.conn).now (state g.S.Store h).now) (sym c.into_connection-conn.ensures)
+    (kept_read c.args.source.now (state g.S.Store c.args.conn).now (state g.S.Store mid.conn) (state g.S.Store last.conn) mid.source mid.base (c.in-Ok.ensures.served early) c.rows_line-outcome.ensures.same late open_late)
+
+pub returns-in-Err-clause-kept : goal.returns-in-Err-clause-kept
+returns-in-Err-clause-kept g c clean still = kept_all c.args.source.now (state g.S.Store c.args.conn).now (state g.S.Store c.in-Err.refused.conn).now (c.in-Err.ensures.back clean still)
