@@ -11,7 +11,7 @@ ghost use Rattle.site_cli.specs.steps.Feeds.{RefusesFeeds};
 use crate::line::Refusal;
 use attributes::{List, Octets, Text, Texts};
 use database_commands::CommandFault;
-use file_reports::{Refused, ReportFault, Shelf, Unread, UnreadAt, contents_of, site_of};
+use file_reports::{Refused, ReportFault, Shelf, Unread, UnreadAt, contents_of, events_of};
 use run_command::{Jobs, RunFault, Runs};
 use site::Site;
 use std::alloc::{AllocError, Global};
@@ -81,10 +81,14 @@ fn run_beside<R: Threads + Wait + Sync, D: Runs>(
     ensures err { IfErr result (RefusesJobs true contents.items) }
 {
     let mut contents = contents;
-    let site = match site_of(alloc, &contents.as_slice()[..1]) {
-        Ok(site) => site,
+    let mut events = match events_of(alloc, &contents.as_slice()[..1]) {
+        Ok(events) => events,
         Err(refused) => return Err(Refusal::File(refused)),
     };
+    let mut site = Site::empty(alloc);
+    if site.take_batch(&mut events).is_err() {
+        return Err(Refusal::Database(CommandFault::OutOfMemory));
+    }
     let mut peers = List::empty(alloc);
     if peers.push(site).is_err() {
         return Err(Refusal::Database(CommandFault::OutOfMemory));
