@@ -1,5 +1,5 @@
 //! The command `run`: files taken side by side.
-ghost use Rattle.std.specs.Prelude.{◌≡◌, ◌≤◌, ◌+◌, List, length, true, false, IfErr, IfOk, option_map};
+ghost use Rattle.std.specs.Prelude.{◌≡◌, ◌≤◌, ◌+◌, ◌++◌, List, length, true, false, IfErr, IfOk, OnOk};
 ghost use Rattle.std.specs.Option.{is_some};
 ghost use Rattle.attributes.specs.Event.{EventValue};
 ghost use Rattle.command_words.specs.Plans.{AreFew};
@@ -58,14 +58,37 @@ pub fn run<R: Threads + Wait + Sync, S: Shelf, D: Runs>(
 fn names_of(alloc: Global, peer: &Option<Text>, files: &[Text]) -> Result<Texts, AllocError>
     ensures { IfOk result (λ names. names ≡ names_of peer.now files.now) }
 {
-    let mut names = Texts::empty(alloc);
-    if let Some(name) = peer {
-        names.push(Text::of(alloc, name.as_str())?)?;
+    let copies = copies(alloc, files)?;
+    match peer {
+        Some(name) => {
+            let mut names = Texts::empty(alloc);
+            names.push(Text::of(alloc, name.as_str())?)?;
+            append(&mut names, copies.into_vec())?;
+            Ok(names)
+        }
+        None => Ok(copies),
     }
-    for name in files {
-        names.push(Text::of(alloc, name.as_str())?)?;
+}
+
+/// The texts as a list of their own.
+fn copies(alloc: Global, texts: &[Text]) -> Result<Texts, AllocError>
+    ensures { IfOk result (λ copies. copies ≡ texts.now) }
+{
+    let mut copies = Texts::empty(alloc);
+    for text in texts {
+        copies.push(Text::of(alloc, text.as_str())?)?;
     }
-    Ok(names)
+    Ok(copies)
+}
+
+/// Moves texts behind those of a list.
+fn append(texts: &mut Texts, more: Vec<Text>) -> Result<(), AllocError>
+    ensures { OnOk result (texts.new ≡ texts.old ++ more.items) }
+{
+    for text in more {
+        texts.push(text)?;
+    }
+    Ok(())
 }
 
 /// Runs with a peer, whose content is the first.
