@@ -132,7 +132,10 @@ fn time_turns<R: Threads + Wait + Clock + Print + Sync>(
     let mut pass = ask_together(rt, shared, pass, TURNS / threads, levels);
     let nanos = start.elapsed(rt)?.as_nanos();
     let turns = shared.turns(&mut pass).wrapping_sub(before);
-    println!(rt; "shared, {threads} threads: {} ns a turn of {turns}", each(nanos, turns))?;
+    println!(rt;
+        "shared, {threads} threads: {} ns a turn of {turns}",
+        each(nanos, turns)
+    )?;
     Ok(pass)
 }
 
