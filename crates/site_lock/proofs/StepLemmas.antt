@@ -1,5 +1,5 @@
 -- From a call of a pass to what its caller tells as a desk.
-use Rattle.std.proofs.Common.{◌≡◌, List, [], ◌∷◌, ◌++◌, refl, ap, ◌∙◌, subst, append_assoc}
+use Rattle.std.proofs.Common.{◌≡◌, List, [], ◌∷◌, ◌++◌, ap, ◌∙◌, subst, append_assoc}
 use Rattle.attributes.specs.Event.{EventValue}
 use Rattle.site.specs.Machine.{Answers, Follows, arrivals_after}
 use Rattle.site.specs.declared.call.Call.{Call}
