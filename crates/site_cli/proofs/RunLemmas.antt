@@ -77,4 +77,4 @@ allowed_by words (plan.Order request) h = let r = h.1.texts in record {
   at = r.time.short;
 }
 allowed_by words (plan.Relay db after) h = tt
-allowed_by words (plan.Run db peer files) h = h.1.texts.1.1.1
+allowed_by words (plan.Run db peer files) h = h.1.texts.3
