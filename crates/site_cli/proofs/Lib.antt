@@ -1,3 +1,4 @@
 mod EndingLemmas
 mod LineLemmas
 mod RunLemmas
+mod WorkerLemmas

@@ -22,6 +22,7 @@ use std::thread::Threads;
 /// peer's file where one is given. All files are read, the peer's first, and the peer's is judged,
 /// before the database is opened. Answers how many events the files had, how many of them had no
 /// number, how many the database has now, and its summary. It may wait.
+#[tactic(auto, using(crate::proofs::WorkerLemmas::answers_run, crate::proofs::WorkerLemmas::refuses_run))]
 pub fn run<R: Threads + Wait + Sync, S: Shelf, D: Runs>(
     rt: &R,
     alloc: Global,

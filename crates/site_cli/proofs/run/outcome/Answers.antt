@@ -5,4 +5,4 @@ pub ending_of-requires-clause-allowed : goal.ending_of-requires-clause-allowed
 ending_of-requires-clause-allowed g c = allowed_by c.args.words.now c.in-Ok.plan c.in-Ok.ensures.ok
 
 pub ending_of_run-requires-clause-allowed : goal.ending_of_run-requires-clause-allowed
-ending_of_run-requires-clause-allowed g c = allowed_by c.args.words.now c.in-Ok.plan c.in-Ok.ensures.ok
+ending_of_run-requires-clause-allowed g c κs within = allowed_by c.args.words.now c.in-Ok.plan c.in-Ok.ensures.ok
