@@ -1,7 +1,8 @@
 -- What a run's peer and feeds come to.
-use Rattle.std.proofs.Common.{◌≡◌, ℕ, List, Bool, true, false, drop, subst, sym, inr, Option, Result, Ok, Err, IfOk}
+use Rattle.std.proofs.Common.{◌≡◌, ◌≤◌, ℕ, List, [], ◌∷◌, Bool, true, false, arith, drop, length, refl, subst, sym, inr, Option, None, Some, Result, Ok, Err, IfOk}
 use Rattle.std.specs.Result.{IfErr}
 use Rattle.std.specs.Option.{is_some}
+use Rattle.command_words.specs.Plans.{AreFew}
 use Rattle.file_reports.specs.Shelves.{AreContents, IsUnreadAt}
 use Rattle.file_reports.specs.declared.input.Unread.{Unread}
 use Rattle.site_cli.specs.Answers.{AnswersJobs, AnswersRun, PeerSpells, RefusesFeed, RefusesJobs, RefusesRun}
@@ -34,3 +35,19 @@ pub refuses_run : (C : List ℕ → List ℕ → Type 0) (U : List ℕ → Unrea
     → AreContents C (names_of peer files) contents → IfErr r (RefusesJobs flag contents) → IfErr r (RefusesRun C U peer files)
 refuses_run C U peer files contents flag (Ok text) is read h = tt
 refuses_run C U peer files contents flag (Err why) is read h = jobs_refuse C U peer files contents why read (subst (λ b. RefusesJobs b contents why) (sym is) h)
+
+contents_length : (C : List ℕ → List ℕ → Type 0) (names contents : List (List ℕ)) → AreContents C names contents → length contents ≡ length names
+contents_length C [] [] h = refl
+contents_length C [] (b ∷ bs) h = absurd h
+contents_length C (n ∷ ns) [] h = absurd h
+contents_length C (n ∷ ns) (b ∷ bs) h = omega (arith, contents_length C ns bs h.1)
+
+-- a run has no more contents than workers
+pub few_contents : (C : List ℕ → List ℕ → Type 0) (peer : Option (List ℕ)) (files contents : List (List ℕ)) → AreContents C (names_of peer files) contents → AreFew (is_some peer) (length files) → length contents ≤ 16
+few_contents C None files contents read few = omega (arith, contents_length C files contents read, few)
+few_contents C (Some p) files contents read few = omega (arith, contents_length C (p ∷ files) contents read, few)
+
+-- with a peer there is one
+pub some_contents : (C : List ℕ → List ℕ → Type 0) (peer : Option (List ℕ)) (files contents : List (List ℕ)) → AreContents C (names_of peer files) contents → is_some peer ≡ true → 1 ≤ length contents
+some_contents C None files contents read is = absurd (cc)
+some_contents C (Some p) files contents read is = omega (arith, contents_length C (p ∷ files) contents read)
