@@ -137,9 +137,9 @@ by_end arrivals b bs r place i f rest fed later (Some y) e is =
     let at : of_end place (suc (length bs)) r.ended ≡ Some (run.Feed i f) = e ∙ (ap (λ (o : Option RunFault). option_or o rest) (sym e) ∙ is) in
     elim fed.1 [
       | inl t ↦ (let bad = is_bad place (length bs) r.ended i f at in elim t.2.ended [
-          | inl done ↦ (let wrong : Done ≡ BadInput f = sym done ∙ bad in absurd (cc))
-          | inr early ↦ absurd (subst EndsEarly bad early)
-        ])
+        | inl done ↦ (let wrong : Done ≡ BadInput f = sym done ∙ bad in absurd (cc))
+        | inr early ↦ absurd (subst EndsEarly bad early)
+      ])
       | inr u ↦ (let n = not_memory place (suc (length bs)) u.1.0 i f (ap (λ (z : Report). of_end place (suc (length bs)) z.ended) (sym u.1.1) ∙ at) in
           record { k = 0; at = omega (arith, n.0); b = b; there = refl; refuses = subst (λ g. Refuses b g) n.1 (u.1.2 n.2) })
     ]

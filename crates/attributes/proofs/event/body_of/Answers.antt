@@ -1,7 +1,6 @@
 use Rattle.std.proofs.Common.{◌∙◌, ℕ, List, length, ap, sym, subst, arith, IsUtf8}
 use Rattle.std.proofs.lemmas.Str.{IsUtf8-string_bytes}
 use Rattle.std.specs.Prelude.{codes}
-
 use Rattle.attributes.specs.Members.{named}
 use Rattle.attributes.proofs.BuildLemmas.{ordered_scalars}
 use Rattle.attributes.proofs.FaultLemmas.{given_words-or_empty, names_pass, values_pass}

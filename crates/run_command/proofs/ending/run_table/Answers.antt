@@ -20,8 +20,10 @@ returns-in-Ok-share-clause-ran g c clean =
 pub returns-in-Ok-share-clause-said : goal.returns-in-Ok-share-clause-said
 returns-in-Ok-share-clause-said g c =
     IfOk-weaker c.ended.result.outcome _ _
-    (λ text says. (c.in-Ok-share.closed.site,
-      run_says c.in-Ok-share.closed.served c.len-feeds.result c.in-Ok-share.closed.site c.args.jobs.feeds text c.len-feeds.ensures c.in-Ok-share.ensures.ok.fed says))
+    (λ text says. (
+      c.in-Ok-share.closed.site,
+      run_says c.in-Ok-share.closed.served c.len-feeds.result c.in-Ok-share.closed.site c.args.jobs.feeds text c.len-feeds.ensures c.in-Ok-share.ensures.ok.fed says,
+    ))
     c.ended.ensures.text
 
 pub returns-in-Ok-share-clause-feed : goal.returns-in-Ok-share-clause-feed
