@@ -10,7 +10,6 @@ use crate::tables::{E1, E2, Stop, adopted, batch, close, has, opened};
 use attributes::Batch;
 use feeds::Aside;
 use inbox_table::{Loaded, Table};
-use keeper::laws::first_arrivals_stay;
 use keeper::{Flushed, Flusher, KeepFault, Keeper, Kept};
 use site_lock::{Begun, Pass, SharedSite};
 use sqlite::{Alter, FileStore, Files};
@@ -71,29 +70,6 @@ fn take<R: Wait>(
     }
 }
 
-/// Takes the event of a text and makes one step, and tells how many that kept.
-fn take_and_step<R: Wait, S: Alter + Drop>(
-    rt: &R,
-    alloc: Global,
-    keeper: &mut Keeper<S>,
-    begun: &mut Begun,
-    text: &str,
-) -> Result<u64, Stop>
-    requires own { begun.old.pass.table ≡ begun.old.shared }
-    requires first { KeepsUp (state S.Store keeper.old.conn) keeper.old.rows
-        (leaves begun.old.pass) }
-{
-    first_arrivals_stay();
-    let mut events = batch(alloc, &[text])?;
-    match begun.shared.take(rt, &mut begun.pass, &mut events) {
-        Ok(_) => match keeper.step(rt, &begun.shared, &mut begun.pass) {
-            Ok(kept) => Ok(kept),
-            Err(fault) => Err(Stop::Fault(fault.number())),
-        },
-        Err(_) => Err(Stop::Memory),
-    }
-}
-
 /// A flusher with a pass that is split off this one.
 fn flusher<'a, R: Wait, S: Alter + Drop>(
     rt: &'a R,
@@ -109,18 +85,6 @@ fn flusher<'a, R: Wait, S: Alter + Drop>(
         Ok(own) => Ok(Flusher::of(rt, shared, keeper, own)),
         Err(_) => Err(Stop::Memory),
     }
-}
-
-#[test]
-fn a_step_keeps_what_a_site_took(rt: HostRuntime) -> Result<(), Fail> {
-    let alloc = rt.alloc();
-    let (mut keeper, mut begun) = begun(alloc, new_table(alloc)?)?;
-    assert!(rt; keeper.acknowledged(0));
-    assert_eq!(rt; take_and_step(&rt, alloc, &mut keeper, &mut begun, E1)?, 1);
-    assert!(rt; keeper.acknowledged(1));
-    assert!(rt; !keeper.acknowledged(2));
-    assert!(rt; has(&found(alloc, keeper.into_table())?, &[E1]));
-    Ok(())
 }
 
 #[test]
@@ -152,6 +116,8 @@ fn a_flusher_keeps_turn_by_turn(rt: HostRuntime) -> Result<(), Fail> {
     } = flusher.end();
     assert!(rt; fault.is_none());
     assert_eq!(rt; keeper.kept(), 2);
+    assert!(rt; keeper.acknowledged(2));
+    assert!(rt; !keeper.acknowledged(3));
     assert!(rt; has(&found(alloc, keeper.into_table())?, &[E1, E2]));
     Ok(())
 }
