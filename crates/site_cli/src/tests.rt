@@ -2,10 +2,15 @@
 use crate::run::perform;
 use attributes::Text;
 use command_words::{Command, Plan, plan};
+use database_commands::Databases;
 use file_reports::{Query, Unread, read_all};
+use run_command::Runs;
 use std::alloc::Global;
 use std::io::{Read, Write};
+use std::rt::Files;
+use std::sync::Wait;
 use std::test::Fail;
+use std::thread::Threads;
 use std::{env, fs, io, process};
 
 /// How a run ended, and what it printed.
@@ -24,7 +29,10 @@ fn words_of(alloc: Global, words: &[&str]) -> Result<Vec<Text>, Fail> {
     Ok(own)
 }
 
-fn run(rt: &HostRuntime, words: &[&str]) -> Result<Ended, Fail> {
+fn run<R: AllocGlobal + Files + Databases + Runs + Threads + Wait + Sync>(
+    rt: &R,
+    words: &[&str],
+) -> Result<Ended, Fail> {
     let words = words_of(rt.alloc(), words)?;
     let mut out = Vec::new(rt.alloc());
     let mut err = Vec::new(rt.alloc());
@@ -37,14 +45,20 @@ fn run(rt: &HostRuntime, words: &[&str]) -> Result<Ended, Fail> {
 }
 
 /// Whether the words end with the status and just these texts on both streams.
-fn says(rt: &HostRuntime, words: &[&str], status: u8, out: &str, err: &str) -> Result<bool, Fail> {
+fn says<R: AllocGlobal + Files + Databases + Runs + Threads + Wait + Sync>(
+    rt: &R,
+    words: &[&str],
+    status: u8,
+    out: &str,
+    err: &str,
+) -> Result<bool, Fail> {
     let ended = run(rt, words)?;
     Ok(ended.status == status && ended.out.as_str() == out && ended.err.as_str() == err)
 }
 
 /// Whether the words end with 2, and with the part on the stream that help, or a fault, is for.
-fn says_of_words(
-    rt: &HostRuntime,
+fn says_of_words<R: AllocGlobal + Files + Databases + Runs + Threads + Wait + Sync>(
+    rt: &R,
     words: &[&str],
     is_asked: bool,
     part: &str,
@@ -293,7 +307,10 @@ impl Write for Closed {
 }
 
 /// Whether an answer and a refusal end with 1 where the stream fails, and leave the other empty.
-fn ends_with_one(rt: &HostRuntime, takes: bool) -> Result<bool, Fail> {
+fn ends_with_one<R: AllocGlobal + Files + Databases + Runs + Threads + Wait + Sync>(
+    rt: &R,
+    takes: bool,
+) -> Result<bool, Fail> {
     let mut closed = Closed { takes, written: 0 };
     let mut other = Vec::new(rt.alloc());
     let words = words_of(rt.alloc(), &["cover", "f"])?;
