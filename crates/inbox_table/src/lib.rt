@@ -8,6 +8,8 @@ mod row;
 mod schema;
 mod statement;
 mod table;
+mod watch;
 
 pub use fault::TableFault;
 pub use table::{Loaded, NotMade, Table};
+pub use watch::{Unwatched, Watch};

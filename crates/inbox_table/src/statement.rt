@@ -13,6 +13,7 @@ ghost use Rattle.inbox_table.specs.steps.Reads.{IsSame};
 ghost use Rattle.inbox_table.specs.steps.Turns.{Puts};
 
 use crate::fault::TableFault;
+use crate::watch::Watch;
 use attributes::{Batch, Sequenced};
 use sqlite::{Alter, Connection, Error, ErrorCode, Row, Transaction, params};
 
@@ -103,12 +104,23 @@ fn counted(fresh: u64, is_new: bool) -> u64
     if is_new { fresh + 1 } else { fresh }
 }
 
+/// After how many events it is told how far a call came.
+const TOLD: u64 = 1_000;
+
+/// Tells how far a call came, from time to time.
+fn tell<W: Watch>(watch: &W, count: u64, all: u64) {
+    if count % TOLD == 0 {
+        watch.kept(count, all);
+    }
+}
+
 /// Takes the events of the batch in one transaction into a table with so many rows, and answers how
-/// many were not there.
-pub(crate) fn keep<S: Alter>(
+/// many were not there. It is told from time to time how many were taken.
+pub(crate) fn keep<S: Alter, W: Watch>(
     conn: &mut Connection<S>,
     rows: u64,
     batch: &Batch,
+    watch: &W,
 ) -> Result<u64, Error>
     requires { rows + length batch.now < 2 ^ 63 }
     ensures takes { HasCleanDisk (state S.Store conn.new) → Stands (state S.Store conn.old).now rows
@@ -136,6 +148,7 @@ pub(crate) fn keep<S: Alter>(
     let mut fresh = 0u64;
     let mut tx = conn.transaction();
     for i in 0..batch.len() {
+        tell(watch, i, batch.len());
         let is_new = put(&mut tx, rows + fresh + 1, batch.at(i))?;
         fresh = counted(fresh, is_new);
     }

@@ -14,6 +14,7 @@ use crate::adoption::{create, found_in};
 use crate::fault::TableFault;
 use crate::reading::Found;
 use crate::statement::keep;
+use crate::watch::{Unwatched, Watch};
 use attributes::Batch;
 use sqlite::{Alter, Connection};
 use std::alloc::Global;
@@ -219,10 +220,37 @@ impl<S: Alter> Table<S> {
             (λ trees. Stands (state S.Store self.old.conn).now self.old.rows
             → MayTake batch.now (state S.Store self.old.conn).now trees) }
     {
+        self.keep_watched(batch, &Unwatched)
+    }
+
+    /// As [`Table::keep`]. The watch is told after each thousand events how many of the batch are in.
+    pub fn keep_watched<W: Watch>(&mut self, batch: &Batch, watch: &W) -> Result<u64, TableFault>
+        ensures takes { HasCleanDisk (state S.Store self.new.conn) → OnOk result (Takes batch.now
+            (state S.Store self.old.conn).now (state S.Store self.new.conn).now) }
+        ensures fresh { HasCleanDisk (state S.Store self.new.conn)
+            → IfOk result (AreFresh batch.now (state S.Store self.old.conn).now) }
+        ensures rows { IfOk result (λ fresh. self.new.rows ≡ self.old.rows + fresh) }
+        ensures settled { HasCleanDisk (state S.Store self.new.conn)
+            → OnOk result (IsSettled (state S.Store self.new.conn)) }
+        ensures same { HasCleanDisk (state S.Store self.new.conn)
+            → IsTrue (state S.Store self.new.conn).is_open
+            → OnErr result ((state S.Store self.new.conn).now
+            ≡ (state S.Store self.old.conn).now) }
+        ensures rows_same { OnErr result (self.new.rows ≡ self.old.rows) }
+        ensures was_open { HasCleanDisk (state S.Store self.new.conn)
+            → IsTrue (state S.Store self.new.conn).is_open
+            → IsTrue (state S.Store self.old.conn).is_open }
+        ensures open { HasCleanDisk (state S.Store self.new.conn)
+            → OnOk result (IsTrue (state S.Store self.new.conn).is_open) }
+        ensures fault { IfErr result IsOfStore }
+        ensures crash { Survives (state S.Store self.old.conn) (state S.Store self.new.conn)
+            (λ trees. Stands (state S.Store self.old.conn).now self.old.rows
+            → MayTake batch.now (state S.Store self.old.conn).now trees) }
+    {
         if self.rows > MAX_PLACE || batch.len() > MAX_PLACE - self.rows {
             return Err(TableFault::Store);
         }
-        match keep(&mut self.conn, self.rows, batch) {
+        match keep(&mut self.conn, self.rows, batch, watch) {
             Ok(fresh) => {
                 self.rows = self.rows + fresh;
                 Ok(fresh)

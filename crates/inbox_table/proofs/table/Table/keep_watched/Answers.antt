@@ -3,7 +3,7 @@ use Rattle.sqlite.specs.Effect.{Database}
 use Rattle.sqlite.specs.Held.{state}
 use Rattle.sqlite.specs.State.{Survives}
 use Rattle.inbox_table.specs.Calls.{Kept, MayTake, Stands}
-use Rattle.inbox_table.proofs.table.Table.keep.Goals as goal
+use Rattle.inbox_table.proofs.table.Table.keep_watched.Goals as goal
 
 pub returns-in-Ok-clause-crash : goal.returns-in-Ok-clause-crash
 returns-in-Ok-clause-crash g c =
