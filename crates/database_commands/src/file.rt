@@ -12,6 +12,7 @@ use crate::page::{delta, scrub};
 use crate::service::{order, relay};
 use attributes::{Batch, Moment, Text};
 use coverage::Summary;
+use inbox_table::Watch;
 use outbox::Status;
 use sqlite::Connection;
 use sqlite_disk::Unknown;
@@ -36,7 +37,13 @@ const MOST_PAGES: u64 = 65_536;
 /// closing fails. What a file holds no clause can say: those of the commands over a connection do.
 pub trait Databases {
     /// As [`crate::take`].
-    fn take(&self, alloc: Global, name: &str, events: &Batch) -> Result<Text, CommandFault>
+    fn take<W: Watch>(
+        &self,
+        alloc: Global,
+        name: &str,
+        events: &Batch,
+        watch: &W,
+    ) -> Result<Text, CommandFault>
         ensures { IfOk result (λ text. (fresh : ℕ) × (text ≡ counts_line (length events.now) fresh)) };
 
     /// As [`crate::delta`].
@@ -81,11 +88,17 @@ pub trait Databases {
 }
 
 impl Databases for HostRuntime {
-    fn take(&self, alloc: Global, name: &str, events: &Batch) -> Result<Text, CommandFault> {
+    fn take<W: Watch>(
+        &self,
+        alloc: Global,
+        name: &str,
+        events: &Batch,
+        watch: &W,
+    ) -> Result<Text, CommandFault> {
         // A row has some 100 bytes beside the event's text, and the index half a row.
         let growth = events.len().saturating_mul(512);
         match open(self, name, growth) {
-            Ok(conn) => closed(take(alloc, conn, events)),
+            Ok(conn) => closed(take(alloc, conn, events, watch)),
             Err(fault) => Err(fault),
         }
     }

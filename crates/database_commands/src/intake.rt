@@ -11,7 +11,7 @@ use crate::Ended;
 use crate::fault::{CommandFault, of_table};
 use crate::text::counts_line;
 use attributes::{Batch, Text};
-use inbox_table::{Loaded, NotMade, Table, TableFault};
+use inbox_table::{Loaded, NotMade, Table, TableFault, Watch};
 use sqlite::{Alter, Connection};
 use std::alloc::Global;
 
@@ -49,7 +49,7 @@ pub fn take<S: Alter + Drop>(alloc: Global, conn: Connection<S>, events: &Batch)
 {
     match adopted(alloc, conn) {
         Ok(mut table) => {
-            let outcome = kept(alloc, &mut table, events);
+            let outcome = kept(alloc, &mut table, events, watch);
             let conn = table.into_connection();
             Ended { conn, outcome }
         }
@@ -80,10 +80,11 @@ fn adopted<S: Alter + Drop>(alloc: Global, conn: Connection<S>) -> Result<Table<
 }
 
 /// Keeps the events in a table, and answers the line that says how many were new.
-fn kept<S: Alter + Drop>(
+fn kept<S: Alter + Drop, W: Watch>(
     alloc: Global,
     table: &mut Table<S>,
     events: &Batch,
+    watch: &W,
 ) -> Result<Text, CommandFault>
     ensures taken { HasCleanDisk (state S.Store table.new.conn) → IfOk result (λ text.
         (held : List EventValue) → IsInbox (state S.Store table.old.conn).now held
@@ -93,7 +94,7 @@ fn kept<S: Alter + Drop>(
     ensures clean { HasCleanDisk (state S.Store table.new.conn)
         → HasCleanDisk (state S.Store table.old.conn) }
 {
-    match table.keep(events) {
+    match table.keep_watched(events, watch) {
         Ok(fresh) => said(alloc, events.len(), fresh),
         Err(fault) => Err(of_table(fault)),
     }

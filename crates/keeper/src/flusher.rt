@@ -92,6 +92,13 @@ impl<'a, R: Wait, S: Alter + Drop> Flusher<'a, R, S> {
         }
     }
 
+    /// How many of the site's arrivals the table has. Takes no time.
+    pub fn kept(&self) -> u64
+        ensures { result ≡ self.now.keeper.rows }
+    {
+        self.keeper.kept()
+    }
+
     /// The keeper, the pass and the refusal, if one came, as they stand. The table still has the
     /// first arrivals after what the pass has seen.
     pub fn end(self) -> Flushed<S>

@@ -15,7 +15,7 @@ ghost use Rattle.keeper.specs.declared.fault.KeepFault.TheVariants.{Foreign, Out
 
 use crate::fault::KeepFault;
 use attributes::Batch;
-use inbox_table::Table;
+use inbox_table::{Table, Watch};
 use site::Site;
 use site_lock::laws::calls_follow;
 use site_lock::{Pass, SharedSite};
@@ -45,6 +45,21 @@ fn rest_of(alloc: Global, site: &Site, n: u64) -> Result<Batch, AllocError>
         rest.push(site.arrived_at(n + k).copy()?)?;
     }
     Ok(rest)
+}
+
+/// Counts what is kept behind so many events.
+struct Behind<'a, W> {
+    watch: &'a W,
+    before: u64,
+}
+
+impl<'a, W: Watch> Watch for Behind<'a, W> {
+    fn kept(&self, count: u64, all: u64) {
+        self.watch.kept(
+            self.before.saturating_add(count),
+            self.before.saturating_add(all),
+        );
+    }
 }
 
 /// A keeper, and a site with the events of its table.
@@ -186,8 +201,14 @@ impl<S: Alter + Drop> Keeper<S> {
     /// yet; then the mark is their number. The table has the first arrivals of that site. For a
     /// site that was shared and is closed: no turn is needed any more.
     ///
-    /// A refusal leaves the mark. Time and memory in proportion to what is kept.
-    pub fn catch_up(&mut self, alloc: Global, site: &Site) -> Result<(), KeepFault>
+    /// A refusal leaves the mark. Time and memory in proportion to what is kept. The watch is told
+    /// from time to time how many of the site's arrivals the table has.
+    pub fn catch_up<W: Watch>(
+        &mut self,
+        alloc: Global,
+        site: &Site,
+        watch: &W,
+    ) -> Result<(), KeepFault>
         requires { KeepsUp (state S.Store self.old.conn) self.old.rows site.now }
         ensures all { HasCleanDisk (state S.Store self.new.conn)
             → OnOk result (HasAll (state S.Store self.new.conn) self.new.rows site.now) }
@@ -201,8 +222,9 @@ impl<S: Alter + Drop> Keeper<S> {
         ensures known { IfErr result (λ fault. fault ≢ Foreign) }
         ensures list { Grows (state S.Store self.old.conn) (state S.Store self.new.conn) }
     {
-        match rest_of(alloc, site, self.table.rows()) {
-            Ok(rest) => match self.table.keep(&rest) {
+        let before = self.table.rows();
+        match rest_of(alloc, site, before) {
+            Ok(rest) => match self.table.keep_watched(&rest, &Behind { watch, before }) {
                 Ok(_) => Ok(()),
                 Err(fault) => Err(KeepFault::from(fault)),
             },

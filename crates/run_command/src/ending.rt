@@ -20,7 +20,7 @@ use crate::text::run_text;
 use attributes::{Batch, Text};
 use database_commands::{CommandFault, loaded, of_table};
 use feeds::{Jobs, Report, ServeFault, Served};
-use inbox_table::{Loaded, NotMade, Table};
+use inbox_table::{Loaded, NotMade, Table, Watch};
 use keeper::{KeepFault, Keeper, Kept, NotKept};
 use site::Site;
 use sqlite::{Alter, Connection};
@@ -44,11 +44,15 @@ pub struct RunEnded<S: Alter + Drop> {
 /// Of several faults the first is told, in this order: that of the workers as a whole, those of
 /// workers in their order, that of keeping beside them, that of keeping the rest. What was taken by
 /// then is kept all the same, but after a fault of the workers as a whole or of keeping.
-pub fn run<R: Threads + Wait + Sync, S: Alter + Drop>(
+///
+/// The watch is told how many events the table has, of how many that the inbox had or that were
+/// handed over; while workers work the latter is some hundred too many.
+pub fn run<R: Threads + Wait + Sync, S: Alter + Drop, W: Watch>(
     rt: &R,
     alloc: Global,
     conn: Connection<S>,
     jobs: Jobs,
+    watch: &W,
 ) -> RunEnded<S>
     requires { length jobs.feeds + length jobs.peers + length jobs.asks ≤ 16 }
     ensures ran { HasCleanDisk (state S.Store result.conn) → IfOk result.outcome
@@ -60,7 +64,7 @@ pub fn run<R: Threads + Wait + Sync, S: Alter + Drop>(
     match loaded(alloc, conn) {
         Ok(loaded) => {
             let Loaded { table, events } = loaded;
-            run_table(rt, alloc, table, events, jobs)
+            run_table(rt, alloc, table, events, jobs, watch)
         }
         Err(refused) => {
             let NotMade { conn, fault } = refused;
@@ -71,12 +75,13 @@ pub fn run<R: Threads + Wait + Sync, S: Alter + Drop>(
 }
 
 /// A run over a table whose events are at hand.
-fn run_table<R: Threads + Wait + Sync, S: Alter + Drop>(
+fn run_table<R: Threads + Wait + Sync, S: Alter + Drop, W: Watch>(
     rt: &R,
     alloc: Global,
     table: Table<S>,
     events: Batch,
     jobs: Jobs,
+    watch: &W,
 ) -> RunEnded<S>
     requires first { KeepsUp (state S.Store table.conn) table.rows (append_new key_cmp [] events) }
     requires few { length jobs.feeds + length jobs.peers + length jobs.asks ≤ 16 }
@@ -92,8 +97,8 @@ fn run_table<R: Threads + Wait + Sync, S: Alter + Drop>(
     match Keeper::of_loaded(alloc, table, events) {
         Ok(kept) => {
             let Kept { keeper, site } = kept;
-            match share(rt, alloc, keeper, site, jobs) {
-                Ok(closed) => ended(alloc, closed, feeds),
+            match share(rt, alloc, keeper, site, jobs, watch) {
+                Ok(closed) => ended(alloc, closed, feeds, watch),
                 Err(keeper) => unbegun(keeper.into_table()),
             }
         }
@@ -115,7 +120,12 @@ fn unbegun<S: Alter + Drop>(table: Table<S>) -> RunEnded<S>
 }
 
 /// The end of a run whose workers have ended, so many of which were feeds.
-fn ended<S: Alter + Drop>(alloc: Global, closed: Closed<S>, feeds: u64) -> RunEnded<S>
+fn ended<S: Alter + Drop, W: Watch>(
+    alloc: Global,
+    closed: Closed<S>,
+    feeds: u64,
+    watch: &W,
+) -> RunEnded<S>
     requires { KeepsUp (state S.Store closed.keeper.conn) closed.keeper.rows closed.site }
     ensures kept { HasCleanDisk (state S.Store result.conn) → OnOk result.outcome
         (IsInbox (state S.Store result.conn).now closed.site) }
@@ -130,7 +140,7 @@ fn ended<S: Alter + Drop>(alloc: Global, closed: Closed<S>, feeds: u64) -> RunEn
         served,
         stopped,
     } = closed;
-    let outcome = outcome_of(alloc, &mut keeper, &site, &served, stopped, feeds);
+    let outcome = outcome_of(alloc, &mut keeper, &site, &served, stopped, feeds, watch);
     RunEnded {
         conn: keeper.into_table().into_connection(),
         outcome,
@@ -138,13 +148,14 @@ fn ended<S: Alter + Drop>(alloc: Global, closed: Closed<S>, feeds: u64) -> RunEn
 }
 
 /// Keeps what is left, and tells the first fault, or else the text.
-fn outcome_of<S: Alter + Drop>(
+fn outcome_of<S: Alter + Drop, W: Watch>(
     alloc: Global,
     keeper: &mut Keeper<S>,
     site: &Site,
     served: &Result<Served, ServeFault>,
     stopped: Option<KeepFault>,
     feeds: u64,
+    watch: &W,
 ) -> Result<Text, RunFault>
     requires { KeepsUp (state S.Store keeper.old.conn) keeper.old.rows site.now }
     ensures kept { HasCleanDisk (state S.Store keeper.new.conn) → OnOk result
@@ -162,7 +173,7 @@ fn outcome_of<S: Alter + Drop>(
     if let Some(why) = stopped {
         return Err(either(first, of_keep(why)));
     }
-    match keeper.catch_up(alloc, site) {
+    match keeper.catch_up(alloc, site, watch) {
         Ok(()) => match first {
             Some(fault) => Err(fault),
             None => said(alloc, reports, feeds, site),

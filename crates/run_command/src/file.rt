@@ -9,6 +9,7 @@ use crate::fault::RunFault;
 use attributes::Text;
 use database_commands::open;
 use feeds::Jobs;
+use inbox_table::Watch;
 use sqlite_std_file::File;
 use sqlite_store::FileStore;
 use std::alloc::Global;
@@ -19,13 +20,14 @@ use std::thread::Threads;
 /// closed in the end. What it holds no clause can say: that of [`run`] does.
 pub trait Runs {
     /// As [`run`]. `growth` is about how many bytes will be added, for the size of the cache alone.
-    fn run<R: Threads + Wait + Sync>(
+    fn run<R: Threads + Wait + Sync, W: Watch>(
         &self,
         rt: &R,
         alloc: Global,
         name: &str,
         jobs: Jobs,
         growth: u64,
+        watch: &W,
     ) -> Result<Text, RunFault>
         requires few { length jobs.feeds + length jobs.peers + length jobs.asks ≤ 16 }
         requires sync { IsSync R.row }
@@ -35,16 +37,17 @@ pub trait Runs {
 }
 
 impl Runs for HostRuntime {
-    fn run<R: Threads + Wait + Sync>(
+    fn run<R: Threads + Wait + Sync, W: Watch>(
         &self,
         rt: &R,
         alloc: Global,
         name: &str,
         jobs: Jobs,
         growth: u64,
+        watch: &W,
     ) -> Result<Text, RunFault> {
         match open(self, name, growth) {
-            Ok(conn) => closed(run(rt, alloc, conn, jobs)),
+            Ok(conn) => closed(run(rt, alloc, conn, jobs, watch)),
             Err(fault) => Err(RunFault::Database(fault)),
         }
     }

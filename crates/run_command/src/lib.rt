@@ -4,6 +4,7 @@
 mod ending;
 mod fault;
 mod file;
+mod progress;
 mod shared;
 mod tally;
 mod text;

@@ -4,11 +4,13 @@ ghost use Rattle.sqlite.specs.Held.{state};
 ghost use Rattle.keeper.specs.Keep.{KeepsUp};
 ghost use Rattle.run_command.specs.Shared.{IsClosed};
 
+use crate::progress::{Handed, Told};
 use feeds::{Jobs, ServeFault, Served, serve};
 use inbox::laws::sets_are_members;
+use inbox_table::Watch;
 use keeper::laws::first_arrivals_stay;
 use keeper::{Flushed, Flusher, KeepFault, Keeper};
-use site::{Site, Wide};
+use site::Site;
 use site_lock::{Begun, SharedSite};
 use sqlite::Alter;
 use std::alloc::Global;
@@ -26,13 +28,15 @@ pub struct Closed<S: Alter + Drop> {
 }
 
 /// Shares a site for as long as jobs are done for it, each in a thread of its own, and keeps what
-/// came meanwhile. For want of memory the keeper comes back as it was.
-pub fn share<R: Threads + Wait + Sync, S: Alter + Drop>(
+/// came meanwhile. For want of memory the keeper comes back as it was. The watch is told how far it
+/// came.
+pub fn share<R: Threads + Wait + Sync, S: Alter + Drop, W: Watch>(
     rt: &R,
     alloc: Global,
     keeper: Keeper<S>,
     site: Site,
     jobs: Jobs,
+    watch: &W,
 ) -> Result<Closed<S>, Keeper<S>>
     requires first { KeepsUp (state S.Store keeper.conn) keeper.rows site }
     requires few { length jobs.feeds + length jobs.peers + length jobs.asks ≤ 16 }
@@ -49,8 +53,22 @@ pub fn share<R: Threads + Wait + Sync, S: Alter + Drop>(
     let Ok(own) = shared.split(&mut pass) else {
         unreachable!()
     };
-    let mut flusher = Flusher::of(rt, &shared, keeper, own);
-    let served = serve(rt, alloc, &shared, &mut pass, jobs, &Wide, &mut flusher);
+    let flusher = Flusher::of(rt, &shared, keeper, own);
+    let before = flusher.kept();
+    let handed = Handed::nothing();
+    let mut told = Told {
+        flusher,
+        handed: &handed,
+        watch,
+        before,
+    };
+    let served = serve(rt, alloc, &shared, &mut pass, jobs, &handed, &mut told);
+    let Told {
+        flusher,
+        handed: _,
+        watch: _,
+        before: _,
+    } = told;
     let Flushed {
         keeper,
         pass: mut own,

@@ -8,18 +8,20 @@ use command_words::{Action, Request};
 use coverage::Summary;
 use database_commands::{CommandFault, Databases, Status, summary_of};
 use file_reports::{Shelf, UnreadAt, contents_of, events_of};
+use inbox_table::Watch;
 use std::alloc::Global;
 use std::mem;
 
 /// Adds the events of all files to a database, and answers how many were new. All files are read and
 /// judged before the database is opened. The memory of the events is left to the operating system,
 /// since the program ends next.
-pub fn take<S: Shelf, D: Databases>(
+pub fn take<S: Shelf, D: Databases, W: Watch>(
     alloc: Global,
     shelf: &S,
     databases: &D,
     db: &str,
     files: &[Text],
+    watch: &W,
 ) -> Result<Text, Refusal>
     ensures ok { IfOk result (AnswersTake (S.is_content shelf.now) files.now) }
     ensures err { IfErr result
@@ -28,7 +30,7 @@ pub fn take<S: Shelf, D: Databases>(
     match contents_of(alloc, shelf, files) {
         Ok(contents) => match events_of(alloc, contents.as_slice()) {
             Ok(events) => {
-                let answer = databases.take(alloc, db, &events);
+                let answer = databases.take(alloc, db, &events, watch);
                 mem::forget(events);
                 match answer {
                     Ok(text) => Ok(text),

@@ -4,6 +4,7 @@
 mod database;
 mod ending;
 mod line;
+mod progress;
 mod query;
 mod run;
 mod system;
@@ -11,6 +12,7 @@ mod system;
 mod tests;
 mod workers;
 
+use progress::StatusLine;
 use run::exit;
 use std::process::ExitCode;
 use system::{taken, words};
@@ -18,5 +20,6 @@ use system::{taken, words};
 fn main(rt: HostRuntime) -> ExitCode {
     // Kept to the end, so that no file takes the place of a stream that is closed.
     let _taken = taken(&rt);
-    exit(&rt, words(&rt), &mut rt.stdout(), &mut rt.stderr())
+    let line = StatusLine::on(rt.stderr(), rt.alloc());
+    exit(&rt, words(&rt), &mut rt.stdout(), &mut rt.stderr(), &line)
 }

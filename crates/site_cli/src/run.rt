@@ -8,6 +8,7 @@ ghost use Rattle.site_cli.specs.Runs.{EndsUnheard, IsEnding, IsLine, IsPlanEndin
 use crate::database::{delta, order, relay, scrub, take};
 use crate::ending::{Ending, finish};
 use crate::line::{Refusal, line_of};
+use crate::progress::Progress;
 use crate::query::ask;
 use crate::system::SystemFiles;
 use crate::workers::run;
@@ -17,6 +18,7 @@ use database_commands::Databases;
 use file_reports::Shelf;
 use run_command::Runs;
 use std::alloc::Global;
+use std::cell::Cell;
 use std::io;
 use std::io::{ErrorKind, Write};
 use std::process::ExitCode;
@@ -26,12 +28,12 @@ use std::thread::Threads;
 
 /// Runs the program on the words after its name, and answers its exit code. Words that couldn't be
 /// had are at fault, or memory was refused.
-pub fn exit<R: AllocGlobal + Files + Databases + Runs + Threads + Wait + Sync, O: Write, E: Write>(
-    rt: &R,
-    words: io::Result<Vec<Text>>,
-    out: &mut O,
-    err: &mut E,
-) -> ExitCode
+pub fn exit<
+    R: AllocGlobal + Files + Databases + Runs + Threads + Wait + Sync,
+    O: Write,
+    E: Write,
+    P: Progress,
+>(rt: &R, words: io::Result<Vec<Text>>, out: &mut O, err: &mut E, progress: &P) -> ExitCode
     ensures { MatchResult words
         (λ words. RunsWords (λ _ _. Unit {0}) (λ _ _. Unit {0}) words.items (exit_status result)
         (O.contents out.old) (O.contents out.new) (E.contents err.old) (E.contents err.new))
@@ -39,7 +41,7 @@ pub fn exit<R: AllocGlobal + Files + Databases + Runs + Threads + Wait + Sync, O
         (O.contents out.old) (O.contents out.new) (E.contents err.old) (E.contents err.new)) }
 {
     match words {
-        Ok(words) => ExitCode::from(perform(rt, words.as_slice(), out, err)),
+        Ok(words) => ExitCode::from(perform(rt, words.as_slice(), out, err, progress)),
         Err(error) => ExitCode::from(finish(unheard(rt.alloc(), error.kind()), out, err)),
     }
 }
@@ -51,11 +53,14 @@ pub fn exit<R: AllocGlobal + Files + Databases + Runs + Threads + Wait + Sync, O
 /// feeds of `run`, which their workers judge. A result is written to `out` in one piece, a refusal
 /// as one line to `err`. Help that was asked for goes to `out`, what is said of faulty words to
 /// `err`. After a write that fails nothing more is written. It waits where `run` does.
+///
+/// How far `take` and `run` came is told by `progress` alone, before anything is written.
 pub fn perform<
     R: AllocGlobal + Files + Databases + Runs + Threads + Wait + Sync,
     O: Write,
     E: Write,
->(rt: &R, words: &[Text], out: &mut O, err: &mut E) -> u8
+    P: Progress,
+>(rt: &R, words: &[Text], out: &mut O, err: &mut E, progress: &P) -> u8
     ensures status { result ≤ 2 }
     ensures answer { result ≡ 0
         → PrintsAnswer (λ _ _. Unit {0}) words.now (O.contents out.old) (O.contents out.new) }
@@ -63,23 +68,27 @@ pub fn perform<
     ensures runs { RunsWords (λ _ _. Unit {0}) (λ _ _. Unit {0}) words.now result
         (O.contents out.old) (O.contents out.new) (E.contents err.old) (E.contents err.new) }
 {
-    finish(outcome(rt, words), out, err)
+    let ending = outcome(rt, words, progress);
+    progress.over();
+    finish(ending, out, err)
 }
 
 /// What the words come to, before anything is written.
-fn outcome<R: AllocGlobal + Files + Databases + Runs + Threads + Wait + Sync>(
+fn outcome<R: AllocGlobal + Files + Databases + Runs + Threads + Wait + Sync, P: Progress>(
     rt: &R,
     words: &[Text],
+    progress: &P,
 ) -> Ending
     ensures { IsEnding (λ _ _. Unit {0}) (λ _ _. Unit {0}) words.now result }
 {
-    let shelf = SystemFiles { rt };
     match plan(rt.alloc(), words) {
         Ok(plan) => {
+            let left = Cell::new(long_files(&plan));
+            let shelf = SystemFiles { rt, progress, left };
             if is_run(&plan) {
-                ending_of_run(rt, rt.alloc(), &shelf, rt, &plan)
+                ending_of_run(rt, rt.alloc(), &shelf, rt, &plan, progress)
             } else {
-                ending_of(rt.alloc(), &shelf, rt, &plan)
+                ending_of(rt.alloc(), &shelf, rt, &plan, progress)
             }
         }
         Err(Faulty::Words { text, is_help }) => {
@@ -93,21 +102,35 @@ fn outcome<R: AllocGlobal + Files + Databases + Runs + Threads + Wait + Sync>(
     }
 }
 
+/// How many files are read by a plan that may take long, so that it is worth while to tell how many
+/// are left.
+fn long_files(plan: &Plan) -> u64 {
+    match plan {
+        Plan::Take { db: _, files } => files.len(),
+        Plan::Run { db: _, peer, files } => files.len().saturating_add(peer.is_some() as u64),
+        _ => 0,
+    }
+}
+
 /// Carries out a plan that isn't a run, as [`perform`] does, and answers the exit status. It never
 /// waits.
-pub fn perform_alone<R: AllocGlobal + Files + Databases, O: Write, E: Write>(
+pub fn perform_alone<R: AllocGlobal + Files + Databases, O: Write, E: Write, P: Progress>(
     rt: &R,
     plan: &Plan,
     out: &mut O,
     err: &mut E,
+    progress: &P,
 ) -> u8
     requires alone { is_run plan.now ≡ false }
     requires allowed { IsAllowed plan.now }
     ensures { RunsPlan (λ _ _. Unit {0}) (λ _ _. Unit {0}) plan.now result
         (O.contents out.old) (O.contents out.new) (E.contents err.old) (E.contents err.new) }
 {
-    let shelf = SystemFiles { rt };
-    finish(ending_of(rt.alloc(), &shelf, rt, plan), out, err)
+    let left = Cell::new(long_files(plan));
+    let shelf = SystemFiles { rt, progress, left };
+    let ending = ending_of(rt.alloc(), &shelf, rt, plan, progress);
+    progress.over();
+    finish(ending, out, err)
 }
 
 /// Whether the plan is a run.
@@ -118,24 +141,31 @@ fn is_run(plan: &Plan) -> bool
 }
 
 /// What a plan that isn't a run comes to over a shelf of files.
-fn ending_of<S: Shelf, D: Databases>(alloc: Global, shelf: &S, databases: &D, plan: &Plan) -> Ending
+fn ending_of<S: Shelf, D: Databases, P: Progress>(
+    alloc: Global,
+    shelf: &S,
+    databases: &D,
+    plan: &Plan,
+    progress: &P,
+) -> Ending
     requires alone { is_run plan.now ≡ false }
     requires allowed { IsAllowed plan.now }
     ensures { IsPlanEnding (S.is_content shelf.now) (S.is_unread shelf.now) plan.now result }
 {
-    match carried_out(alloc, shelf, databases, plan) {
+    match carried_out(alloc, shelf, databases, plan, progress) {
         Ok(text) => Ending::Answer(text),
         Err(refusal) => refused(alloc, plan, refusal),
     }
 }
 
 /// What a run comes to over a shelf of files.
-fn ending_of_run<R: Threads + Wait + Sync, S: Shelf, D: Runs>(
+fn ending_of_run<R: Threads + Wait + Sync, S: Shelf, D: Runs, P: Progress>(
     rt: &R,
     alloc: Global,
     shelf: &S,
     databases: &D,
     plan: &Plan,
+    progress: &P,
 ) -> Ending
     requires run { is_run plan.now ≡ true }
     requires allowed { IsAllowed plan.now }
@@ -151,6 +181,7 @@ fn ending_of_run<R: Threads + Wait + Sync, S: Shelf, D: Runs>(
                 db.as_str(),
                 peer,
                 files.as_slice(),
+                progress,
             ) {
                 Ok(text) => Ending::Answer(text),
                 Err(refusal) => refused(alloc, plan, refusal),
@@ -161,11 +192,12 @@ fn ending_of_run<R: Threads + Wait + Sync, S: Shelf, D: Runs>(
 }
 
 /// The answer to a plan that isn't a run.
-fn carried_out<S: Shelf, D: Databases>(
+fn carried_out<S: Shelf, D: Databases, P: Progress>(
     alloc: Global,
     shelf: &S,
     databases: &D,
     plan: &Plan,
+    progress: &P,
 ) -> Result<Text, Refusal>
     requires alone { is_run plan.now ≡ false }
     requires allowed { IsAllowed plan.now }
@@ -175,7 +207,14 @@ fn carried_out<S: Shelf, D: Databases>(
 {
     match plan {
         Plan::Ask { query, files } => ask(alloc, shelf, *query, files.as_slice()),
-        Plan::Take { db, files } => take(alloc, shelf, databases, db.as_str(), files.as_slice()),
+        Plan::Take { db, files } => take(
+            alloc,
+            shelf,
+            databases,
+            db.as_str(),
+            files.as_slice(),
+            progress,
+        ),
         Plan::Delta { db, from, summary } => delta(
             alloc,
             shelf,

@@ -4,6 +4,7 @@ use attributes::Text;
 use command_words::{Command, Plan, plan};
 use database_commands::Databases;
 use file_reports::{Query, Unread, read_all};
+use inbox_table::Unwatched;
 use run_command::Runs;
 use std::alloc::Global;
 use std::io::{Read, Write};
@@ -36,7 +37,7 @@ fn run<R: AllocGlobal + Files + Databases + Runs + Threads + Wait + Sync>(
     let words = words_of(rt.alloc(), words)?;
     let mut out = Vec::new(rt.alloc());
     let mut err = Vec::new(rt.alloc());
-    let status = perform(rt, words.as_slice(), &mut out, &mut err);
+    let status = perform(rt, words.as_slice(), &mut out, &mut err, &Unwatched);
     let out = String::from_utf8(out).ok().ok_or("output that isn't text")?;
     let err = String::from_utf8(err)
         .ok()
@@ -314,9 +315,9 @@ fn ends_with_one<R: AllocGlobal + Files + Databases + Runs + Threads + Wait + Sy
     let mut closed = Closed { takes, written: 0 };
     let mut other = Vec::new(rt.alloc());
     let words = words_of(rt.alloc(), &["cover", "f"])?;
-    let answer = perform(rt, words.as_slice(), &mut closed, &mut other);
+    let answer = perform(rt, words.as_slice(), &mut closed, &mut other, &Unwatched);
     let words = words_of(rt.alloc(), &["cover", "none"])?;
-    let refusal = perform(rt, words.as_slice(), &mut other, &mut closed);
+    let refusal = perform(rt, words.as_slice(), &mut other, &mut closed, &Unwatched);
     let lengths = if takes { 27 + 24 } else { 0 };
     Ok(answer == 1 && refusal == 1 && other.is_empty() && closed.written == lengths)
 }

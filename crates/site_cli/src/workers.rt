@@ -12,6 +12,7 @@ use crate::line::Refusal;
 use attributes::{List, Octets, Text, Texts};
 use database_commands::CommandFault;
 use file_reports::{Refused, ReportFault, Shelf, Unread, UnreadAt, contents_of, events_of};
+use inbox_table::Watch;
 use run_command::{Jobs, RunFault, Runs};
 use site::Site;
 use std::alloc::{AllocError, Global};
@@ -23,7 +24,7 @@ use std::thread::Threads;
 /// before the database is opened. Answers how many events the files had, how many of them had no
 /// number, how many the database has now, and its summary. It may wait.
 #[tactic(auto, using(crate::proofs::WorkerLemmas::answers_run, crate::proofs::WorkerLemmas::refuses_run))]
-pub fn run<R: Threads + Wait + Sync, S: Shelf, D: Runs>(
+pub fn run<R: Threads + Wait + Sync, S: Shelf, D: Runs, W: Watch>(
     rt: &R,
     alloc: Global,
     shelf: &S,
@@ -31,6 +32,7 @@ pub fn run<R: Threads + Wait + Sync, S: Shelf, D: Runs>(
     db: &str,
     peer: &Option<Text>,
     files: &[Text],
+    watch: &W,
 ) -> Result<Text, Refusal>
     requires { AreFew (is_some peer.now) (length files.now) }
     ensures ok { IfOk result (AnswersRun (S.is_content shelf.now) peer.now files.now) }
@@ -46,9 +48,9 @@ pub fn run<R: Threads + Wait + Sync, S: Shelf, D: Runs>(
     match contents_of(alloc, shelf, names.as_slice()) {
         Ok(contents) => {
             if peer.is_some() {
-                run_beside(rt, alloc, databases, db, contents)
+                run_beside(rt, alloc, databases, db, contents, watch)
             } else {
-                run_feeds(rt, alloc, databases, db, contents)
+                run_feeds(rt, alloc, databases, db, contents, watch)
             }
         }
         Err(at) => Err(Refusal::Unread(at)),
@@ -93,12 +95,13 @@ fn append(texts: &mut Texts, more: Vec<Text>) -> Result<(), AllocError>
 }
 
 /// Runs with a peer, whose content is the first.
-fn run_beside<R: Threads + Wait + Sync, D: Runs>(
+fn run_beside<R: Threads + Wait + Sync, D: Runs, W: Watch>(
     rt: &R,
     alloc: Global,
     databases: &D,
     db: &str,
     contents: Vec<Octets>,
+    watch: &W,
 ) -> Result<Text, Refusal>
     requires { (1 ≤ length contents.items) × (length contents.items ≤ 16) }
     ensures ok { IfOk result (AnswersJobs true contents.items) }
@@ -118,26 +121,36 @@ fn run_beside<R: Threads + Wait + Sync, D: Runs>(
         return Err(Refusal::Database(CommandFault::OutOfMemory));
     }
     let _peer = contents.remove(0);
-    run_jobs(rt, alloc, databases, db, contents, peers, 1)
+    run_jobs(rt, alloc, databases, db, contents, peers, 1, watch)
 }
 
 /// Runs without a peer.
-fn run_feeds<R: Threads + Wait + Sync, D: Runs>(
+fn run_feeds<R: Threads + Wait + Sync, D: Runs, W: Watch>(
     rt: &R,
     alloc: Global,
     databases: &D,
     db: &str,
     contents: Vec<Octets>,
+    watch: &W,
 ) -> Result<Text, Refusal>
     requires { length contents.items ≤ 16 }
     ensures ok { IfOk result (AnswersJobs false contents.items) }
     ensures err { IfErr result (RefusesJobs false contents.items) }
 {
-    run_jobs(rt, alloc, databases, db, contents, List::empty(alloc), 0)
+    run_jobs(
+        rt,
+        alloc,
+        databases,
+        db,
+        contents,
+        List::empty(alloc),
+        0,
+        watch,
+    )
 }
 
 /// Runs; the feeds' files stand from the place `first` on.
-fn run_jobs<R: Threads + Wait + Sync, D: Runs>(
+fn run_jobs<R: Threads + Wait + Sync, D: Runs, W: Watch>(
     rt: &R,
     alloc: Global,
     databases: &D,
@@ -145,6 +158,7 @@ fn run_jobs<R: Threads + Wait + Sync, D: Runs>(
     contents: Vec<Octets>,
     peers: List<Site>,
     first: u64,
+    watch: &W,
 ) -> Result<Text, Refusal>
     requires few { length contents.items + length peers ≤ 16 }
     requires first { first ≤ 1 }
@@ -161,7 +175,7 @@ fn run_jobs<R: Threads + Wait + Sync, D: Runs>(
         peers,
         asks: List::empty(alloc),
     };
-    match databases.run(rt, alloc, db, jobs, growth) {
+    match databases.run(rt, alloc, db, jobs, growth, watch) {
         Ok(text) => Ok(text),
         Err(RunFault::Database(why)) => Err(Refusal::Database(why)),
         Err(RunFault::NoThread) => Err(Refusal::NoThread),

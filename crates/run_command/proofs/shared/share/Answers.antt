@@ -11,7 +11,7 @@ pub returns-clause-ok : goal.returns-clause-ok
 returns-clause-ok g c =
     let keeper = c.end-keeper.ensures.keeper in
     let own = c.end-keeper.ensures.pass in
-    let flusher = c.serve-served.new.aside in
+    let flusher = c.serve-served.new.aside.flusher in
     let last = c.end-keeper.result in
     subst (λ (z : Kept _). IsClosed (λ conn. state g.S.Store conn) c.args.keeper c.args.site c.args.jobs.feeds z c.close-site.result c.serve-served.result) (sym keeper)
     (closed (λ conn. state g.S.Store conn) c.first_arrivals_stay.ensures c.sets_are_members.ensures.is_found c.args.keeper c.args.site c.close-site.result
