@@ -75,7 +75,7 @@ impl<E: Print> Progress for StatusLine<E> {
         if !self.is_terminal {
             return;
         }
-        let line = format!(in self.alloc; "\r\u{1b}[Ksite: {files} files left to read");
+        let line = format!(in self.alloc; "\r\u{1b}[Ksite: files left to read: {files}");
         if let Ok(line) = line {
             self.show(line.as_str());
         }
