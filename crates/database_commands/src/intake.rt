@@ -40,8 +40,14 @@ pub fn loaded<S: Alter + Drop>(alloc: Global, conn: Connection<S>) -> Result<Loa
 
 /// Adds the events that a database doesn't have, each in its turn, and answers the line that says
 /// how many of them were new. The table is made where there is none. One transaction; the events
-/// that are there already are read once and not kept.
-pub fn take<S: Alter + Drop>(alloc: Global, conn: Connection<S>, events: &Batch) -> Ended<S>
+/// that are there already are read once and not kept. The watch is told from time to time how many
+/// of the batch are in.
+pub fn take<S: Alter + Drop, W: Watch>(
+    alloc: Global,
+    conn: Connection<S>,
+    events: &Batch,
+    watch: &W,
+) -> Ended<S>
     ensures taken { HasCleanDisk (state S.Store result.conn) → IfOk result.outcome
         (TakesInto events.now (state S.Store conn).now (state S.Store result.conn).now) }
     ensures line { IfOk result.outcome (λ text.
