@@ -48,6 +48,7 @@ fn rest_of(alloc: Global, site: &Site, n: u64) -> Result<Batch, AllocError>
 }
 
 /// Counts what is kept behind so many events.
+#[derive(Drop)]
 struct Behind<'a, W> {
     watch: &'a W,
     before: u64,

@@ -12,6 +12,7 @@ use std::sync::atomic::{AtomicU64, Ordering};
 const MAX_PAGE: u64 = 100;
 
 /// Counts what workers hand over. As a gate it never shuts.
+#[derive(Drop)]
 pub struct Handed {
     calls: AtomicU64,
 }

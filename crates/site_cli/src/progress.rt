@@ -25,6 +25,7 @@ impl Progress for Unwatched {
 
 /// One line of a terminal, written anew as the command goes on, and taken away in the end. It stays
 /// silent on a stream that is no terminal, and where memory or a write is refused.
+#[derive(Drop)]
 pub struct StatusLine<E> {
     to: E,
     alloc: Global,
