@@ -44,14 +44,14 @@ impl Gate for Handed {
 /// A flusher that tells after each turn how many events its table has, of about how many that were
 /// there before or were handed over since.
 #[derive(Drop)]
-pub struct Told<'a, R: Wait, S: Alter, W> {
+pub struct Told<'a, 'b, R: Wait, S: Alter, W> {
     pub flusher: Flusher<'a, R, S>,
     pub handed: &'a Handed,
-    pub watch: &'a W,
+    pub watch: &'b W,
     pub before: u64,
 }
 
-impl<'a, R: Wait, S: Alter + Drop, W: Watch> Aside for Told<'a, R, S, W> {
+impl<'a, 'b, R: Wait, S: Alter + Drop, W: Watch> Aside for Told<'a, 'b, R, S, W> {
     ghost use Rattle.sqlite.specs.Held.{state};
     ghost use Rattle.keeper.specs.Flush.{Flushes};
     ghost use Rattle.keeper.specs.steps.Flushes.{flushes_none, flushes_on};
