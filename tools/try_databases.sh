@@ -93,6 +93,11 @@ order place 9
 is 'no number was lost' 0 "$(row 3 9 placed)$lf" ''
 order cancel 9
 is 'it is cancelled' 0 "$(row 4 9 cancelled)$lf" ''
+nine() { run order --db nine.db --at 2024-02-29T10:00:00Z "$@" 9; }
+nine place
+is 'the first order of an outbox' 0 "$(row 1 9 placed)$lf" ''
+nine cancel
+is 'and its cancelling' 0 "$(row 2 9 cancelled)$lf" ''
 run relay --db o.db --after 0
 is 'all rows' 0 "[$(row 1 7 placed),$(row 2 7 shipped),$(row 3 9 placed),$(row 4 9 cancelled)]$lf" ''
 run relay --db o.db --after 3
