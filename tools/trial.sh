@@ -38,3 +38,15 @@ tell() {
     echo "$right of $all runs were right"
     [ "$right" = "$all" ]
 }
+
+lf='
+'
+
+# An event of the number, the id and the type, whose subject is the last word.
+event() {
+    printf '{"id":"%s","sequence":"%020d","source":"/orders","specversion":"1.0","subject":"%s","type":"%s"}' "$1" "$2" "$4" "$3"
+}
+e1=$(event a1 1 t.a x)
+e2=$(event a2 2 t.b x)
+e3=$(event a3 3 t.a y)
+e4=$(event a4 4 t.a y)

@@ -6,15 +6,6 @@
 #   tools/try_databases.sh [PROGRAM]     by default crates/site_cli/out/site_cli
 . "$(dirname -- "$(readlink -f -- "$0")")/trial.sh"
 
-lf='
-'
-# An event of the number, the id and the type, whose subject is the last word.
-event() {
-    printf '{"id":"%s","sequence":"%020d","source":"/orders","specversion":"1.0","subject":"%s","type":"%s"}' "$1" "$2" "$4" "$3"
-}
-e1=$(event a1 1 t.a x)
-e2=$(event a2 2 t.b x)
-e3=$(event a3 3 t.a y)
 printf '[%s,%s,%s]' "$e1" "$e2" "$e3" >three.json
 printf '[%s,%s]' "$e2" "$e3" >two.json
 printf '{"sources":{"/orders":[[2,2]]},"version":1}' >held.json

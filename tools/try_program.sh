@@ -13,8 +13,6 @@ line='{"sources":{"/orders":[[1,1]]},"version":1}
 '
 nothing='{"sources":{},"version":1}
 '
-lf='
-'
 escape=$(printf '\033')
 printf '%s' "$event" >f.json
 printf '[]' >empty.json

@@ -4,16 +4,6 @@
 #   tools/try_run.sh [PROGRAM]     by default crates/site_cli/out/site_cli
 . "$(dirname -- "$(readlink -f -- "$0")")/trial.sh"
 
-lf='
-'
-# An event of the number, the id and the type, whose subject is the last word.
-event() {
-    printf '{"id":"%s","sequence":"%020d","source":"/orders","specversion":"1.0","subject":"%s","type":"%s"}' "$1" "$2" "$4" "$3"
-}
-e1=$(event a1 1 t.a x)
-e2=$(event a2 2 t.b x)
-e3=$(event a3 3 t.a y)
-e4=$(event a4 4 t.a y)
 bare='{"id":"z","source":"/orders","specversion":"1.0","type":"t"}'
 covers() { printf '{"sources":{"/orders":[[1,%s]]},"version":1}' "$1"; }
 printf '[%s,%s]' "$e1" "$e2" >f.json
