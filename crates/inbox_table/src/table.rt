@@ -223,7 +223,7 @@ impl<S: Alter> Table<S> {
         self.keep_watched(batch, &Unwatched)
     }
 
-    /// As [`Table::keep`]. The watch is told after each thousand events how many of the batch are in.
+    /// As [`Table::keep`]; the watch is told after each thousand events how many of them are in.
     pub fn keep_watched<W: Watch>(&mut self, batch: &Batch, watch: &W) -> Result<u64, TableFault>
         ensures takes { HasCleanDisk (state S.Store self.new.conn) → OnOk result (Takes batch.now
             (state S.Store self.old.conn).now (state S.Store self.new.conn).now) }
