@@ -1,0 +1,64 @@
+#!/usr/bin/env python3
+"""Tests tools/try_edits.py on a crate of one function: what it tells of good edits and of bad ones."""
+
+import os
+import sys
+import tempfile
+
+import try_edits
+
+CRATE = """//! The lesser of two numbers.
+#![tactic(auto)]
+
+ghost use Rattle.std.specs.Prelude.{◌≤◌};
+
+/// The lesser number.
+pub fn least(first: u8, second: u8) -> u8
+    ensures first { result ≤ first }
+    ensures second { result ≤ second }
+{
+    if first < second { first } else { second }
+}
+"""
+BODY = "if first < second { first } else { second }"
+# What is tried: the function, the clause, the old line, the new one; whether it counts as refused, and what is told.
+ROWS = {
+    "a wrong body": ("least", "second", BODY, "first", True, "refused at returns-clause-second"),
+    "a body that proves": ("least", "second", BODY, "if first <= second { first } else { second }", False, "LET THROUGH"),
+    "one that doesn't compile": ("least", "second", BODY, "third", False, "ERROR: the edit did not reach the prover"),
+    "an old line that isn't there": ("least", "second", "if second < first", "first", False, "ERROR: an old line stands"),
+    "a refusal at another clause": ("least", "first", BODY, "first", False, "REFUSED ELSEWHERE, not at first: returns-clause-second"),
+    "a function that isn't there": ("most", "second", BODY, "first", False, "ERROR: the edit did not reach the prover"),
+    "no clause": ("least", "", BODY, "first", False, "ERROR: it lacks a line"),
+}
+
+
+def tried(room, row):
+    """Whether the script says of a row's edit what it is to say, and what it said."""
+    name, (only, clause, old, new, is_refused, told) = row
+    file = f"{room}/crates/small/edits/{name.replace(' ', '_')}.edit"
+    with open(file, "w", encoding="utf-8") as it:
+        it.write(f"only: {only}\nclause: {clause}\nfile: src/lib.rt\nold: {old}\nnew: {new}\n")
+    well, text, _ = try_edits.tried({"small": ([], "small:\n")}, file, f"{room}/kept")
+    is_right = well == is_refused and text.startswith(told)
+    return is_right, f"wrong: {name}: {text}, and not {told}"
+
+
+def main():
+    with tempfile.TemporaryDirectory(prefix="edits-tried-") as room:
+        os.makedirs(f"{room}/crates/small/src")
+        os.makedirs(f"{room}/crates/small/edits")
+        with open(f"{room}/crates/small/src/lib.rt", "w", encoding="utf-8") as it:
+            it.write(CRATE)
+        try_edits.TOP = room
+        answers = [tried(room, row) for row in ROWS.items()]
+    for is_right, text in answers:
+        if not is_right:
+            print(text)
+    right = sum(is_right for is_right, _ in answers)
+    print(f"{right} of {len(answers)} edits of the script's own tests were right")
+    return 0 if right == len(answers) else 1
+
+
+if __name__ == "__main__":
+    sys.exit(main())
