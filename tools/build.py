@@ -1,13 +1,15 @@
 #!/usr/bin/env python3
 """Proves the program's crates and builds the program, side by side by what stands on what.
 
-    tools/build.py [--jobs N] [--only-libraries] [CRATE..]      by default site_cli and what it stands on
+    tools/build.py [--jobs N] [CRATE..]      by default site_cli, with what it stands on
 
-As many crates at once as there are processors and memory (2 GB each), those first that most waits for. `rt`
-lets one command at a time work in a crate and in those below it, so each crate is proved in a folder of its own
-with links to what was proved before it, and what it makes comes back. How far it is stands on standard error: on
-one line that is rewritten where that is a terminal, else a line a crate. What a crate took is kept beside what was
-made, and tells the next time how long is left to wait.
+As many crates at once as there are processors and memory (2 GB each), those first that most waits for; what is
+newer than its sources is left as it is. A library goes to crates/NAME/out/built, as the statements that the crates
+above it rest on, which is what `rt ci` makes too; the program goes to crates/NAME/out. `rt` itself lets one command
+at a time work in a crate and in those below it, so `rattle` is called as `rt` calls it.
+
+How far it is stands on standard error: on one line that is rewritten where that is a terminal, else a line a crate.
+What each crate took is kept, and tells the next time how long is left to wait.
 """
 
 import argparse
@@ -23,18 +25,22 @@ TOP = os.path.dirname(os.path.dirname(os.path.realpath(__file__)))
 PROGRAM = "site_cli"
 MEMORY_EACH = 2_000_000_000
 SOURCES = ("src", "specs", "proofs")
-KEPT = ("rlib", "incremental")
+BUILT, OF_RT = "built", "rlib"
+FUNCTION = re.compile(r"^\s*(?:pub(?:\([a-z]+\))? )?(?:const |unsafe )*fn ", re.M)
 
 
-def crates_listed():
-    """The crates of the repository in crates.txt, each with those of the repository that it uses, and its line."""
+def crates_listed(top=TOP):
+    """The crates of crates.txt, each with those of the repository and those of the kit that it uses."""
     lines = {}
-    with open(f"{TOP}/crates.txt", encoding="utf-8") as it:
+    with open(f"{top}/crates.txt", encoding="utf-8") as it:
         for line in it:
             head, colon, names = line.partition(":")
             if colon and not line.lstrip().startswith("#"):
-                lines[head.split()[0]] = (names.split(), line)
-    return {name: ([it for it in names if it in lines], line) for name, (names, line) in lines.items()}
+                lines[head.split()[0]] = names.split()
+    return {
+        name: ([it for it in names if it in lines], [it for it in names if it not in lines])
+        for name, names in lines.items()
+    }
 
 
 def reached(crates, roots):
@@ -52,100 +58,126 @@ def reached(crates, roots):
     return order
 
 
+def kit():
+    """The folder of the Rattle kit."""
+    return os.path.dirname(subprocess.run(["rt", "doc"], capture_output=True, text=True, check=True).stdout.strip())
+
+
 def free_memory():
     with open("/proc/meminfo", encoding="ascii") as it:
         return 1024 * int(re.search(r"MemAvailable:\s+(\d+)", it.read())[1])
 
 
-def linked(source, target):
-    """A copy of a folder by links, or by bytes where the file system has none."""
-
-    def link(one, other):
-        try:
-            os.link(one, other)
-        except OSError:
-            shutil.copy2(one, other)
-
-    if os.path.isdir(source):
-        shutil.copytree(source, target, copy_function=link, dirs_exist_ok=True)
+def lanes_for(jobs):
+    """How many checks run side by side: as many as asked for, else as there are processors and memory."""
+    return jobs or max(1, min(len(os.sched_getaffinity(0)), int(free_memory() // MEMORY_EACH)))
 
 
-class Build:
-    """One crate's proof, running in a folder of its own."""
-
-    def __init__(self, crates, name, room, jobs):
-        self.name, self.room, self.jobs = name, room, jobs
-        self.started = time.monotonic()
-        below = reached(crates, [name])
-        for it in below:
-            for part in SOURCES:
-                linked(f"{TOP}/crates/{it}/{part}", f"{room}/crates/{it}/{part}")
-            for part in KEPT if it == name else ("rlib",):
-                linked(f"{TOP}/crates/{it}/out/{part}", f"{room}/crates/{it}/out/{part}")
-        with open(f"{room}/crates.txt", "w", encoding="utf-8") as it:
-            it.writelines(crates[one][1] for one in below)
-        self.is_program = os.path.exists(f"{TOP}/crates/{name}/src/main.rt")
-        self.folder = f"{room}/crates/{name}"
-        self.log = open(f"{room}/log", "w+", encoding="utf-8", errors="replace")
-        words = ["rt", "lib", "--jobs", str(jobs)]
-        if self.is_program:
-            linked(f"{TOP}/crates/{name}/data", f"{self.folder}/data")
-            words = ["rt", "run", "--jobs", str(jobs), "--", "cover", "data/f.json"]
-        how = {"cwd": self.folder, "stdin": subprocess.DEVNULL, "stdout": self.log, "stderr": subprocess.STDOUT}
-        self.process = subprocess.Popen(words, **how)
-
-    def seconds(self):
-        return time.monotonic() - self.started
-
-    def far(self):
-        """How many functions are proved, of how many, as far as the proof has told."""
-        with open(self.log.name, encoding="utf-8", errors="replace") as it:
-            said = it.read()
-        return (re.findall(r"^(?:so far: |checked .*, )(\d+ of \d+)", said, re.M) or [""])[-1]
-
-    def said(self):
-        with open(self.log.name, encoding="utf-8", errors="replace") as it:
-            return it.read()
-
-    def bring_back(self):
-        """Puts what was made into the crate's own folder."""
-        to = f"{TOP}/crates/{self.name}/out"
-        os.makedirs(to, exist_ok=True)
-        for name in os.listdir(f"{self.folder}/out"):
-            shutil.rmtree(f"{to}/{name}", ignore_errors=True)
-            shutil.move(f"{self.folder}/out/{name}", f"{to}/{name}")
-        with open(f"{to}/build.seconds", "w", encoding="ascii") as it:
-            it.write(f"{self.seconds():.0f} {self.jobs}\n")
-
-    def end(self):
-        if self.process.poll() is None:
-            self.process.terminate()
-            self.process.wait()
-        self.log.close()
+def is_program(name):
+    return os.path.exists(f"{TOP}/crates/{name}/src/main.rt")
 
 
-def is_made(name, mark):
-    """Whether what the mark stands for is there, and newer than the crate's sources."""
-    mark = f"{TOP}/crates/{name}/out/{mark}"
+def sources(name):
+    """The files that a crate is made of."""
+    for part in SOURCES:
+        for at, _, files in os.walk(f"{TOP}/crates/{name}/{part}"):
+            yield from (f"{at}/{it}" for it in files)
+
+
+def is_made(name, file):
+    """Whether a file below the crate's out/ is there, and newer than the crate's sources."""
+    mark = f"{TOP}/crates/{name}/out/{file}"
     if not os.path.exists(mark):
         return False
     made = os.path.getmtime(mark)
-    files = [f"{at}/{it}" for part in SOURCES for at, _, its in os.walk(f"{TOP}/crates/{name}/{part}") for it in its]
-    return all(os.path.getmtime(it) <= made for it in [*files, f"{TOP}/crates.txt"])
+    return all(os.path.getmtime(it) <= made for it in [*sources(name), f"{TOP}/crates.txt"])
 
 
 def stale(crates, names):
     """Those of the crates, in their order, that aren't as their sources are, or stand on one that isn't."""
     found = []
     for name in names:
-        mark = f"{name}.stamp" if os.path.exists(f"{TOP}/crates/{name}/src/main.rt") else "rlib/stamp"
+        mark = name if is_program(name) else f"{BUILT}/{name}.rlib/format"
         if not is_made(name, mark) or any(it in found for it in crates[name][0]):
             found.append(name)
     return found
 
 
+def words_of(crates, name, folder, where):
+    """The words by which `rattle` reads the crate in the current folder, over libraries in out/FOLDER."""
+    own, of_kit = crates[name]
+    words = ["--crate-name", name, f"src/{'main' if is_program(name) else 'lib'}.rt", "-L", f"dependency={where}/rlibs"]
+    for library in ["std", *of_kit]:
+        words += ["--extern", f"{library}={where}/rlibs/{library}.rlib"]
+    for library in own:
+        words += ["--extern", f"{library}={TOP}/crates/{library}/out/{folder}/{library}.rlib"]
+    for library in reached(crates, own):
+        words += ["-L", f"dependency={TOP}/crates/{library}/out/{folder}"]
+    words += ["--antt-project", f"{where}/rattle/logic/antt-project.json", "--logic-built", f"{where}/logic_built"]
+    return [*words, "--links", f"{name}="]
+
+
+class Build:
+    """One crate's proof and building, running."""
+
+    def __init__(self, crates, name, jobs, where):
+        self.name, self.jobs, self.started = name, jobs, time.monotonic()
+        self.folder = f"{TOP}/crates/{name}"
+        self.log = tempfile.TemporaryFile("w+", errors="replace")
+        words = ["rattle", "build", *words_of(crates, name, BUILT, where), "--jobs", str(jobs)]
+        made, made_of = f"out/{name}", f"out/{name}.o"
+        if is_program(name):
+            tools = ["--toolchain", f"{where}/toolchain"]
+            link = ["rattle-link", "--target", "x86_64-unknown-linux-gnu", *tools, "-o", f"{made}.new", made_of]
+            link += [f"{where}/c/libos_c.a", f"{where}/c/liblibc_c.a"]
+            steps = [[*words, *tools, "--backend", "llvm", "-o", made_of], link, ["mv", f"{made}.new", made]]
+        else:
+            os.makedirs(f"{self.folder}/out/{BUILT}", exist_ok=True)
+            steps = [[*words, "--statements", "-o", f"out/{BUILT}/{name}.rlib"]]
+        os.makedirs(f"{self.folder}/out", exist_ok=True)
+        script = " && ".join(f'"${{@:{at + 1}:{count}}}"' for at, count in spans(steps))
+        how = {"cwd": self.folder, "stdin": subprocess.DEVNULL, "stdout": self.log, "stderr": subprocess.STDOUT}
+        how["env"] = {**os.environ, "PATH": f"{os.environ.get('PATH', '')}:{where}/bin"}
+        self.process = subprocess.Popen(["bash", "-c", script, "bash", *sum(steps, [])], start_new_session=True, **how)
+
+    def seconds(self):
+        return time.monotonic() - self.started
+
+    def said(self):
+        self.log.seek(0)
+        return self.log.read()
+
+    def note_time(self):
+        with open(f"{self.folder}/out/build.seconds", "w", encoding="ascii") as it:
+            it.write(f"{self.seconds():.0f} {self.jobs}\n")
+
+    def end(self):
+        if self.process.poll() is None:
+            os.killpg(self.process.pid, 15)
+            self.process.wait()
+        self.log.close()
+
+
+def spans(steps):
+    """Where each step's words begin in the list of all, and how many they are."""
+    at = 0
+    for words in steps:
+        yield at, len(words)
+        at += len(words)
+
+
+def functions(name):
+    """How many functions a crate's text has."""
+    count = 0
+    for file in sources(name):
+        if file.endswith(".rt"):
+            with open(file, encoding="utf-8", errors="replace") as it:
+                count += len(FUNCTION.findall(it.read()))
+    return count
+
+
 def weight(name):
-    """The seconds that a crate took when it was last built, else a guess by its lines; and whether it is known."""
+    """The processor seconds that a crate took when it was last built, else a guess by its lines; and whether it is known."""
     try:
         with open(f"{TOP}/crates/{name}/out/build.seconds", encoding="ascii") as it:
             seconds, jobs = it.read().split()
@@ -153,12 +185,9 @@ def weight(name):
     except (OSError, ValueError):
         pass
     lines = 0
-    for at, _, files in os.walk(f"{TOP}/crates/{name}"):
-        if f"{os.sep}out" not in at:
-            for it in files:
-                if it.endswith((".rt", ".antt")):
-                    with open(f"{at}/{it}", encoding="utf-8", errors="replace") as text:
-                        lines += sum(1 for _ in text)
+    for file in sources(name):
+        with open(file, encoding="utf-8", errors="replace") as it:
+            lines += it.read().count("\n")
     return 20 + lines / 20, False
 
 
@@ -167,7 +196,7 @@ def minutes(seconds):
 
 
 class Show:
-    """How far the build is, on standard error."""
+    """How far something is, on standard error."""
 
     def __init__(self):
         self.is_terminal = sys.stderr.isatty()
@@ -188,67 +217,85 @@ class Show:
             sys.stderr.flush()
 
 
+class Plan:
+    """Crates to build: what waits for what, how long each takes, and how far all are."""
+
+    def __init__(self, names):
+        self.names, self.crates = names, crates_listed()
+        weights = {it: weight(it) for it in names}
+        self.is_known = all(known for _, known in weights.values())
+        self.weights = {it: seconds for it, (seconds, _) in weights.items()}
+        self.functions = {it: functions(it) for it in names}
+        self.behind = dict.fromkeys(names, 0.0)
+        for name in reversed(names):
+            self.behind[name] += self.weights[name]
+            for below in self.crates[name][0]:
+                if below in self.behind:
+                    self.behind[below] = max(self.behind[below], self.behind[name])
+        self.left, self.running, self.done, self.started = sorted(names, key=lambda it: -self.behind[it]), [], [], time.monotonic()
+
+    def ready(self):
+        """The crates that wait for nothing, those first that most waits for."""
+        unmade = {*self.left, *(it.name for it in self.running)}
+        return [it for it in self.left if not unmade.intersection(self.crates[it][0])]
+
+    def start(self, lanes, where):
+        ready = self.ready()
+        for at, name in enumerate(ready):
+            idle = lanes - sum(it.jobs for it in self.running)
+            if idle < 1 or self.running and free_memory() < MEMORY_EACH:
+                break
+            self.left.remove(name)
+            # A crate that few others can run beside gets the processors that are left over.
+            jobs = max(1, min(4, idle // (len(ready) - at)))
+            self.running.append(Build(self.crates, name, jobs, where))
+
+    def wait_left(self, lanes):
+        """How many seconds are left, by the last build's times."""
+        ends = [self.behind[it] for it in self.left] + [self.behind[it.name] - it.seconds() for it in self.running]
+        work = sum(self.weights[it] for it in self.left)
+        work += sum(max(self.weights[it.name] - it.seconds() * it.jobs, 0) for it in self.running)
+        return max([work / lanes, *ends])
+
+    def far(self, lanes):
+        done = sum(self.functions[it] for it in self.done)
+        wait = f", {minutes(self.wait_left(lanes))} left by the last build" if self.is_known and self.running else ""
+        now = ", ".join(it.name for it in self.running)
+        crates = f"{len(self.done)} of {len(self.names)} crates, {done} of {sum(self.functions.values())} functions"
+        return f"site: proved {crates} in {minutes(time.monotonic() - self.started)}{wait}; now {now}"
+
+
 def build(names, lanes, show):
-    """Builds crates in their order; answers the name of the one that failed, with what it said, if any."""
-    crates = crates_listed()
-    weights = {it: weight(it) for it in names}
-    is_known = all(known for _, known in weights.values())
-    behind = {it: 0.0 for it in names}
-    for name in reversed(names):
-        behind[name] += weights[name][0]
-        for below in crates[name][0]:
-            if below in behind:
-                behind[below] = max(behind[below], behind[name])
-    left, running, done = sorted(names, key=lambda it: -behind[it]), [], []
-    started = time.monotonic()
-    with tempfile.TemporaryDirectory(prefix="site-build-") as rooms:
-        try:
-            while left or running:
-                ready = [it for it in left if not any(below in left or below in [r.name for r in running] for below in crates[it][0])]
-                for at, name in enumerate(ready):
-                    idle = lanes - sum(it.jobs for it in running)
-                    if idle < 1 or running and free_memory() < MEMORY_EACH:
-                        break
-                    left.remove(name)
-                    jobs = max(1, min(4, idle // (len(ready) - at)))
-                    running.append(Build(crates, name, f"{rooms}/{name}", jobs))
-                time.sleep(0.2)
-                for it in [it for it in running if it.process.poll() is not None]:
-                    running.remove(it)
-                    if it.process.returncode:
-                        return it.name, it.said()
-                    it.bring_back()
-                    it.end()
-                    shutil.rmtree(it.room, ignore_errors=True)
-                    done.append(it.name)
-                    if not show.is_terminal:
-                        show.say(f"site: proved {it.name} in {minutes(it.seconds())} (crate {len(done)} of {len(names)})")
-                ends = [behind[it] for it in left] + [behind[it.name] - it.seconds() for it in running]
-                work = sum(weights[it][0] for it in left) + sum(max(weights[it.name][0] - it.seconds() * it.jobs, 0) for it in running)
-                wait = f", {minutes(max([work / lanes, *ends]))} left by the last build" if is_known and ends else ""
-                now = ", ".join(f"{it.name} {it.far()}".rstrip() for it in running)
-                show.line(f"site: proved {len(done)} of {len(names)} crates in {minutes(time.monotonic() - started)}{wait}; proving {now}")
-        finally:
-            for it in running:
+    """Builds crates; answers the name of the one that failed, with what it said, if any did."""
+    plan, where = Plan(names), kit()
+    try:
+        while plan.left or plan.running:
+            plan.start(lanes, where)
+            time.sleep(0.2)
+            for it in [it for it in plan.running if it.process.poll() is not None]:
+                plan.running.remove(it)
+                if it.process.returncode:
+                    return it.name, it.said()
+                it.note_time()
                 it.end()
-            show.over()
+                plan.done.append(it.name)
+                if not show.is_terminal:
+                    show.say(f"site: proved {it.name} in {minutes(it.seconds())} (crate {len(plan.done)} of {len(names)})")
+            show.line(plan.far(lanes))
+    finally:
+        for it in plan.running:
+            it.end()
+        show.over()
     return None
 
 
 def main():
     words = argparse.ArgumentParser(description=__doc__, formatter_class=argparse.RawDescriptionHelpFormatter)
-    words.add_argument("--jobs", type=int, default=0)
-    words.add_argument("--only-libraries", action="store_true")
+    words.add_argument("--jobs", type=int, default=0, help="how many crates or modules are proved side by side")
     words.add_argument("crates", nargs="*")
     given = words.parse_args()
     show, crates = Show(), crates_listed()
-    names = reached(crates, given.crates or [PROGRAM])
-    if given.only_libraries:
-        names = [it for it in names if not os.path.exists(f"{TOP}/crates/{it}/src/main.rt")]
-    names = stale(crates, names)
-    by_memory = max(int(free_memory() // MEMORY_EACH), 1)
-    lanes = given.jobs or min(len(os.sched_getaffinity(0)), by_memory)
-    failed = build(names, lanes, show)
+    failed = build(stale(crates, reached(crates, given.crates or [PROGRAM])), lanes_for(given.jobs), show)
     if failed:
         log = f"{TOP}/crates/{failed[0]}/out/build.log"
         os.makedirs(os.path.dirname(log), exist_ok=True)

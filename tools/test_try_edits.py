@@ -5,6 +5,7 @@ import os
 import sys
 import tempfile
 
+import build
 import try_edits
 
 CRATE = """//! The lesser of two numbers.
@@ -39,7 +40,7 @@ def tried(room, row):
     file = f"{room}/crates/small/edits/{name.replace(' ', '_')}.edit"
     with open(file, "w", encoding="utf-8") as it:
         it.write(f"only: {only}\nclause: {clause}\nfile: src/lib.rt\nold: {old}\nnew: {new}\n")
-    well, text, _ = try_edits.tried({"small": ([], "small:\n")}, file, f"{room}/kept")
+    well, text, _ = try_edits.tried({"small": ([], [])}, file, try_edits.BUILT, f"{room}/kept")
     is_right = well == is_refused and text.startswith(told)
     return is_right, f"wrong: {name}: {text}, and not {told}"
 
@@ -50,7 +51,7 @@ def main():
         os.makedirs(f"{room}/crates/small/edits")
         with open(f"{room}/crates/small/src/lib.rt", "w", encoding="utf-8") as it:
             it.write(CRATE)
-        try_edits.TOP = room
+        build.TOP = try_edits.TOP = room
         answers = [tried(room, row) for row in ROWS.items()]
     for is_right, text in answers:
         if not is_right:

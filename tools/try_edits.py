@@ -26,9 +26,8 @@ import tempfile
 import time
 from concurrent.futures import ThreadPoolExecutor, as_completed
 
-from build import MEMORY_EACH, SOURCES, TOP, crates_listed, free_memory, is_made, reached
+from build import BUILT, OF_RT, SOURCES, TOP, crates_listed, is_made, kit, lanes_for, reached, words_of
 
-KIT = os.path.dirname(subprocess.run(["rt", "doc"], capture_output=True, text=True, check=True).stdout.strip())
 # A proof that cites what the edit took away says nothing of the clause.
 TAKEN_AWAY = re.compile(r"is not in scope|has no field|has no `|is no name|was not admitted")
 # A goal, as a check names it where its written answer is refused, and where none is written and the search finds none.
@@ -67,22 +66,6 @@ def read_edit(file):
     return only, clause, changes
 
 
-def words_of(crates, name):
-    """The words that check a crate over the libraries as they are built."""
-    root = "main" if os.path.exists(f"{TOP}/crates/{name}/src/main.rt") else "lib"
-    own, line = crates[name]
-    kit = [it for it in line.partition(":")[2].split() if it not in own]
-    words = ["rattle", "check", "--crate-name", name, f"src/{root}.rt", "-L", f"dependency={KIT}/rlibs"]
-    for library in ["std", *kit]:
-        words += ["--extern", f"{library}={KIT}/rlibs/{library}.rlib"]
-    for library in own:
-        words += ["--extern", f"{library}={TOP}/crates/{library}/out/rlib/{library}.rlib"]
-    for library in reached(crates, own):
-        words += ["-L", f"dependency={TOP}/crates/{library}/out/rlib"]
-    words += ["--antt-project", f"{KIT}/rattle/logic/antt-project.json", "--logic-built", f"{KIT}/logic_built"]
-    return [*words, "--links", f"{name}=", "--jobs", "1"]
-
-
 def is_goal_of(clause, goal):
     """Whether a goal, as a check names it, is of the clause: `returns-in-Ok-clause-count` is of `count`."""
     if clause == "ensures":
@@ -113,9 +96,9 @@ def judged(only, clause, status, said):
     return False, f"REFUSED ELSEWHERE, not at {clause}: {told}"
 
 
-def tried(crates, file, kept):
-    """Whether the edit is refused at its clause, what to tell, and the seconds that it took; `kept` is a folder of
-    what earlier checks of the crate proved."""
+def tried(crates, file, folder, kept):
+    """Whether the edit is refused at its clause, what to tell, and the seconds that it took. The libraries below
+    stand in their out/FOLDER, and `kept` has what earlier checks of the crate proved."""
     started, name = time.monotonic(), file.split(os.sep)[-3]
     try:
         only, clause, changes = read_edit(file)
@@ -132,17 +115,26 @@ def tried(crates, file, kept):
                     it.truncate()
                     it.write(text.replace(old, new))
             how = {"cwd": room, "stdin": subprocess.DEVNULL, "stdout": subprocess.PIPE, "stderr": subprocess.STDOUT}
-            ran = subprocess.run([*words_of(crates, name), "--incremental", kept, "--only", only], errors="replace", **how)
+            words = ["rattle", "check", *words_of(crates, name, folder, kit()), "--jobs", "1"]
+            ran = subprocess.run([*words, "--incremental", kept, "--only", only], errors="replace", **how)
             well, text = judged(only, clause, ran.returncode, ran.stdout)
     except (BadEdit, OSError) as why:
         well, text = False, f"ERROR: {why}"
     return well, text, time.monotonic() - started
 
 
-def tried_in_turn(crates, files):
+def tried_in_turn(crates, files, folder):
     """What came of each of a crate's edits."""
     with tempfile.TemporaryDirectory(prefix="edits-kept-") as kept:
-        return [(file, *tried(crates, file, kept)) for file in files]
+        return [(file, *tried(crates, file, folder, kept)) for file in files]
+
+
+def built_in(below):
+    """The folder of out/ where the libraries are as their sources are: where `rt ci` has left them, or where
+    tools/build.py puts them. None where they can't be built."""
+    if all(is_made(it, f"{OF_RT}/{it}.rlib/format") for it in below):
+        return OF_RT
+    return None if below and subprocess.run([f"{TOP}/tools/build.py", *below]).returncode else BUILT
 
 
 def main():
@@ -154,16 +146,15 @@ def main():
     edits = {it: sorted(glob.glob(f"{TOP}/crates/{it}/edits/*.edit")) for it in given.crates or crates}
     edits = {name: files for name, files in edits.items() if files}
     below = reached(crates, [it for name in edits for it in crates[name][0]])
-    # After `rt ci` the libraries are there, with no stamp of rt's: what they were built of stands in their own files.
-    stale = [it for it in below if not is_made(it, f"rlib/{it}.rlib/format")]
-    if stale and subprocess.run([f"{TOP}/tools/build.py", *below]).returncode:
+    folder = built_in(below)
+    if folder is None:
         print("0 passed, 1 failed")
         return 1
-    lanes = given.jobs or max(1, min(len(os.sched_getaffinity(0)), int(free_memory() // MEMORY_EACH)))
+    lanes = lanes_for(given.jobs)
     passed = failed = 0
     with ThreadPoolExecutor(lanes) as pool:
         # The highest crates first: theirs are the longest checks.
-        runs = [pool.submit(tried_in_turn, crates, files) for _, files in reversed(edits.items())]
+        runs = [pool.submit(tried_in_turn, crates, files, folder) for _, files in reversed(edits.items())]
         for run in as_completed(runs):
             for file, well, text, seconds in run.result():
                 passed, failed = passed + well, failed + (not well)
