@@ -10,7 +10,7 @@ use crate::line::{
 };
 use crate::number::{find_gaps, sum_numbers};
 use crate::query::{Answer, Query};
-use crate::view::{count_days, count_kinds, find_latest, shown_events};
+use crate::view::{count_days, count_kinds, find_latest, latest_events, shown_events};
 use attributes::Text;
 use inbox::Inbox;
 use std::alloc::{AllocError, Global};
@@ -50,7 +50,7 @@ pub fn print(alloc: Global, answer: &Answer) -> Result<Text, AllocError>
 }
 
 /// The lines of the answer to a question about a set of events: what `print` makes of `answer`, but
-/// the shown events are printed where they stand, without a copy of each. `AllocError` where memory
+/// events are printed where they stand, without a copy of each. `AllocError` where memory
 /// is refused.
 pub fn answer_lines(alloc: Global, inbox: &Inbox, query: Query) -> Result<Text, AllocError>
     ensures { IfOk result (IsAnswer query (events inbox.now)) }
@@ -61,6 +61,10 @@ pub fn answer_lines(alloc: Global, inbox: &Inbox, query: Query) -> Result<Text, 
         Query::Shown => {
             let shown = shown_events(alloc, inbox)?;
             print_lent(alloc, &shown)
+        }
+        Query::Latest => {
+            let latest = latest_events(alloc, inbox)?;
+            print_lent(alloc, &latest)
         }
         _ => {
             let found = answer(alloc, inbox, query)?;
