@@ -6,7 +6,8 @@ ghost use Rattle.views.specs.Question.{AreLines, IsAnswer, IsTrueOf, query_of};
 
 use crate::laws::answers_are_alike;
 use crate::line::{
-    print_conflicts, print_cover, print_days, print_events, print_gaps, print_kinds, print_lent,
+    print_conflicts, print_conflicts_of, print_cover, print_days, print_events, print_gaps,
+    print_kinds, print_lent,
 };
 use crate::number::{find_gaps, sum_numbers};
 use crate::query::{Answer, Query};
@@ -66,6 +67,7 @@ pub fn answer_lines(alloc: Global, inbox: &Inbox, query: Query) -> Result<Text, 
             let latest = latest_events(alloc, inbox)?;
             print_lent(alloc, &latest)
         }
+        Query::Conflicts => print_conflicts_of(alloc, inbox),
         _ => {
             let found = answer(alloc, inbox, query)?;
             print(alloc, &found)

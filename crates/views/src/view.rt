@@ -1,6 +1,6 @@
 //! What the shown events are asked: types, days and the latest.
 
-ghost use Rattle.std.specs.Prelude.{◌≡◌, IfOk, map};
+ghost use Rattle.std.specs.Prelude.{◌≡◌, ◌≤◌, ◌+◌, IfOk, drop, length, map, take};
 ghost use Rattle.inbox.specs.Kept.{events};
 ghost use Rattle.inbox.specs.Shown.{shown};
 ghost use Rattle.views.specs.Latest.{latest};
@@ -70,6 +70,37 @@ fn listed_days(alloc: Global, table: &BTreeMap<(&str, Day), u64>) -> Result<Days
         rows.push(((Text::of(alloc, key.0)?, key.1), *count))?;
     }
     Ok(rows)
+}
+
+/// The events of a batch, lent.
+pub(crate) fn lent(alloc: Global, batch: &Batch) -> Result<Vec<&Sequenced>, AllocError>
+    ensures { IfOk result (λ list. map (λ e. e.now) list.items ≡ batch.now) }
+{
+    let mut list = Vec::new(alloc);
+    for i in 0..batch.len() {
+        list.push(batch.at(i))?;
+    }
+    Ok(list)
+}
+
+/// The n events from place i on, lent.
+pub(crate) fn lent_from<'a>(
+    alloc: Global,
+    inbox: &'a Inbox,
+    i: u64,
+    n: u64,
+) -> Result<Vec<&'a Sequenced>, AllocError>
+    requires fits { i + n ≤ length (events inbox.now) }
+    ensures { IfOk result (λ list.
+        map (λ e. e.now) list.items ≡ take n (drop i (events inbox.now))) }
+{
+    let mut list = Vec::new(alloc);
+    // The count bounds the sum below.
+    let _len = inbox.len();
+    for k in 0..n {
+        list.push(inbox.at(i + k))?;
+    }
+    Ok(list)
 }
 
 /// The latest shown event of each source and subject, by source, then subject, lent. Time as for
