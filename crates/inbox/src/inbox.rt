@@ -248,8 +248,9 @@ impl Inbox {
         Ok(batch)
     }
 
-    /// How many events have the key of the event at place i, which is the first of them.
-    fn key_len(&self, i: u64) -> u64
+    /// How many events have the key of the event at place i, which is the first of them, and with
+    /// it the places from i on. Goes over them.
+    pub fn key_len(&self, i: u64) -> u64
         requires in_range { i < length (events self.now) }
         requires first { (e : EventValue) → slice_get (events self.now) i ≡ Some e
             → is_shown (events self.now) e ≡ true }

@@ -1,8 +1,10 @@
 //! Answers in lines.
 
-ghost use Rattle.std.specs.Prelude.{◌≡◌, ◌++◌, IfOk, OnOk, List, ℕ, map, string_bytes};
+ghost use Rattle.std.specs.Prelude.{◌≡◌, ◌<◌, [], ◌∷◌, ◌++◌, IfOk, OnOk, List, Some, ℕ, length, map, slice_get, string_bytes};
 ghost use Rattle.std.specs.List.{join_with_byte};
-ghost use Rattle.attributes.specs.Event.{text};
+ghost use Rattle.attributes.specs.Event.{EventValue, text};
+ghost use Rattle.inbox.specs.Conflicts.{conflicts, conflicts_of};
+ghost use Rattle.inbox.specs.Kept.{events};
 ghost use Rattle.jiff_core.specs.Date.{epoch_day};
 ghost use Rattle.serde_json.specs.Written.{compact_text};
 ghost use Rattle.views.specs.Day.{IsDayText};
@@ -11,9 +13,10 @@ ghost use Rattle.views.specs.steps.Joined.{separated};
 
 use crate::day::Day;
 use crate::row::{DayCount, Days, Gaps, KindCount, Kinds, SourceGaps};
+use crate::view::{lent, lent_from};
 use attributes::{Batch, Sequenced, Text};
 use coverage::{Intervals, Summary};
-use inbox::{Conflict, Conflicts};
+use inbox::{Conflict, Conflicts, Inbox};
 use jiff::civil;
 use jiff_core::civil::Date;
 use json::Writer;
@@ -70,12 +73,12 @@ fn push_text(out: &mut String, is_first: bool, text: &str) -> Result<(), AllocEr
 }
 
 /// Adds the canonical texts of events, joined by commas.
-fn push_texts(out: &mut String, events: &Batch) -> Result<(), AllocError>
+fn push_texts(out: &mut String, events: &[&Sequenced]) -> Result<(), AllocError>
     ensures { OnOk result (string_bytes out.new
-        ≡ string_bytes out.old ++ join_with_byte 44 (map text events.now)) }
+        ≡ string_bytes out.old ++ join_with_byte 44 (map text (map (λ e. e.now) events.now))) }
 {
     for i in 0..events.len() {
-        push_text(out, i == 0, events.at(i).event().text())?;
+        push_text(out, i == 0, events[i].event().text())?;
     }
     Ok(())
 }
@@ -90,14 +93,25 @@ fn string_text(alloc: Global, words: &str) -> Result<Text, AllocError>
     Ok(Text::from_string(text))
 }
 
-/// Adds the line of a conflict. The canonical texts are added as they are.
-fn add_conflict(alloc: Global, out: &mut String, row: &Conflict) -> Result<(), AllocError>
-    ensures { OnOk result (string_bytes out.new ≡ string_bytes out.old ++ conflict_line row.now) }
+/// Adds the line of the conflict of events of a source and id. The canonical texts are added as
+/// they are.
+fn add_conflict(
+    alloc: Global,
+    out: &mut String,
+    source: &str,
+    id: &str,
+    events: &[&Sequenced],
+) -> Result<(), AllocError>
+    ensures { OnOk result (string_bytes out.new ≡ string_bytes out.old ++ conflict_line (record {
+      source = source.now;
+      id = id.now;
+      events = map (λ e. e.now) events.now;
+    })) }
 {
-    let id = string_text(alloc, row.id.as_str())?;
-    let source = string_text(alloc, row.source.as_str())?;
+    let id = string_text(alloc, id)?;
+    let source = string_text(alloc, source)?;
     out.push_str("{\"events\":[")?;
-    push_texts(out, &row.events)?;
+    push_texts(out, events)?;
     out.push_str("],\"id\":")?;
     out.push_str(id.as_str())?;
     out.push_str(",\"source\":")?;
@@ -114,7 +128,46 @@ pub(crate) fn print_conflicts(alloc: Global, rows: &Conflicts) -> Result<Text, A
 {
     let mut out = String::new(alloc);
     for i in 0..rows.len() {
-        add_conflict(alloc, &mut out, rows.at(i))?;
+        add_row(alloc, &mut out, rows.at(i))?;
+    }
+    Ok(Text::from_string(out))
+}
+
+/// Adds the line of a conflict.
+fn add_row(alloc: Global, out: &mut String, row: &Conflict) -> Result<(), AllocError>
+    ensures { OnOk result (string_bytes out.new ≡ string_bytes out.old ++ conflict_line row.now) }
+{
+    let events = lent(alloc, &row.events)?;
+    add_conflict(alloc, out, row.source.as_str(), row.id.as_str(), &events)
+}
+
+/// Adds the line of the conflict of the key of the event at place i, if that is the first of
+/// several.
+fn add_conflict_at(alloc: Global, out: &mut String, inbox: &Inbox, i: u64) -> Result<(), AllocError>
+    requires in_range { i < length (events inbox.now) }
+    ensures { OnOk result ((e : EventValue) → slice_get (events inbox.now) i ≡ Some e
+        → string_bytes out.new
+        ≡ string_bytes out.old ++ conflict_lines (conflicts_of (events inbox.now) (e ∷ []))) }
+{
+    if !inbox.is_shown(i) {
+        return Ok(());
+    }
+    let n = inbox.key_len(i);
+    if n > 1 {
+        let events = lent_from(alloc, inbox, i, n)?;
+        let event = inbox.at(i).event();
+        add_conflict(alloc, out, event.source(), event.id(), &events)?;
+    }
+    Ok(())
+}
+
+/// What `print_conflicts` makes of a set's conflicts, the events printed where they stand.
+pub(crate) fn print_conflicts_of(alloc: Global, inbox: &Inbox) -> Result<Text, AllocError>
+    ensures { IfOk result (λ t. t ≡ conflict_lines (conflicts (events inbox.now))) }
+{
+    let mut out = String::new(alloc);
+    for i in 0..inbox.len() {
+        add_conflict_at(alloc, &mut out, inbox, i)?;
     }
     Ok(Text::from_string(out))
 }

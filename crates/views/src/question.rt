@@ -6,11 +6,12 @@ ghost use Rattle.views.specs.Question.{AreLines, IsAnswer, IsTrueOf, query_of};
 
 use crate::laws::answers_are_alike;
 use crate::line::{
-    print_conflicts, print_cover, print_days, print_events, print_gaps, print_kinds, print_lent,
+    print_conflicts, print_conflicts_of, print_cover, print_days, print_events, print_gaps,
+    print_kinds, print_lent,
 };
 use crate::number::{find_gaps, sum_numbers};
 use crate::query::{Answer, Query};
-use crate::view::{count_days, count_kinds, find_latest, shown_events};
+use crate::view::{count_days, count_kinds, find_latest, latest_events, shown_events};
 use attributes::Text;
 use inbox::Inbox;
 use std::alloc::{AllocError, Global};
@@ -50,7 +51,7 @@ pub fn print(alloc: Global, answer: &Answer) -> Result<Text, AllocError>
 }
 
 /// The lines of the answer to a question about a set of events: what `print` makes of `answer`, but
-/// the shown events are printed where they stand, without a copy of each. `AllocError` where memory
+/// events are printed where they stand, without a copy of each. `AllocError` where memory
 /// is refused.
 pub fn answer_lines(alloc: Global, inbox: &Inbox, query: Query) -> Result<Text, AllocError>
     ensures { IfOk result (IsAnswer query (events inbox.now)) }
@@ -62,6 +63,11 @@ pub fn answer_lines(alloc: Global, inbox: &Inbox, query: Query) -> Result<Text, 
             let shown = shown_events(alloc, inbox)?;
             print_lent(alloc, &shown)
         }
+        Query::Latest => {
+            let latest = latest_events(alloc, inbox)?;
+            print_lent(alloc, &latest)
+        }
+        Query::Conflicts => print_conflicts_of(alloc, inbox),
         _ => {
             let found = answer(alloc, inbox, query)?;
             print(alloc, &found)

@@ -1,6 +1,6 @@
 //! What the shown events are asked: types, days and the latest.
 
-ghost use Rattle.std.specs.Prelude.{◌≡◌, IfOk, map};
+ghost use Rattle.std.specs.Prelude.{◌≡◌, ◌≤◌, ◌+◌, IfOk, drop, length, map, take};
 ghost use Rattle.inbox.specs.Kept.{events};
 ghost use Rattle.inbox.specs.Shown.{shown};
 ghost use Rattle.views.specs.Latest.{latest};
@@ -72,23 +72,81 @@ fn listed_days(alloc: Global, table: &BTreeMap<(&str, Day), u64>) -> Result<Days
     Ok(rows)
 }
 
-/// The latest shown event of each source and subject, by source, then subject. Time as for
-/// `count_kinds`, and in proportion to the events that are copied.
-pub(crate) fn find_latest(alloc: Global, inbox: &Inbox) -> Result<Batch, AllocError>
-    ensures { IfOk result (λ batch. batch ≡ latest (events inbox.now)) }
+/// The events of a batch, lent.
+pub(crate) fn lent(alloc: Global, batch: &Batch) -> Result<Vec<&Sequenced>, AllocError>
+    ensures { IfOk result (λ list. map (λ e. e.now) list.items ≡ batch.now) }
+{
+    let mut list = Vec::new(alloc);
+    for i in 0..batch.len() {
+        list.push(batch.at(i))?;
+    }
+    Ok(list)
+}
+
+/// The n events from place i on, lent.
+pub(crate) fn lent_from<'a>(
+    alloc: Global,
+    inbox: &'a Inbox,
+    i: u64,
+    n: u64,
+) -> Result<Vec<&'a Sequenced>, AllocError>
+    requires fits { i + n ≤ length (events inbox.now) }
+    ensures { IfOk result (λ list.
+        map (λ e. e.now) list.items ≡ take n (drop i (events inbox.now))) }
+{
+    let mut list = Vec::new(alloc);
+    // The count bounds the sum below.
+    let _len = inbox.len();
+    for k in 0..n {
+        list.push(inbox.at(i + k))?;
+    }
+    Ok(list)
+}
+
+/// The latest shown event of each source and subject, by source, then subject, lent. Time as for
+/// `count_kinds`.
+pub(crate) fn latest_events<'a>(
+    alloc: Global,
+    inbox: &'a Inbox,
+) -> Result<Vec<&'a Sequenced>, AllocError>
+    ensures { IfOk result (λ list. map (λ e. e.now) list.items ≡ latest (events inbox.now)) }
 {
     let shown = shown_events(alloc, inbox)?;
     let table = by_thread(alloc, &shown)?;
-    Ok(copied(alloc, &table)?)
+    Ok(listed_events(alloc, &table)?)
 }
 
-/// Copies of the events of a table.
-fn copied(alloc: Global, table: &BTreeMap<(&str, &str), &Sequenced>) -> Result<Batch, AllocError>
-    ensures { IfOk result (λ batch. batch ≡ map (λ e. e.1.now) table.now.entries) }
+/// The events of a table.
+fn listed_events<'a>(
+    alloc: Global,
+    table: &BTreeMap<(&'a str, &'a str), &'a Sequenced>,
+) -> Result<Vec<&'a Sequenced>, AllocError>
+    ensures { IfOk result (λ list.
+        map (λ e. e.now) list.items ≡ map (λ e. e.1.now) table.now.entries) }
+{
+    let mut list = Vec::new(alloc);
+    for entry in table {
+        list.push(*entry.1)?;
+    }
+    Ok(list)
+}
+
+/// Copies of the latest shown events. Time as for `latest_events`, and in proportion to the events
+/// that are copied.
+pub(crate) fn find_latest(alloc: Global, inbox: &Inbox) -> Result<Batch, AllocError>
+    ensures { IfOk result (λ batch. batch ≡ latest (events inbox.now)) }
+{
+    let latest = latest_events(alloc, inbox)?;
+    copied(alloc, &latest)
+}
+
+/// Copies of lent events.
+fn copied(alloc: Global, list: &[&Sequenced]) -> Result<Batch, AllocError>
+    ensures { IfOk result (λ batch. batch ≡ map (λ e. e.now) list.now) }
 {
     let mut batch = Batch::empty(alloc);
-    for entry in table {
-        batch.push(entry.1.copy()?)?;
+    for event in list {
+        batch.push(event.copy()?)?;
     }
     Ok(batch)
 }

@@ -1,4 +1,4 @@
-use Rattle.std.proofs.Common.{◌≡◌, ◌+◌, ◌^◌, rules, ◌<◌, length, map, take, sym, ap, ◌∙◌, arith}
+use Rattle.std.proofs.Common.{◌≡◌, ◌^◌, rules, ◌<◌, length, map, take, sym, ap, ◌∙◌, arith}
 use Rattle.std.specs.Prelude.{filter_map, Some, None}
 use Rattle.std.specs.Option.{option_map}
 use Rattle.attributes.specs.Event.{kind_of}

@@ -1,4 +1,4 @@
-use Rattle.std.proofs.Common.{◌+◌, ◌^◌, rules, ◌<◌, ◌++◌, [], ◌∷◌, length, map, take, sym, ap, ◌∙◌, arith}
+use Rattle.std.proofs.Common.{◌^◌, rules, ◌<◌, ◌++◌, [], ◌∷◌, length, map, take, sym, ap, ◌∙◌, arith}
 use Rattle.std.proofs.lemmas.Cmp.{nat_list_cmp_total}
 use Rattle.attributes.specs.Event.{kind_of}
 use Rattle.attributes.specs.Bytes.{byte_cmp}

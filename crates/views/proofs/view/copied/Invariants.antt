@@ -1,5 +1,5 @@
-use Rattle.std.proofs.Common.{◌≡◌, ◌++◌, map}
+use Rattle.std.proofs.Common.{◌≡◌, map, take}
 use Rattle.views.proofs.view.copied.Given as goal
 
-abbrev pub invariant-loop-entry : goal.invariant-loop-entry
-invariant-loop-entry l = l.batch ++ map (λ e. e.1.now) l.entry-iterator ≡ map (λ e. e.1.now) l.table.entries
+abbrev pub invariant-loop-event : goal.invariant-loop-event
+invariant-loop-event l = l.batch ≡ map (λ e. e.now) (take l.event-index l.list)
