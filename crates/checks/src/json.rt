@@ -1,8 +1,7 @@
-use attributes::{Batch, Fault, Sequenced};
+use crate::event::{is_text, is_written};
+use attributes::{Batch, Event, Fault, Sequenced};
 use event_json::{ReadFault, read_events, write_batch, write_event, write_sequenced};
 use std::alloc::{AllocError, Global};
-use std::process::Abort;
-use std::test::Fail;
 
 const LONG: &str =
     r#"{"type":"t.a","subject":"x","specversion":"1.0","source":"/orders","sequence":"00000000000000000001","id":"\u0061\u0031"}"#;
@@ -154,42 +153,61 @@ fn nested(alloc: Global, depth: u64) -> Result<String, AllocError> {
     Ok(text)
 }
 
-fn assert_answers(
-    rt: &impl Abort,
-    alloc: Global,
-    bytes: &[u8],
-    want: &str,
-    of: &str,
-) -> Result<(), AllocError> {
-    assert_eq!(rt; answer(alloc, bytes)?.as_str(), want, "of {of}");
-    Ok(())
+// Whether these bytes have that answer.
+fn answers(alloc: Global, bytes: &[u8], want: &str) -> bool {
+    is_written(answer(alloc, bytes), want)
 }
 
-#[test]
-fn members_are_read_or_refused(rt: HostRuntime) -> Result<(), Fail> {
-    for (members, want) in MEMBERS {
-        let text = event_with(rt.alloc(), members)?;
-        assert_answers(&rt, rt.alloc(), text.as_bytes(), want, members)?;
+// Whether there is a text, and it has that answer.
+fn text_answers(alloc: Global, text: Result<String, AllocError>, want: &str) -> bool {
+    match text {
+        Ok(text) => answers(alloc, text.as_str().as_bytes(), want),
+        Err(_) => false,
     }
-    Ok(())
 }
 
 #[test]
-fn texts_are_read_or_refused(rt: HostRuntime) -> Result<(), Fail> {
+fn members_are_read_or_refused(rt: HostRuntime) {
+    let alloc = rt.alloc();
+    for (members, want) in MEMBERS {
+        assert!(rt;
+            text_answers(alloc, event_with(alloc, members), want),
+            "of {members}"
+        );
+    }
+}
+
+#[test]
+fn texts_are_read_or_refused(rt: HostRuntime) {
     let alloc = rt.alloc();
     for (text, want) in TEXTS {
-        assert_answers(&rt, alloc, text.as_bytes(), want, text)?;
+        assert!(rt; answers(alloc, text.as_bytes(), want), "of {text}");
     }
-    assert_answers(&rt, alloc, b"[\"\xff\"]", "not JSON", "a byte of no text")?;
+    assert!(rt; answers(alloc, b"[\"\xff\"]", "not JSON"));
     for len in 0..PAIR.len() {
-        assert_answers(&rt, alloc, &PAIR.as_bytes()[..len], "not JSON", "a part")?;
+        assert!(rt;
+            answers(alloc, &PAIR.as_bytes()[..len], "not JSON"),
+            "of {len} bytes"
+        );
     }
-    Ok(())
+}
+
+// An event with arrays nested so deep as its data.
+fn deep_event(alloc: Global, depth: u64) -> Result<String, AllocError> {
+    let nested = nested(alloc, depth)?;
+    let data = format!(in alloc; "\"data\":{nested}")?;
+    event_with(alloc, data.as_str())
+}
+
+// The batch of that event.
+fn deep_batch(alloc: Global, depth: u64) -> Result<String, AllocError> {
+    let event = deep_event(alloc, depth)?;
+    format!(in alloc; "[{event}]")
 }
 
 // The event's object is a level of its own, and so is a batch.
 #[test]
-fn deep_data_are_refused(rt: HostRuntime) -> Result<(), Fail> {
+fn deep_data_are_refused(rt: HostRuntime) {
     let alloc = rt.alloc();
     for (depth, want, in_batch) in [
         (120, "1 read", "1 read"),
@@ -198,36 +216,52 @@ fn deep_data_are_refused(rt: HostRuntime) -> Result<(), Fail> {
         (126, "event 0: TooDeep", "not JSON"),
         (127, "not JSON", "not JSON"),
     ] {
-        let data = format!(in alloc; "\"data\":{}", nested(alloc, depth)?)?;
-        let event = event_with(alloc, data.as_str())?;
-        assert_answers(&rt, alloc, event.as_bytes(), want, "nested arrays")?;
-        let batch = format!(in alloc; "[{event}]")?;
-        assert_answers(&rt, alloc, batch.as_bytes(), in_batch, "nested arrays")?;
+        assert!(rt;
+            text_answers(alloc, deep_event(alloc, depth), want),
+            "at {depth}"
+        );
+        assert!(rt;
+            text_answers(alloc, deep_batch(alloc, depth), in_batch),
+            "at {depth}"
+        );
     }
-    Ok(())
+}
+
+// The event of the canonical text, with so many letters as its data.
+fn long_event(alloc: Global, letters: usize) -> Result<Vec<u8>, AllocError> {
+    let mut event = Vec::from_slice(alloc, &CANONICAL.as_bytes()[..110])?;
+    event.extend_from_slice(b",\"data\":\"")?;
+    for _ in 0..letters {
+        event.push(b'a')?;
+    }
+    event.extend_from_slice(b"\"}")?;
+    Ok(event)
+}
+
+// Whether there are bytes, and they have that answer.
+fn bytes_answer(alloc: Global, bytes: Result<Vec<u8>, AllocError>, want: &str) -> bool {
+    match bytes {
+        Ok(bytes) => answers(alloc, bytes.as_slice(), want),
+        Err(_) => false,
+    }
+}
+
+// Whether so many spaces have that answer.
+fn spaces_answer(alloc: Global, count: usize, want: &str) -> bool {
+    bytes_answer(alloc, vec![in alloc; b' '; count], want)
 }
 
 #[test]
-fn long_texts_are_refused(rt: HostRuntime) -> Result<(), Fail> {
+fn long_texts_are_refused(rt: HostRuntime) {
     let alloc = rt.alloc();
-    let mut data = vec![in alloc; b'a'; 262_023]?;
-    for want in ["1 read", "event 0: TooLarge"] {
-        let mut event = Vec::from_slice(alloc, &CANONICAL.as_bytes()[..110])?;
-        event.extend_from_slice(b",\"data\":\"")?;
-        event.extend_from_slice(data.as_slice())?;
-        event.extend_from_slice(b"\"}")?;
-        assert_answers(&rt, alloc, event.as_slice(), want, "a long text")?;
-        data.push(b'a')?;
-    }
-    let mut spaces = vec![in alloc; b' '; 33_554_432]?;
-    assert_answers(&rt, alloc, spaces.as_slice(), "not JSON", "spaces")?;
-    spaces.push(b' ')?;
-    assert_answers(&rt, alloc, spaces.as_slice(), "too large", "spaces")?;
-    Ok(())
+    assert!(rt; bytes_answer(alloc, long_event(alloc, 262_023), "1 read"));
+    assert!(rt; bytes_answer(alloc, long_event(alloc, 262_024), "event 0: TooLarge"));
+    assert!(rt; spaces_answer(alloc, 33_554_432, "not JSON"));
+    assert!(rt; spaces_answer(alloc, 33_554_433, "too large"));
 }
 
 #[test]
-fn refusals_are_numbered(rt: HostRuntime) -> Result<(), Fail> {
+fn refusals_are_numbered(rt: HostRuntime) {
     for (refusal, number, words) in [
         (ReadFault::OutOfMemory, 1, "out of memory"),
         (ReadFault::NotJson, 2, "not JSON"),
@@ -243,43 +277,73 @@ fn refusals_are_numbered(rt: HostRuntime) -> Result<(), Fail> {
         (ReadFault::InputTooLarge, 5, "too large"),
     ] {
         assert_eq!(rt; refusal.number(), number);
-        assert_eq!(rt; format!(in rt.alloc(); "{refusal}")?.as_str(), words);
+        assert!(rt;
+            is_written(format!(in rt.alloc(); "{refusal}"), words),
+            "{words}"
+        );
     }
-    Ok(())
+}
+
+// Whether a text is of one event, with that canonical text.
+fn is_event_written(alloc: Global, text: &str, want: &str) -> bool {
+    match read_events(alloc, text.as_bytes()) {
+        Ok(events) => events.len() == 1 && is_text(write_event(alloc, events.at(0)), want),
+        Err(_) => false,
+    }
+}
+
+// Whether a text is the canonical one of its batch.
+fn is_batch_written(alloc: Global, text: &str) -> bool {
+    match read_events(alloc, text.as_bytes()) {
+        Ok(events) => is_text(write_batch(alloc, &events), text),
+        Err(_) => false,
+    }
 }
 
 #[test]
-fn events_are_written(rt: HostRuntime) -> Result<(), Fail> {
-    let alloc = rt.alloc();
+fn events_are_written(rt: HostRuntime) {
     assert_eq!(rt; CANONICAL.len(), 111);
     for (text, want) in WRITTEN {
-        let events = read_events(alloc, text.as_bytes())?;
-        assert_eq!(rt; events.len(), 1);
-        assert_eq!(rt; write_event(alloc, events.at(0))?.as_str(), want);
+        assert!(rt; is_event_written(rt.alloc(), text, want), "{want}");
     }
     for text in ["[]", PAIR] {
-        let events = read_events(alloc, text.as_bytes())?;
-        assert_eq!(rt; write_batch(alloc, &events)?.as_str(), text);
+        assert!(rt; is_batch_written(rt.alloc(), text), "{text}");
     }
-    Ok(())
+}
+
+// The copy of an event with a number.
+fn numbered(event: &Event) -> Option<Sequenced> {
+    match event.copy() {
+        Ok(copy) => Sequenced::of(copy).ok(),
+        Err(_) => None,
+    }
+}
+
+// Adds a copy of an event to a batch.
+fn add(batch: &mut Batch, event: &Event) -> bool {
+    match numbered(event) {
+        Some(event) => batch.push(event).is_ok(),
+        None => false,
+    }
+}
+
+// Adds the one event of a text to a batch.
+fn add_read(alloc: Global, batch: &mut Batch, text: &str) -> bool {
+    match read_events(alloc, text.as_bytes()) {
+        Ok(events) => events.len() == 1 && add(batch, events.at(0)),
+        Err(_) => false,
+    }
 }
 
 #[test]
-fn numbered_events_are_written(rt: HostRuntime) -> Result<(), Fail> {
+fn numbered_events_are_written(rt: HostRuntime) {
     let alloc = rt.alloc();
     let mut batch = Batch::empty(alloc);
-    assert_eq!(rt; write_sequenced(alloc, &batch)?.as_str(), "[]");
-    for _ in 0..2 {
-        let events = read_events(alloc, LONG.as_bytes())?;
-        assert_eq!(rt; events.len(), 1);
-        let Ok(numbered) = Sequenced::of(events.at(0).copy()?) else {
-            panic!(rt; "the event has a number");
-        };
-        batch.push(numbered)?;
-    }
-    let want = format!(in alloc; "[{CANONICAL},{CANONICAL}]")?;
-    assert_eq!(rt; write_sequenced(alloc, &batch)?.as_str(), want.as_str());
-    Ok(())
+    assert!(rt; is_text(write_sequenced(alloc, &batch), "[]"));
+    assert!(rt; add_read(alloc, &mut batch, LONG));
+    assert!(rt; add_read(alloc, &mut batch, LONG));
+    let want = format!(in alloc; "[{CANONICAL},{CANONICAL}]").expect(&rt, "no memory");
+    assert!(rt; is_text(write_sequenced(alloc, &batch), want.as_str()));
 }
 
 // With any one allocation refused, this still ends well or by want of memory.
@@ -311,14 +375,22 @@ fn batch_of(alloc: Global, count: u64) -> Result<String, AllocError> {
     Ok(text)
 }
 
+// How many events are read, where the last has that id.
+fn count_to(alloc: Global, bytes: &[u8], id: &str) -> Option<u64> {
+    match read_events(alloc, bytes) {
+        Ok(events) => {
+            if !events.is_empty() && events.at(events.len() - 1).id() == id {
+                Some(events.len())
+            } else {
+                None
+            }
+        }
+        Err(_) => None,
+    }
+}
+
 #[test]
-fn a_thousand_events_are_read(rt: HostRuntime) -> Result<(), Fail> {
-    let alloc = rt.alloc();
-    let text = batch_of(alloc, 1000)?;
-    let events = read_events(alloc, text.as_str().as_bytes())
-        .ok()
-        .ok_or("refused")?;
-    assert_eq!(rt; events.len(), 1000);
-    assert_eq!(rt; events.at(999).id(), "1");
-    Ok(())
+fn a_thousand_events_are_read(rt: HostRuntime) {
+    let text = batch_of(rt.alloc(), 1000).expect(&rt, "no memory");
+    assert!(rt; count_to(rt.alloc(), text.as_str().as_bytes(), "1") == Some(1000));
 }

@@ -1,32 +1,62 @@
 //! Answers about the events of files, and refusals by their numbers.
 
-use attributes::{Fault, Octets};
+use attributes::{Fault, Octets, Text};
 use event_json::ReadFault;
-use file_reports::{Query, ReportFault, Unread, report};
-use std::test::Fail;
+use file_reports::{Query, ReportFault, Unread, read_all, report};
+use std::alloc::Global;
+use std::io;
+use std::io::Read;
 
 const EVENT: &str =
     r#"{"id":"a1","sequence":"00000000000000000001","source":"/orders","specversion":"1.0","type":"t.a"}"#;
 
-#[test]
-fn a_hundred_files_have_one_report(rt: HostRuntime) -> Result<(), Fail> {
-    let alloc = rt.alloc();
-    let mut files = Vec::new(alloc);
-    for _ in 0..100 {
-        files.push(Octets::of(alloc, EVENT.as_bytes())?)?;
+/// Adds the bytes of an event so many times, and answers whether it did.
+fn add_events(alloc: Global, files: &mut Vec<Octets>, count: u64) -> bool {
+    for _ in 0..count {
+        match Octets::of(alloc, EVENT.as_bytes()) {
+            Ok(file) => {
+                if files.push(file).is_err() {
+                    return false;
+                }
+            }
+            Err(_) => return false,
+        }
     }
-    let cover = report(alloc, Query::Cover, files.as_slice())
-        .ok()
-        .ok_or("refused")?;
-    assert_eq!(rt;
-        cover.text.as_str(),
-        "{\"sources\":{\"/orders\":[[1,1]]},\"version\":1}\n"
-    );
-    let shown = report(alloc, Query::Shown, files.as_slice())
-        .ok()
-        .ok_or("refused")?;
-    assert_eq!(rt; shown.text.as_str().len(), EVENT.len() + 1);
-    Ok(())
+    true
+}
+
+/// The text of the report of files.
+fn told(alloc: Global, query: Query, files: &[Octets]) -> Option<Text> {
+    match report(alloc, query, files) {
+        Ok(reported) => Some(reported.text),
+        Err(_) => None,
+    }
+}
+
+/// Whether the report of files is this text.
+fn tells(alloc: Global, query: Query, files: &[Octets], wanted: &str) -> bool {
+    match told(alloc, query, files) {
+        Some(text) => text.as_str() == wanted,
+        None => false,
+    }
+}
+
+/// How many bytes the report of files has.
+fn told_length(alloc: Global, query: Query, files: &[Octets]) -> Option<usize> {
+    match told(alloc, query, files) {
+        Some(text) => Some(text.as_str().len()),
+        None => None,
+    }
+}
+
+#[test]
+fn a_hundred_files_have_one_report(rt: HostRuntime) {
+    let mut files = Vec::new(rt.alloc());
+    assert!(rt; add_events(rt.alloc(), &mut files, 100));
+    let cover = "{\"sources\":{\"/orders\":[[1,1]]},\"version\":1}\n";
+    assert!(rt; tells(rt.alloc(), Query::Cover, files.as_slice(), cover));
+    let length = told_length(rt.alloc(), Query::Shown, files.as_slice());
+    assert!(rt; length == Some(EVENT.len() + 1));
 }
 
 #[test]
@@ -41,4 +71,60 @@ fn refusals_have_numbers(rt: HostRuntime) {
     assert_eq!(rt; Unread::OutOfMemory.number(), 1);
     assert_eq!(rt; Unread::CannotRead.number(), 2);
     assert_eq!(rt; Unread::TooLarge.number(), 3);
+}
+
+/// A reader of that many bytes, some at each read, whose read of one number fails.
+#[derive(Drop)]
+struct Drip {
+    left: usize,
+    most: usize,
+    reads: u64,
+    fails_at: u64,
+}
+
+impl Read for Drip {
+    fn read(&mut self, buf: &mut [u8]) -> io::Result<usize> {
+        self.reads = self.reads.saturating_add(1);
+        if self.reads == self.fails_at {
+            return Err(io::Error::from(io::ErrorKind::Interrupted));
+        }
+        let count = buf.len().min(self.most).min(self.left);
+        self.left -= count;
+        Ok(count)
+    }
+}
+
+/// How many bytes are read, or why none.
+fn length_read(alloc: Global, mut drip: Drip) -> Result<usize, Unread> {
+    match read_all(alloc, &mut drip) {
+        Ok(bytes) => Ok(bytes.as_bytes().len()),
+        Err(unread) => Err(unread),
+    }
+}
+
+/// The most bytes of an input.
+const LIMIT: usize = 33_554_432;
+
+// How many bytes an input has, how many come at most at a read, which read fails, and the answer.
+const INPUTS: [(usize, usize, u64, Result<usize, Unread>); 6] = [
+    (3, 1, 0, Ok(3)),
+    (3, 1, 1, Err(Unread::CannotRead)),
+    (3, 1, 4, Err(Unread::CannotRead)),
+    (LIMIT, 60_000, 0, Ok(LIMIT)),
+    (LIMIT + 1, 60_000, 0, Err(Unread::TooLarge)),
+    (usize::MAX, 1_000, 0, Err(Unread::TooLarge)),
+];
+
+#[test]
+fn an_input_is_read_to_its_end(rt: HostRuntime) {
+    for (left, most, fails_at, want) in INPUTS {
+        let reads = 0;
+        let drip = Drip {
+            left,
+            most,
+            reads,
+            fails_at,
+        };
+        assert!(rt; length_read(rt.alloc(), drip) == want, "of {left} bytes");
+    }
 }

@@ -1,118 +1,194 @@
 //! Tests of what no clause says.
+use crate::event::{is_text, is_written};
 use attributes::{Sequence, Text};
 use coverage::{Interval, Intervals, Summary, SummaryFault};
 use std::alloc::{AllocError, Global};
-use std::test::Fail;
+use std::process::Abort;
 
-fn sequence(alloc: Global, n: u64) -> Result<Sequence, Fail> {
-    let text = format!(in alloc; "{n:020}")?;
-    Ok(Sequence::of_text(text.as_str()).ok_or("no sequence number")?)
+/// Inserts a number, and answers whether it is new.
+fn insert(set: &mut Intervals, number: u64) -> Option<bool> {
+    set.insert(Sequence::of_u64(number)?).ok()
 }
 
-fn set(alloc: Global, pairs: &[Interval]) -> Result<Intervals, Fail> {
-    let mut set = Intervals::empty(alloc);
+/// Inserts the numbers of intervals, and answers whether it did.
+fn fill(set: &mut Intervals, pairs: &[Interval]) -> bool {
     for pair in pairs {
         for n in pair.0..=pair.1 {
-            set.insert(sequence(alloc, n)?)?;
+            if insert(set, n).is_none() {
+                return false;
+            }
         }
     }
-    Ok(set)
+    true
 }
 
-fn spans(alloc: Global, set: &Intervals) -> Result<Vec<Interval>, Fail> {
-    let mut spans = Vec::new(alloc);
-    let mut from = 0;
-    for _ in 0..1000 {
-        let Some((first, last)) = set.next_span(from) else {
-            break;
-        };
-        spans.push((first, last))?;
-        from = last.saturating_add(1);
+/// The numbers of intervals.
+fn set(alloc: Global, pairs: &[Interval]) -> Option<Intervals> {
+    let mut set = Intervals::empty(alloc);
+    if fill(&mut set, pairs) {
+        Some(set)
+    } else {
+        None
     }
-    Ok(spans)
+}
+
+/// Whether a set has just these intervals.
+fn has(set: &Intervals, wanted: &[Interval]) -> bool {
+    let mut from = 0;
+    for pair in wanted {
+        if set.next_span(from) != Some(*pair) {
+            return false;
+        }
+        from = pair.1.saturating_add(1);
+    }
+    set.next_span(from).is_none()
+}
+
+/// Whether there is a set, with just these intervals.
+fn is_set(set: Result<Intervals, AllocError>, wanted: &[Interval]) -> bool {
+    match set {
+        Ok(set) => has(&set, wanted),
+        Err(_) => false,
+    }
+}
+
+/// Whether the union with the numbers of intervals has just these intervals.
+fn unites(alloc: Global, held: &Intervals, pairs: &[Interval], wanted: &[Interval]) -> bool {
+    match set(alloc, pairs) {
+        Some(other) => is_set(held.union(&other), wanted),
+        None => false,
+    }
+}
+
+/// Whether a set is that of the numbers of intervals.
+fn is_same(alloc: Global, held: &Intervals, pairs: &[Interval]) -> Option<bool> {
+    match set(alloc, pairs) {
+        Some(other) => Some(held.same(&other)),
+        None => None,
+    }
 }
 
 #[test]
-fn unions(rt: HostRuntime) -> Result<(), Fail> {
-    let alloc = rt.alloc();
-    let held = set(alloc, &[(1, 2), (5, 5)])?;
-    let all = held.union(&set(alloc, &[(3, 4)])?)?;
-    assert_eq!(rt; spans(alloc, &all)?.as_slice(), [(1, 5)].as_slice());
-    assert_eq!(rt; all.size(), 5);
-    let none = Intervals::empty(alloc);
-    assert_eq!(rt;
-        spans(alloc, &all.union(&none)?)?.as_slice(),
-        [(1, 5)].as_slice()
-    );
-    assert_eq!(rt; spans(alloc, &all.copy()?)?.as_slice(), [(1, 5)].as_slice());
-    let apart = set(alloc, &[(1, 1)])?.union(&set(alloc, &[(3, 3)])?)?;
-    assert_eq!(rt;
-        spans(alloc, &apart)?.as_slice(),
-        [(1, 1), (3, 3)].as_slice()
-    );
-    assert!(rt; all.same(&set(alloc, &[(1, 5)])?));
-    assert!(rt; !all.same(&held));
-    Ok(())
-}
-
-#[test]
-fn differences(rt: HostRuntime) -> Result<(), Fail> {
-    let alloc = rt.alloc();
-    let left = set(alloc, &[(1, 5)])?.minus(&set(alloc, &[(2, 3)])?)?;
-    assert_eq!(rt;
-        spans(alloc, &left)?.as_slice(),
-        [(1, 1), (4, 5)].as_slice()
-    );
-    let late = set(alloc, &[(4, 5)])?;
-    assert_eq!(rt;
-        spans(alloc, &late.missing()?)?.as_slice(),
-        [(1, 3)].as_slice()
-    );
-    assert_eq!(rt; late.greatest(), Some(5));
-    assert_eq!(rt; Intervals::empty(alloc).greatest(), None);
-    Ok(())
-}
-
-#[test]
-fn inserts(rt: HostRuntime) -> Result<(), Fail> {
-    let alloc = rt.alloc();
-    let mut held = set(alloc, &[(1, 2), (4, 5)])?;
-    let three = sequence(alloc, 3)?;
-    assert!(rt; held.insert(three)?);
-    assert_eq!(rt; spans(alloc, &held)?.as_slice(), [(1, 5)].as_slice());
-    assert!(rt; !held.insert(three)?);
-    assert!(rt; held.contains(three));
-    let mut greatest = Intervals::empty(alloc);
-    let last = sequence(alloc, 9_223_372_036_854_775_807)?;
-    assert!(rt; greatest.insert(last)?);
-    assert!(rt; !greatest.insert(last)?);
-    Ok(())
-}
-
-#[test]
-fn odd_numbers_and_then_even_ones(rt: HostRuntime) -> Result<(), Fail> {
+fn unions(rt: HostRuntime) {
     let alloc = rt.alloc();
     let mut held = Intervals::empty(alloc);
-    for k in 0..100u64 {
-        assert!(rt; held.insert(sequence(alloc, 2 * k + 1)?)?);
-    }
-    assert_eq!(rt; spans(alloc, &held)?.len(), 100);
-    assert_eq!(rt; held.size(), 100);
-    for k in 0..99u64 {
-        assert!(rt; held.insert(sequence(alloc, 198 - 2 * k)?)?);
-    }
-    assert_eq!(rt; spans(alloc, &held)?.as_slice(), [(1, 199)].as_slice());
-    assert_eq!(rt; held.size(), 199);
-    Ok(())
+    assert!(rt; fill(&mut held, &[(1, 2), (5, 5)]));
+    assert!(rt; unites(alloc, &held, &[(3, 4)], &[(1, 5)]));
+    assert!(rt; is_same(alloc, &held, &[(1, 5)]) == Some(false));
+    let mut apart = Intervals::empty(alloc);
+    assert!(rt; fill(&mut apart, &[(1, 1)]));
+    assert!(rt; unites(alloc, &apart, &[(3, 3)], &[(1, 1), (3, 3)]));
 }
 
 #[test]
-fn next_spans(rt: HostRuntime) -> Result<(), Fail> {
-    let held = set(rt.alloc(), &[(1, 2), (5, 5)])?;
+fn a_union_is_a_set_of_its_own(rt: HostRuntime) {
+    let alloc = rt.alloc();
+    let mut held = Intervals::empty(alloc);
+    assert!(rt; fill(&mut held, &[(1, 2), (5, 5)]));
+    let all = set(alloc, &[(3, 4)])
+        .expect(&rt, "no memory")
+        .union(&held)
+        .expect(&rt, "no memory");
+    assert_eq!(rt; all.size(), 5);
+    assert!(rt; unites(alloc, &all, &[], &[(1, 5)]));
+    assert!(rt; is_set(all.copy(), &[(1, 5)]));
+    assert!(rt; is_same(alloc, &all, &[(1, 5)]) == Some(true));
+    assert!(rt; !all.same(&held));
+}
+
+/// Whether the difference to the numbers of intervals has just these intervals.
+fn leaves(alloc: Global, held: &Intervals, pairs: &[Interval], wanted: &[Interval]) -> bool {
+    match set(alloc, pairs) {
+        Some(other) => is_set(held.minus(&other), wanted),
+        None => false,
+    }
+}
+
+#[test]
+fn differences(rt: HostRuntime) {
+    let alloc = rt.alloc();
+    let mut held = Intervals::empty(alloc);
+    assert!(rt; fill(&mut held, &[(1, 5)]));
+    assert!(rt; leaves(alloc, &held, &[(2, 3)], &[(1, 1), (4, 5)]));
+    let mut late = Intervals::empty(alloc);
+    assert!(rt; fill(&mut late, &[(4, 5)]));
+    assert!(rt; is_set(late.missing(), &[(1, 3)]));
+    assert_eq!(rt; late.greatest(), Some(5));
+    assert_eq!(rt; Intervals::empty(alloc).greatest(), None);
+}
+
+/// Whether a set contains a number.
+fn contains(set: &Intervals, number: u64) -> Option<bool> {
+    Some(set.contains(Sequence::of_u64(number)?))
+}
+
+#[test]
+fn inserts(rt: HostRuntime) {
+    let mut held = Intervals::empty(rt.alloc());
+    assert!(rt; fill(&mut held, &[(1, 2), (4, 5)]));
+    assert_eq!(rt; insert(&mut held, 3), Some(true));
+    assert!(rt; has(&held, &[(1, 5)]));
+    assert_eq!(rt; insert(&mut held, 3), Some(false));
+    assert_eq!(rt; contains(&held, 3), Some(true));
+    let mut greatest = Intervals::empty(rt.alloc());
+    assert_eq!(rt;
+        insert(&mut greatest, 9_223_372_036_854_775_807),
+        Some(true)
+    );
+    assert_eq!(rt;
+        insert(&mut greatest, 9_223_372_036_854_775_807),
+        Some(false)
+    );
+}
+
+/// Inserts the odd numbers below 200, and answers whether each is new.
+fn fill_odd(set: &mut Intervals) -> bool {
+    for k in 0..100u64 {
+        if insert(set, 2 * k + 1) != Some(true) {
+            return false;
+        }
+    }
+    true
+}
+
+/// Inserts the even numbers below 199, the greatest first, and answers whether each is new.
+fn fill_even(set: &mut Intervals) -> bool {
+    for k in 0..99u64 {
+        if insert(set, 198 - 2 * k) != Some(true) {
+            return false;
+        }
+    }
+    true
+}
+
+/// Whether a set has the odd numbers below 200, and no other.
+fn is_odd(set: &Intervals) -> bool {
+    for k in 0..100u64 {
+        if set.next_span(2 * k) != Some((2 * k + 1, 2 * k + 1)) {
+            return false;
+        }
+    }
+    set.next_span(200).is_none()
+}
+
+#[test]
+fn odd_numbers_and_then_even_ones(rt: HostRuntime) {
+    let mut held = Intervals::empty(rt.alloc());
+    assert!(rt; fill_odd(&mut held));
+    assert!(rt; is_odd(&held));
+    assert_eq!(rt; held.size(), 100);
+    assert!(rt; fill_even(&mut held));
+    assert!(rt; has(&held, &[(1, 199)]));
+    assert_eq!(rt; held.size(), 199);
+}
+
+#[test]
+fn next_spans(rt: HostRuntime) {
+    let mut held = Intervals::empty(rt.alloc());
+    assert!(rt; fill(&mut held, &[(1, 2), (5, 5)]));
     assert_eq!(rt; held.next_span(1), Some((1, 2)));
     assert_eq!(rt; held.next_span(2), Some((5, 5)));
     assert_eq!(rt; held.next_span(6), None);
-    Ok(())
 }
 
 /// The plain program: a sorted list of pairs, joined anew at each insert.
@@ -144,96 +220,165 @@ fn has_plainly(pairs: &[Interval], n: u64) -> bool {
     pairs.iter().any(|pair| pair.0 <= n && n <= pair.1)
 }
 
-#[test]
-fn agrees_with_the_plain_program(rt: HostRuntime) -> Result<(), Fail> {
-    let alloc = rt.alloc();
-    let mut first = Intervals::empty(alloc);
-    let mut second = Intervals::empty(alloc);
-    let mut first_pairs = Vec::new(alloc);
-    let mut second_pairs = Vec::new(alloc);
+/// Inserts a number into a set and into pairs, and answers whether both say the same of it.
+fn insert_both(set: &mut Intervals, pairs: &mut Vec<Interval>, n: u64) -> bool {
+    match insert_plainly(pairs, n) {
+        Ok(is_new) => insert(set, n) == Some(is_new),
+        Err(_) => false,
+    }
+}
+
+/// A set and the pairs of the plain program.
+#[derive(Drop)]
+struct Both {
+    set: Intervals,
+    pairs: Vec<Interval>,
+}
+
+/// Whether union, difference and gaps have the numbers that the plain program gives.
+fn are_plain(
+    first: &Both,
+    second: &Both,
+    both: &Intervals,
+    left: &Intervals,
+    gaps: &Intervals,
+) -> bool {
+    for m in 1..=901u64 {
+        let one = has_plainly(&first.pairs, m);
+        let other = has_plainly(&second.pairs, m);
+        let later = first.pairs.iter().any(|pair| m < pair.1);
+        let is_plain = contains(&first.set, m) == Some(one)
+            && contains(both, m) == Some(one || other)
+            && contains(left, m) == Some(one && !other)
+            && contains(gaps, m) == Some(!one && later);
+        if !is_plain {
+            return false;
+        }
+    }
+    true
+}
+
+/// Whether the sets agree with the plain program.
+fn agree(first: &Both, second: &Both) -> bool {
+    let both = first.set.union(&second.set);
+    let left = first.set.minus(&second.set);
+    let gaps = first.set.missing();
+    match (both, left, gaps) {
+        (Ok(both), Ok(left), Ok(gaps)) => {
+            has(&first.set, &first.pairs) && are_plain(first, second, &both, &left, &gaps)
+        }
+        _ => false,
+    }
+}
+
+/// Inserts scattered numbers into the two in turn, and answers whether they agree with the plain
+/// program at each insert and, each 250 steps, in what they have.
+fn go_along(first: &mut Both, second: &mut Both) -> bool {
     let mut state: u64 = 2026;
     for step in 0..3000u64 {
         state = state
             .wrapping_mul(6_364_136_223_846_793_005)
             .wrapping_add(1_442_695_040_888_963_407);
         let n = state / 8_589_934_592 % 900 + 1;
-        if step % 2 == 0 {
-            assert_eq!(rt;
-                first.insert(sequence(alloc, n)?)?,
-                insert_plainly(&mut first_pairs, n)?
-            );
+        let is_same = if step % 2 == 0 {
+            insert_both(&mut first.set, &mut first.pairs, n)
         } else {
-            assert_eq!(rt;
-                second.insert(sequence(alloc, n)?)?,
-                insert_plainly(&mut second_pairs, n)?
-            );
-        }
-        if step % 250 == 0 {
-            assert_eq!(rt; spans(alloc, &first)?.as_slice(), first_pairs.as_slice());
-            let both = first.union(&second)?;
-            let left = first.minus(&second)?;
-            let gaps = first.missing()?;
-            for m in 1..=901u64 {
-                let number = sequence(alloc, m)?;
-                let one = has_plainly(&first_pairs, m);
-                let other = has_plainly(&second_pairs, m);
-                assert_eq!(rt; first.contains(number), one);
-                assert_eq!(rt; both.contains(number), one || other);
-                assert_eq!(rt; left.contains(number), one && !other);
-                let later = first_pairs.iter().any(|pair| m < pair.1);
-                assert_eq!(rt; gaps.contains(number), !one && later);
-            }
+            insert_both(&mut second.set, &mut second.pairs, n)
+        };
+        if !is_same || (step % 250 == 0 && !agree(first, second)) {
+            return false;
         }
     }
-    Ok(())
-}
-
-fn add(summary: &mut Summary, alloc: Global, name: &str, numbers: &[u64]) -> Result<(), Fail> {
-    let source = Text::of(alloc, name)?;
-    if !source.is_source() {
-        return Err(Fail::from("no source"));
-    }
-    for n in numbers {
-        summary.insert(&source, sequence(alloc, *n)?)?;
-    }
-    Ok(())
+    true
 }
 
 #[test]
-fn summaries(rt: HostRuntime) -> Result<(), Fail> {
-    let alloc = rt.alloc();
-    let mut seen = Summary::empty(alloc);
-    assert_eq!(rt; seen.to_text()?.as_str(), r#"{"sources":{},"version":1}"#);
-    add(&mut seen, alloc, "/orders", &[1, 2, 5])?;
-    assert_eq!(rt;
-        seen.to_text()?.as_str(),
-        r#"{"sources":{"/orders":[[1,2],[5,5]]},"version":1}"#
-    );
-    let mut later = Summary::empty(alloc);
-    add(&mut later, alloc, "/orders", &[4, 3])?;
-    let all = seen.union(&later)?;
-    assert_eq!(rt;
-        all.to_text()?.as_str(),
-        r#"{"sources":{"/orders":[[1,5]]},"version":1}"#
-    );
-    assert!(rt; all.covers(&seen));
-    assert!(rt; !seen.covers(&all));
-    assert!(rt; !later.covers(&seen));
-    add(&mut later, alloc, "/\"a\"", &[7])?;
-    assert_eq!(rt;
-        later.to_text()?.as_str(),
-        r#"{"sources":{"/\"a\"":[[7,7]],"/orders":[[3,4]]},"version":1}"#
-    );
-    let copy = later.copy()?;
-    assert!(rt; copy.same(&later));
-    assert!(rt; !copy.same(&seen));
-    assert!(rt; later.contains("/orders", sequence(alloc, 3)?));
-    assert!(rt; !later.contains("/orders", sequence(alloc, 7)?));
+fn agrees_with_the_plain_program(rt: HostRuntime) {
+    let mut first = Both {
+        set: Intervals::empty(rt.alloc()),
+        pairs: Vec::new(rt.alloc()),
+    };
+    let mut second = Both {
+        set: Intervals::empty(rt.alloc()),
+        pairs: Vec::new(rt.alloc()),
+    };
+    assert!(rt; go_along(&mut first, &mut second));
+}
+
+/// Adds numbers of a source, and answers whether it did.
+fn add_all(summary: &mut Summary, source: &Text, numbers: &[u64]) -> bool {
+    for n in numbers {
+        if !add(summary, source, *n) {
+            return false;
+        }
+    }
+    true
+}
+
+/// Adds a number of a source, and answers whether it did.
+fn add(summary: &mut Summary, source: &Text, number: u64) -> bool {
+    match Sequence::of_u64(number) {
+        Some(number) => source.is_source() && summary.insert(source, number).is_ok(),
+        None => false,
+    }
+}
+
+/// Adds numbers of a source, and answers whether it did.
+fn add_of(alloc: Global, summary: &mut Summary, name: &str, numbers: &[u64]) -> bool {
+    match Text::of(alloc, name) {
+        Ok(source) => add_all(summary, &source, numbers),
+        Err(_) => false,
+    }
+}
+
+/// Whether a summary contains a number of a source.
+fn contains_of(summary: &Summary, name: &str, number: u64) -> Option<bool> {
+    Some(summary.contains(name, Sequence::of_u64(number)?))
+}
+
+/// Whether a summary is the union's text and covers both.
+fn is_union(seen: &Summary, later: &Summary, wanted: &str) -> bool {
+    match seen.union(later) {
+        Ok(all) => { is_text(all.to_text(), wanted) && all.covers(seen) && !seen.covers(&all) }
+        Err(_) => false,
+    }
+}
+
+/// Whether the copy of a summary is the same, and not the other one.
+fn is_copied(later: &Summary, seen: &Summary) -> bool {
+    match later.copy() {
+        Ok(copy) => copy.same(later) && !copy.same(seen),
+        Err(_) => false,
+    }
+}
+
+/// Looks at two summaries, one of which gets two sources.
+fn look_at_both(rt: &impl Abort, alloc: Global, seen: &mut Summary, later: &mut Summary) {
+    assert!(rt; is_text(seen.to_text(), r#"{"sources":{},"version":1}"#));
+    assert!(rt; add_of(alloc, seen, "/orders", &[1, 2, 5]));
+    let two = r#"{"sources":{"/orders":[[1,2],[5,5]]},"version":1}"#;
+    assert!(rt; is_text(seen.to_text(), two));
+    assert!(rt; add_of(alloc, later, "/orders", &[4, 3]));
+    let all = r#"{"sources":{"/orders":[[1,5]]},"version":1}"#;
+    assert!(rt; is_union(seen, later, all));
+    assert!(rt; !later.covers(seen));
+    assert!(rt; add_of(alloc, later, "/\"a\"", &[7]));
+    let quoted = r#"{"sources":{"/\"a\"":[[7,7]],"/orders":[[3,4]]},"version":1}"#;
+    assert!(rt; is_text(later.to_text(), quoted));
+    assert!(rt; is_copied(later, seen));
+    assert!(rt; contains_of(later, "/orders", 3) == Some(true));
+    assert!(rt; contains_of(later, "/orders", 7) == Some(false));
     assert!(rt; later.of_source("/orders").is_some());
     assert!(rt; later.of_source("/").is_none());
     assert_eq!(rt; later.len(), 2);
     assert_eq!(rt; later.source_at(1), "/orders");
-    Ok(())
+}
+
+#[test]
+fn summaries(rt: HostRuntime) {
+    let mut seen = Summary::empty(rt.alloc());
+    let mut later = Summary::empty(rt.alloc());
+    look_at_both(&rt, rt.alloc(), &mut seen, &mut later);
 }
 
 fn fault_of(alloc: Global, text: &str) -> Option<SummaryFault> {
@@ -243,22 +388,27 @@ fn fault_of(alloc: Global, text: &str) -> Option<SummaryFault> {
     }
 }
 
+/// Whether a text is that of the summary that is read from it.
+fn is_read_back(alloc: Global, text: &str) -> bool {
+    match Summary::of_text(alloc, text.as_bytes()) {
+        Ok(summary) => is_text(summary.to_text(), text),
+        Err(_) => false,
+    }
+}
+
 #[test]
-fn texts_are_read_back(rt: HostRuntime) -> Result<(), Fail> {
-    let alloc = rt.alloc();
+fn texts_are_read_back(rt: HostRuntime) {
     for text in [
         r#"{"sources":{},"version":1}"#,
         r#"{"sources":{"/orders":[[1,2],[5,5]]},"version":1}"#,
         r#"{"sources":{"/a":[[1,1]],"/orders":[[3,4],[9,9223372036854775807]]},"version":1}"#,
     ] {
-        let summary = Summary::of_text(alloc, text.as_bytes())?;
-        assert_eq!(rt; summary.to_text()?.as_str(), text);
+        assert!(rt; is_read_back(rt.alloc(), text), "{text}");
     }
-    Ok(())
 }
 
 #[test]
-fn texts_are_refused(rt: HostRuntime) -> Result<(), Fail> {
+fn texts_are_refused(rt: HostRuntime) {
     let alloc = rt.alloc();
     for text in [
         r#"{"sources":{"/orders":[[1,3],[4,6]]},"version":1}"#,
@@ -301,11 +451,10 @@ fn texts_are_refused(rt: HostRuntime) -> Result<(), Fail> {
     );
     assert_eq!(rt; fault_of(alloc, "{"), Some(SummaryFault::NotJson));
     assert_eq!(rt; fault_of(alloc, ""), Some(SummaryFault::NotJson));
-    Ok(())
 }
 
 #[test]
-fn faults_have_numbers_and_names(rt: HostRuntime) -> Result<(), Fail> {
+fn faults_have_numbers_and_names(rt: HostRuntime) {
     for (fault, number, name) in [
         (SummaryFault::OutOfMemory, 1, "OutOfMemory"),
         (SummaryFault::NotJson, 2, "NotJson"),
@@ -314,54 +463,101 @@ fn faults_have_numbers_and_names(rt: HostRuntime) -> Result<(), Fail> {
         (SummaryFault::NotCanonical, 5, "NotCanonical"),
     ] {
         assert_eq!(rt; fault.number(), number);
-        assert_eq!(rt; format!(in rt.alloc(); "{fault}")?.as_str(), name);
+        assert!(rt;
+            is_written(format!(in rt.alloc(); "{fault}"), name),
+            "{name}"
+        );
     }
-    Ok(())
 }
 
 /// The name of the source at a place of the byte order.
-fn name_at(alloc: Global, place: u64) -> Result<Text, Fail> {
+fn name_at(alloc: Global, place: u64) -> Result<Text, AllocError> {
     Ok(Text::from_string(format!(in alloc; "/source/{place:04}")?))
 }
 
-/// A summary of 500 sources, each with the number of its place. The step is coprime to 500: 1 makes
-/// them ascend, 499 descend, and 137 scatters them.
-fn stepped(alloc: Global, step: u64) -> Result<Summary, Fail> {
-    let mut seen = Summary::empty(alloc);
+/// Adds the number of a place to the source at it, and answers whether it did.
+fn add_at(alloc: Global, seen: &mut Summary, place: u64) -> bool {
+    match name_at(alloc, place) {
+        Ok(source) => add(seen, &source, place.saturating_add(1)),
+        Err(_) => false,
+    }
+}
+
+/// Adds 500 sources, each with the number of its place. The step is coprime to 500: 1 makes them
+/// ascend, 499 descend, and 137 scatters them.
+fn add_stepped(alloc: Global, seen: &mut Summary, step: u64) -> bool {
     for k in 1..=500u64 {
-        let place = k.wrapping_mul(step) % 500;
-        let source = name_at(alloc, place)?;
-        if source.is_source() {
-            seen.insert(&source, sequence(alloc, place + 1)?)?;
+        if !add_at(alloc, seen, k.wrapping_mul(step) % 500) {
+            return false;
         }
     }
-    Ok(seen)
+    true
+}
+
+/// Whether a source with its numbers is the one at a place, with just the number of it.
+fn is_at(alloc: Global, place: u64, source: &str, numbers: &Intervals) -> bool {
+    let number = place.saturating_add(1);
+    match name_at(alloc, place) {
+        Ok(name) => source == name.as_str() && numbers.next_span(1) == Some((number, number)),
+        Err(_) => false,
+    }
 }
 
 /// Whether each source stands at its place, with just the number of it.
-fn is_in_place(alloc: Global, seen: &Summary) -> Result<bool, Fail> {
-    for (place, entry) in seen.entries()?.iter().enumerate() {
-        let name = name_at(alloc, place as u64)?;
-        let number = place as u64 + 1;
-        if entry.0 != name.as_str() || entry.1.next_span(1) != Some((number, number)) {
-            return Ok(false);
+fn is_in_place(alloc: Global, seen: &Summary) -> bool {
+    match seen.entries() {
+        Ok(entries) => {
+            for (place, entry) in entries.iter().enumerate() {
+                if !is_at(alloc, place as u64, entry.0, entry.1) {
+                    return false;
+                }
+            }
+            true
         }
+        Err(_) => false,
     }
-    Ok(true)
+}
+
+/// Whether the text of a summary is read as the same.
+fn is_same_by_text(alloc: Global, seen: &Summary) -> bool {
+    match seen.to_text() {
+        Ok(text) => is_summary(Summary::of_text(alloc, text.as_str().as_bytes()), seen),
+        Err(_) => false,
+    }
+}
+
+/// Whether there is a summary, the same as another.
+fn is_summary(read: Result<Summary, SummaryFault>, wanted: &Summary) -> bool {
+    match read {
+        Ok(summary) => summary.same(wanted),
+        Err(_) => false,
+    }
+}
+
+/// Whether the union with another summary adds nothing.
+fn is_union_with(seen: &Summary, other: &Summary) -> bool {
+    match seen.union(other) {
+        Ok(all) => all.same(seen),
+        Err(_) => false,
+    }
+}
+
+/// Whether the sources, in the order of a step, give the same summary as another order.
+fn is_same_in_order(alloc: Global, ascending: &Summary, step: u64) -> bool {
+    let mut seen = Summary::empty(alloc);
+    add_stepped(alloc, &mut seen, step)
+        && seen.same(ascending)
+        && is_union_with(&seen, ascending)
+        && is_same_by_text(alloc, &seen)
 }
 
 #[test]
-fn sources_in_any_order(rt: HostRuntime) -> Result<(), Fail> {
-    let alloc = rt.alloc();
-    let ascending = stepped(alloc, 1)?;
-    assert!(rt; is_in_place(alloc, &ascending)?);
+fn sources_in_any_order(rt: HostRuntime) {
+    let mut ascending = Summary::empty(rt.alloc());
+    assert!(rt; add_stepped(rt.alloc(), &mut ascending, 1));
+    assert!(rt; is_in_place(rt.alloc(), &ascending));
     assert_eq!(rt; ascending.len(), 500);
     assert_eq!(rt; ascending.source_at(499), "/source/0499");
-    for step in [499, 137] {
-        let seen = stepped(alloc, step)?;
-        assert!(rt; seen.same(&ascending));
-        assert!(rt; seen.union(&ascending)?.same(&seen));
-        assert!(rt; Summary::of_text(alloc, seen.to_text()?.as_str().as_bytes())?.same(&seen));
-    }
-    Ok(())
+    assert!(rt; is_same_in_order(rt.alloc(), &ascending, 499));
+    assert!(rt; is_same_in_order(rt.alloc(), &ascending, 137));
 }

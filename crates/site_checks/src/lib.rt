@@ -1,8 +1,17 @@
 //! What no contract says of sites and their exchange: that calls succeed with ample memory, and
 //! that the definitions mean what they are meant to. Only public calls are used, so that no library
 //! is proved a second time for its tests.
+//!
+//! Each exit of a function proves the drops of all that it owns, and a site is dear to drop. So a
+//! test owns sites and asserts, and what it calls borrows them and answers whether all went well.
 #![tactic(auto)]
 
+#[cfg(test)]
+mod event;
+#[cfg(test)]
+mod exchanges;
+#[cfg(test)]
+mod schedules;
 #[cfg(test)]
 mod sites;
 #[cfg(test)]

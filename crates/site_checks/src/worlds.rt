@@ -1,18 +1,19 @@
 //! Random schedules among two to five sites, run, and held against sets that are bits of a number:
 //! whether the definitions of steps and worlds mean what a plain reader takes them for.
 
-use crate::sites::{Failed, Row, event};
+use crate::event::{Row, event};
+use crate::schedules::{then, world_of};
 use attributes::{Batch, Sequenced};
-use exchange::{Step, Steps, World, run};
+use exchange::{Step, Steps, World};
 use site::Site;
-use std::alloc::{AllocError, Global};
+use std::alloc::Global;
 use views::Query;
 
 /// How many worlds are run.
 const WORLDS: u64 = 1_000;
 
 /// The events that come. The first two have one source and id, the first three one number.
-const ROWS: [Row; 8] = [
+const ROWS: [Row<'static>; 8] = [
     ("a1", 1, "t.a", "x"),
     ("a1", 1, "t.b", "y"),
     ("p", 1, "t.a", "x"),
@@ -78,22 +79,34 @@ fn lacking(from: u8, to: u8) -> u8 {
     of_one | (from & !ONES & !to)
 }
 
-/// A batch of up to six events, at times one of them twice, and their set.
-fn delivered(
-    alloc: Global,
-    dice: &mut Dice,
-    events: &[Sequenced],
-) -> Result<(Batch, u8), AllocError> {
-    let mut batch = Batch::empty(alloc);
+/// Adds a copy of an event, and answers whether it did.
+fn add_copy(batch: &mut Batch, event: &Sequenced) -> bool {
+    match event.copy() {
+        Ok(copy) => batch.push(copy).is_ok(),
+        Err(_) => false,
+    }
+}
+
+/// Adds up to six events to a batch, at times one of them twice, and gives their set.
+fn fill(dice: &mut Dice, events: &[Sequenced], batch: &mut Batch) -> Option<u8> {
     let mut set = 0;
     for _event in 0..dice.below(7) {
         let place = dice.below(8);
-        if let Some(event) = events.get(place as usize) {
-            batch.push(event.copy()?)?;
-            set |= bit(place);
+        if !add_copy(batch, events.get(place as usize)?) {
+            return None;
         }
+        set |= bit(place);
     }
-    Ok((batch, set))
+    Some(set)
+}
+
+/// A batch of up to six events, and their set.
+fn delivered(alloc: Global, dice: &mut Dice, events: &[Sequenced]) -> Option<(Batch, u8)> {
+    let mut batch = Batch::empty(alloc);
+    match fill(dice, events, &mut batch) {
+        Some(set) => Some((batch, set)),
+        None => None,
+    }
 }
 
 /// The bit of a row.
@@ -111,32 +124,32 @@ fn step(
     sites: u32,
     plain: &mut [Plain],
     events: &[Sequenced],
-) -> Result<Step, AllocError> {
+) -> Option<Step> {
     let (from, to) = (dice.below(sites), dice.below(sites));
     let (here, there) = (look(plain, from), look(plain, to));
     match dice.below(6) {
         0 => {
             add(plain, to, lacking(here.taken, there.taken));
-            Ok(Step::Gossip { from, to })
+            Some(Step::Gossip { from, to })
         }
         1 => {
             add(plain, to, here.taken);
-            Ok(Step::Scrub { from, to })
+            Some(Step::Scrub { from, to })
         }
         2 => {
             let kept = there.taken;
             set(plain, to, Plain { kept, ..there });
-            Ok(Step::Flush { site: to })
+            Some(Step::Flush { site: to })
         }
         3 => {
             let taken = there.kept;
             set(plain, to, Plain { taken, ..there });
-            Ok(Step::Restart { site: to })
+            Some(Step::Restart { site: to })
         }
         _ => {
             let (batch, more) = delivered(alloc, dice, events)?;
             add(plain, to, more);
-            Ok(Step::Deliver { site: to, batch })
+            Some(Step::Deliver { site: to, batch })
         }
     }
 }
@@ -172,53 +185,86 @@ fn is_as_plain(events: &[Sequenced], world: &World, i: u32, plain: Plain) -> boo
         && world.kept(i) == plain.kept.count_ones() as u64
 }
 
-/// Whether two sites print the same for a question, where they have the same set.
-fn are_alike(world: &World, plain: &[Plain], query: Query) -> Result<bool, AllocError> {
-    if world.sites() < 2 || look(plain, 0).taken != look(plain, 1).taken {
-        return Ok(true);
+/// Whether two sites print the same for a question.
+fn print_alike(here: &Site, there: &Site, query: Query) -> bool {
+    match (here.lines(query), there.lines(query)) {
+        (Ok(here), Ok(there)) => here.as_str() == there.as_str(),
+        _ => false,
     }
-    let here = world.site(0).lines(query)?;
-    let there = world.site(1).lines(query)?;
-    Ok(here.as_str() == there.as_str())
 }
 
-fn run_world(alloc: Global, dice: &mut Dice, events: &[Sequenced]) -> Result<bool, Failed> {
+/// Whether the first two sites print the same for a question, where they have the same set.
+fn are_alike(world: &World, plain: &[Plain], query: Query) -> bool {
+    world.sites() < 2
+        || look(plain, 0).taken != look(plain, 1).taken
+        || print_alike(world.site(0), world.site(1), query)
+}
+
+/// Whether each site of a world has its set, and sites of one set print the same.
+fn is_all_as_plain(events: &[Sequenced], world: &World, sites: u32, plain: &[Plain]) -> bool {
+    for i in 0..sites {
+        if !is_as_plain(events, world, i, look(plain, i)) {
+            return false;
+        }
+    }
+    are_alike(world, plain, Query::Shown) && are_alike(world, plain, Query::Cover)
+}
+
+/// Adds up to 29 steps, after which the sets are those that a plain reader expects.
+fn add_steps(
+    alloc: Global,
+    dice: &mut Dice,
+    sites: u32,
+    plain: &mut [Plain],
+    events: &[Sequenced],
+    steps: &mut Steps,
+) -> bool {
+    for _step in 0..dice.below(30) {
+        match step(alloc, dice, sites, plain, events) {
+            Some(step) => {
+                if !then(steps, step) {
+                    return false;
+                }
+            }
+            None => return false,
+        }
+    }
+    true
+}
+
+/// Whether the world of so many sites after the steps is as the sets say.
+fn gives(alloc: Global, sites: u32, steps: &Steps, events: &[Sequenced], plain: &[Plain]) -> bool {
+    match world_of(alloc, sites, steps) {
+        Some(world) => is_all_as_plain(events, &world, sites, plain),
+        None => false,
+    }
+}
+
+/// Whether a random schedule gives what a plain reader expects.
+fn is_good(alloc: Global, dice: &mut Dice, events: &[Sequenced]) -> bool {
     let sites = dice.below(4).saturating_add(2);
     let mut plain = [Plain { taken: 0, kept: 0 }; 5];
     let mut steps = Steps::empty(alloc);
-    for _step in 0..dice.below(30) {
-        let next = step(alloc, dice, sites, &mut plain, events)?;
-        if steps.push(next).is_err() {
-            return Err(Failed::OutOfMemory);
-        }
+    add_steps(alloc, dice, sites, &mut plain, events, &mut steps)
+        && gives(alloc, sites, &steps, events, &plain)
+}
+
+/// Adds the event of a row, and answers whether it did.
+fn add_event(alloc: Global, events: &mut Vec<Sequenced>, row: Row<'_>) -> bool {
+    match event(alloc, row) {
+        Some(event) => events.push(event).is_ok(),
+        None => false,
     }
-    if !steps.fits(sites) {
-        return Ok(false);
-    }
-    let Ok(world) = run(alloc, sites, &steps) else {
-        return Err(Failed::OutOfMemory);
-    };
-    for i in 0..sites {
-        if !is_as_plain(events, &world, i, look(&plain, i)) {
-            return Ok(false);
-        }
-    }
-    Ok(are_alike(&world, &plain, Query::Shown)? && are_alike(&world, &plain, Query::Cover)?)
 }
 
 #[test]
-fn random_worlds_are_what_their_steps_give(rt: HostRuntime) -> Result<(), Failed> {
-    let alloc = rt.alloc();
-    let mut events = Vec::new(alloc);
-    for row in ROWS {
-        if events.push(event(alloc, row)?).is_err() {
-            return Err(Failed::OutOfMemory);
-        }
-    }
+fn random_worlds_are_what_their_steps_give(rt: HostRuntime) {
+    let mut events = Vec::new(rt.alloc());
     let mut dice = Dice { state: 1 };
-    for _world in 0..WORLDS {
-        let is_good = run_world(alloc, &mut dice, &events)?;
-        assert!(rt; is_good);
+    for row in ROWS {
+        assert!(rt; add_event(rt.alloc(), &mut events, row));
     }
-    Ok(())
+    for _world in 0..WORLDS {
+        assert!(rt; is_good(rt.alloc(), &mut dice, &events));
+    }
 }

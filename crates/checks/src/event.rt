@@ -1,0 +1,70 @@
+//! How events are made.
+
+use attributes::{Event, Given, Parts, Sequenced, Text};
+use std::alloc::{AllocError, Global};
+
+/// The id, the number, the type, the subject and the time of an event of the source `/orders`; an
+/// empty text is none.
+pub type Row<'a> = (&'a str, &'a str, &'a str, &'a str, &'a str);
+
+/// A text as the value of an attribute.
+pub fn given(alloc: Global, text: &str) -> Result<Given, AllocError> {
+    Ok(Given::Words(Text::of(alloc, text)?))
+}
+
+/// Sets an attribute.
+pub fn set(alloc: Global, parts: &mut Parts, name: &str, text: &str) -> Result<(), AllocError> {
+    parts.set(name, given(alloc, text)?)
+}
+
+/// Sets the attributes of a row.
+fn set_row(alloc: Global, parts: &mut Parts, row: Row<'_>) -> Result<(), AllocError> {
+    for (name, text) in [
+        ("specversion", "1.0"),
+        ("source", "/orders"),
+        ("id", row.0),
+        ("sequence", row.1),
+        ("type", row.2),
+        ("subject", row.3),
+        ("time", row.4),
+    ] {
+        if !text.is_empty() {
+            set(alloc, parts, name, text)?;
+        }
+    }
+    Ok(())
+}
+
+/// The event of parts that have no fault.
+fn built(parts: Parts) -> Option<Sequenced> {
+    match Event::build(parts) {
+        Ok(event) => Sequenced::of(event).ok(),
+        Err(_) => None,
+    }
+}
+
+/// The event of a row.
+pub fn event(alloc: Global, row: Row<'_>) -> Option<Sequenced> {
+    let mut parts = Parts::empty(alloc);
+    if set_row(alloc, &mut parts, row).is_ok() {
+        built(parts)
+    } else {
+        None
+    }
+}
+
+/// Whether there is a text, and it is this one.
+pub fn is_text(text: Result<Text, AllocError>, wanted: &str) -> bool {
+    match text {
+        Ok(text) => text.as_str() == wanted,
+        Err(_) => false,
+    }
+}
+
+/// Whether something was written, and it is this text.
+pub fn is_written(text: Result<String, AllocError>, wanted: &str) -> bool {
+    match text {
+        Ok(text) => text.as_str() == wanted,
+        Err(_) => false,
+    }
+}
