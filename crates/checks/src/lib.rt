@@ -15,3 +15,5 @@ mod json;
 mod reports;
 #[cfg(test)]
 mod summaries;
+#[cfg(test)]
+mod words;
