@@ -17,3 +17,5 @@ mod json;
 mod reports;
 #[cfg(test)]
 mod summaries;
+#[cfg(test)]
+mod words;

@@ -1,19 +1,11 @@
 //! `site`: keeps CloudEvents of several regions in step, and answers questions about them.
 #![tactic(auto)]
 
-mod database;
-mod ending;
-mod line;
-mod progress;
-mod query;
-mod run;
+mod status_line;
 mod system;
-#[cfg(test)]
-mod tests;
-mod workers;
 
-use progress::StatusLine;
-use run::exit;
+use site_commands::exit;
+use status_line::StatusLine;
 use std::process::ExitCode;
 use system::{taken, words};
 

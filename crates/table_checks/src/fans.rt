@@ -3,13 +3,13 @@
 
 ghost use Rattle.std.specs.Prelude.{◌≡◌, ◌⊎◌};
 
-use crate::orders::{command, create, time};
+use crate::orders::{accepts, create, time};
 use attributes::Batch;
-use outbox::{OutboxFault, Service};
-use relay::{End, MemoryRoute, Relay, RelayFault, Route, RouteFailed, fan_out};
+use outbox::Service;
+use relay::{End, FanOut, MemoryRoute, Relay, RelayFault, Route, RouteFailed, fan_out};
 use site::{Gate, GateShut, Wide};
 use sqlite::MemStore;
-use std::alloc::Global;
+use std::process::Abort;
 use std::sync::Wait;
 use std::sync::atomic::{AtomicU64, Ordering};
 use std::thread;
@@ -85,91 +85,74 @@ impl Gate for ShutsAtSecond {
 }
 
 /// A service with so many placed orders.
-fn placed(alloc: Global, count: u64) -> Result<Service<MemStore>, OutboxFault> {
-    let mut service = create(alloc, 0)?;
-    let at = time(alloc)?;
+fn placed<R: AllocGlobal + Abort>(rt: &R, count: u64) -> Service<MemStore> {
+    let at = time(rt);
+    let mut service = create(rt, 0);
     for order in 1..=count {
-        command(&mut service, "place", order, &at)?;
+        assert!(rt; accepts(&mut service, "place", order, &at));
     }
-    Ok(service)
+    service
 }
 
-/// Whether relays with these marks, to routes that fail at these sends, end so, with these marks and
-/// so many accepted rows.
-fn ends_as<H: Threads + Wait + Sync, G: Gate + Sync>(
-    rt: &H,
-    alloc: Global,
-    service: &mut Service<MemStore>,
-    gate: &G,
-    from: &[(u64, u64)],
-    want: &[(End, u64, u64)],
-) -> Result<bool, OutboxFault> {
-    let mut relays = Vec::new(alloc);
-    let mut routes = Vec::new(alloc);
-    for (mark, send) in from {
-        let route = MemoryRoute::empty(alloc);
-        relays.push(Relay::at(u32::try_from(routes.len()).unwrap_or(0), *mark))?;
-        routes.push(FailsAt { route, send: *send })?;
-    }
-    if routes.is_empty() || routes.len() > 16 || relays.len() != routes.len() {
-        return Ok(false);
-    }
-    let out = fan_out(rt, alloc, service, &mut relays, routes, gate);
+/// Whether a fan-out ended so: the ends, and the marks and accepted rows after it.
+fn is_ended(out: &FanOut<FailsAt>, relays: &[Relay], want: &[(End, u64, u64)]) -> bool {
     if out.ends.len() != want.len()
         || relays.len() != want.len()
         || out.routes.len() != want.len()
     {
-        return Ok(false);
+        return false;
     }
     for i in 0..want.len() {
         let accepted = out.routes[i].route.accepted().len();
         if (out.ends[i], relays[i].mark(), accepted) != want[i] {
-            return Ok(false);
+            return false;
         }
     }
-    Ok(true)
+    true
+}
+
+/// Whether relays with these marks, to routes that fail at these sends, end so, with these marks and
+/// so many accepted rows.
+fn ends_as<R: AllocGlobal + Threads + Wait + Abort + Sync, G: Gate + Sync>(
+    rt: &R,
+    service: &mut Service<MemStore>,
+    gate: &G,
+    from: &[(u64, u64)],
+    want: &[(End, u64, u64)],
+) -> bool {
+    let mut relays = Vec::new(rt.alloc());
+    let mut routes = Vec::new(rt.alloc());
+    for (mark, send) in from {
+        let route = MemoryRoute::empty(rt.alloc());
+        let site = u32::try_from(routes.len()).unwrap_or(0);
+        assert!(rt; relays.push(Relay::at(site, *mark)).is_ok());
+        assert!(rt; routes.push(FailsAt { route, send: *send }).is_ok());
+    }
+    assert!(rt; !routes.is_empty() && routes.len() <= 16 && relays.len() == routes.len());
+    let out = fan_out(rt, rt.alloc(), service, &mut relays, routes, gate);
+    is_ended(&out, relays.as_slice(), want)
 }
 
 #[test]
-fn every_row_goes_to_both_routes(rt: HostRuntime) -> Result<(), OutboxFault> {
-    let mut service = placed(rt.alloc(), 2)?;
+fn every_row_goes_to_both_routes(rt: HostRuntime) {
+    let mut service = placed(&rt, 2);
     let want = [(End::Done, 2, 2), (End::Done, 2, 2)];
-    assert!(rt;
-        ends_as(
-            &rt,
-            rt.alloc(),
-            &mut service,
-            &Wide,
-            &[(0, 0), (0, 0)],
-            &want
-        )?
-    );
-    Ok(())
+    assert!(rt; ends_as(&rt, &mut service, &Wide, &[(0, 0), (0, 0)], &want));
 }
 
 #[test]
-fn two_routes_are_sent_to_at_the_same_time(rt: HostRuntime) -> Result<(), OutboxFault> {
-    let mut service = placed(rt.alloc(), 150)?;
+fn two_routes_are_sent_to_at_the_same_time(rt: HostRuntime) {
+    let mut service = placed(&rt, 150);
     let gate = Together {
         entered: AtomicU64::new(0),
     };
     let want = [(End::Done, 150, 150), (End::Done, 150, 150)];
-    assert!(rt;
-        ends_as(
-            &rt,
-            rt.alloc(),
-            &mut service,
-            &gate,
-            &[(0, 0), (0, 0)],
-            &want
-        )?
-    );
-    Ok(())
+    assert!(rt; ends_as(&rt, &mut service, &gate, &[(0, 0), (0, 0)], &want));
 }
 
 #[test]
-fn the_others_go_on_where_one_stops(rt: HostRuntime) -> Result<(), OutboxFault> {
-    let mut service = placed(rt.alloc(), 250)?;
+fn the_others_go_on_where_one_stops(rt: HostRuntime) {
+    let mut service = placed(&rt, 250);
     let failed = End::Failed(RelayFault::RouteFailed);
     let want = [
         (failed, 100, 100),
@@ -179,28 +162,17 @@ fn the_others_go_on_where_one_stops(rt: HostRuntime) -> Result<(), OutboxFault> 
     assert!(rt;
         ends_as(
             &rt,
-            rt.alloc(),
             &mut service,
             &Wide,
             &[(0, 2), (30, 0), (300, 0)],
             &want
-        )?
+        )
     );
     let gate = ShutsAtSecond {
         made: AtomicU64::new(0),
     };
     let shut = End::Failed(RelayFault::GateShut);
     let want = [(End::Done, 250, 250), (shut, 100, 100)];
-    assert!(rt;
-        ends_as(
-            &rt,
-            rt.alloc(),
-            &mut service,
-            &gate,
-            &[(0, 0), (0, 0)],
-            &want
-        )?
-    );
+    assert!(rt; ends_as(&rt, &mut service, &gate, &[(0, 0), (0, 0)], &want));
     assert_eq!(rt; gate.made.load(Ordering::SeqCst), 4);
-    Ok(())
 }

@@ -1,112 +1,98 @@
 //! What no contract says of keepers: that calls succeed with ample memory and a good disk, and what
 //! closed files then hold.
 
-ghost use Rattle.std.specs.Prelude.{◌≡◌, IfOk, OnOk};
+ghost use Rattle.std.specs.Prelude.{◌≡◌};
 ghost use Rattle.sqlite.specs.Held.{state};
 ghost use Rattle.site_lock.specs.Pass.{leaves};
 ghost use Rattle.keeper.specs.Keep.{KeepsUp};
 
-use crate::tables::{E1, E2, Stop, adopted, batch, close, has, opened};
-use attributes::Batch;
+use crate::fixture::{E1, E2, batch, closed, empty_files, opened};
+use crate::tables::{created, is_loaded};
 use feeds::Aside;
-use inbox_table::{Loaded, Table};
+use inbox_table::Table;
 use keeper::{Flushed, Flusher, KeepFault, Keeper, Kept};
 use site_lock::{Begun, Pass, SharedSite};
-use sqlite::{Alter, FileStore, Files};
-use sqlite_disk::Memory;
-use std::alloc::Global;
+use sqlite::Alter;
+use std::process::Abort;
 use std::sync::Wait;
-use std::test::Fail;
-
-/// A new table, in files that were empty.
-fn new_table(alloc: Global) -> Result<Table<FileStore<Memory>>, Stop> {
-    let files = Files {
-        log: Memory::new(alloc),
-        db: Memory::new(alloc),
-    };
-    match Table::create(alloc, opened(alloc, files)?) {
-        Ok(table) => Ok(table),
-        Err(refused) => Err(Stop::Fault(refused.fault.number())),
-    }
-}
-
-/// The events of a table whose files are closed and opened again.
-fn found(alloc: Global, table: Table<FileStore<Memory>>) -> Result<Batch, Stop> {
-    let files = close(table.into_connection())?;
-    let Loaded { table: _, events } = adopted(alloc, opened(alloc, files)?)?;
-    Ok(events)
-}
 
 /// A keeper of a table, and its site, shared.
-fn begun<S: Alter + Drop>(alloc: Global, table: Table<S>) -> Result<(Keeper<S>, Begun), Stop>
-    ensures { IfOk result (λ made. (made.1.pass.table ≡ made.1.shared)
-        × KeepsUp (state S.Store made.0.conn) made.0.rows (leaves made.1.pass)) }
+fn begun<R: AllocGlobal + Abort, S: Alter + Drop>(rt: &R, table: Table<S>) -> (Keeper<S>, Begun)
+    ensures own { result.1.pass.table ≡ result.1.shared }
+    ensures first { KeepsUp (state S.Store result.0.conn) result.0.rows (leaves result.1.pass) }
 {
-    let Kept { keeper, site } = match Keeper::begin(alloc, table) {
-        Ok(kept) => kept,
-        Err(refused) => return Err(Stop::Fault(refused.fault.number())),
+    let Ok(Kept { keeper, site }) = Keeper::begin(rt.alloc(), table) else {
+        panic!(rt; "no keeper");
     };
-    match SharedSite::begin(alloc, site) {
-        Ok(begun) => Ok((keeper, begun)),
-        Err(_) => Err(Stop::Memory),
+    match SharedSite::begin(rt.alloc(), site) {
+        Ok(begun) => (keeper, begun),
+        Err(_) => panic!(rt; "no shared site"),
     }
 }
 
 /// Takes the event of a text, and tells how many were new.
-fn take<R: Wait>(
+fn take<R: AllocGlobal + Wait + Abort>(
     rt: &R,
-    alloc: Global,
     shared: &SharedSite,
     pass: &mut Pass,
     text: &str,
-) -> Result<u64, Stop>
+) -> u64
     requires { pass.old.table ≡ shared.now }
-    ensures { OnOk result (pass.new.table ≡ shared.now) }
+    ensures { pass.new.table ≡ shared.now }
 {
-    let mut events = batch(alloc, &[text])?;
-    match shared.take(rt, pass, &mut events) {
-        Ok(counts) => Ok(counts.fresh),
-        Err(_) => Err(Stop::Memory),
+    match shared.take(rt, pass, &mut batch(rt, &[text])) {
+        Ok(counts) => counts.fresh,
+        Err(_) => panic!(rt; "not taken"),
     }
 }
 
 /// A flusher with a pass that is split off this one.
-fn flusher<'a, R: Wait, S: Alter + Drop>(
+fn flusher<'a, R: Wait + Abort, S: Alter + Drop>(
     rt: &'a R,
     shared: &'a SharedSite,
     keeper: Keeper<S>,
     pass: &mut Pass,
-) -> Result<Flusher<'a, R, S>, Stop>
+) -> Flusher<'a, R, S>
     requires own { pass.old.table ≡ shared.now }
     requires first { KeepsUp (state S.Store keeper.conn) keeper.rows (leaves pass.old) }
-    ensures { OnOk result (pass.new.table ≡ shared.now) }
+    ensures { pass.new.table ≡ shared.now }
 {
     match shared.split(pass) {
-        Ok(own) => Ok(Flusher::of(rt, shared, keeper, own)),
-        Err(_) => Err(Stop::Memory),
+        Ok(own) => Flusher::of(rt, shared, keeper, own),
+        Err(_) => panic!(rt; "not split"),
     }
 }
 
-#[test]
-fn nothing_is_kept_before_a_step(rt: HostRuntime) -> Result<(), Fail> {
-    let alloc = rt.alloc();
-    let (keeper, begun) = begun(alloc, new_table(alloc)?)?;
+/// The table of a keeper whose site took an event, before any step.
+fn before_a_step<R: AllocGlobal + Wait + Abort, S: Alter + Drop>(
+    rt: &R,
+    table: Table<S>,
+) -> Table<S> {
+    let (keeper, begun) = begun(rt, table);
     let Begun { shared, mut pass } = begun;
-    assert_eq!(rt; take(&rt, alloc, &shared, &mut pass, E1)?, 1);
+    assert_eq!(rt; take(rt, &shared, &mut pass, E1), 1);
     assert!(rt; !keeper.acknowledged(1));
-    assert_eq!(rt; found(alloc, keeper.into_table())?.len(), 0);
-    Ok(())
+    keeper.into_table()
 }
 
 #[test]
-fn a_flusher_keeps_turn_by_turn(rt: HostRuntime) -> Result<(), Fail> {
-    let alloc = rt.alloc();
-    let (keeper, begun) = begun(alloc, new_table(alloc)?)?;
+fn nothing_is_kept_before_a_step(rt: HostRuntime) {
+    let table = before_a_step(&rt, created(&rt, opened(&rt, empty_files(&rt))));
+    let files = closed(&rt, table.into_connection());
+    assert!(rt; is_loaded(&rt, opened(&rt, files), &[]));
+}
+
+/// The table of a keeper whose flusher kept two events in turns of its own.
+fn turn_by_turn<R: AllocGlobal + Wait + Abort, S: Alter + Drop>(
+    rt: &R,
+    table: Table<S>,
+) -> Table<S> {
+    let (keeper, begun) = begun(rt, table);
     let Begun { shared, mut pass } = begun;
-    let mut flusher = flusher(&rt, &shared, keeper, &mut pass)?;
-    assert_eq!(rt; take(&rt, alloc, &shared, &mut pass, E1)?, 1);
+    let mut flusher = flusher(rt, &shared, keeper, &mut pass);
+    assert_eq!(rt; take(rt, &shared, &mut pass, E1), 1);
     assert!(rt; flusher.turn());
-    assert_eq!(rt; take(&rt, alloc, &shared, &mut pass, E2)?, 1);
+    assert_eq!(rt; take(rt, &shared, &mut pass, E2), 1);
     assert!(rt; flusher.turn());
     assert!(rt; flusher.turn());
     let Flushed {
@@ -118,8 +104,14 @@ fn a_flusher_keeps_turn_by_turn(rt: HostRuntime) -> Result<(), Fail> {
     assert_eq!(rt; keeper.kept(), 2);
     assert!(rt; keeper.acknowledged(2));
     assert!(rt; !keeper.acknowledged(3));
-    assert!(rt; has(&found(alloc, keeper.into_table())?, &[E1, E2]));
-    Ok(())
+    keeper.into_table()
+}
+
+#[test]
+fn a_flusher_keeps_turn_by_turn(rt: HostRuntime) {
+    let table = turn_by_turn(&rt, created(&rt, opened(&rt, empty_files(&rt))));
+    let files = closed(&rt, table.into_connection());
+    assert!(rt; is_loaded(&rt, opened(&rt, files), &[E1, E2]));
 }
 
 #[test]

@@ -6,8 +6,14 @@
 #[cfg(test)]
 mod fans;
 #[cfg(test)]
+mod fixture;
+#[cfg(test)]
 mod keepers;
 #[cfg(test)]
 mod orders;
 #[cfg(test)]
+mod relays;
+#[cfg(test)]
 mod tables;
+#[cfg(test)]
+mod writes;

@@ -1,0 +1,76 @@
+//! How far a long command came, for those who look on at a terminal.
+
+use inbox_table::Watch;
+use site_commands::Progress;
+use std::alloc::Global;
+use std::cell::Cell;
+use std::io::{IsTerminal, Print};
+
+/// After how many events more the line is written anew.
+const STEP: u64 = 1_000;
+
+/// One line of a terminal, written anew as the command goes on, and taken away in the end. It stays
+/// silent on a stream that is no terminal, and where memory or a write is refused.
+#[derive(Drop)]
+pub struct StatusLine<E> {
+    to: E,
+    alloc: Global,
+    is_terminal: bool,
+    is_shown: Cell<bool>,
+    told: Cell<(u64, u64)>,
+}
+
+impl<E: Print + IsTerminal> StatusLine<E> {
+    /// An empty line on the stream.
+    pub fn on(to: E, alloc: Global) -> StatusLine<E> {
+        let is_terminal = to.is_terminal();
+        StatusLine {
+            to,
+            alloc,
+            is_terminal,
+            is_shown: Cell::new(false),
+            told: Cell::new((u64::MAX, u64::MAX)),
+        }
+    }
+}
+
+impl<E: Print> StatusLine<E> {
+    /// Writes the text in place of the line.
+    fn show(&self, text: &str) {
+        self.is_shown.set(true);
+        let _written = self.to.write_all(text.as_bytes());
+    }
+}
+
+impl<E: Print> Watch for StatusLine<E> {
+    fn kept(&self, count: u64, all: u64) {
+        let (last_count, last_all) = self.told.get();
+        let is_near = count.abs_diff(last_count) < STEP && all.abs_diff(last_all) < STEP;
+        if !self.is_terminal || is_near {
+            return;
+        }
+        self.told.set((count, all));
+        let line = format!(in self.alloc; "\r\u{1b}[Ksite: {count} of {all} events kept");
+        if let Ok(line) = line {
+            self.show(line.as_str());
+        }
+    }
+}
+
+impl<E: Print> Progress for StatusLine<E> {
+    fn left(&self, files: u64) {
+        if !self.is_terminal {
+            return;
+        }
+        let line = format!(in self.alloc; "\r\u{1b}[Ksite: files left to read: {files}");
+        if let Ok(line) = line {
+            self.show(line.as_str());
+        }
+    }
+
+    fn over(&self) {
+        if self.is_shown.replace(false) {
+            let _written = self.to.write_all("\r\u{1b}[K".as_bytes());
+        }
+    }
+}

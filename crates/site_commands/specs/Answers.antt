@@ -1,0 +1,208 @@
+-- What the plans of the program are answered with, and why they are refused. C says what a name is
+-- read as, U why a name isn't read.
+use Rattle.std.specs.Prelude.{◌≡◌, ◌≤◌, ◌+◌, ◌⊎◌, Bool, List, ℕ, drop, length, slice_get, take, false, true, Option, Some}
+use Rattle.std.specs.Option.{is_some}
+use Rattle.attributes.specs.Character.{is_filled}
+use Rattle.attributes.specs.Event.{EventValue}
+use Rattle.attributes.specs.Sequence.{max_sequence}
+use Rattle.coverage.specs.Summary.{Sources}
+use Rattle.coverage.specs.SummaryText.{summary_text}
+use Rattle.coverage.specs.Refusals as summaries
+use Rattle.event_json.specs.Reading.{Refuses}
+use Rattle.event_json.specs.declared.fault.ReadFault.{ReadFault}
+use Rattle.outbox.specs.declared.status.Status.{Status}
+use Rattle.outbox.specs.declared.status.Status.TheVariants as status
+use Rattle.command_words.specs.declared.request.Action.{Action}
+use Rattle.command_words.specs.declared.request.Action.TheVariants as action
+use Rattle.database_commands.specs.Print.{WithoutLineEnd, batch_line, counts_line, event_line}
+use Rattle.command_words.specs.declared.request.Request.{Request}
+use Rattle.command_words.specs.declared.request.Plan.{Plan}
+use Rattle.command_words.specs.declared.request.Plan.TheVariants as plan
+use Rattle.command_words.specs.Plans.{AreFew}
+use Rattle.file_reports.specs.Shelves.{AreContents, IsUnreadAt}
+use Rattle.file_reports.specs.Reports.{IsRefusal, IsReport, SpellAll}
+use Rattle.file_reports.specs.declared.input.Unread.{Unread}
+use Rattle.file_reports.specs.declared.refusal.Refused.{Refused}
+use Rattle.file_reports.specs.declared.refusal.ReportFault.TheVariants as report
+use Rattle.run_command.specs.Run.{SaysRun}
+use Rattle.views.specs.declared.query.Query.{Query}
+use Rattle.site_commands.specs.Names.{names_of}
+use Rattle.site_commands.specs.declared.line.Refusal.{Refusal}
+use Rattle.site_commands.specs.declared.line.Refusal.TheVariants as refusal
+
+-- the text is the report of the files' contents
+abbrev pub AnswersQuery : (List ℕ → List ℕ → Type 0) → Query → List (List ℕ) → List ℕ → Type 0
+AnswersQuery C query files text = (contents : List (List ℕ)) × AreContents C files contents
+    × IsReport query contents text
+
+-- the first file that wasn't read, or, where all were, the first at fault
+abbrev pub RefusesQuery : (List ℕ → List ℕ → Type 0) → (List ℕ → Unread → Type 0)
+    → List (List ℕ) → Refusal → Type 0
+RefusesQuery C U files (refusal.Unread at) = IsUnreadAt C U files at
+RefusesQuery C U files (refusal.File refused) =
+    (contents : List (List ℕ)) × AreContents C files contents × IsRefusal contents refused
+RefusesQuery C U files (refusal.Summary why) = ⊥
+RefusesQuery C U files (refusal.Database why) = ⊥
+RefusesQuery C U files refusal.NoThread = ⊥
+
+-- the text is a batch, as one line
+abbrev pub PrintsBatch : List ℕ → Type 0
+PrintsBatch text = (events : List EventValue) × (text ≡ batch_line events)
+
+-- the text is an event, as one line
+abbrev pub PrintsEvent : List ℕ → Type 0
+PrintsEvent text = (e : EventValue) × (text ≡ event_line e)
+
+-- what is asked of an order is within what a service allows: its source, the order's number, and the
+-- length of the time
+pub record IsAllowedRequest (r : Request) : Type 0 where
+  pub filled : is_filled r.source ≡ true
+  pub short : length r.source ≤ 1024
+  pub low : 1 ≤ r.order
+  pub high : r.order ≤ max_sequence
+  pub at : length r.at ≤ 64
+
+-- the text counts the events of the files, and so many of them as new
+abbrev pub AnswersTake : (List ℕ → List ℕ → Type 0) → List (List ℕ) → List ℕ → Type 0
+AnswersTake C files text = (contents : List (List ℕ)) × AreContents C files contents
+    × (events : List EventValue) × SpellAll contents events
+    × (fresh : ℕ) × (text ≡ counts_line (length events) fresh)
+
+-- the first file that wasn't read, or, where all were, the first at fault, or, where none was, the
+-- database
+abbrev pub RefusesTake : (List ℕ → List ℕ → Type 0) → (List ℕ → Unread → Type 0)
+    → List (List ℕ) → Refusal → Type 0
+RefusesTake C U files (refusal.Unread at) = IsUnreadAt C U files at
+RefusesTake C U files (refusal.File refused) =
+    (contents : List (List ℕ)) × AreContents C files contents × IsRefusal contents refused
+RefusesTake C U files (refusal.Summary why) = ⊥
+RefusesTake C U files (refusal.Database why) =
+    (contents : List (List ℕ)) × AreContents C files contents
+    × (events : List EventValue) × SpellAll contents events
+RefusesTake C U files refusal.NoThread = ⊥
+
+-- the file's bytes, but for one LF at their end, are the text of this summary
+abbrev pub HasSummary : (List ℕ → List ℕ → Type 0) → List ℕ → Sources → Type 0
+HasSummary C file s = (bytes : List ℕ) × C file bytes
+    × (words : List ℕ) × WithoutLineEnd bytes words × (words ≡ summary_text s)
+
+-- the file has a summary, and the text is a batch
+abbrev pub AnswersDelta : (List ℕ → List ℕ → Type 0) → List ℕ → List ℕ → Type 0
+AnswersDelta C file text = (s : Sources) × HasSummary C file s × PrintsBatch text
+
+-- the file wasn't read, or, where it was, has no summary, or, where it has one, the database
+abbrev pub RefusesDelta : (List ℕ → List ℕ → Type 0) → (List ℕ → Unread → Type 0)
+    → List ℕ → Refusal → Type 0
+RefusesDelta C U file (refusal.Unread at) = U file at.why
+RefusesDelta C U file (refusal.File refused) = ⊥
+RefusesDelta C U file (refusal.Summary why) = (bytes : List ℕ) × C file bytes
+    × (words : List ℕ) × WithoutLineEnd bytes words × summaries.Refuses words why
+RefusesDelta C U file (refusal.Database why) = (s : Sources) × HasSummary C file s
+RefusesDelta C U file refusal.NoThread = ⊥
+
+-- the database is the cause
+abbrev pub IsOfDatabase : Refusal → Type 0
+IsOfDatabase (refusal.Unread at) = ⊥
+IsOfDatabase (refusal.File refused) = ⊥
+IsOfDatabase (refusal.Summary why) = ⊥
+IsOfDatabase (refusal.Database why) = Unit {0}
+IsOfDatabase refusal.NoThread = ⊥
+
+-- the first content is the peer's, where there is one, and spells events, all of them with numbers
+abbrev pub PeerSpells : Bool → List (List ℕ) → Type 0
+PeerSpells false contents = Unit {0}
+PeerSpells true contents = (events : List EventValue) × SpellAll (take 1 contents) events
+
+-- the contents of the feeds of a run: all but its peer's
+abbrev pub feeds_in : Bool → List (List ℕ) → List (List ℕ)
+feeds_in false contents = contents
+feeds_in true contents = drop 1 contents
+
+-- one of these feeds, the first of which is the file at this place, spells no events, and this is why
+pub record RefusesFeed (first : ℕ) (feeds : List (List ℕ)) (refused : Refused) : Type 0 where
+  pub feed : ℕ
+  pub at : refused.file ≡ first + feed
+  pub bytes : List ℕ
+  pub is_there : slice_get feeds feed ≡ Some bytes
+  pub fault : ReadFault
+  pub why : refused.fault ≡ report.Read fault
+  pub refuses : Refuses bytes fault
+
+-- the peer's file is at fault, or else a feed
+abbrev pub RefusesFile : Bool → List (List ℕ) → Refused → Type 0
+RefusesFile false contents refused = RefusesFeed 0 contents refused
+RefusesFile true contents refused =
+    IsRefusal (take 1 contents) refused ⊎ RefusesFeed 1 (drop 1 contents) refused
+
+-- the peer's content spells events, and the text tells of a run of the feeds
+abbrev pub AnswersJobs : Bool → List (List ℕ) → List ℕ → Type 0
+AnswersJobs has_peer contents text = PeerSpells has_peer contents
+    × (arrivals : List EventValue) × SaysRun (feeds_in has_peer contents) arrivals text
+
+-- the peer's content or a feed is at fault; or, where the peer's is not, the database or a thread
+abbrev pub RefusesJobs : Bool → List (List ℕ) → Refusal → Type 0
+RefusesJobs has_peer contents (refusal.Unread at) = ⊥
+RefusesJobs has_peer contents (refusal.File refused) = RefusesFile has_peer contents refused
+RefusesJobs has_peer contents (refusal.Summary why) = ⊥
+RefusesJobs has_peer contents (refusal.Database why) = PeerSpells has_peer contents
+RefusesJobs has_peer contents refusal.NoThread = PeerSpells has_peer contents
+
+-- all files were read, and the text tells of a run of the feeds
+abbrev pub AnswersRun : (List ℕ → List ℕ → Type 0) → Option (List ℕ) → List (List ℕ) → List ℕ
+    → Type 0
+AnswersRun C peer files text = (contents : List (List ℕ))
+    × AreContents C (names_of peer files) contents × AnswersJobs (is_some peer) contents text
+
+-- the first file that wasn't read; or, where all were, what came of them
+abbrev pub RefusesRun : (List ℕ → List ℕ → Type 0) → (List ℕ → Unread → Type 0)
+    → Option (List ℕ) → List (List ℕ) → Refusal → Type 0
+RefusesRun C U peer files (refusal.Unread at) = IsUnreadAt C U (names_of peer files) at
+RefusesRun C U peer files refusal = (contents : List (List ℕ))
+    × AreContents C (names_of peer files) contents × RefusesJobs (is_some peer) contents refusal
+
+-- the text is the answer to the plan
+abbrev pub AnswersPlan : (List ℕ → List ℕ → Type 0) → Plan → List ℕ → Type 0
+AnswersPlan C (plan.Ask query files) text = AnswersQuery C query files text
+AnswersPlan C (plan.Take db files) text = AnswersTake C files text
+AnswersPlan C (plan.Delta db from summary) text = AnswersDelta C summary text
+AnswersPlan C (plan.Scrub db from) text = PrintsBatch text
+AnswersPlan C (plan.Run db peer files) text = AnswersRun C peer files text
+AnswersPlan C (plan.Order request) text = PrintsEvent text
+AnswersPlan C (plan.Relay db after) text = PrintsBatch text
+
+-- this is why the plan has no answer
+abbrev pub RefusesPlan : (List ℕ → List ℕ → Type 0) → (List ℕ → Unread → Type 0)
+    → Plan → Refusal → Type 0
+RefusesPlan C U (plan.Ask query files) refusal = RefusesQuery C U files refusal
+RefusesPlan C U (plan.Take db files) refusal = RefusesTake C U files refusal
+RefusesPlan C U (plan.Delta db from summary) refusal = RefusesDelta C U summary refusal
+RefusesPlan C U (plan.Scrub db from) refusal = IsOfDatabase refusal
+RefusesPlan C U (plan.Run db peer files) refusal = RefusesRun C U peer files refusal
+RefusesPlan C U (plan.Order request) refusal = IsOfDatabase refusal
+RefusesPlan C U (plan.Relay db after) refusal = IsOfDatabase refusal
+
+-- whether the plan is a run
+abbrev pub is_run : Plan → Bool
+is_run (plan.Ask query files) = false
+is_run (plan.Take db files) = false
+is_run (plan.Delta db from summary) = false
+is_run (plan.Scrub db from) = false
+is_run (plan.Run db peer files) = true
+is_run (plan.Order request) = false
+is_run (plan.Relay db after) = false
+
+-- what is asked of an order is within what a service allows, and of a run within what workers do
+abbrev pub IsAllowed : Plan → Type 0
+IsAllowed (plan.Ask query files) = Unit {0}
+IsAllowed (plan.Take db files) = Unit {0}
+IsAllowed (plan.Delta db from summary) = Unit {0}
+IsAllowed (plan.Scrub db from) = Unit {0}
+IsAllowed (plan.Run db peer files) = AreFew (is_some peer) (length files)
+IsAllowed (plan.Order request) = IsAllowedRequest request
+IsAllowed (plan.Relay db after) = Unit {0}
+
+-- the status that an order gets by what is done with it
+abbrev pub status_of : Action → Status
+status_of action.Place = status.Placed
+status_of action.Ship = status.Shipped
+status_of action.Cancel = status.Cancelled

@@ -1,0 +1,28 @@
+-- What each ending writes, to which stream, with which status.
+use Rattle.std.specs.Prelude.{◌≡◌, ◌⊎◌, ◌++◌, ℕ, List, Option}
+use Rattle.std.specs.Io.KnownBytes.{Appends, Keeps}
+use Rattle.site_commands.specs.declared.ending.Ending.{Ending}
+use Rattle.site_commands.specs.declared.ending.Ending.TheVariants as ending
+use Rattle.site_commands.specs.Lines.{memory_line}
+
+-- the stream grew by the front of the text that comes before the rest
+pub record Wrote (old new : Option (List ℕ)) (text rest : List ℕ) : Type 0 where
+  pub front : List ℕ
+  pub split : text ≡ front ++ rest
+  pub grown : Appends old new front
+
+-- the stream grew by the text and the status is this one, or the writing failed: the stream grew
+-- by a front of the text, and the status is 1
+abbrev pub Writes : ℕ → ℕ → Option (List ℕ) → Option (List ℕ) → List ℕ → Type 0
+Writes result status old new text = ((result ≡ status) × Appends old new text)
+    ⊎ ((result ≡ 1) × (rest : List ℕ) × Wrote old new text rest)
+
+-- the streams are standard output, then standard error, before and after
+abbrev pub Ends : Ending → ℕ → Option (List ℕ) → Option (List ℕ)
+    → Option (List ℕ) → Option (List ℕ) → Type 0
+Ends (ending.Answer text) result out out' err err' = Writes result 0 out out' text × Keeps err err'
+Ends (ending.Help text) result out out' err err' = Writes result 2 out out' text × Keeps err err'
+Ends (ending.Faulty text) result out out' err err' = Writes result 2 err err' text × Keeps out out'
+Ends (ending.Refused text) result out out' err err' = Writes result 1 err err' text × Keeps out out'
+Ends ending.NoMemory result out out' err err' =
+    Writes result 1 err err' memory_line × Keeps out out'

@@ -1,0 +1,169 @@
+-- The lines on standard error of a run that was refused.
+use Rattle.std.specs.Prelude.{◌==◌, ◌/◌, ◌%◌, ℕ, List, [], ◌∷◌, ◌++◌, codes, slice_get, unwrap_or, if◌then◌else◌}
+use Rattle.std.specs.Char.{digit_char, encode_utf8, is_control}
+use Rattle.std.specs.Fmt.{decimal}
+use Rattle.std.specs.List.{flat_map}
+use Rattle.std.specs.Str.{chars}
+use Rattle.attributes.specs.declared.fault.Fault.{Fault}
+use Rattle.attributes.specs.declared.fault.Fault.TheVariants as fault
+use Rattle.event_json.specs.declared.fault.ReadFault.TheVariants as read
+use Rattle.file_reports.specs.declared.input.Unread.{Unread}
+use Rattle.file_reports.specs.declared.input.Unread.TheVariants as unread
+use Rattle.file_reports.specs.declared.refusal.ReportFault.{ReportFault}
+use Rattle.file_reports.specs.declared.refusal.ReportFault.TheVariants as report
+use Rattle.coverage.specs.declared.fault.SummaryFault.{SummaryFault}
+use Rattle.coverage.specs.declared.fault.SummaryFault.TheVariants as summary
+use Rattle.command_words.specs.declared.request.Plan.{Plan}
+use Rattle.command_words.specs.declared.request.Plan.TheVariants as plan
+use Rattle.database_commands.specs.declared.fault.CommandFault.{CommandFault}
+use Rattle.database_commands.specs.declared.fault.CommandFault.TheVariants as database
+use Rattle.site_commands.specs.Names.{names_of}
+use Rattle.site_commands.specs.declared.line.Refusal.{Refusal}
+use Rattle.site_commands.specs.declared.line.Refusal.TheVariants as refusal
+
+-- ---- names of files
+
+-- a backslash and a letter
+abbrev pub escape : ℕ → List ℕ
+escape letter = 92 ∷ letter ∷ []
+
+-- a control character as `\u00` with two lower-case hexadecimal digits, any other as it is
+abbrev pub other_char : ℕ → List ℕ
+other_char c =
+    if is_control c then 92 ∷ 117 ∷ 48 ∷ 48 ∷ digit_char (c / 16 % 16) ∷ digit_char (c % 16) ∷ []
+    else encode_utf8 c
+
+-- a control character as in a JSON string (RFC 8259, section 7), the usual ones as `\b`, `\t`,
+-- `\n`, `\f`, `\r`; any other character as it is
+abbrev pub name_char : ℕ → List ℕ
+name_char c =
+    if c == 8 then escape 98 else if c == 9 then escape 116 else if c == 10 then escape 110
+    else if c == 12 then escape 102
+    else if c == 13 then escape 114 else other_char c
+
+-- a file's name in a line
+abbrev pub printed_name : List ℕ → List ℕ
+printed_name name = flat_map name_char (chars name)
+
+-- the name at a place, from 0
+abbrev pub name_at : List (List ℕ) → ℕ → List ℕ
+name_at names file = unwrap_or (slice_get names file) []
+
+-- ---- the words of faults
+
+abbrev pub fault_name : Fault → List ℕ
+fault_name fault.OutOfMemory = codes "OutOfMemory"
+fault_name fault.SpecVersion = codes "SpecVersion"
+fault_name fault.Id = codes "Id"
+fault_name fault.Source = codes "Source"
+fault_name fault.Kind = codes "Kind"
+fault_name fault.Subject = codes "Subject"
+fault_name fault.Time = codes "Time"
+fault_name fault.ContentType = codes "ContentType"
+fault_name fault.Schema = codes "Schema"
+fault_name fault.ExtensionName = codes "ExtensionName"
+fault_name fault.ExtensionValue = codes "ExtensionValue"
+fault_name fault.TwoData = codes "TwoData"
+fault_name fault.Base64 = codes "Base64"
+fault_name fault.DataNumber = codes "DataNumber"
+fault_name fault.TooDeep = codes "TooDeep"
+fault_name fault.TooLarge = codes "TooLarge"
+fault_name fault.NoSequence = codes "NoSequence"
+fault_name fault.BadSequence = codes "BadSequence"
+
+-- `event I: NAME`
+abbrev pub event_words : ℕ → Fault → List ℕ
+event_words index why = codes "event " ++ decimal index ++ codes ": " ++ fault_name why
+
+-- ---- the lines
+
+-- `site: FILE: WORDS`
+abbrev pub file_line : List ℕ → List ℕ → List ℕ
+file_line name words = codes "site: " ++ printed_name name ++ codes ": " ++ words ++ 10 ∷ []
+
+-- `site: out of memory`
+abbrev pub memory_line : List ℕ
+memory_line = codes "site: out of memory" ++ 10 ∷ []
+
+-- a word of the command line isn't UTF-8
+abbrev pub arguments_line : List ℕ
+arguments_line = codes "site: the arguments aren't text" ++ 10 ∷ []
+
+-- a file of this name was not read
+abbrev pub unread_line : List ℕ → Unread → List ℕ
+unread_line name unread.OutOfMemory = memory_line
+unread_line name unread.CannotRead = file_line name (codes "cannot read")
+unread_line name unread.TooLarge = file_line name (codes "too large")
+
+-- a file of this name is at fault
+abbrev pub fault_line : List ℕ → ReportFault → List ℕ
+fault_line name report.OutOfMemory = memory_line
+fault_line name (report.Read read.OutOfMemory) = memory_line
+fault_line name (report.Read read.NotJson) = file_line name (codes "not JSON")
+fault_line name (report.Read read.NotEvent) = file_line name (codes "not an event or a batch")
+fault_line name (report.Read (read.BadEvent index why)) = file_line name (event_words index why)
+fault_line name (report.Read read.InputTooLarge) = file_line name (codes "too large")
+fault_line name (report.Event index why) = file_line name (event_words index why)
+
+-- the summary in a file of this name is at fault
+abbrev pub summary_line : List ℕ → SummaryFault → List ℕ
+summary_line name summary.OutOfMemory = memory_line
+summary_line name summary.NotJson = file_line name (codes "not JSON")
+summary_line name summary.Shape = file_line name (codes "Shape")
+summary_line name summary.Version = file_line name (codes "Version")
+summary_line name summary.NotCanonical = file_line name (codes "NotCanonical")
+
+-- `site: order N: NAME`
+abbrev pub order_line : ℕ → List ℕ → List ℕ
+order_line number name = codes "site: order " ++ decimal number ++ codes ": " ++ name ++ 10 ∷ []
+
+-- a command over the database of this name, about this order, has no answer
+abbrev pub database_line : List ℕ → ℕ → CommandFault → List ℕ
+database_line db number database.OutOfMemory = memory_line
+database_line db number database.Store = file_line db (codes "Store")
+database_line db number database.Foreign = file_line db (codes "Foreign")
+database_line db number database.OrderExists = order_line number (codes "OrderExists")
+database_line db number database.NoOrder = order_line number (codes "NoOrder")
+database_line db number database.WrongState = order_line number (codes "WrongState")
+database_line db number database.Full = order_line number (codes "Full")
+database_line db number database.RouteFailed = codes "site: route failed" ++ 10 ∷ []
+
+-- ---- what a plan names
+
+-- the file at a place of a plan
+abbrev pub name_in : Plan → ℕ → List ℕ
+name_in (plan.Ask query files) file = name_at files file
+name_in (plan.Take db files) file = name_at files file
+name_in (plan.Delta db from name) file = name
+name_in (plan.Scrub db from) file = []
+name_in (plan.Run db peer files) file = name_at (names_of peer files) file
+name_in (plan.Order request) file = []
+name_in (plan.Relay db after) file = []
+
+-- the database of a plan; empty where it has none
+abbrev pub db_in : Plan → List ℕ
+db_in (plan.Ask query files) = []
+db_in (plan.Take db files) = db
+db_in (plan.Delta db from name) = db
+db_in (plan.Scrub db from) = db
+db_in (plan.Run db peer files) = db
+db_in (plan.Order request) = request.db
+db_in (plan.Relay db after) = db
+
+-- the order of a plan; 0 where it has none
+abbrev pub order_in : Plan → ℕ
+order_in (plan.Ask query files) = 0
+order_in (plan.Take db files) = 0
+order_in (plan.Delta db from name) = 0
+order_in (plan.Scrub db from) = 0
+order_in (plan.Run db peer files) = 0
+order_in (plan.Order request) = request.order
+order_in (plan.Relay db after) = 0
+
+-- the one line of a plan's refusal
+abbrev pub line_of : Plan → Refusal → List ℕ
+line_of plan (refusal.Unread at) = unread_line (name_in plan at.file) at.why
+line_of plan (refusal.File refused) = fault_line (name_in plan refused.file) refused.fault
+line_of plan (refusal.Summary why) = summary_line (name_in plan 0) why
+line_of plan (refusal.Database why) = database_line (db_in plan) (order_in plan) why
+line_of plan refusal.NoThread = codes "site: no thread" ++ 10 ∷ []

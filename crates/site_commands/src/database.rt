@@ -1,0 +1,148 @@
+//! The commands over a database.
+ghost use Rattle.std.specs.Prelude.{◌≡◌, IfErr, IfOk};
+ghost use Rattle.site_commands.specs.Answers.{AnswersDelta, AnswersTake, HasSummary, IsAllowedRequest, IsOfDatabase, PrintsBatch, PrintsEvent, RefusesDelta, RefusesTake, status_of};
+
+use crate::line::Refusal;
+use attributes::Text;
+use command_words::{Action, Request};
+use coverage::Summary;
+use database_commands::{CommandFault, Databases, Status, summary_of};
+use file_reports::{Shelf, UnreadAt, contents_of, events_of};
+use inbox_table::Watch;
+use std::alloc::Global;
+use std::mem;
+
+/// Adds the events of all files to a database, and answers how many were new. All files are read and
+/// judged before the database is opened. The memory of the events is left to the operating system,
+/// since the program ends next.
+pub fn take<S: Shelf, D: Databases, W: Watch>(
+    alloc: Global,
+    shelf: &S,
+    databases: &D,
+    db: &str,
+    files: &[Text],
+    watch: &W,
+) -> Result<Text, Refusal>
+    ensures ok { IfOk result (AnswersTake (S.is_content shelf.now) files.now) }
+    ensures err { IfErr result
+        (RefusesTake (S.is_content shelf.now) (S.is_unread shelf.now) files.now) }
+{
+    match contents_of(alloc, shelf, files) {
+        Ok(contents) => match events_of(alloc, contents.as_slice()) {
+            Ok(events) => {
+                let answer = databases.take(alloc, db, &events, watch);
+                mem::forget(events);
+                match answer {
+                    Ok(text) => Ok(text),
+                    Err(why) => Err(Refusal::Database(why)),
+                }
+            }
+            Err(refused) => Err(Refusal::File(refused)),
+        },
+        Err(at) => Err(Refusal::Unread(at)),
+    }
+}
+
+/// The summary that a file holds, perhaps with one LF behind it.
+fn summary_in<S: Shelf>(alloc: Global, shelf: &S, file: &str) -> Result<Summary, Refusal>
+    ensures ok { IfOk result (HasSummary (S.is_content shelf.now) file.now) }
+    ensures err { IfErr result
+        (RefusesDelta (S.is_content shelf.now) (S.is_unread shelf.now) file.now) }
+{
+    match shelf.content(alloc, file) {
+        Ok(bytes) => match Summary::of_text(alloc, summary_of(bytes.as_bytes())) {
+            Ok(summary) => Ok(summary),
+            Err(why) => Err(Refusal::Summary(why)),
+        },
+        Err(why) => Err(Refusal::Unread(UnreadAt { file: 0, why })),
+    }
+}
+
+/// A page of the events of a database that the summary in a file lacks. The file is read and judged
+/// before the database is opened.
+pub fn delta<S: Shelf, D: Databases>(
+    alloc: Global,
+    shelf: &S,
+    databases: &D,
+    db: &str,
+    from: u64,
+    file: &str,
+) -> Result<Text, Refusal>
+    ensures ok { IfOk result (AnswersDelta (S.is_content shelf.now) file.now) }
+    ensures err { IfErr result
+        (RefusesDelta (S.is_content shelf.now) (S.is_unread shelf.now) file.now) }
+{
+    match summary_in(alloc, shelf, file) {
+        Ok(summary) => match databases.delta(alloc, db, &summary, from) {
+            Ok(text) => Ok(text),
+            Err(why) => Err(Refusal::Database(why)),
+        },
+        Err(refusal) => Err(refusal),
+    }
+}
+
+/// A page of the events of a database, in key order.
+pub fn scrub<D: Databases>(
+    alloc: Global,
+    databases: &D,
+    db: &str,
+    from: u64,
+) -> Result<Text, Refusal>
+    ensures ok { IfOk result PrintsBatch }
+    ensures err { IfErr result IsOfDatabase }
+{
+    match databases.scrub(alloc, db, from) {
+        Ok(text) => Ok(text),
+        Err(why) => Err(Refusal::Database(why)),
+    }
+}
+
+/// The status that an order gets by what is done with it.
+fn status_of(action: Action) -> Status
+    ensures { result ≡ status_of action }
+{
+    match action {
+        Action::Place => Status::Placed,
+        Action::Ship => Status::Shipped,
+        Action::Cancel => Status::Cancelled,
+    }
+}
+
+/// Places, ships or cancels an order, and answers its event.
+pub fn order<D: Databases>(alloc: Global, databases: &D, request: &Request) -> Result<Text, Refusal>
+    requires { IsAllowedRequest request.now }
+    ensures ok { IfOk result PrintsEvent }
+    ensures err { IfErr result IsOfDatabase }
+{
+    let status = status_of(request.action);
+    match databases.order(
+        alloc,
+        request.db.as_str(),
+        &request.source,
+        status,
+        request.order,
+        &request.at,
+    ) {
+        Ok(text) => Ok(text),
+        Err(why) => Err(Refusal::Database(why)),
+    }
+}
+
+/// The rows of a database's outbox with a greater number, at most 100.
+pub fn relay<D: Databases>(
+    alloc: Global,
+    databases: &D,
+    db: &str,
+    after: u64,
+) -> Result<Text, Refusal>
+    ensures ok { IfOk result PrintsBatch }
+    ensures err { IfErr result IsOfDatabase }
+{
+    let Ok(source) = Text::of(alloc, "/orders") else {
+        return Err(Refusal::Database(CommandFault::OutOfMemory));
+    };
+    match databases.relay(alloc, db, &source, after) {
+        Ok(text) => Ok(text),
+        Err(why) => Err(Refusal::Database(why)),
+    }
+}

@@ -1,0 +1,17 @@
+//! The commands of the program `site`, over any runtime, files, databases and writers: from the words
+//! after its name to what is written, and the exit status.
+#![tactic(auto)]
+
+mod database;
+mod ending;
+mod files;
+mod line;
+mod progress;
+mod query;
+mod run;
+mod workers;
+
+pub use ending::Ending;
+pub use line::Refusal;
+pub use progress::Progress;
+pub use run::{exit, perform};

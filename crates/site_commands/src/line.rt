@@ -1,0 +1,288 @@
+//! The lines of refusals on standard error.
+ghost use Rattle.std.specs.Prelude.{◌≡◌, ◌<◌, ◌++◌, [], ◌∷◌, IfOk, OnOk, string_bytes};
+ghost use Rattle.std.specs.Char.{digit_char};
+ghost use Rattle.site_commands.specs.Names.{names_of};
+ghost use Rattle.site_commands.specs.Lines.{database_line, db_in, event_words, fault_line, fault_name, file_line, line_of, name_at, name_char, name_in, order_in, order_line, other_char, printed_name, summary_line, unread_line};
+
+use attributes::{Fault, Text};
+use command_words::Plan;
+use coverage::SummaryFault;
+use database_commands::CommandFault;
+use event_json::ReadFault;
+use file_reports::{Refused, ReportFault, Unread, UnreadAt};
+use std::alloc::{AllocError, Global};
+
+/// Why there is no answer.
+#[derive(Clone, Copy, PartialEq, Eq, Debug)]
+pub enum Refusal {
+    /// The first file that was not read.
+    Unread(UnreadAt),
+    /// The first file at fault, where all were read.
+    File(Refused),
+    /// The file spells no summary.
+    Summary(SummaryFault),
+    /// The command over the database.
+    Database(CommandFault),
+    /// A thread couldn't be started.
+    NoThread,
+}
+
+/// The line of a plan's refusal.
+pub fn line_of(alloc: Global, plan: &Plan, refusal: Refusal) -> Result<Text, AllocError>
+    ensures { IfOk result (λ text. text ≡ line_of plan.now refusal) }
+{
+    match refusal {
+        Refusal::Unread(at) => unread_line(alloc, name_in(plan, at.file), at.why),
+        Refusal::File(refused) => fault_line(alloc, name_in(plan, refused.file), refused.fault),
+        Refusal::Summary(why) => summary_line(alloc, name_in(plan, 0), why),
+        Refusal::Database(why) => database_line(alloc, db_in(plan), order_in(plan), why),
+        Refusal::NoThread => Text::of(alloc, "site: no thread\n"),
+    }
+}
+
+/// The file at a place of a plan, from 0; empty where there is none.
+fn name_in(plan: &Plan, file: u64) -> &str
+    ensures { result.now ≡ name_in plan.now file }
+{
+    match plan {
+        Plan::Ask { files, .. } => name_at(files.as_slice(), file),
+        Plan::Take { files, .. } => name_at(files.as_slice(), file),
+        Plan::Delta { summary, .. } => summary.as_str(),
+        Plan::Scrub { .. } => "",
+        Plan::Run { peer, files, .. } => name_beside(peer, files.as_slice(), file),
+        Plan::Order(_) => "",
+        Plan::Relay { .. } => "",
+    }
+}
+
+/// The database of a plan; empty where it has none.
+fn db_in(plan: &Plan) -> &str
+    ensures { result.now ≡ db_in plan.now }
+{
+    match plan {
+        Plan::Ask { .. } => "",
+        Plan::Take { db, .. } => db.as_str(),
+        Plan::Delta { db, .. } => db.as_str(),
+        Plan::Scrub { db, .. } => db.as_str(),
+        Plan::Run { db, .. } => db.as_str(),
+        Plan::Order(request) => request.db.as_str(),
+        Plan::Relay { db, .. } => db.as_str(),
+    }
+}
+
+/// The order of a plan; 0 where it has none.
+fn order_in(plan: &Plan) -> u64
+    ensures { result ≡ order_in plan.now }
+{
+    match plan {
+        Plan::Order(request) => request.order,
+        _ => 0,
+    }
+}
+
+/// The name at a place of a run, from 0: its peer's is the first, where it has one.
+fn name_beside<'a>(peer: &'a Option<Text>, files: &'a [Text], file: u64) -> &'a str
+    ensures { result.now ≡ name_at (names_of peer.now files.now) file }
+{
+    match peer {
+        Some(name) if file == 0 => name.as_str(),
+        Some(_) => name_at(files, file - 1),
+        None => name_at(files, file),
+    }
+}
+
+/// The name at a place, from 0; empty where there is none.
+fn name_at(names: &[Text], file: u64) -> &str
+    ensures { result.now ≡ name_at names.now file }
+{
+    match names.get(file as usize) {
+        Some(name) => name.as_str(),
+        None => "",
+    }
+}
+
+/// The line of a file that was not read.
+fn unread_line(alloc: Global, name: &str, why: Unread) -> Result<Text, AllocError>
+    ensures { IfOk result (λ text. text ≡ unread_line name.now why) }
+{
+    match why {
+        Unread::OutOfMemory => Text::of(alloc, "site: out of memory\n"),
+        Unread::CannotRead => file_line(alloc, name, "cannot read"),
+        Unread::TooLarge => file_line(alloc, name, "too large"),
+    }
+}
+
+/// The line of a file at fault.
+fn fault_line(alloc: Global, name: &str, fault: ReportFault) -> Result<Text, AllocError>
+    ensures { IfOk result (λ text. text ≡ fault_line name.now fault) }
+{
+    match fault {
+        ReportFault::OutOfMemory => Text::of(alloc, "site: out of memory\n"),
+        ReportFault::Read(ReadFault::OutOfMemory) => Text::of(alloc, "site: out of memory\n"),
+        ReportFault::Read(ReadFault::NotJson) => file_line(alloc, name, "not JSON"),
+        ReportFault::Read(ReadFault::NotEvent) => file_line(alloc, name, "not an event or a batch"),
+        ReportFault::Read(ReadFault::InputTooLarge) => file_line(alloc, name, "too large"),
+        ReportFault::Read(ReadFault::BadEvent { index, fault }) => event_line(
+            alloc, name, index, fault,
+        ),
+        ReportFault::Event { index, fault } => event_line(alloc, name, index, fault),
+    }
+}
+
+/// The line of a summary at fault.
+fn summary_line(alloc: Global, name: &str, why: SummaryFault) -> Result<Text, AllocError>
+    ensures { IfOk result (λ text. text ≡ summary_line name.now why) }
+{
+    match why {
+        SummaryFault::OutOfMemory => Text::of(alloc, "site: out of memory\n"),
+        SummaryFault::NotJson => file_line(alloc, name, "not JSON"),
+        SummaryFault::Shape => file_line(alloc, name, "Shape"),
+        SummaryFault::Version => file_line(alloc, name, "Version"),
+        SummaryFault::NotCanonical => file_line(alloc, name, "NotCanonical"),
+    }
+}
+
+/// The line of a command over a database, about an order.
+fn database_line(
+    alloc: Global,
+    db: &str,
+    number: u64,
+    why: CommandFault,
+) -> Result<Text, AllocError>
+    ensures { IfOk result (λ text. text ≡ database_line db.now number why) }
+{
+    match why {
+        CommandFault::OutOfMemory => Text::of(alloc, "site: out of memory\n"),
+        CommandFault::Store => file_line(alloc, db, "Store"),
+        CommandFault::Foreign => file_line(alloc, db, "Foreign"),
+        CommandFault::OrderExists => order_line(alloc, number, "OrderExists"),
+        CommandFault::NoOrder => order_line(alloc, number, "NoOrder"),
+        CommandFault::WrongState => order_line(alloc, number, "WrongState"),
+        CommandFault::Full => order_line(alloc, number, "Full"),
+        CommandFault::RouteFailed => Text::of(alloc, "site: route failed\n"),
+    }
+}
+
+/// `site: order N: NAME`
+fn order_line(alloc: Global, number: u64, name: &str) -> Result<Text, AllocError>
+    ensures { IfOk result (λ text. text ≡ order_line number name.now) }
+{
+    let digits = format!(in alloc; "{number}")?;
+    let mut line = String::new(alloc);
+    line.push_str("site: order ")?;
+    line.push_str(digits.as_str())?;
+    line.push_str(": ")?;
+    line.push_str(name)?;
+    line.push_str("\n")?;
+    Ok(Text::from_string(line))
+}
+
+/// The line of the event that is at fault.
+fn event_line(alloc: Global, name: &str, index: u64, fault: Fault) -> Result<Text, AllocError>
+    ensures { IfOk result (λ text. text ≡ file_line name.now (event_words index fault)) }
+{
+    let words = event_words(alloc, index, fault)?;
+    file_line(alloc, name, words.as_str())
+}
+
+/// `event I: NAME`
+fn event_words(alloc: Global, index: u64, fault: Fault) -> Result<String, AllocError>
+    ensures { IfOk result (λ words. string_bytes words ≡ event_words index fault) }
+{
+    let number = format!(in alloc; "{index}")?;
+    let mut words = String::new(alloc);
+    words.push_str("event ")?;
+    words.push_str(number.as_str())?;
+    words.push_str(": ")?;
+    words.push_str(fault_name(fault))?;
+    Ok(words)
+}
+
+/// `site: FILE: WORDS`, ended with LF.
+fn file_line(alloc: Global, name: &str, words: &str) -> Result<Text, AllocError>
+    ensures { IfOk result (λ text. text ≡ file_line name.now words.now) }
+{
+    let mut line = String::new(alloc);
+    line.push_str("site: ")?;
+    push_name(&mut line, name)?;
+    line.push_str(": ")?;
+    line.push_str(words)?;
+    line.push_str("\n")?;
+    Ok(Text::from_string(line))
+}
+
+/// Appends a name, its control characters as in a JSON string.
+fn push_name(line: &mut String, name: &str) -> Result<(), AllocError>
+    ensures { OnOk result (string_bytes line.new
+        ≡ string_bytes line.old ++ printed_name name.now) }
+{
+    for c in name.chars() {
+        push_char(line, c)?;
+    }
+    Ok(())
+}
+
+/// Appends a character of a name.
+fn push_char(line: &mut String, c: char) -> Result<(), AllocError>
+    ensures { OnOk result (string_bytes line.new ≡ string_bytes line.old ++ name_char c) }
+{
+    match c {
+        '\u{8}' => line.push_str("\\b"),
+        '\t' => line.push_str("\\t"),
+        '\n' => line.push_str("\\n"),
+        '\u{c}' => line.push_str("\\f"),
+        '\r' => line.push_str("\\r"),
+        _ => push_other(line, c),
+    }
+}
+
+/// Appends a character that has no short escape.
+fn push_other(line: &mut String, c: char) -> Result<(), AllocError>
+    ensures { OnOk result (string_bytes line.new ≡ string_bytes line.old ++ other_char c) }
+{
+    if c.is_control() {
+        let code = c as u32;
+        line.push_str("\\u00")?;
+        push_hex(line, code / 16 % 16)?;
+        return push_hex(line, code % 16);
+    }
+    line.push(c)
+}
+
+/// Appends a hexadecimal digit, a letter in lower case.
+fn push_hex(line: &mut String, digit: u32) -> Result<(), AllocError>
+    requires { digit < 16 }
+    ensures { OnOk result (string_bytes line.new
+        ≡ string_bytes line.old ++ digit_char digit ∷ []) }
+{
+    match char::from_digit(digit, 16) {
+        Some(c) => line.push(c),
+        None => Ok(()),
+    }
+}
+
+/// The name of a fault, as it is printed.
+fn fault_name<'a>(fault: Fault) -> &'a str
+    ensures { result.now ≡ fault_name fault }
+{
+    match fault {
+        Fault::OutOfMemory => "OutOfMemory",
+        Fault::SpecVersion => "SpecVersion",
+        Fault::Id => "Id",
+        Fault::Source => "Source",
+        Fault::Kind => "Kind",
+        Fault::Subject => "Subject",
+        Fault::Time => "Time",
+        Fault::ContentType => "ContentType",
+        Fault::Schema => "Schema",
+        Fault::ExtensionName => "ExtensionName",
+        Fault::ExtensionValue => "ExtensionValue",
+        Fault::TwoData => "TwoData",
+        Fault::Base64 => "Base64",
+        Fault::DataNumber => "DataNumber",
+        Fault::TooDeep => "TooDeep",
+        Fault::TooLarge => "TooLarge",
+        Fault::NoSequence => "NoSequence",
+        Fault::BadSequence => "BadSequence",
+    }
+}

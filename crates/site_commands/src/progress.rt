@@ -1,0 +1,17 @@
+//! How far a long command came, for those who look on.
+use inbox_table::{Unwatched, Watch};
+
+/// Is told how far a command came. What it does changes nothing of what comes of the command.
+pub trait Progress: Watch {
+    /// So many files are left to read.
+    fn left(&self, files: u64);
+
+    /// Nothing more is told.
+    fn over(&self);
+}
+
+impl Progress for Unwatched {
+    fn left(&self, _files: u64) {}
+
+    fn over(&self) {}
+}

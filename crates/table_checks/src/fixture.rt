@@ -1,0 +1,102 @@
+//! What the tests stand on: events, and databases in memory and over files. Want of memory and what
+//! can't be had end a test at once: so nothing is let go half-way, which would be dear to prove.
+
+use attributes::{Batch, Sequenced};
+use event_json::read_events;
+use sqlite::{Alter, Connection, FileStore, Files, MemStore, Options};
+use sqlite_disk::Memory;
+use std::process::Abort;
+
+pub(crate) const E1: &str =
+    r#"{"id":"a1","sequence":"00000000000000000001","source":"/orders","specversion":"1.0","subject":"x","type":"t.a"}"#;
+
+pub(crate) const E2: &str =
+    r#"{"id":"a2","sequence":"00000000000000000002","source":"/orders","specversion":"1.0","subject":"x","type":"t.b"}"#;
+
+pub(crate) const E3: &str =
+    r#"{"id":"a3","sequence":"00000000000000000003","source":"/orders","specversion":"1.0","subject":"y","type":"t.a"}"#;
+/// The source, id and number of the first, with another type.
+pub(crate) const F1: &str =
+    r#"{"id":"a1","sequence":"00000000000000000001","source":"/orders","specversion":"1.0","subject":"y","type":"t.b"}"#;
+
+/// The table of the inbox.
+pub(crate) const INBOX: &str =
+    "CREATE TABLE inbox (place INTEGER PRIMARY KEY, source TEXT NOT NULL, id TEXT NOT NULL, number INTEGER NOT NULL, body TEXT NOT NULL, UNIQUE (source, id, body)) STRICT";
+
+/// The event of a text.
+fn event<R: AllocGlobal + Abort>(rt: &R, text: &str) -> Sequenced {
+    let Ok(events) = read_events(rt.alloc(), text.as_bytes()) else {
+        panic!(rt; "no event");
+    };
+    let Some(event) = events.into_vec().pop() else {
+        panic!(rt; "no event");
+    };
+    match Sequenced::of(event) {
+        Ok(event) => event,
+        Err(_) => panic!(rt; "no number"),
+    }
+}
+
+/// The events of the texts.
+pub(crate) fn batch<R: AllocGlobal + Abort>(rt: &R, texts: &[&str]) -> Batch {
+    let mut batch = Batch::empty(rt.alloc());
+    for text in texts {
+        assert!(rt; batch.push(event(rt, text)).is_ok());
+    }
+    batch
+}
+
+/// Whether the events have these texts, in this order.
+pub(crate) fn has(events: &Batch, texts: &[&str]) -> bool {
+    if events.len() != texts.len() as u64 {
+        return false;
+    }
+    for i in 0..texts.len() {
+        if events.at(i as u64).event().text() != texts[i] {
+            return false;
+        }
+    }
+    true
+}
+
+/// A database in memory on which these texts have run.
+pub(crate) fn database<R: AllocGlobal + Abort>(rt: &R, texts: &[&str]) -> Connection<MemStore> {
+    let mut conn = Connection::open_in_memory(rt.alloc()).expect(rt, "a database");
+    for text in texts {
+        assert!(rt; conn.execute_batch(text).is_ok());
+    }
+    conn
+}
+
+/// Whether the statement runs.
+pub(crate) fn executes<S: Alter>(conn: &mut Connection<S>, statement: &str) -> bool {
+    conn.execute(statement, &[]).is_ok()
+}
+
+/// Two empty files in memory.
+pub(crate) fn empty_files<R: AllocGlobal>(rt: &R) -> Files<Memory> {
+    Files {
+        log: Memory::new(rt.alloc()),
+        db: Memory::new(rt.alloc()),
+    }
+}
+
+/// A database over two files in memory.
+pub(crate) fn opened<R: AllocGlobal + Abort>(
+    rt: &R,
+    files: Files<Memory>,
+) -> Connection<FileStore<Memory>> {
+    assert!(rt; files.may_be_used());
+    match Connection::open_files(rt.alloc(), files, Options::new(1)) {
+        Ok(conn) => conn,
+        Err(_) => panic!(rt; "no database"),
+    }
+}
+
+/// The files of a connection, closed.
+pub(crate) fn closed<R: Abort>(rt: &R, conn: Connection<FileStore<Memory>>) -> Files<Memory> {
+    match conn.close_files() {
+        Ok(files) => files,
+        Err(_) => panic!(rt; "not closed"),
+    }
+}

@@ -1,0 +1,84 @@
+//! What no contract says of the program's commands: that a run whose output can't be written ends
+//! with 1, and that so does one whose output can't be flushed.
+
+use attributes::Text;
+use database_commands::Databases;
+use inbox_table::Unwatched;
+use run_command::Runs;
+use site_commands::perform;
+use std::io::Write;
+use std::process::Abort;
+use std::rt::Files;
+use std::sync::Wait;
+use std::test::Fail;
+use std::thread::Threads;
+use std::{env, fs, io, process};
+
+/// A writer whose first write fails, or its flush.
+#[derive(Drop)]
+struct Closed {
+    takes: bool,
+    written: usize,
+}
+
+impl Write for Closed {
+    fn write(&mut self, buf: &[u8]) -> io::Result<usize> {
+        if self.takes {
+            self.written = self.written.saturating_add(buf.len());
+            return Ok(buf.len());
+        }
+        Err(io::Error::from(io::ErrorKind::BrokenPipe))
+    }
+
+    fn flush(&mut self) -> io::Result<()> {
+        Err(io::Error::from(io::ErrorKind::BrokenPipe))
+    }
+}
+
+/// The words `cover` and a file's name.
+fn covering<R: AllocGlobal + Abort>(rt: &R, file: &str) -> Vec<Text> {
+    let mut words = Vec::new(rt.alloc());
+    for word in ["cover", file] {
+        let word = Text::of(rt.alloc(), word).expect(rt, "memory");
+        assert!(rt; words.push(word).is_ok());
+    }
+    words
+}
+
+/// Whether an answer and a refusal end with 1 where the stream fails, and leave the other empty.
+fn ends_with_one<R: AllocGlobal + Files + Databases + Runs + Threads + Wait + Abort + Sync>(
+    rt: &R,
+    takes: bool,
+) -> bool {
+    let mut closed = Closed { takes, written: 0 };
+    let mut other = Vec::new(rt.alloc());
+    let words = covering(rt, "f");
+    let answer = perform(rt, words.as_slice(), &mut closed, &mut other, &Unwatched);
+    let words = covering(rt, "none");
+    let refusal = perform(rt, words.as_slice(), &mut other, &mut closed, &Unwatched);
+    let lengths = if takes { 27 + 24 } else { 0 };
+    answer == 1 && refusal == 1 && other.is_empty() && closed.written == lengths
+}
+
+/// Makes a new folder the current one.
+fn enter_folder(rt: &HostRuntime) -> Result<String, Fail> {
+    let id = process::id(rt.process());
+    let folder = format!(in rt.alloc(); "/tmp/table_checks-writes-{id}")?;
+    if fs::exists(rt, folder.as_str())? {
+        fs::remove_dir_all(rt, folder.as_str())?;
+    }
+    fs::create_dir(rt, folder.as_str())?;
+    env::set_current_dir(rt, folder.as_str())?;
+    Ok(folder)
+}
+
+#[test]
+fn a_write_that_fails_ends_with_one(rt: HostRuntime) -> Result<(), Fail> {
+    let folder = enter_folder(&rt)?;
+    fs::write(&rt, "f", "[]")?;
+    assert!(rt; ends_with_one(&rt, false));
+    assert!(rt; ends_with_one(&rt, true));
+    env::set_current_dir(&rt, "/")?;
+    fs::remove_dir_all(&rt, folder.as_str())?;
+    Ok(())
+}

@@ -1,0 +1,123 @@
+#!/bin/sh
+# Runs the built program on worked rows: the questions about files, which fault of which file is named, and
+# what is said of faulty words and by help. It looks at the status and at both streams.
+#
+#   tools/try_reports.sh [PROGRAM]       by default crates/site_cli/out/site_cli
+#
+# Prints a line for each run that went wrong, and at last how many of how many were right.
+. "$(dirname -- "$(readlink -f -- "$0")")/trial.sh"
+
+# The words after the text end with 0 and print it.
+answers() {
+    want=$1
+    shift
+    run "$@"
+    is "$*" 0 "$want" ''
+}
+
+# The words after the line end with 1 and say it.
+refuses() {
+    want=$1
+    shift
+    run "$@"
+    is "$*" 1 '' "site: $want$lf"
+}
+
+# The words after the stream and the part end with 2; the part stands on that stream, nothing on the other.
+tells() {
+    told=$1
+    part=$2
+    shift 2
+    run "$@"
+    case $told in
+        out) is "$*" 2 '*' '' ;;
+        err) is "$*" 2 '' '*' ;;
+    esac
+    all=$((all + 1))
+    if grep -qF -e "$part" "got.$told"; then
+        right=$((right + 1))
+    else
+        echo "wrong: $*: no $part on $told"
+    fi
+}
+
+# An event of the worked rows, of 111 bytes, in another spelling, and with another type.
+first='{"id":"a1","sequence":"00000000000000000001","source":"/orders","specversion":"1.0","subject":"x","type":"t.a"}'
+spelled='{"type":"t.a","subject":"x","specversion":"1.0","source":"/orders","sequence":"00000000000000000001","id":"\u0061\u0031"}'
+greater='{"id":"a1","sequence":"00000000000000000001","source":"/orders","specversion":"1.0","subject":"x","type":"t.b"}'
+
+# Events of one source, with gaps between their numbers and in them.
+numbered() {
+    printf '{"id":"%s","sequence":"%s","source":"/orders","specversion":"1.0","type":"t"}' "$1" "$2"
+}
+numbers="[$(numbered a 00000000000000000001),$(numbered b 00000000000000000002),$(numbered c 00000000000000000005)]"
+more="[$(numbered d 00000000000000000004),$(numbered e 00000000000000000003)]"
+last=$(numbered z 09223372036854775807)
+
+# A lesser source, and a lesser id.
+lesser_id='{"id":"a0","sequence":"00000000000000000002","source":"/orders","specversion":"1.0","type":"t.a"}'
+lesser_source='{"id":"b","sequence":"00000000000000000001","source":"/","specversion":"1.0","type":"t.a"}'
+
+# Questions.
+printf '[]' >empty
+printf '%s' "$numbers" >numbers
+printf '%s' "$more" >more
+printf '%s' "$last" >last
+printf '%s' "$first" >first
+printf '%s' "$spelled" >spelled
+printf '%s' "$greater" >greater
+printf '%s' "[$first,$lesser_id,$lesser_source]" >keys
+all=$((all + 1))
+if [ "$(wc -c <first)" -eq 111 ]; then right=$((right + 1)); else echo "wrong: the first event's length"; fi
+answers "{\"sources\":{},\"version\":1}$lf" cover empty
+answers "{\"sources\":{\"/orders\":[[1,2],[5,5]]},\"version\":1}$lf" cover numbers
+answers "{\"sources\":{\"/orders\":[[1,5]]},\"version\":1}$lf" cover numbers more
+answers "{\"sources\":{\"/orders\":[[9223372036854775807,9223372036854775807]]},\"version\":1}$lf" cover last empty
+answers '' shown empty
+answers "$first$lf" shown spelled empty
+answers "$first$lf" shown greater first
+answers "$first$lf" shown first greater
+answers "$lesser_source$lf$lesser_id$lf$first$lf" shown greater keys first
+
+# The first fault: of one file between a good one and a bad one.
+printf '%s' "$first" >good
+printf '3' >bad
+names_fault() {
+    printf '%s' "$1" >f
+    refuses "f: $2" cover good f bad
+}
+names_fault '{"id":"a","sequence":"09223372036854775808","source":"/","specversion":"1.0","type":"t"}' 'event 0: BadSequence'
+names_fault '{"id":"a","sequence":"00000000000000000000","source":"/","specversion":"1.0","type":"t"}' 'event 0: BadSequence'
+names_fault '[{"id":"a","sequence":"00000000000000000001","source":"/","specversion":"1.0","type":"t"},{"id":"a","sequence":"1","source":"/","specversion":"1.0","type":"t"}]' 'event 1: BadSequence'
+names_fault '{"id":"a","sequence":1,"source":"/","specversion":"1.0","type":"t"}' 'event 0: BadSequence'
+names_fault '{"id":"a","source":"/","specversion":"1.0","type":"t"}' 'event 0: NoSequence'
+names_fault '[{"id":"a","source":"/","specversion":"1.0","type":"t"},{"specversion":"0.3"}]' 'event 1: SpecVersion'
+names_fault '[{},' 'not JSON'
+names_fault '' 'not JSON'
+names_fault '3' 'not an event or a batch'
+
+# All files are read before one is judged; 33,554,432 bytes are the most that one may have.
+spaces() { head -c "$1" /dev/zero | tr '\0' ' '; }
+spaces 33554433 >over
+spaces 33554432 >full
+refuses 'none: cannot read' cover bad none
+refuses 'over: too large' cover bad over none
+refuses 'full: not JSON' cover full
+refuses '.: cannot read' cover .
+refuses 'a\tb\n\u001b[1m\u009bé\: cannot read' cover "$(printf 'a\tb\n\033[1m\302\233\303\251\\')"
+printf '[]' >-
+answers "{\"sources\":{},\"version\":1}$lf" cover ./-
+
+# Faulty words, and help that is asked for.
+tells err '<FILE>...' cover
+tells err 'cover'
+tells err '<FILE>...' shown
+tells err 'covers' covers f
+tells err '--from' cover --from f
+tells out 'Usage: site cover <FILE>...' cover --help
+tells out 'Usage: site cover <FILE>...' help cover
+tells out 'Files of CloudEvents' shown --help
+tells out 'cover' --help
+tells out 'site 0.1.0' --version
+
+tell
