@@ -1,5 +1,5 @@
 -- What an event is, and its canonical text.
-use Rattle.std.specs.Prelude.{ℕ, ℤ, List, [], ◌∷◌, Option, Some, None, option_and_then, codes, String}
+use Rattle.std.specs.Prelude.{◌≡◌, ℕ, ℤ, List, [], ◌∷◌, Option, Some, None, option_and_then, codes, String, ⊤}
 use Rattle.std.specs.declared.alloc.Global.{Global}
 use Rattle.base64.specs.Engines.{standard}
 use Rattle.base64.specs.GeneralPurpose.{encode_of}
@@ -16,6 +16,8 @@ use Rattle.attributes.specs.declared.scalar.Given.{Given}
 use Rattle.attributes.specs.declared.scalar.Given.TheVariants as given
 use Rattle.attributes.specs.declared.content.Content.{Content}
 use Rattle.attributes.specs.declared.content.Content.TheVariants as content
+use Rattle.attributes.specs.declared.content.Payload.{Payload}
+use Rattle.attributes.specs.declared.content.Payload.TheVariants as payload
 use Rattle.attributes.specs.declared.content.Offered.{Offered}
 use Rattle.attributes.specs.declared.content.Offered.TheVariants as offered
 
@@ -135,6 +137,13 @@ abbrev pub day_of : EventValue → Option ℤ
 day_of e = option_and_then time_day (time_of e)
 
 -- ---- what fields stand for
+
+-- what is lent is the content, of a tree its compact text
+abbrev pub Lends : Payload → Content → Type 0
+Lends payload.Nothing content.Nothing = ⊤
+Lends (payload.Json t) (content.Tree d) = t.now ≡ compact_text d
+Lends (payload.Bytes b) (content.Bytes c) = b.now ≡ c
+Lends _ _ = ⊥
 
 -- the event of attributes and a content
 abbrev pub view_of : List (List ℕ × Scalar) → Content → EventValue

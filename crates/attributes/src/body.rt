@@ -2,7 +2,7 @@
 
 ghost use Rattle.std.specs.Prelude.{◌≡◌, ◌+◌, ◌-◌, ◌<◌, ◌≤◌, bytes_eq, length, option_map, string_bytes, IfOk};
 ghost use Rattle.attributes.specs.Members.{value_at};
-ghost use Rattle.attributes.specs.steps.Place.{ArePlaces, IsPlace, IsBody, IsSpan, aside_of, attributes_in, id_in, in_span, place_name, place_value, shown, source_in, text_of};
+ghost use Rattle.attributes.specs.steps.Place.{ArePlaces, IsPlace, IsBody, IsSpan, aside_of, attributes_in, id_in, in_span, payload_in, place_name, place_value, shown, source_in, text_of};
 ghost use Rattle.attributes.specs.Event.{scalar_of};
 
 use std::alloc::AllocError;
@@ -18,6 +18,13 @@ pub enum Attribute<'a> {
 /// Where a text stands between quotation marks, in bytes from the beginning: `start..end`.
 #[derive(Clone, Copy)]
 pub(crate) struct Span {
+    pub(crate) start: u32,
+    pub(crate) end: u32,
+}
+
+/// Where a text stands, in bytes from the beginning: `start..end`.
+#[derive(Clone, Copy)]
+pub(crate) struct Stretch {
     pub(crate) start: u32,
     pub(crate) end: u32,
 }
@@ -39,23 +46,26 @@ pub(crate) struct Place {
     pub(crate) value: Kind,
 }
 
-/// A canonical text as it is written, what stands aside of it, and the places of the attributes.
+/// A canonical text as it is written, what stands aside of it, the places of the attributes, and
+/// that of the payload member's value.
 #[derive(Drop)]
 pub(crate) struct Draft {
     pub(crate) text: String,
     pub(crate) aside: String,
     pub(crate) places: Vec<Place>,
+    pub(crate) payload: Stretch,
 }
 
 /// The canonical text and behind it, in one string, what stands aside of it and the key: `"`, the
 /// source, `"`, the id, `"`. So two events are compared by their keys with one look into memory
-/// each.
+/// each. The payload is the value of the payload member; without one, it is empty.
 #[derive(Drop)]
 pub(crate) struct Body {
     pub(crate) all: String,
     pub(crate) places: Vec<Place>,
     pub(crate) text_end: u32,
     pub(crate) source: Span,
+    pub(crate) payload: Stretch,
 }
 
 /// The text between two marks.
@@ -137,6 +147,14 @@ impl Body {
         &self.all[self.text_end as usize..]
     }
 
+    /// The JSON text of the payload member's value.
+    pub(crate) fn payload(&self) -> &str
+        requires { IsBody self.now }
+        ensures { result.now ≡ payload_in self.now }
+    {
+        &self.text()[self.payload.start as usize..self.payload.end as usize]
+    }
+
     /// The attribute `source`.
     pub(crate) fn source(&self) -> &str
         requires { IsBody self.now }
@@ -171,6 +189,7 @@ impl Body {
         ensures places { IfOk result (λ s. s.places.items ≡ self.now.places.items) }
         ensures text_end { IfOk result (λ s. s.text_end ≡ self.now.text_end) }
         ensures source { IfOk result (λ s. s.source ≡ self.now.source) }
+        ensures payload { IfOk result (λ s. s.payload ≡ self.now.payload) }
     {
         let alloc = *self.all.allocator();
         let all = String::from_str(alloc, self.all.as_str())?;
@@ -180,6 +199,7 @@ impl Body {
             places,
             text_end: self.text_end,
             source: self.source,
+            payload: self.payload,
         })
     }
 }

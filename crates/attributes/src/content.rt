@@ -1,6 +1,7 @@
 //! What an event carries.
 
 ghost use Rattle.std.specs.Prelude.{◌≡◌, IfOk};
+ghost use Rattle.attributes.specs.steps.Kept.{kept_of};
 
 use crate::text::Octets;
 use crate::tree::Tree;
@@ -28,15 +29,44 @@ pub enum Content {
     Bytes(Octets),
 }
 
-impl Content {
-    /// A content that is equal. Time and memory in proportion to it.
-    pub fn copy(&self) -> Result<Content, AllocError>
-        ensures { IfOk result (λ c. c ≡ self.now) }
+/// What an event carries, lent by it: of a JSON value its compact text.
+#[derive(Clone, Copy, Debug, Drop)]
+pub enum Payload<'a> {
+    Nothing,
+    /// The text of the member `data` in the event's canonical text.
+    Json(&'a str),
+    Bytes(&'a [u8]),
+}
+
+/// What an event keeps of what it carries, beside its canonical text.
+#[derive(Drop)]
+pub(crate) enum Kept {
+    Nothing,
+    /// The text of the JSON value stands in the canonical text.
+    Json,
+    Bytes(Octets),
+}
+
+impl Kept {
+    /// What is kept of a content, whose tree is let go.
+    pub(crate) fn of(content: Content) -> Kept
+        ensures { result ≡ kept_of content }
+    {
+        match content {
+            Content::Nothing => Kept::Nothing,
+            Content::Tree(_) => Kept::Json,
+            Content::Bytes(bytes) => Kept::Bytes(bytes),
+        }
+    }
+
+    /// What is equal. Time and memory in proportion to the bytes.
+    pub(crate) fn copy(&self) -> Result<Kept, AllocError>
+        ensures { IfOk result (λ k. k ≡ self.now) }
     {
         match self {
-            Content::Nothing => Ok(Content::Nothing),
-            Content::Tree(tree) => Ok(Content::Tree(tree.copy()?)),
-            Content::Bytes(bytes) => Ok(Content::Bytes(bytes.copy()?)),
+            Kept::Nothing => Ok(Kept::Nothing),
+            Kept::Json => Ok(Kept::Json),
+            Kept::Bytes(bytes) => Ok(Kept::Bytes(bytes.copy()?)),
         }
     }
 }

@@ -8,15 +8,16 @@ ghost use Rattle.attributes.specs.Character.{is_filled};
 ghost use Rattle.std.specs.Str.{IsUtf8};
 ghost use Rattle.attributes.specs.Members.{InOrder, named, value_at};
 ghost use Rattle.attributes.specs.steps.Content.{HoldsExact};
-ghost use Rattle.attributes.specs.steps.Place.{IsBody, attributes_in, id_in, source_in, text_of};
-ghost use Rattle.attributes.specs.Event.{scalar_of, attribute_of, content_of, day_of, event_of, id_of, kind_of, scalars_of, source_of, subject_of, text, time_of, view_of, words_of, words_or_empty};
+ghost use Rattle.attributes.specs.steps.Kept.{TellsTree};
+ghost use Rattle.attributes.specs.steps.Place.{IsBody, attributes_in, id_in, payload_in, source_in, text_of};
+ghost use Rattle.attributes.specs.Event.{Lends, scalar_of, attribute_of, content_of, day_of, event_of, id_of, kind_of, scalars_of, source_of, subject_of, text, time_of, view_of, words_of, words_or_empty};
 ghost use Rattle.attributes.specs.Time.{time_day};
 ghost use Rattle.attributes.specs.Fault.{IsEvent, fault, has_whole_numbers, is_shallow, max_text, member_fault, offered_of, payload_fault};
 ghost use Rattle.attributes.specs.declared.fault.Fault.TheVariants.{OutOfMemory, TooLarge};
 
 use crate::body::{Attribute, Body};
 use crate::canonical::{canonical, sealed};
-use crate::content::{Content, Offered};
+use crate::content::{Content, Kept, Offered, Payload};
 use crate::fault::Fault;
 use crate::list::List;
 use crate::parts::Parts;
@@ -36,23 +37,23 @@ const MAX_TEXT: usize = 262_144;
 #[derive(Drop)]
 pub struct Event {
     body: Body,
-    content: Content,
+    kept: Kept,
     day: Option<i32>,
 }
 
 impl Model for Event {
     ghost use Rattle.attributes.specs.EventCode.{event_code};
-    ghost use Rattle.attributes.specs.Event.{EventValue, view_of};
-    ghost use Rattle.attributes.specs.steps.Kept.{IsKept};
-    ghost use Rattle.attributes.specs.steps.Place.{attributes_in};
+    ghost use Rattle.attributes.specs.Event.{EventValue};
+    ghost use Rattle.attributes.specs.steps.Kept.{IsKept, content_in, event_kept};
+    ghost use Rattle.attributes.specs.steps.Place.{payload_in};
 
     ghost Value = { EventValue };
 
     ghost coded = { event_code };
 
-    ghost view = { λ e. view_of (attributes_in e.body) e.content };
+    ghost view = { λ e. event_kept e.body e.kept };
 
-    ghost invariant = { λ e. IsKept e.body e.content e.day };
+    ghost invariant = { λ e. IsKept e.body (content_in (payload_in e.body) e.kept) e.day };
 }
 
 /// Events in an order.
@@ -134,6 +135,7 @@ fn body_of(
     ensures shows { IfOk result (λ b. attributes_in b ≡ scalars_of (named members.now.entries)) }
     ensures ordered { IfOk result (λ b. InOrder (named members.now.entries)) }
     ensures exact { IfOk result (λ b. HoldsExact content.now) }
+    ensures tells { IfOk result (λ b. TellsTree (payload_in b) content.now) }
     ensures body { IfOk result (λ b. IsBody b) }
     ensures source { IfOk result (λ b. source_in b ≡ words_or_empty
         (value_at (codes "source") (scalars_of (named members.now.entries)))) }
@@ -174,7 +176,8 @@ impl Event {
         let content = content_of(parts.offered);
         let body = body_of(parts.alloc, &parts.members, &content)?;
         let day = time_day(words_at(&parts.members, "time"));
-        Ok(Event { body, content, day })
+        let kept = Kept::of(content);
+        Ok(Event { body, kept, day })
     }
 
     /// The canonical text: compact JSON, the members in byte order of their names, strings with the
@@ -239,11 +242,16 @@ impl Event {
         self.day
     }
 
-    /// What the event carries: nothing, a JSON value or bytes.
-    pub fn content(&self) -> &Content
-        ensures { result.now ≡ self.now.content }
+    /// What the event carries: nothing, the compact text of a JSON value, which reads back as it
+    /// (`laws::data_reads_back`), or bytes. Takes no time and no memory.
+    pub fn content(&self) -> Payload<'_>
+        ensures { Lends result self.now.content }
     {
-        &self.content
+        match &self.kept {
+            Kept::Nothing => Payload::Nothing,
+            Kept::Json => Payload::Json(self.body.payload()),
+            Kept::Bytes(bytes) => Payload::Bytes(bytes.as_bytes()),
+        }
     }
 
     /// An event that is equal. Time and memory in proportion to its text.
@@ -251,10 +259,10 @@ impl Event {
         ensures { IfOk result (λ e. e ≡ self.now) }
     {
         let body = self.body.copy()?;
-        let content = self.content.copy()?;
+        let kept = self.kept.copy()?;
         Ok(Event {
             body,
-            content,
+            kept,
             day: self.day,
         })
     }

@@ -1,10 +1,39 @@
 -- What an event keeps.
-use Rattle.std.specs.Prelude.{◌≡◌, ℕ, ℤ, List, Option}
+use Rattle.std.specs.Prelude.{◌≡◌, ℕ, ℤ, List, Option, Some, None, ⊤}
+use Rattle.serde_json.specs.Data.{Data, null}
+use Rattle.serde_json.specs.Read.{read}
+use Rattle.serde_json.specs.Written.{compact_text}
 use Rattle.attributes.specs.Event.{EventValue, day_of, id_of, source_of, text, view_of}
 use Rattle.attributes.specs.Fault.{IsEvent}
-use Rattle.attributes.specs.steps.Place.{IsBody, attributes_in, id_in, source_in, text_of}
+use Rattle.attributes.specs.steps.Place.{IsBody, attributes_in, id_in, payload_in, source_in, text_of}
 use Rattle.attributes.specs.declared.content.Content.{Content}
+use Rattle.attributes.specs.declared.content.Content.TheVariants as content
+use Rattle.attributes.specs.declared.content.Kept.{Kept}
+use Rattle.attributes.specs.declared.content.Kept.TheVariants as kept
 use Rattle.attributes.specs.declared.body.Body.{Body}
+
+-- what is kept of a content
+abbrev pub kept_of : Content → Kept
+kept_of content.Nothing = kept.Nothing
+kept_of (content.Tree d) = kept.Json
+kept_of (content.Bytes b) = kept.Bytes b
+
+-- the tree that was read
+abbrev pub tree_of_read : Option Data → Data
+tree_of_read (Some d) = d
+tree_of_read None = null
+
+-- what is carried, by the payload's text and by what is kept
+abbrev pub content_in : List ℕ → Kept → Content
+content_in payload kept.Nothing = content.Nothing
+content_in payload kept.Json = content.Tree (tree_of_read (read payload))
+content_in payload (kept.Bytes b) = content.Bytes b
+
+-- the payload's text is that of the tree, where the content is one
+abbrev pub TellsTree : List ℕ → Content → Type 0
+TellsTree payload content.Nothing = ⊤
+TellsTree payload (content.Tree d) = payload ≡ compact_text d
+TellsTree payload (content.Bytes b) = ⊤
 
 -- the text of an event
 pub record KeepsText (e : EventValue) (kept : List ℕ) : Type 0 where
@@ -15,10 +44,15 @@ pub record KeepsText (e : EventValue) (kept : List ℕ) : Type 0 where
 abbrev pub event_with : Body → Content → EventValue
 event_with b c = view_of (attributes_in b) c
 
+-- the event that is kept
+abbrev pub event_kept : Body → Kept → EventValue
+event_kept b k = event_with b (content_in (payload_in b) k)
+
 -- its text, places in it, its key, and the day of its time
 pub record IsKept (b : Body) (c : Content) (day : Option ℤ) : Type 0 where
   pub text : KeepsText (event_with b c) (text_of b)
   pub body : IsBody b
   pub is_source : source_in b ≡ source_of (event_with b c)
   pub is_id : id_in b ≡ id_of (event_with b c)
+  pub is_payload : TellsTree (payload_in b) c
   pub is_day : day ≡ day_of (event_with b c)

@@ -1,7 +1,9 @@
 -- Where the names and values of attributes stand in a text.
-use Rattle.std.specs.Prelude.{◌≡◌, ◌≤◌, ◌<◌, ℕ, ◌+◌, ◌-◌, List, [], ◌∷◌, drop, take, length, slice_index, string_bytes, ⊤}
+use Rattle.std.specs.Prelude.{◌≡◌, ◌≤◌, ◌<◌, ℕ, ◌+◌, ◌-◌, List, [], ◌∷◌, ◌++◌, Bool, false, drop, take, length, slice_index, string_bytes, ⊤}
 use Rattle.std.specs.List.{slice_range}
+use Rattle.std.specs.Str.{IsUtf8}
 use Rattle.attributes.specs.declared.body.Span.{Span}
+use Rattle.attributes.specs.declared.body.Stretch.{Stretch}
 use Rattle.attributes.specs.declared.body.Kind.{Kind}
 use Rattle.attributes.specs.declared.body.Kind.TheVariants as kind
 use Rattle.attributes.specs.declared.body.Place.{Place}
@@ -68,6 +70,20 @@ abbrev pub ArePlaces : List ℕ → List ℕ → List Place → Type 0
 ArePlaces text aside [] = ⊤
 ArePlaces text aside (p ∷ ps) = IsPlace text aside p × ArePlaces text aside ps
 
+-- the part of a text
+abbrev pub in_stretch : List ℕ → Stretch → List ℕ
+in_stretch text s = slice_range text s.start s.end
+
+-- the words stand there in the text, behind one text and before another
+pub record StandsIn (text : List ℕ) (s : Stretch) (words : List ℕ) : Type 0 where
+  pub before : List ℕ
+  pub rest : List ℕ
+  pub is_text : text ≡ before ++ (words ++ rest)
+  pub starts : s.start ≡ length before
+  pub ends : s.end ≡ length before + length words
+  pub is_before : IsUtf8 before
+  pub is_words : IsUtf8 words
+
 -- ---- a text as it is written
 
 -- the attributes whose places are known
@@ -77,6 +93,10 @@ drafted d = shown (string_bytes d.text) (string_bytes d.aside) d.places.items
 -- and they stand
 abbrev pub HasPlaces : Draft → Type 0
 HasPlaces d = ArePlaces (string_bytes d.text) (string_bytes d.aside) d.places.items
+
+-- unless it still waits, the payload's text stands where the draft says
+abbrev pub HoldsPayload : Bool → List ℕ → Draft → Type 0
+HoldsPayload waiting json d = waiting ≡ false → StandsIn (string_bytes d.text) d.payload json
 
 -- ---- what an event keeps
 
@@ -104,6 +124,10 @@ id_in b = in_span (string_bytes b.all) (id_span (string_bytes b.all) b.source)
 abbrev pub attributes_in : Body → List (List ℕ × Scalar)
 attributes_in b = shown (text_of b) (aside_of b) b.places.items
 
+-- the text of the payload
+abbrev pub payload_in : Body → List ℕ
+payload_in b = in_stretch (text_of b) b.payload
+
 -- a text that ends with a bracket ends there
 pub record EndsAt (all : List ℕ) (end : ℕ) : Type 0 where
   pub some : 1 ≤ end
@@ -114,5 +138,6 @@ pub record EndsAt (all : List ℕ) (end : ℕ) : Type 0 where
 pub record IsBody (b : Body) : Type 0 where
   pub ends : EndsAt (string_bytes b.all) b.text_end
   pub places : ArePlaces (text_of b) (aside_of b) b.places.items
+  pub payload : StandsIn (text_of b) b.payload (payload_in b)
   pub source : IsSpan (string_bytes b.all) b.source
   pub id : IsSpan (string_bytes b.all) (id_span (string_bytes b.all) b.source)

@@ -2,6 +2,7 @@ use Rattle.std.proofs.Common.{◌∙◌, ℕ, List, length, ap, sym, subst, arit
 use Rattle.std.proofs.lemmas.Str.{IsUtf8-string_bytes}
 use Rattle.std.specs.Prelude.{codes}
 use Rattle.attributes.specs.Members.{named}
+use Rattle.attributes.specs.steps.Kept.{TellsTree}
 use Rattle.attributes.proofs.BuildLemmas.{ordered_scalars}
 use Rattle.attributes.proofs.FaultLemmas.{given_words-or_empty, names_pass, values_pass}
 use Rattle.attributes.proofs.event.body_of.Goals as goal
@@ -33,3 +34,11 @@ pub returns-clause-id : goal.returns-clause-id
 returns-clause-id c =
     let ms = named c.args.members.now.entries in
     c.in_ok-sealed.ensures.id ∙ (c.words_or_empty_at-id.ensures ∙ given_words-or_empty (codes "id") ms (values_pass ms c.requires.members))
+
+pub sealed-requires-clause-payload : goal.sealed-requires-clause-payload
+sealed-requires-clause-payload c = let held = c.in_ok-draft.ensures.payload in (held.0, held.1.0)
+
+pub returns-clause-tells : goal.returns-clause-tells
+returns-clause-tells c =
+    let held = c.in_ok-draft.ensures.payload in
+    subst (λ (l : List ℕ). TellsTree l c.args.content.now) (sym (c.in_ok-sealed.ensures.payload held.0 held.1.0)) held.1.1

@@ -1,4 +1,4 @@
-use Rattle.std.proofs.Common.{length, ◌≡◌, ◌≢◌, ◌∙◌, ℕ, List, None, Some, Option, option_and_then, ap, sym, true, refl}
+use Rattle.std.proofs.Common.{length, ◌≡◌, ◌≢◌, ◌∙◌, ℕ, List, None, Some, Option, option_and_then, ap, ap₂, sym, subst, true, refl, ◌≤◌}
 use Rattle.std.proofs.lemmas.Result.{err_from_is_err_and}
 use Rattle.std.specs.Prelude.{codes, nat_lt}
 use Rattle.std.specs.List.{list_all}
@@ -8,14 +8,16 @@ use Rattle.serde_json.specs.Data.{object, no_members}
 use Rattle.attributes.specs.Members.{named, value_at}
 use Rattle.attributes.specs.Event.{OfferValue, content_of, event_of, offer_of, text, scalars_of, view_of, words_of, words_or_empty, with_all, with_content}
 use Rattle.attributes.specs.Time.{time_day}
-use Rattle.attributes.specs.steps.Place.{attributes_in, text_of}
+use Rattle.attributes.specs.steps.Kept.{IsKept, content_in}
+use Rattle.attributes.specs.steps.Place.{attributes_in, payload_in, text_of}
 use Rattle.attributes.specs.Fault.{fault, has_whole_numbers, is_attribute, is_shallow, max_text, member_fault, offered_of, payload_fault, size_fault}
 use Rattle.attributes.specs.declared.content.Content.{Content}
 use Rattle.attributes.specs.declared.fault.Fault.{Fault}
 use Rattle.attributes.specs.declared.fault.Fault.TheVariants.{OutOfMemory, TooLarge}
 use Rattle.attributes.specs.declared.scalar.Scalar.{Scalar}
 use Rattle.attributes.proofs.BuildLemmas.{built}
-use Rattle.attributes.proofs.FaultLemmas.{depth_passes, given_words-words_of, numbers_pass, offered_fault, values_pass}
+use Rattle.attributes.proofs.KeptLemmas.{content_again}
+use Rattle.attributes.proofs.FaultLemmas.{depth_passes, fault-None, given_words-words_of, numbers_pass, offered_fault, values_pass}
 use Rattle.attributes.proofs.event.Event.build.Goals as goal
 
 passed : (a b : Option Fault) → option_or a b ≡ None → (a ≡ None) × (b ≡ None)
@@ -65,14 +67,18 @@ returns-in_err-body-clause-refused c =
 pub invariant_of-result : goal.invariant_of-result
 invariant_of-result c =
     let ms = named c.parts.inside.members.entries in
-    let both = passed (member_fault ms) (payload_fault c.parts.inside.offered) (sym c.first_fault.ensures ∙ c.in-None.is) in
+    let o = c.parts.inside.offered in
+    let both = passed (member_fault ms) (payload_fault o) (sym c.first_fault.ensures ∙ c.in-None.is) in
     let values : list_all (λ m. is_attribute m.1) ms ≡ true = values_pass ms both.0 in
     let content = c.content_of-content.result in
     let body = c.in_ok-body.body in
     let attributes = attributes_in body in
     let given : attributes ≡ scalars_of ms = c.in_ok-body.ensures.shows in
-    record {
-      text = built (offer_of c.parts.inside.members.entries c.parts.inside.offered) attributes content (text_of body)
+    let shallow : is_shallow (offered_of content) ≡ true = ap (λ (k : Content). is_shallow (offered_of k)) c.content_of-content.ensures ∙ depth_passes (offered_of (content_of o)) (offered_fault o both.1) in
+    let again : content_in (payload_in body) c.of-kept.result ≡ content =
+    ap (content_in (payload_in body)) c.of-kept.ensures ∙ content_again (payload_in body) content c.in_ok-body.ensures.tells c.in_ok-body.ensures.exact shallow in
+    let kept : IsKept body content c.time_day-day.result = record {
+      text = built (offer_of c.parts.inside.members.entries o) attributes content (text_of body)
           both.0 both.1 given
           c.in_ok-body.ensures.ordered
           c.content_of-content.ensures
@@ -83,5 +89,25 @@ invariant_of-result c =
       body = c.in_ok-body.ensures.body;
       is_source = c.in_ok-body.ensures.source ∙ ap (λ (a : List (List ℕ × Scalar)). words_or_empty (value_at (codes "source") a)) (sym given);
       is_id = c.in_ok-body.ensures.id ∙ ap (λ (a : List (List ℕ × Scalar)). words_or_empty (value_at (codes "id") a)) (sym given);
+      is_payload = c.in_ok-body.ensures.tells;
       is_day = c.time_day-day.ensures ∙ ap (option_and_then time_day) (c.words_at.ensures ∙ (given_words-words_of (codes "time") ms values ∙ ap (λ (a : List (List ℕ × Scalar)). words_of (value_at (codes "time") a)) (sym given)));
-    }
+    } in
+    subst (λ (k : Content). IsKept body k c.time_day-day.result) (sym again) kept
+
+pub returns-clause-built : goal.returns-clause-built
+returns-clause-built c =
+    let ms = named c.parts.inside.members.entries in
+    let o = c.parts.inside.offered in
+    let p = offer_of c.parts.inside.members.entries o in
+    let both = passed (member_fault ms) (payload_fault o) (sym c.first_fault.ensures ∙ c.in-None.is) in
+    let content = c.content_of-content.result in
+    let body = c.in_ok-body.body in
+    let is : content ≡ content_of o = c.content_of-content.ensures in
+    let shallow : is_shallow (offered_of content) ≡ true = ap (λ (k : Content). is_shallow (offered_of k)) is ∙ depth_passes (offered_of (content_of o)) (offered_fault o both.1) in
+    let again : content_in (payload_in body) c.of-kept.result ≡ content =
+    ap (content_in (payload_in body)) c.of-kept.ensures ∙ content_again (payload_in body) content c.in_ok-body.ensures.tells c.in_ok-body.ensures.exact shallow in
+    let long : text_of body ≡ text (event_of p) = c.in_ok-body.ensures.text ∙ ap (λ (k : Content). text (view_of (scalars_of ms) k)) is in
+    let none : fault p ≡ None = fault-None p both.0 both.1 (subst (λ (t : List ℕ). length t ≤ max_text) long c.in_ok-body.ensures.short) in (
+      ap fault (sym c.parts.view_is) ∙ none,
+      ap₂ view_of c.in_ok-body.ensures.shows (again ∙ is) ∙ ap event_of c.parts.view_is,
+    )
