@@ -5,7 +5,7 @@ mod round;
 mod window;
 mod worker;
 
-ghost use Rattle.std.specs.Prelude.{◌≡◌, ◌⊎◌, ◌≤◌, [], List, length, map, unwrap_or, option_map, None, All};
+ghost use Rattle.std.specs.Prelude.{◌≡◌, ◌⊎◌, ◌≤◌, [], List, length, map, unwrap_or, option_map, IfSome, None, All};
 ghost use Rattle.std.specs.Vec.{vec_capacity, vec_len};
 ghost use Rattle.sqlite.specs.State.{HasCleanDisk};
 ghost use Rattle.sqlite.specs.Held.{state};
@@ -50,6 +50,37 @@ pub enum End {
 pub struct FanOut<R> {
     pub routes: Routes<R>,
     pub ends: Vec<End>,
+}
+
+/// Room for the lanes of a fan-out, and for what is left of it.
+#[derive(Drop)]
+struct Room<R> {
+    lanes: Vec<Lane<R>>,
+    routes: Routes<R>,
+    ends: Vec<End>,
+}
+
+/// Room for so many lanes. None for want of memory.
+fn room_for<R: Drop>(alloc: Global, count: usize) -> Option<Room<R>>
+    ensures empty { IfSome result (λ r.
+        (r.lanes.items ≡ []) × (r.routes.items ≡ []) × (r.ends.items ≡ [])) }
+    ensures room { IfSome result (λ r. (count ≤ vec_capacity r.lanes)
+        × (count ≤ vec_capacity r.routes) × (count ≤ vec_capacity r.ends)) }
+{
+    let Ok(lanes) = Vec::with_capacity(alloc, count) else {
+        return None;
+    };
+    let Ok(routes) = Vec::with_capacity(alloc, count) else {
+        return None;
+    };
+    let Ok(ends) = Vec::with_capacity(alloc, count) else {
+        return None;
+    };
+    Some(Room {
+        lanes,
+        routes,
+        ends,
+    })
 }
 
 /// A lane for each relay and its route, in the room that was made for them.
@@ -158,27 +189,19 @@ pub fn fan_out<H: Threads + Wait + Sync, S: Alter, R: Route + Drop + Send, G: Ga
         result.ends.items (Delivers R.accepted service.old.base
         (rows_of service.old.source service.old.base commands)) }
 {
-    let count = routes.len();
     // What needs memory comes first, so that nothing that was sent goes unreported.
-    let Ok(room) = Vec::with_capacity(alloc, count) else {
+    let Some(room) = room_for(alloc, routes.len()) else {
         return FanOut {
             routes,
             ends: Vec::new(alloc),
         };
     };
-    let Ok(back) = Vec::with_capacity(alloc, count) else {
-        return FanOut {
-            routes,
-            ends: Vec::new(alloc),
-        };
-    };
-    let Ok(ends) = Vec::with_capacity(alloc, count) else {
-        return FanOut {
-            routes,
-            ends: Vec::new(alloc),
-        };
-    };
-    let lanes = lanes_of(relays, routes, room);
+    let Room {
+        lanes,
+        routes: back,
+        ends,
+    } = room;
+    let lanes = lanes_of(relays, routes, lanes);
     let (lanes, end) = run_rounds(rt, alloc, service, gate, lanes);
     relays.clear();
     settle(lanes, end, relays, back, ends)
