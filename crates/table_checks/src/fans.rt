@@ -111,8 +111,8 @@ fn is_ended(out: &FanOut<FailsAt>, relays: &[Relay], want: &[(End, u64, u64)]) -
     true
 }
 
-/// Whether relays with these marks, to routes that fail at these sends, end so, with these marks and
-/// so many accepted rows.
+/// Whether relays with these marks, to routes that fail at these sends, end so, with these marks
+/// and so many accepted rows.
 fn ends_as<R: AllocGlobal + Threads + Wait + Abort + Sync, G: Gate + Sync>(
     rt: &R,
     service: &mut Service<MemStore>,

@@ -1,10 +1,9 @@
-//! What the tests stand on: events, and databases in memory and over files. Want of memory and what
+//! What the tests stand on: events, and databases in memory. Want of memory and what
 //! can't be had end a test at once: so nothing is let go half-way, which would be dear to prove.
 
 use attributes::{Batch, Sequenced};
 use event_json::read_events;
-use sqlite::{Alter, Connection, FileStore, Files, MemStore, Options};
-use sqlite_disk::Memory;
+use sqlite::{Alter, Connection, MemStore};
 use std::process::Abort;
 
 pub(crate) const E1: &str =
@@ -71,32 +70,4 @@ pub(crate) fn database<R: AllocGlobal + Abort>(rt: &R, texts: &[&str]) -> Connec
 /// Whether the statement runs.
 pub(crate) fn executes<S: Alter>(conn: &mut Connection<S>, statement: &str) -> bool {
     conn.execute(statement, &[]).is_ok()
-}
-
-/// Two empty files in memory.
-pub(crate) fn empty_files<R: AllocGlobal>(rt: &R) -> Files<Memory> {
-    Files {
-        log: Memory::new(rt.alloc()),
-        db: Memory::new(rt.alloc()),
-    }
-}
-
-/// A database over two files in memory.
-pub(crate) fn opened<R: AllocGlobal + Abort>(
-    rt: &R,
-    files: Files<Memory>,
-) -> Connection<FileStore<Memory>> {
-    assert!(rt; files.may_be_used());
-    match Connection::open_files(rt.alloc(), files, Options::new(1)) {
-        Ok(conn) => conn,
-        Err(_) => panic!(rt; "no database"),
-    }
-}
-
-/// The files of a connection, closed.
-pub(crate) fn closed<R: Abort>(rt: &R, conn: Connection<FileStore<Memory>>) -> Files<Memory> {
-    match conn.close_files() {
-        Ok(files) => files,
-        Err(_) => panic!(rt; "not closed"),
-    }
 }

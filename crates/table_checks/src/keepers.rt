@@ -1,18 +1,18 @@
-//! What no contract says of keepers: that calls succeed with ample memory and a good disk, and what
-//! closed files then hold.
+//! What no contract says of keepers: that calls succeed with ample memory and a good disk. What
+//! closed files then hold, `files` tests.
 
 ghost use Rattle.std.specs.Prelude.{◌≡◌};
 ghost use Rattle.sqlite.specs.Held.{state};
 ghost use Rattle.site_lock.specs.Pass.{leaves};
 ghost use Rattle.keeper.specs.Keep.{KeepsUp};
 
-use crate::fixture::{E1, E2, batch, closed, empty_files, opened};
-use crate::tables::{created, is_loaded};
+use crate::fixture::{E1, E2, batch};
+use crate::tables::created;
 use feeds::Aside;
 use inbox_table::Table;
 use keeper::{Flushed, Flusher, KeepFault, Keeper, Kept};
 use site_lock::{Begun, Pass, SharedSite};
-use sqlite::Alter;
+use sqlite::{Alter, Connection};
 use std::process::Abort;
 use std::sync::Wait;
 
@@ -63,31 +63,24 @@ fn flusher<'a, R: Wait + Abort, S: Alter + Drop>(
     }
 }
 
-/// The table of a keeper whose site took an event, before any step.
-fn before_a_step<R: AllocGlobal + Wait + Abort, S: Alter + Drop>(
+/// A database whose new table has a keeper, whose site took an event, before any step.
+pub(crate) fn before_a_step<R: AllocGlobal + Wait + Abort, S: Alter + Drop>(
     rt: &R,
-    table: Table<S>,
-) -> Table<S> {
-    let (keeper, begun) = begun(rt, table);
+    conn: Connection<S>,
+) -> Connection<S> {
+    let (keeper, begun) = begun(rt, created(rt, conn));
     let Begun { shared, mut pass } = begun;
     assert_eq!(rt; take(rt, &shared, &mut pass, E1), 1);
     assert!(rt; !keeper.acknowledged(1));
-    keeper.into_table()
+    keeper.into_table().into_connection()
 }
 
-#[test]
-fn nothing_is_kept_before_a_step(rt: HostRuntime) {
-    let table = before_a_step(&rt, created(&rt, opened(&rt, empty_files(&rt))));
-    let files = closed(&rt, table.into_connection());
-    assert!(rt; is_loaded(&rt, opened(&rt, files), &[]));
-}
-
-/// The table of a keeper whose flusher kept two events in turns of its own.
-fn turn_by_turn<R: AllocGlobal + Wait + Abort, S: Alter + Drop>(
+/// A database whose new table has a keeper, whose flusher kept two events in turns of its own.
+pub(crate) fn turn_by_turn<R: AllocGlobal + Wait + Abort, S: Alter + Drop>(
     rt: &R,
-    table: Table<S>,
-) -> Table<S> {
-    let (keeper, begun) = begun(rt, table);
+    conn: Connection<S>,
+) -> Connection<S> {
+    let (keeper, begun) = begun(rt, created(rt, conn));
     let Begun { shared, mut pass } = begun;
     let mut flusher = flusher(rt, &shared, keeper, &mut pass);
     assert_eq!(rt; take(rt, &shared, &mut pass, E1), 1);
@@ -104,14 +97,7 @@ fn turn_by_turn<R: AllocGlobal + Wait + Abort, S: Alter + Drop>(
     assert_eq!(rt; keeper.kept(), 2);
     assert!(rt; keeper.acknowledged(2));
     assert!(rt; !keeper.acknowledged(3));
-    keeper.into_table()
-}
-
-#[test]
-fn a_flusher_keeps_turn_by_turn(rt: HostRuntime) {
-    let table = turn_by_turn(&rt, created(&rt, opened(&rt, empty_files(&rt))));
-    let files = closed(&rt, table.into_connection());
-    assert!(rt; is_loaded(&rt, opened(&rt, files), &[E1, E2]));
+    keeper.into_table().into_connection()
 }
 
 #[test]

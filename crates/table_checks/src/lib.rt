@@ -6,6 +6,8 @@
 #[cfg(test)]
 mod fans;
 #[cfg(test)]
+mod files;
+#[cfg(test)]
 mod fixture;
 #[cfg(test)]
 mod keepers;

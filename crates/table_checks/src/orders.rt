@@ -1,7 +1,7 @@
 //! What no contract says of an outbox: that calls succeed with ample memory, what the events look
 //! like, and which tables are taken for those of a service.
 
-use crate::fixture::{INBOX, closed, database, empty_files, executes, has, opened};
+use crate::fixture::{INBOX, database, executes, has};
 use attributes::{Moment, Sequenced, Text};
 use outbox::{OutboxFault, Service};
 use relay::RelayFault;
@@ -254,25 +254,25 @@ fn an_inbox_stands_beside_it(rt: HostRuntime) {
 }
 
 /// A database whose new service has placed order 7.
-fn placed<R: AllocGlobal + Abort, S: Alter + Drop>(rt: &R, conn: Connection<S>) -> Connection<S> {
+pub(crate) fn placed<R: AllocGlobal + Abort, S: Alter + Drop>(
+    rt: &R,
+    conn: Connection<S>,
+) -> Connection<S> {
     let mut service = created(rt, conn, 0);
     assert!(rt; accepts(&mut service, "place", 7, &time(rt)));
     service.into_connection()
 }
 
 /// How many rows the service of a database has, of at most 100.
-fn rows<R: AllocGlobal + Abort, S: Alter + Drop>(rt: &R, conn: Connection<S>) -> Option<u64> {
+pub(crate) fn rows<R: AllocGlobal + Abort, S: Alter + Drop>(
+    rt: &R,
+    conn: Connection<S>,
+) -> Option<u64> {
     let mut service = adopted(rt, conn);
     match service.rows_after(0, 100) {
         Ok(rows) => Some(rows.len()),
         Err(_) => None,
     }
-}
-
-#[test]
-fn closed_files_are_opened_again(rt: HostRuntime) {
-    let files = closed(&rt, placed(&rt, opened(&rt, empty_files(&rt))));
-    assert_eq!(rt; rows(&rt, opened(&rt, files)), Some(1));
 }
 
 #[test]

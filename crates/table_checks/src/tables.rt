@@ -1,9 +1,7 @@
 //! What no contract says of the table of events: that its calls succeed with ample memory, and that
 //! its schema and its rows are those of the format.
 
-use crate::fixture::{
-    E1, E2, E3, F1, INBOX, batch, closed, database, empty_files, executes, has, opened,
-};
+use crate::fixture::{E1, E2, E3, F1, INBOX, batch, database, executes, has};
 use inbox_table::{Loaded, Table, TableFault};
 use sqlite::{Alter, Connection, MemStore};
 use std::process::Abort;
@@ -70,7 +68,10 @@ fn fill<R: AllocGlobal + Abort, S: Alter>(rt: &R, table: &mut Table<S>) {
 }
 
 /// A database whose new table has three events.
-fn filled<R: AllocGlobal + Abort, S: Alter + Drop>(rt: &R, conn: Connection<S>) -> Connection<S> {
+pub(crate) fn filled<R: AllocGlobal + Abort, S: Alter + Drop>(
+    rt: &R,
+    conn: Connection<S>,
+) -> Connection<S> {
     let mut table = created(rt, conn);
     fill(rt, &mut table);
     table.into_connection()
@@ -107,13 +108,6 @@ fn a_table_is_taken_as_it_was_left(rt: HostRuntime) {
     assert_eq!(rt; table.rows(), 3);
     assert_eq!(rt; keep(&rt, &mut table, &[E3, F1]), Ok(1));
     assert!(rt; holds(&mut table, &[E1, E2, E3, F1]));
-}
-
-#[test]
-fn closed_files_hold_the_table(rt: HostRuntime) {
-    let conn = filled(&rt, opened(&rt, empty_files(&rt)));
-    let files = closed(&rt, conn);
-    assert!(rt; is_loaded(&rt, opened(&rt, files), &[E1, E2, E3]));
 }
 
 // The columns before the text of a row, the text, and the fault of a table of the format with it.
