@@ -49,7 +49,7 @@ const AHEAD: Row<'static> = (
 );
 
 /// Questions about the events of rows, with the lines that answer them.
-const ASKED: [(&[Row<'static>], Query, &str); 29] = [
+static ASKED: [(&[Row<'static>], Query, &str); 29] = [
     (&[], Query::Cover, "{\"sources\":{},\"version\":1}\n"),
     (&[], Query::Shown, ""),
     (&[], Query::Conflicts, ""),
@@ -175,8 +175,8 @@ fn are_lines(alloc: Global, rows: &[Row<'_>], query: Query, wanted: &str) -> boo
 
 #[test]
 fn each_question_has_its_lines(rt: HostRuntime) {
-    for (rows, query, wanted) in ASKED {
-        assert!(rt; are_lines(rt.alloc(), rows, query, wanted), "{wanted}");
+    for (rows, query, wanted) in &ASKED {
+        assert!(rt; are_lines(rt.alloc(), rows, *query, wanted), "{wanted}");
     }
 }
 
@@ -202,11 +202,16 @@ fn first_day(alloc: Global, inbox: &Inbox) -> Option<i32> {
     }
 }
 
-#[test]
-fn a_day_has_its_number(rt: HostRuntime) {
+/// Calls the laws of answers.
+fn call_laws() {
     answers_are_alike();
     latest_are_greatest();
+}
+
+#[test]
+fn a_day_has_its_number(rt: HostRuntime) {
+    call_laws();
     let mut inbox = Inbox::empty(rt.alloc());
     assert!(rt; take(rt.alloc(), &mut inbox, LEAP));
-    assert_eq!(rt; first_day(rt.alloc(), &inbox), Some(19_782));
+    assert!(rt; first_day(rt.alloc(), &inbox) == Some(19_782));
 }

@@ -13,7 +13,7 @@ const PAIR: &str =
     r#"[{"id":"a1","source":"/o","specversion":"1.0","type":"t"},{"id":"a2","source":"/o","specversion":"1.0","type":"t"}]"#;
 
 // Members after those of a good event, and the answer.
-const MEMBERS: [(&str, &str); 63] = [
+static MEMBERS: [(&str, &str); 63] = [
     (r#""x":0"#, "1 read"),
     (r#""x":-1"#, "1 read"),
     (r#""x":2147483647"#, "1 read"),
@@ -83,7 +83,7 @@ const MEMBERS: [(&str, &str); 63] = [
 ];
 
 // Whole texts, and the answer.
-const TEXTS: [(&str, &str); 14] = [
+static TEXTS: [(&str, &str); 14] = [
     (PAIR, "2 read"),
     (LONG, "1 read"),
     (" [ ] \n", "0 read"),
@@ -107,7 +107,7 @@ const TEXTS: [(&str, &str); 14] = [
 ];
 
 // A text of one event, and its canonical text.
-const WRITTEN: [(&str, &str); 5] = [
+static WRITTEN: [(&str, &str); 5] = [
     (LONG, CANONICAL),
     (
         r#"{"id":"a1","source":"/o","specversion":"1.0","type":"t","x":"\u0022\u005c\/\u00e9"}"#,
@@ -169,7 +169,7 @@ fn text_answers(alloc: Global, text: Result<String, AllocError>, want: &str) -> 
 #[test]
 fn members_are_read_or_refused(rt: HostRuntime) {
     let alloc = rt.alloc();
-    for (members, want) in MEMBERS {
+    for (members, want) in &MEMBERS {
         assert!(rt;
             text_answers(alloc, event_with(alloc, members), want),
             "of {members}"
@@ -180,7 +180,7 @@ fn members_are_read_or_refused(rt: HostRuntime) {
 #[test]
 fn texts_are_read_or_refused(rt: HostRuntime) {
     let alloc = rt.alloc();
-    for (text, want) in TEXTS {
+    for (text, want) in &TEXTS {
         assert!(rt; answers(alloc, text.as_bytes(), want), "of {text}");
     }
     assert!(rt; answers(alloc, b"[\"\xff\"]", "not JSON"));
@@ -303,7 +303,7 @@ fn is_batch_written(alloc: Global, text: &str) -> bool {
 #[test]
 fn events_are_written(rt: HostRuntime) {
     assert_eq!(rt; CANONICAL.len(), 111);
-    for (text, want) in WRITTEN {
+    for (text, want) in &WRITTEN {
         assert!(rt; is_event_written(rt.alloc(), text, want), "{want}");
     }
     for text in ["[]", PAIR] {

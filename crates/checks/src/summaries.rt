@@ -3,7 +3,6 @@ use crate::event::{is_text, is_written};
 use attributes::{Sequence, Text};
 use coverage::{Interval, Intervals, Summary, SummaryFault};
 use std::alloc::{AllocError, Global};
-use std::process::Abort;
 
 /// Inserts a number, and answers whether it is new.
 fn insert(set: &mut Intervals, number: u64) -> Option<bool> {
@@ -126,19 +125,13 @@ fn contains(set: &Intervals, number: u64) -> Option<bool> {
 fn inserts(rt: HostRuntime) {
     let mut held = Intervals::empty(rt.alloc());
     assert!(rt; fill(&mut held, &[(1, 2), (4, 5)]));
-    assert_eq!(rt; insert(&mut held, 3), Some(true));
+    assert!(rt; insert(&mut held, 3) == Some(true));
     assert!(rt; has(&held, &[(1, 5)]));
-    assert_eq!(rt; insert(&mut held, 3), Some(false));
-    assert_eq!(rt; contains(&held, 3), Some(true));
+    assert!(rt; insert(&mut held, 3) == Some(false));
+    assert!(rt; contains(&held, 3) == Some(true));
     let mut greatest = Intervals::empty(rt.alloc());
-    assert_eq!(rt;
-        insert(&mut greatest, 9_223_372_036_854_775_807),
-        Some(true)
-    );
-    assert_eq!(rt;
-        insert(&mut greatest, 9_223_372_036_854_775_807),
-        Some(false)
-    );
+    assert!(rt; insert(&mut greatest, 9_223_372_036_854_775_807) == Some(true));
+    assert!(rt; insert(&mut greatest, 9_223_372_036_854_775_807) == Some(false));
 }
 
 /// Inserts the odd numbers below 200, and answers whether each is new.
@@ -352,33 +345,41 @@ fn is_copied(later: &Summary, seen: &Summary) -> bool {
     }
 }
 
-/// Looks at two summaries, one of which gets two sources.
-fn look_at_both(rt: &impl Abort, alloc: Global, seen: &mut Summary, later: &mut Summary) {
-    assert!(rt; is_text(seen.to_text(), r#"{"sources":{},"version":1}"#));
-    assert!(rt; add_of(alloc, seen, "/orders", &[1, 2, 5]));
-    let two = r#"{"sources":{"/orders":[[1,2],[5,5]]},"version":1}"#;
-    assert!(rt; is_text(seen.to_text(), two));
-    assert!(rt; add_of(alloc, later, "/orders", &[4, 3]));
-    let all = r#"{"sources":{"/orders":[[1,5]]},"version":1}"#;
-    assert!(rt; is_union(seen, later, all));
-    assert!(rt; !later.covers(seen));
-    assert!(rt; add_of(alloc, later, "/\"a\"", &[7]));
-    let quoted = r#"{"sources":{"/\"a\"":[[7,7]],"/orders":[[3,4]]},"version":1}"#;
-    assert!(rt; is_text(later.to_text(), quoted));
-    assert!(rt; is_copied(later, seen));
-    assert!(rt; contains_of(later, "/orders", 3) == Some(true));
-    assert!(rt; contains_of(later, "/orders", 7) == Some(false));
-    assert!(rt; later.of_source("/orders").is_some());
-    assert!(rt; later.of_source("/").is_none());
-    assert_eq!(rt; later.len(), 2);
-    assert_eq!(rt; later.source_at(1), "/orders");
+const TWO: &str = r#"{"sources":{"/orders":[[1,2],[5,5]]},"version":1}"#;
+
+const ALL: &str = r#"{"sources":{"/orders":[[1,5]]},"version":1}"#;
+
+const QUOTED: &str = r#"{"sources":{"/\"a\"":[[7,7]],"/orders":[[3,4]]},"version":1}"#;
+
+/// Adds numbers of one source to two summaries, and answers whether they have them.
+fn add_to_both(alloc: Global, seen: &mut Summary, later: &mut Summary) -> bool {
+    is_text(seen.to_text(), r#"{"sources":{},"version":1}"#)
+        && add_of(alloc, seen, "/orders", &[1, 2, 5])
+        && is_text(seen.to_text(), TWO)
+        && add_of(alloc, later, "/orders", &[4, 3])
+        && is_union(seen, later, ALL)
+        && !later.covers(seen)
+}
+
+/// Whether a summary has two sources.
+fn has_two_sources(later: &Summary) -> bool {
+    is_text(later.to_text(), QUOTED)
+        && contains_of(later, "/orders", 3) == Some(true)
+        && contains_of(later, "/orders", 7) == Some(false)
+        && later.of_source("/orders").is_some()
+        && later.of_source("/").is_none()
+        && later.len() == 2
+        && later.source_at(1) == "/orders"
 }
 
 #[test]
 fn summaries(rt: HostRuntime) {
     let mut seen = Summary::empty(rt.alloc());
     let mut later = Summary::empty(rt.alloc());
-    look_at_both(&rt, rt.alloc(), &mut seen, &mut later);
+    assert!(rt; add_to_both(rt.alloc(), &mut seen, &mut later));
+    assert!(rt; add_of(rt.alloc(), &mut later, "/\"a\"", &[7]));
+    assert!(rt; has_two_sources(&later));
+    assert!(rt; is_copied(&later, &seen));
 }
 
 fn fault_of(alloc: Global, text: &str) -> Option<SummaryFault> {
@@ -407,50 +408,50 @@ fn texts_are_read_back(rt: HostRuntime) {
     }
 }
 
+static NOT_CANONICAL: [&str; 10] = [
+    r#"{"sources":{"/orders":[[1,3],[4,6]]},"version":1}"#,
+    r#"{"sources":{"/orders":[[5,6],[1,2]]},"version":1}"#,
+    r#"{"sources":{"/orders":[[0,1]]},"version":1}"#,
+    r#"{"sources":{"/orders":[]},"version":1}"#,
+    r#"{"sources":{"/orders":[[2,1]]},"version":1}"#,
+    r#"{"sources":{"/orders":[[1,18446744073709551615]]},"version":1}"#,
+    r#"{"sources":{"":[[1,1]]},"version":1}"#,
+    r#"{"sources":{"/a":[[1,1]],"/a":[[2,2]]},"version":1}"#,
+    r#"{"sources":{}, "version":1}"#,
+    r#"{"version":1,"sources":{}}"#,
+];
+
+static SHAPELESS: [&str; 9] = [
+    r#"{"version":1}"#,
+    r#"{"sources":{"/orders":[[1]]},"version":1}"#,
+    r#"{"sources":{"/orders":[[1,2,3]]},"version":1}"#,
+    r#"{"sources":[],"version":1}"#,
+    r#"{"sources":{},"version":1,"x":0}"#,
+    "[]",
+    r#"{"sources":{},"version":-1}"#,
+    r#"{"sources":{},"version":1.0}"#,
+    r#"{"sources":{},"version":null}"#,
+];
+
 #[test]
 fn texts_are_refused(rt: HostRuntime) {
     let alloc = rt.alloc();
-    for text in [
-        r#"{"sources":{"/orders":[[1,3],[4,6]]},"version":1}"#,
-        r#"{"sources":{"/orders":[[5,6],[1,2]]},"version":1}"#,
-        r#"{"sources":{"/orders":[[0,1]]},"version":1}"#,
-        r#"{"sources":{"/orders":[]},"version":1}"#,
-        r#"{"sources":{"/orders":[[2,1]]},"version":1}"#,
-        r#"{"sources":{"/orders":[[1,18446744073709551615]]},"version":1}"#,
-        r#"{"sources":{"":[[1,1]]},"version":1}"#,
-        r#"{"sources":{"/a":[[1,1]],"/a":[[2,2]]},"version":1}"#,
-        r#"{"sources":{}, "version":1}"#,
-        r#"{"version":1,"sources":{}}"#,
-    ] {
-        assert_eq!(rt;
-            fault_of(alloc, text),
-            Some(SummaryFault::NotCanonical),
-            "{text}"
-        );
+    for text in &NOT_CANONICAL {
+        let found = fault_of(alloc, text);
+        assert!(rt; found == Some(SummaryFault::NotCanonical), "{text}");
     }
-    for text in [
-        r#"{"version":1}"#,
-        r#"{"sources":{"/orders":[[1]]},"version":1}"#,
-        r#"{"sources":{"/orders":[[1,2,3]]},"version":1}"#,
-        r#"{"sources":[],"version":1}"#,
-        r#"{"sources":{},"version":1,"x":0}"#,
-        "[]",
-        r#"{"sources":{},"version":-1}"#,
-        r#"{"sources":{},"version":1.0}"#,
-        r#"{"sources":{},"version":null}"#,
-    ] {
-        assert_eq!(rt; fault_of(alloc, text), Some(SummaryFault::Shape), "{text}");
+    for text in &SHAPELESS {
+        let found = fault_of(alloc, text);
+        assert!(rt; found == Some(SummaryFault::Shape), "{text}");
     }
-    assert_eq!(rt;
-        fault_of(alloc, r#"{"sources":{},"version":3}"#),
-        Some(SummaryFault::Version)
-    );
-    assert_eq!(rt;
-        fault_of(alloc, r#"{"version":2,"x":0}"#),
-        Some(SummaryFault::Version)
-    );
-    assert_eq!(rt; fault_of(alloc, "{"), Some(SummaryFault::NotJson));
-    assert_eq!(rt; fault_of(alloc, ""), Some(SummaryFault::NotJson));
+    for (text, wanted) in [
+        (r#"{"sources":{},"version":3}"#, SummaryFault::Version),
+        (r#"{"version":2,"x":0}"#, SummaryFault::Version),
+        ("{", SummaryFault::NotJson),
+        ("", SummaryFault::NotJson),
+    ] {
+        assert!(rt; fault_of(alloc, text) == Some(wanted), "{text}");
+    }
 }
 
 #[test]

@@ -1,27 +1,42 @@
 //! A site's own calls are what its desk answers.
 
-use crate::worker::site_of;
+use crate::event::is_text;
+use crate::worker::fill;
 use attributes::Batch;
 use coverage::Summary;
 use inbox::Counts;
 use site::{Desk, DeskFault, Gate, Site, Wide};
-use std::alloc::{AllocError, Global};
-use std::test::Fail;
+use std::alloc::Global;
+use std::process::Abort;
 use views::{Query, print};
 
-/// What a desk says of a batch that it takes.
-fn taken(site: &mut Site, batch: &mut Batch) -> Result<Counts, AllocError> {
-    match Desk::take(site, batch) {
-        Ok(counts) => Ok(counts),
-        Err(_) => Err(AllocError),
+/// A batch of the events with the numbers 1 to 3.
+fn first_three(alloc: Global) -> Option<Batch> {
+    let mut site = Site::empty(alloc);
+    if fill(alloc, &mut site, 1, 3) {
+        site.page(0, 100).ok()
+    } else {
+        None
     }
 }
 
-/// The summary that a desk tells.
-fn summary(site: &mut Site) -> Result<Summary, AllocError> {
-    match Desk::summary(site) {
-        Ok(summary) => Ok(summary),
-        Err(_) => Err(AllocError),
+/// Whether a desk takes all of a batch, with these counts.
+fn takes(site: &mut Site, batch: &mut Batch, wanted: Counts) -> bool {
+    match Desk::take(site, batch) {
+        Ok(counts) => counts == wanted && batch.is_empty(),
+        Err(_) => false,
+    }
+}
+
+/// Whether a desk that has the first takes the events with the numbers 1 to 3.
+fn takes_three(alloc: Global, site: &mut Site) -> bool {
+    let wanted = Counts {
+        fresh: 2,
+        repeated: 1,
+    };
+    match first_three(alloc) {
+        Some(mut batch) => takes(site, &mut batch, wanted),
+        None => false,
     }
 }
 
@@ -37,57 +52,56 @@ fn digits(batch: &Batch) -> u64 {
 }
 
 /// The numbers of a page of what a peer lacks.
-fn delta_digits(site: &mut Site, peer: &Summary, from: u64) -> Result<u64, AllocError> {
+fn delta_digits(site: &mut Site, peer: &Summary, from: u64) -> Option<u64> {
     match Desk::delta_page(site, peer, from, 100) {
-        Ok(batch) => Ok(digits(&batch)),
-        Err(_) => Err(AllocError),
+        Ok(batch) => Some(digits(&batch)),
+        Err(_) => None,
     }
 }
 
 /// The numbers of a page of two events.
-fn page_digits(site: &mut Site, from: u64) -> Result<u64, AllocError> {
+fn page_digits(site: &mut Site, from: u64) -> Option<u64> {
     match Desk::page(site, from, 2) {
-        Ok(batch) => Ok(digits(&batch)),
-        Err(_) => Err(AllocError),
+        Ok(batch) => Some(digits(&batch)),
+        Err(_) => None,
     }
 }
 
 /// Whether a desk answers the question how many events have each type so.
-fn are_kinds(alloc: Global, site: &mut Site, lines: &str) -> Result<bool, AllocError> {
+fn are_kinds(alloc: Global, site: &mut Site, lines: &str) -> bool {
     match Desk::query(site, Query::Kinds) {
-        Ok(answer) => Ok(print(alloc, &answer)?.as_str() == lines),
-        Err(_) => Err(AllocError),
+        Ok(answer) => is_text(print(alloc, &answer), lines),
+        Err(_) => false,
     }
 }
 
-#[test]
-fn a_site_is_a_desk(rt: HostRuntime) -> Result<(), AllocError> {
-    let mut site = site_of(rt.alloc(), 1)?;
-    let peer = summary(&mut site)?;
-    let mut batch = site_of(rt.alloc(), 3)?.page(0, 100)?;
-    let counts = taken(&mut site, &mut batch)?;
-    let wanted = Counts {
-        fresh: 2,
-        repeated: 1,
-    };
-    assert_eq!(rt; counts, wanted);
-    assert!(rt; batch.is_empty());
-    assert_eq!(rt;
-        peer.to_text()?.as_str(),
-        "{\"sources\":{\"/orders\":[[1,1]]},\"version\":1}"
+/// Asks a desk that takes three events, for a peer that has the first.
+fn ask_desk(rt: &impl Abort, alloc: Global, site: &mut Site, peer: &Summary) {
+    assert!(rt; takes_three(alloc, site));
+    assert!(rt;
+        is_text(
+            peer.to_text(),
+            "{\"sources\":{\"/orders\":[[1,1]]},\"version\":1}",
+        )
     );
-    assert_eq!(rt; delta_digits(&mut site, &peer, 0)?, 23);
-    assert_eq!(rt; delta_digits(&mut site, &peer, 1)?, 3);
-    assert_eq!(rt; page_digits(&mut site, 0)?, 12);
-    assert_eq!(rt; page_digits(&mut site, 2)?, 3);
-    assert!(rt; are_kinds(rt.alloc(), &mut site, "[\"t.a\",3]\n")?);
-    Ok(())
+    assert_eq!(rt; delta_digits(site, peer, 0), Some(23));
+    assert_eq!(rt; delta_digits(site, peer, 1), Some(3));
+    assert_eq!(rt; page_digits(site, 0), Some(12));
+    assert_eq!(rt; page_digits(site, 2), Some(3));
+    assert!(rt; are_kinds(alloc, site, "[\"t.a\",3]\n"));
 }
 
 #[test]
-fn the_fault_of_a_desk_has_a_number(rt: HostRuntime) -> Result<(), Fail> {
+fn a_site_is_a_desk(rt: HostRuntime) {
+    let mut site = Site::empty(rt.alloc());
+    assert!(rt; fill(rt.alloc(), &mut site, 1, 1));
+    let peer = Desk::summary(&mut site).ok().expect(&rt, "no summary");
+    ask_desk(&rt, rt.alloc(), &mut site, &peer);
+}
+
+#[test]
+fn the_fault_of_a_desk_has_a_number(rt: HostRuntime) {
     let fault = DeskFault::OutOfMemory { taken: 7, fresh: 3 };
     assert_eq!(rt; fault.number(), 1);
     assert!(rt; Wide.before(0, 1).is_ok());
-    Ok(())
 }

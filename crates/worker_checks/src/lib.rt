@@ -6,6 +6,8 @@
 #[cfg(test)]
 mod desk;
 #[cfg(test)]
+mod event;
+#[cfg(test)]
 mod serving;
 #[cfg(test)]
 mod shared;

@@ -1,16 +1,16 @@
 //! Workers side by side over one shared site.
 
-ghost use Rattle.std.specs.Prelude.{◌≡◌, ◌≤◌, ◌+◌, length, IfOk};
+ghost use Rattle.std.specs.Prelude.{◌≡◌, ◌+◌, length, IfSome};
 
-use crate::worker::{batch_from, report, site_from};
+use crate::event::{is_text, json_batch};
+use crate::worker::{fill, report};
 use attributes::{List, Octets};
 use feeds::{Aside, Ended, Idle, Jobs, Questions, ServeFault, Served, serve};
 use site::{Gate, GateShut, Site, Wide};
 use site_lock::{Begun, Pass, SharedSite};
-use std::alloc::{AllocError, Global};
+use std::alloc::Global;
 use std::sync::Wait;
 use std::sync::atomic::{AtomicU64, Ordering};
-use std::test::Fail;
 use std::thread;
 use views::{Query, print};
 
@@ -77,20 +77,49 @@ impl<'a> Aside for Turning<'a> {
     }
 }
 
-/// Two feeds, of 50 and of 150 events, a peer with three more, and a question.
-fn jobs(alloc: Global) -> Result<Jobs, AllocError>
-    ensures { IfOk result (λ j. length j.feeds + length j.peers + length j.asks ≤ 16) }
-{
-    let mut feeds = List::empty(alloc);
-    feeds.push(Octets::of(alloc, batch_from(alloc, 1, 50)?.as_str().as_bytes())?)?;
-    feeds.push(Octets::of(alloc, batch_from(alloc, 51, 150)?.as_str().as_bytes())?)?;
-    let mut peers = List::empty(alloc);
-    peers.push(site_from(alloc, 201, 3)?)?;
+/// Adds a feed of so many events, and answers whether it did.
+fn add_feed(alloc: Global, feeds: &mut List<Octets>, first: u64, count: u64) -> bool {
+    match feed_of(alloc, first, count) {
+        Some(feed) => feeds.push(feed).is_ok(),
+        None => false,
+    }
+}
+
+/// The bytes of a batch of so many events.
+fn feed_of(alloc: Global, first: u64, count: u64) -> Option<Octets> {
+    match json_batch(alloc, first, count) {
+        Ok(text) => Octets::of(alloc, text.as_str().as_bytes()).ok(),
+        Err(_) => None,
+    }
+}
+
+/// Adds a peer with so many events, and answers whether it did.
+fn add_peer(alloc: Global, peers: &mut List<Site>, first: u64, count: u64) -> bool {
+    let mut site = Site::empty(alloc);
+    if fill(alloc, &mut site, first, count) {
+        peers.push(site).is_ok()
+    } else {
+        false
+    }
+}
+
+/// Adds a question, and answers whether it did.
+fn add_question(alloc: Global, asks: &mut List<Questions>) -> bool {
     let mut questions = List::empty(alloc);
-    questions.push(Query::Cover)?;
-    let mut asks = List::empty(alloc);
-    asks.push(questions)?;
-    Ok(Jobs { feeds, peers, asks })
+    if questions.push(Query::Cover).is_ok() {
+        asks.push(questions).is_ok()
+    } else {
+        false
+    }
+}
+
+/// Adds two feeds, of 50 and of 150 events, a peer with three more, and a question; answers whether
+/// it did.
+fn add_jobs(alloc: Global, jobs: &mut Jobs) -> bool {
+    add_feed(alloc, &mut jobs.feeds, 1, 50)
+        && add_feed(alloc, &mut jobs.feeds, 51, 150)
+        && add_peer(alloc, &mut jobs.peers, 201, 3)
+        && add_question(alloc, &mut jobs.asks)
 }
 
 /// No jobs.
@@ -105,13 +134,10 @@ fn nothing(alloc: Global) -> Jobs
 }
 
 /// An empty shared site and its first pass.
-fn begun(alloc: Global) -> Result<Begun, AllocError>
-    ensures { IfOk result (λ b. b.pass.table ≡ b.shared) }
+fn begun(alloc: Global) -> Option<Begun>
+    ensures { IfSome result (λ b. b.pass.table ≡ b.shared) }
 {
-    match SharedSite::begin(alloc, Site::empty(alloc)) {
-        Ok(begun) => Ok(begun),
-        Err(_) => Err(AllocError),
-    }
+    SharedSite::begin(alloc, Site::empty(alloc)).ok()
 }
 
 /// Whether each worker did what it was to do.
@@ -126,19 +152,13 @@ fn is_done(served: &Served) -> bool {
 }
 
 /// Which numbers the site has by the pass.
-fn covers<R: Wait>(
-    rt: &R,
-    alloc: Global,
-    shared: &SharedSite,
-    pass: &mut Pass,
-    lines: &str,
-) -> Result<bool, AllocError>
+fn covers<R: Wait>(rt: &R, alloc: Global, shared: &SharedSite, pass: &mut Pass, lines: &str) -> bool
     requires { pass.old.table ≡ shared.now }
     ensures { pass.new.table ≡ pass.old.table }
 {
     match shared.query(rt, pass, Query::Cover) {
-        Ok(answer) => Ok(print(alloc, &answer)?.as_str() == lines),
-        Err(_) => Err(AllocError),
+        Ok(answer) => is_text(print(alloc, &answer), lines),
+        Err(_) => false,
     }
 }
 
@@ -154,7 +174,9 @@ fn workers_run_at_the_same_time(rt: HostRuntime) {
         count: 0,
         turns: &gate.turns,
     };
-    let jobs = jobs(alloc).expect(&rt, "no memory");
+    let mut jobs = nothing(alloc);
+    assert!(rt; add_jobs(alloc, &mut jobs));
+    assert!(rt; jobs.feeds.len() == 2 && jobs.peers.len() == 1 && jobs.asks.len() == 1);
     let served = serve(&rt, alloc, &shared, &mut pass, jobs, &gate, &mut aside).expect(
         &rt,
         "no thread",
@@ -163,7 +185,7 @@ fn workers_run_at_the_same_time(rt: HostRuntime) {
     assert!(rt; aside.count >= 3);
     assert_eq!(rt; shared.turns(&mut pass), 6);
     let lines = "{\"sources\":{\"/orders\":[[1,203]]},\"version\":1}\n";
-    assert!(rt; covers(&rt, alloc, &shared, &mut pass, lines).expect(&rt, "no memory"));
+    assert!(rt; covers(&rt, alloc, &shared, &mut pass, lines));
     assert_eq!(rt; shared.close(&rt, pass).arrived(), 203);
 }
 

@@ -3,7 +3,7 @@
 ghost use Rattle.std.specs.Prelude.{◌≡◌, ◌<◌};
 ghost use denote.Param.Send.{IsSync};
 
-use crate::shared::{Failed, batch_of, begun};
+use crate::shared::{begun, take};
 use site_lock::laws::threads_share_a_site;
 use site_lock::{Begun, Pass, SharedSite};
 use std::alloc::Global;
@@ -20,21 +20,21 @@ enum Work {
     Ask(u64),
 }
 
-/// Takes the event with a number.
+/// Takes the event with a number, and answers whether it did.
 fn take_one<R: Wait>(
     rt: &R,
     alloc: Global,
     shared: &SharedSite,
     pass: &mut Pass,
     number: u64,
-) -> Result<(), Failed>
+) -> bool
     requires { pass.old.table ≡ shared.now }
     ensures { pass.new.table ≡ pass.old.table }
 {
-    let id = format!(in alloc; "{number}")?;
-    let mut batch = batch_of(alloc, &[(id.as_str(), number)])?;
-    shared.take(rt, pass, &mut batch)?;
-    Ok(())
+    match format!(in alloc; "{number}") {
+        Ok(id) => take(rt, alloc, shared, pass, &[(id.as_str(), number)]).is_some(),
+        Err(_) => false,
+    }
 }
 
 /// Takes so many events, one a call, with the numbers from `from` on.
@@ -144,15 +144,15 @@ fn after_work<R: Threads + Wait + Sync>(
     alloc: Global,
     levels: u32,
     work: Work,
-) -> Result<(u64, u64, u64), Failed> {
+) -> Option<(u64, u64, u64)> {
     let Begun { shared, pass } = begun(alloc)?;
     let mut pass = work_together(rt, alloc, &shared, pass, 1, work, levels);
     let answer = shared.query(rt, &mut pass, Query::Shown);
     let turns = shared.turns(&mut pass);
     let arrived = shared.close(rt, pass).arrived();
-    match answer? {
-        Answer::Shown(events) => Ok((events.len(), turns, arrived)),
-        _ => Err(Failed::NoEvent),
+    match answer {
+        Ok(Answer::Shown(events)) => Some((events.len(), turns, arrived)),
+        _ => None,
     }
 }
 
@@ -172,7 +172,7 @@ fn sixteen_threads_take_turns(rt: HostRuntime) {
 /// within a turn, it says that a refused call has its turn and adds nothing but what it took.
 #[test]
 fn what_was_refused_is_not_there(rt: HostRuntime) {
-    if let Ok((shown, turns, arrived)) = after_work(&rt, rt.alloc(), 1, Work::Take(5)) {
+    if let Some((shown, turns, arrived)) = after_work(&rt, rt.alloc(), 1, Work::Take(5)) {
         assert!(rt; shown == arrived && arrived <= 10 && arrived < turns && turns <= 11);
     }
 }

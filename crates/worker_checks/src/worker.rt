@@ -2,11 +2,12 @@
 
 ghost use Rattle.std.specs.Prelude.{◌+◌, ◌<◌, ◌^◌};
 
-use attributes::Text;
+use crate::event::{is_text, json_batch};
 use event_json::ReadFault;
-use feeds::{Ended, Report, ask, feed, pull, pull_from};
+use feeds::{Answers, Ended, Report, ask, feed, pull, pull_from};
 use site::{Gate, GateShut, Site, Wide};
-use std::alloc::{AllocError, Global};
+use std::alloc::Global;
+use std::process::Abort;
 use views::{Query, print};
 
 /// It lets so many calls of worker 7 through.
@@ -25,44 +26,24 @@ impl Gate for First {
     fn after(&self, _worker: u64, _call: u64) {}
 }
 
-/// The JSON text of an event with a number.
-fn event(alloc: Global, number: u64) -> Result<Text, AllocError> {
-    let text = format!(in alloc;
-        "{{\"specversion\":\"1.0\",\"id\":\"e{number}\",\"source\":\"/orders\",\"type\":\"t.a\",\"sequence\":\"{number:020}\"}}"
-    )?;
-    Ok(Text::from_string(text))
-}
-
-/// The JSON text of the batch of so many events, with the numbers from `first` on.
-pub fn batch_from(alloc: Global, first: u64, count: u64) -> Result<Text, AllocError> {
-    let mut text = String::new(alloc);
-    text.push('[')?;
-    for i in 0..count {
-        if i > 0 {
-            text.push(',')?;
-        }
-        text.push_str(event(alloc, first.saturating_add(i))?.as_str())?;
+/// Feeds a site the batch of so many events, with the numbers from `first` on.
+fn fed<G: Gate>(
+    alloc: Global,
+    site: &mut Site,
+    gate: &G,
+    worker: u64,
+    first: u64,
+    count: u64,
+) -> Option<Report> {
+    match json_batch(alloc, first, count) {
+        Ok(text) => Some(feed(alloc, site, gate, worker, text.as_str().as_bytes())),
+        Err(_) => None,
     }
-    text.push(']')?;
-    Ok(Text::from_string(text))
 }
 
-/// The JSON text of the batch of the events with the numbers 1 to so many.
-fn batch(alloc: Global, count: u64) -> Result<Text, AllocError> {
-    batch_from(alloc, 1, count)
-}
-
-/// A site that took so many events, with the numbers from `first` on.
-pub fn site_from(alloc: Global, first: u64, count: u64) -> Result<Site, AllocError> {
-    let mut site = Site::empty(alloc);
-    let text = batch_from(alloc, first, count)?;
-    let _report = feed(alloc, &mut site, &Wide, 0, text.as_str().as_bytes());
-    Ok(site)
-}
-
-/// A site that took the events with the numbers 1 to so many.
-pub fn site_of(alloc: Global, count: u64) -> Result<Site, AllocError> {
-    site_from(alloc, 1, count)
+/// A site takes so many events, with the numbers from `first` on; answers whether it did.
+pub fn fill(alloc: Global, site: &mut Site, first: u64, count: u64) -> bool {
+    fed(alloc, site, &Wide, 0, first, count) == Some(report(count, 0, 0, Ended::Done))
 }
 
 /// The report with these counts of new events, events that were there, and refused ones.
@@ -79,39 +60,20 @@ pub fn report(fresh: u64, repeated: u64, refused: u64, ended: Ended) -> Report
 }
 
 #[test]
-fn a_shut_gate_ends_a_feed(rt: HostRuntime) -> Result<(), AllocError> {
-    let mut site = Site::empty(rt.alloc());
-    let text = batch(rt.alloc(), 150)?;
-    let first = feed(
-        rt.alloc(),
-        &mut site,
-        &First(1),
-        7,
-        text.as_str().as_bytes(),
-    );
-    assert_eq!(rt; first, report(100, 0, 0, Ended::GateShut));
+fn a_shut_gate_ends_a_feed(rt: HostRuntime) {
+    let alloc = rt.alloc();
+    let mut site = Site::empty(alloc);
+    let first = fed(alloc, &mut site, &First(1), 7, 1, 150);
+    assert!(rt; first == Some(report(100, 0, 0, Ended::GateShut)));
     assert_eq!(rt; site.arrived(), 100);
-    let other = feed(
-        rt.alloc(),
-        &mut site,
-        &First(9),
-        8,
-        text.as_str().as_bytes(),
-    );
-    assert_eq!(rt; other, report(0, 0, 0, Ended::GateShut));
-    let again = feed(
-        rt.alloc(),
-        &mut site,
-        &First(2),
-        7,
-        text.as_str().as_bytes(),
-    );
-    assert_eq!(rt; again, report(50, 100, 0, Ended::Done));
-    Ok(())
+    let other = fed(alloc, &mut site, &First(9), 8, 1, 150);
+    assert!(rt; other == Some(report(0, 0, 0, Ended::GateShut)));
+    let again = fed(alloc, &mut site, &First(2), 7, 1, 150);
+    assert!(rt; again == Some(report(50, 100, 0, Ended::Done)));
 }
 
 #[test]
-fn an_event_without_a_number_is_refused(rt: HostRuntime) -> Result<(), AllocError> {
+fn an_event_without_a_number_is_refused(rt: HostRuntime) {
     let mut site = Site::empty(rt.alloc());
     let text = "[{\"specversion\":\"1.0\",\"id\":\"x\",\"source\":\"/orders\",\"type\":\"t.a\"},
         {\"specversion\":\"1.0\",\"id\":\"e1\",\"source\":\"/orders\",\"type\":\"t.a\",
@@ -120,16 +82,14 @@ fn an_event_without_a_number_is_refused(rt: HostRuntime) -> Result<(), AllocErro
     assert_eq!(rt; done, report(1, 0, 1, Ended::Done));
     assert_eq!(rt; done.read, 2);
     assert_eq!(rt; site.arrived(), 1);
-    Ok(())
 }
 
 #[test]
-fn an_input_that_spells_no_events_is_named(rt: HostRuntime) -> Result<(), AllocError> {
+fn an_input_that_spells_no_events_is_named(rt: HostRuntime) {
     let mut site = Site::empty(rt.alloc());
     let bad = feed(rt.alloc(), &mut site, &Wide, 0, "[1".as_bytes());
     assert_eq!(rt; bad, report(0, 0, 0, Ended::BadInput(ReadFault::NotJson)));
     assert_eq!(rt; site.arrived(), 0);
-    Ok(())
 }
 
 /// A pull by worker 7, of which so many calls are let through.
@@ -142,63 +102,70 @@ fn pulled_from(from: &mut Site, to: &mut Site) -> Report {
     pull_from(from, to, &Wide, 0)
 }
 
-#[test]
-fn a_pull_brings_what_is_lacking(rt: HostRuntime) -> Result<(), AllocError> {
-    let mut from = site_of(rt.alloc(), 250)?;
-    let mut to = Site::empty(rt.alloc());
-    assert_eq!(rt;
-        pulled(&mut from, &mut to, 8),
-        report(250, 0, 0, Ended::Done)
-    );
+/// Pulls 250 events.
+fn pull_all(rt: &impl Abort, alloc: Global, from: &mut Site, to: &mut Site) {
+    assert!(rt; fill(alloc, from, 1, 250));
+    assert_eq!(rt; pulled(from, to, 8), report(250, 0, 0, Ended::Done));
     assert_eq!(rt; to.arrived(), 250);
-    Ok(())
 }
 
 #[test]
-fn a_pull_goes_on_after_a_shut_gate(rt: HostRuntime) -> Result<(), AllocError> {
-    let mut from = site_of(rt.alloc(), 150)?;
+fn a_pull_brings_what_is_lacking(rt: HostRuntime) {
+    let mut from = Site::empty(rt.alloc());
     let mut to = Site::empty(rt.alloc());
-    assert_eq!(rt;
-        pulled(&mut from, &mut to, 3),
-        report(100, 0, 0, Ended::GateShut)
-    );
-    assert_eq!(rt;
-        pulled_from(&mut from, &mut to),
-        report(50, 0, 0, Ended::Done)
-    );
-    assert_eq!(rt; pulled(&mut from, &mut to, 2), report(0, 0, 0, Ended::Done));
+    pull_all(&rt, rt.alloc(), &mut from, &mut to);
+}
+
+/// Pulls 150 events past a gate that shuts after three calls.
+fn pull_again(rt: &impl Abort, alloc: Global, from: &mut Site, to: &mut Site) {
+    assert!(rt; fill(alloc, from, 1, 150));
+    assert_eq!(rt; pulled(from, to, 3), report(100, 0, 0, Ended::GateShut));
+    assert_eq!(rt; pulled_from(from, to), report(50, 0, 0, Ended::Done));
+    assert_eq!(rt; pulled(from, to, 2), report(0, 0, 0, Ended::Done));
     assert_eq!(rt; to.arrived(), 150);
-    Ok(())
 }
 
 #[test]
-fn questions_are_answered_in_their_order(rt: HostRuntime) -> Result<(), AllocError> {
-    let mut site = site_of(rt.alloc(), 2)?;
-    let both = ask(
-        rt.alloc(),
-        &mut site,
-        &Wide,
-        0,
-        &[Query::Kinds, Query::Cover],
-    );
-    assert_eq!(rt; both.ended, Ended::Done);
-    assert_eq!(rt; both.answers.len(), 2);
-    assert_eq!(rt;
-        print(rt.alloc(), both.answers.at(0))?.as_str(),
-        "[\"t.a\",2]\n"
-    );
-    assert_eq!(rt;
-        print(rt.alloc(), both.answers.at(1))?.as_str(),
-        "{\"sources\":{\"/orders\":[[1,2]]},\"version\":1}\n"
-    );
-    let one = ask(
-        rt.alloc(),
-        &mut site,
-        &First(1),
-        7,
-        &[Query::Kinds, Query::Cover],
-    );
-    assert_eq!(rt; one.ended, Ended::GateShut);
-    assert_eq!(rt; one.answers.len(), 1);
-    Ok(())
+fn a_pull_goes_on_after_a_shut_gate(rt: HostRuntime) {
+    let mut from = Site::empty(rt.alloc());
+    let mut to = Site::empty(rt.alloc());
+    pull_again(&rt, rt.alloc(), &mut from, &mut to);
+}
+
+/// Whether answers have these lines, in their order.
+fn are_lines(alloc: Global, answers: &Answers, wanted: &[&str]) -> bool {
+    if answers.len() != wanted.len() as u64 {
+        return false;
+    }
+    for i in 0..wanted.len() {
+        if !is_text(print(alloc, answers.at(i as u64)), wanted[i]) {
+            return false;
+        }
+    }
+    true
+}
+
+/// Whether a worker that asks how many events have each type, and which numbers there are, ends so
+/// with these lines.
+fn asks<G: Gate>(
+    alloc: Global,
+    site: &mut Site,
+    gate: &G,
+    worker: u64,
+    ended: Ended,
+    wanted: &[&str],
+) -> bool {
+    let asked = ask(alloc, site, gate, worker, &[Query::Kinds, Query::Cover]);
+    asked.ended == ended && are_lines(alloc, &asked.answers, wanted)
+}
+
+#[test]
+fn questions_are_answered_in_their_order(rt: HostRuntime) {
+    let alloc = rt.alloc();
+    let kinds = "[\"t.a\",2]\n";
+    let cover = "{\"sources\":{\"/orders\":[[1,2]]},\"version\":1}\n";
+    let mut site = Site::empty(alloc);
+    assert!(rt; fill(alloc, &mut site, 1, 2));
+    assert!(rt; asks(alloc, &mut site, &Wide, 0, Ended::Done, &[kinds, cover]));
+    assert!(rt; asks(alloc, &mut site, &First(1), 7, Ended::GateShut, &[kinds]));
 }
