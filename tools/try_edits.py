@@ -78,7 +78,7 @@ def judged(only, clause, status, said):
     lines = said.splitlines()
     counts = re.fullmatch(r"only=(\d+) proved=(\d+)", lines[-1] if lines else "")
     if not counts or counts[1] == "0" or status not in (0, 1):
-        first = next((it for it in lines if "error" in it), lines[-1] if lines else "nothing was said")
+        first = next((it for it in lines if re.search(r"\berror\b[:\[]", it)), lines[-1] if lines else "nothing was said")
         return False, f"ERROR: the edit did not reach the prover: {first[:200]}"
     if counts[1] == counts[2]:
         return False, f"LET THROUGH: {only} is still proved"
