@@ -1,5 +1,5 @@
-//! The commands of the program `site`, over any runtime, files, databases and writers: from the words
-//! after its name to what is written, and the exit status.
+//! The commands of the program `site`, over any runtime, files, databases and writers: from the
+//! words after its name to what is written, and the exit status.
 #![tactic(auto)]
 
 mod database;
