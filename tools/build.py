@@ -246,8 +246,8 @@ class Plan:
             if idle < 1 or self.running and free_memory() < MEMORY_EACH:
                 break
             self.left.remove(name)
-            # A crate that few others can run beside gets the processors that are left over.
-            jobs = max(1, min(4, idle // (len(ready) - at)))
+            # What most waits for comes first, and gets the processors that no other crate can use yet.
+            jobs = max(1, min(4, idle - (len(ready) - at - 1)))
             self.running.append(Build(self.crates, name, jobs, where))
 
     def wait_left(self, lanes):
