@@ -3,8 +3,9 @@
 
     tools/build.py [--jobs N] [CRATE..]      by default site_cli, with what it stands on
 
-As many crates at once as there are processors and memory (2 GB each), those first that most waits for; what is
-newer than its sources is left as it is. A library goes to crates/NAME/out/built, as the statements that the crates
+As many crates at once as there are processors and memory (2 GB each), each by as many processes as there are
+processors; of crates side by side the system gives that the most time for which most waits, and what it leaves goes
+to the others. What is newer than its sources is left as it is. A library goes to crates/NAME/out/built, as the statements that the crates
 above it rest on, which is what `rt ci` makes too; the program goes to crates/NAME/out. `rt` itself lets one command
 at a time work in a crate and in those below it, so `rattle` is called as `rt` calls it.
 
@@ -120,8 +121,8 @@ def words_of(crates, name, folder, where):
 class Build:
     """One crate's proof and building, running."""
 
-    def __init__(self, crates, name, jobs, where):
-        self.name, self.jobs, self.started = name, jobs, time.monotonic()
+    def __init__(self, crates, name, jobs, nice, where):
+        self.name, self.started, self.processor = name, time.monotonic(), 0.0
         self.folder = f"{TOP}/crates/{name}"
         self.log = tempfile.TemporaryFile("w+", errors="replace")
         words = ["rattle", "build", *words_of(crates, name, BUILT, where), "--jobs", str(jobs)]
@@ -138,7 +139,8 @@ class Build:
         script = " && ".join(f'"${{@:{at + 1}:{count}}}"' for at, count in spans(steps))
         how = {"cwd": self.folder, "stdin": subprocess.DEVNULL, "stdout": self.log, "stderr": subprocess.STDOUT}
         how["env"] = {**os.environ, "PATH": f"{os.environ.get('PATH', '')}:{where}/bin"}
-        self.process = subprocess.Popen(["bash", "-c", script, "bash", *sum(steps, [])], start_new_session=True, **how)
+        words = ["nice", "-n", str(nice), "bash", "-c", script, "bash", *sum(steps, [])]
+        self.process = subprocess.Popen(words, start_new_session=True, **how)
 
     def seconds(self):
         return time.monotonic() - self.started
@@ -147,12 +149,21 @@ class Build:
         self.log.seek(0)
         return self.log.read()
 
+    def has_ended(self):
+        """Whether its process has ended, whose processor time is then known."""
+        if self.process.returncode is None:
+            pid, status, used = os.wait4(self.process.pid, os.WNOHANG)
+            if pid:
+                self.process.returncode = os.waitstatus_to_exitcode(status)
+                self.processor = used.ru_utime + used.ru_stime
+        return self.process.returncode is not None
+
     def note_time(self):
         with open(f"{self.folder}/out/build.seconds", "w", encoding="ascii") as it:
-            it.write(f"{self.seconds():.0f} {self.jobs}\n")
+            it.write(f"{self.processor:.0f}\n")
 
     def end(self):
-        if self.process.poll() is None:
+        if not self.has_ended():
             os.killpg(self.process.pid, 15)
             self.process.wait()
         self.log.close()
@@ -180,8 +191,7 @@ def weight(name):
     """The processor seconds that a crate took when it was last built, else a guess by its lines; and whether it is known."""
     try:
         with open(f"{TOP}/crates/{name}/out/build.seconds", encoding="ascii") as it:
-            seconds, jobs = it.read().split()
-            return float(seconds) * (1 + 0.5 * (int(jobs) - 1)), True
+            return float(it.read()), True
     except (OSError, ValueError):
         pass
     lines = 0
@@ -240,21 +250,19 @@ class Plan:
         return [it for it in self.left if not unmade.intersection(self.crates[it][0])]
 
     def start(self, lanes, where):
-        ready = self.ready()
-        for at, name in enumerate(ready):
-            idle = lanes - sum(it.jobs for it in self.running)
-            if idle < 1 or self.running and free_memory() < MEMORY_EACH:
+        for name in self.ready():
+            if len(self.running) >= lanes or self.running and free_memory() < MEMORY_EACH:
                 break
             self.left.remove(name)
-            # What most waits for comes first, and gets the processors that no other crate can use yet.
-            jobs = max(1, min(4, idle - (len(ready) - at - 1)))
-            self.running.append(Build(self.crates, name, jobs, where))
+            ahead = sum(self.behind[it.name] >= self.behind[name] for it in self.running)
+            self.running.append(Build(self.crates, name, lanes, 5 * ahead, where))
 
     def wait_left(self, lanes):
         """How many seconds are left, by the last build's times."""
-        ends = [self.behind[it] for it in self.left] + [self.behind[it.name] - it.seconds() for it in self.running]
-        work = sum(self.weights[it] for it in self.left)
-        work += sum(max(self.weights[it.name] - it.seconds() * it.jobs, 0) for it in self.running)
+        done = {it.name: min(it.seconds() * lanes / len(self.running), self.weights[it.name]) for it in self.running}
+        ends = [self.behind[it] / lanes for it in self.left]
+        ends += [(self.behind[it] - seconds) / lanes for it, seconds in done.items()]
+        work = sum(self.weights[it] for it in self.left) + sum(self.weights[it] - seconds for it, seconds in done.items())
         return max([work / lanes, *ends])
 
     def far(self, lanes):
@@ -272,7 +280,7 @@ def build(names, lanes, show):
         while plan.left or plan.running:
             plan.start(lanes, where)
             time.sleep(0.2)
-            for it in [it for it in plan.running if it.process.poll() is not None]:
+            for it in [it for it in plan.running if it.has_ended()]:
                 plan.running.remove(it)
                 if it.process.returncode:
                     return it.name, it.said()
@@ -280,7 +288,8 @@ def build(names, lanes, show):
                 it.end()
                 plan.done.append(it.name)
                 if not show.is_terminal:
-                    show.say(f"site: proved {it.name} in {minutes(it.seconds())} (crate {len(plan.done)} of {len(names)})")
+                    took = f"{minutes(it.seconds())}, {it.processor:.0f} s of processor time"
+                    show.say(f"site: proved {it.name} in {took} (crate {len(plan.done)} of {len(names)})")
             show.line(plan.far(lanes))
     finally:
         for it in plan.running:
@@ -291,9 +300,11 @@ def build(names, lanes, show):
 
 def main():
     words = argparse.ArgumentParser(description=__doc__, formatter_class=argparse.RawDescriptionHelpFormatter)
-    words.add_argument("--jobs", type=int, default=0, help="how many crates or modules are proved side by side")
+    words.add_argument("--jobs", type=int, default=0, help="how many processors may be used")
     words.add_argument("crates", nargs="*")
     given = words.parse_args()
+    if given.jobs:
+        os.sched_setaffinity(0, sorted(os.sched_getaffinity(0))[: given.jobs])
     show, crates = Show(), crates_listed()
     failed = build(stale(crates, reached(crates, given.crates or [PROGRAM])), lanes_for(given.jobs), show)
     if failed:

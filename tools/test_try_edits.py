@@ -45,6 +45,17 @@ def tried(room, row):
     return is_right, f"wrong: {name}: {text}, and not {told}"
 
 
+def told_of_tables(room):
+    """Whether a table that lacks an edit, and one that names one too many, are told."""
+    folder = f"{room}/crates/small/edits"
+    with open(f"{folder}/README.md", "w", encoding="utf-8") as it:
+        it.write("| edit | function |\n|---|---|\n| `there` | `least` |\n| `gone` | `least` |\n")
+    files = [f"{folder}/there.edit", f"{folder}/untold.edit"]
+    said = try_edits.untold(files)
+    wanted = ["ERROR: its table has no row for untold", "ERROR: its table names gone, which isn't there"]
+    return said == wanted, f"wrong: a table: {said}"
+
+
 def main():
     with tempfile.TemporaryDirectory(prefix="edits-tried-") as room:
         os.makedirs(f"{room}/crates/small/src")
@@ -52,7 +63,7 @@ def main():
         with open(f"{room}/crates/small/src/lib.rt", "w", encoding="utf-8") as it:
             it.write(CRATE)
         build.TOP = try_edits.TOP = room
-        answers = [tried(room, row) for row in ROWS.items()]
+        answers = [tried(room, row) for row in ROWS.items()] + [told_of_tables(room)]
     for is_right, text in answers:
         if not is_right:
             print(text)

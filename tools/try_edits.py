@@ -5,12 +5,13 @@
 
 An edit is a file of lines: 'only: PATH', the function whose proof is to refuse it; 'clause: NAME', the clause at
 which ('ensures' for a contract of one clause without a name), or another goal by the name that a check gives it
-('CALL-requires' of what a call asks, 'invariant_of-result'); and then, as in must-fail/, 'file: src/..', 'old: TEXT' (once in that file)
+('CALL-requires' of what a call asks, 'invariant_of-result'); and then 'file: src/..', 'old: TEXT' (once in that file)
 and 'new: TEXT', a line each. It is applied to a copy of the crate, and that one function is checked with what it calls, over the
 libraries as they are built. Crates are tried side by side; a crate's edits in turn, each over what the checks of
 those before it proved of functions that it leaves as they are. An edit that proves is let through; one that doesn't read or compile, whose old line isn't there
 once, or that takes away a name that the proof uses, is an error; one that is refused at other clauses alone is told
-with those. Each of these fails. The last line is 'N passed, M failed'.
+with those. Each of these fails, and so does a README.md beside the edits whose table doesn't name just these. The last
+line is 'N passed, M failed'.
 
 Libraries that aren't built, or are older than their sources, are built first (tools/build.py).
 """
@@ -23,7 +24,6 @@ import shutil
 import subprocess
 import sys
 import tempfile
-import time
 from concurrent.futures import ThreadPoolExecutor, as_completed
 
 from build import BUILT, OF_RT, SOURCES, TOP, crates_listed, is_made, kit, lanes_for, reached, words_of
@@ -97,9 +97,9 @@ def judged(only, clause, status, said):
 
 
 def tried(crates, file, folder, kept):
-    """Whether the edit is refused at its clause, what to tell, and the seconds that it took. The libraries below
-    stand in their out/FOLDER, and `kept` has what earlier checks of the crate proved."""
-    started, name = time.monotonic(), file.split(os.sep)[-3]
+    """Whether the edit is refused at its clause, what to tell, and the processor seconds that it took. The libraries
+    below stand in their out/FOLDER, and `kept` has what earlier checks of the crate proved."""
+    seconds, name = 0.0, file.split(os.sep)[-3]
     try:
         only, clause, changes = read_edit(file)
         with tempfile.TemporaryDirectory(prefix="try-edit-") as room:
@@ -116,17 +116,33 @@ def tried(crates, file, folder, kept):
                     it.write(text.replace(old, new))
             how = {"cwd": room, "stdin": subprocess.DEVNULL, "stdout": subprocess.PIPE, "stderr": subprocess.STDOUT}
             words = ["rattle", "check", *words_of(crates, name, folder, kit()), "--jobs", "1"]
-            ran = subprocess.run([*words, "--incremental", kept, "--only", only], errors="replace", **how)
-            well, text = judged(only, clause, ran.returncode, ran.stdout)
+            with subprocess.Popen([*words, "--incremental", kept, "--only", only], errors="replace", **how) as ran:
+                said = ran.stdout.read()
+                _, status, used = os.wait4(ran.pid, 0)
+                ran.returncode = os.waitstatus_to_exitcode(status)
+            seconds = used.ru_utime + used.ru_stime
+            well, text = judged(only, clause, ran.returncode, said)
     except (BadEdit, OSError) as why:
         well, text = False, f"ERROR: {why}"
-    return well, text, time.monotonic() - started
+    return well, text, seconds
 
 
 def tried_in_turn(crates, files, folder):
     """What came of each of a crate's edits."""
     with tempfile.TemporaryDirectory(prefix="edits-kept-") as kept:
         return [(file, *tried(crates, file, folder, kept)) for file in files]
+
+
+def untold(files):
+    """What is wrong with the README.md beside a crate's edits: its table has a row for each of them, and no other."""
+    names = {os.path.basename(it).removesuffix(".edit") for it in files}
+    try:
+        with open(f"{os.path.dirname(files[0])}/README.md", encoding="utf-8") as it:
+            rows = set(re.findall(r"^\| `([^`]+)` \|", it.read(), re.M))
+    except OSError as why:
+        return [f"ERROR: no table of the edits: {why}"]
+    lacking = [f"ERROR: its table has no row for {it}" for it in sorted(names - rows)]
+    return lacking + [f"ERROR: its table names {it}, which isn't there" for it in sorted(rows - names)]
 
 
 def built_in(below):
@@ -152,6 +168,10 @@ def main():
         return 1
     lanes = lanes_for(given.jobs)
     passed = failed = 0
+    for files in edits.values():
+        for text in untold(files):
+            failed += 1
+            print(f"{os.path.relpath(os.path.dirname(files[0]), f'{TOP}/crates')}/README.md: {text}")
     with ThreadPoolExecutor(lanes) as pool:
         # The highest crates first: theirs are the longest checks.
         runs = [pool.submit(tried_in_turn, crates, files, folder) for _, files in reversed(edits.items())]

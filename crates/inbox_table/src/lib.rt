@@ -3,6 +3,7 @@
 
 mod adoption;
 mod fault;
+mod listed;
 mod reading;
 mod row;
 mod schema;
@@ -11,5 +12,6 @@ mod table;
 mod watch;
 
 pub use fault::TableFault;
+pub use listed::Listed;
 pub use table::{Loaded, NotMade, Table};
 pub use watch::{Unwatched, Watch};

@@ -13,8 +13,9 @@ ghost use Rattle.inbox_table.specs.steps.Reads.{IsSame};
 ghost use Rattle.inbox_table.specs.steps.Turns.{Puts};
 
 use crate::fault::TableFault;
+use crate::listed::Listed;
 use crate::watch::Watch;
-use attributes::{Batch, Sequenced};
+use attributes::Sequenced;
 use sqlite::{Alter, Connection, Error, ErrorCode, Row, Transaction, params};
 
 /// Makes the table.
@@ -114,21 +115,21 @@ fn tell<W: Watch>(watch: &W, count: u64, all: u64) {
     }
 }
 
-/// Takes the events of the batch in one transaction into a table with so many rows, and answers how
+/// Takes these events in one transaction into a table with so many rows, and answers how
 /// many were not there. It is told from time to time how many were taken.
-pub(crate) fn keep<S: Alter, W: Watch>(
+pub(crate) fn keep<S: Alter, E: Listed, W: Watch>(
     conn: &mut Connection<S>,
     rows: u64,
-    batch: &Batch,
+    events: &E,
     watch: &W,
 ) -> Result<u64, Error>
-    requires { rows + length batch.now < 2 ^ 63 }
+    requires { rows + length (E.listed events.now) < 2 ^ 63 }
     ensures takes { HasCleanDisk (state S.Store conn.new) → Stands (state S.Store conn.old).now rows
-        → OnOk result (Takes batch.now
+        → OnOk result (Takes (E.listed events.now)
         (state S.Store conn.old).now (state S.Store conn.new).now) }
     ensures fresh { HasCleanDisk (state S.Store conn.new) → Stands (state S.Store conn.old).now rows
-        → IfOk result (AreFresh batch.now (state S.Store conn.old).now) }
-    ensures few { IfOk result (λ fresh. fresh ≤ length batch.now) }
+        → IfOk result (AreFresh (E.listed events.now) (state S.Store conn.old).now) }
+    ensures few { IfOk result (λ fresh. fresh ≤ length (E.listed events.now)) }
     ensures stays { HasCleanDisk (state S.Store conn.new)
         → OnOk result (IsTrue (state S.Store conn.new).is_open) }
     ensures committed { HasCleanDisk (state S.Store conn.new)
@@ -140,16 +141,16 @@ pub(crate) fn keep<S: Alter, W: Watch>(
         → IsTrue (state S.Store conn.new).is_open → IsTrue (state S.Store conn.old).is_open }
     ensures crash { Survives (state S.Store conn.old) (state S.Store conn.new) (λ trees.
         Stands (state S.Store conn.old).now rows
-        → MayTake batch.now (state S.Store conn.old).now trees) }
+        → MayTake (E.listed events.now) (state S.Store conn.old).now trees) }
 {
     if !conn.is_autocommit() {
         return Err(Error::SqliteFailure(ErrorCode::TransactionState));
     }
     let mut fresh = 0u64;
     let mut tx = conn.transaction();
-    for i in 0..batch.len() {
-        tell(watch, i, batch.len());
-        let is_new = put(&mut tx, rows + fresh + 1, batch.at(i))?;
+    for i in 0..events.count() {
+        tell(watch, i, events.count());
+        let is_new = put(&mut tx, rows + fresh + 1, events.lent(i))?;
         fresh = counted(fresh, is_new);
     }
     tx.commit()?;

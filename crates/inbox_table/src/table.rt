@@ -12,6 +12,7 @@ ghost use Rattle.inbox_table.specs.declared.fault.TableFault.TheVariants.{Foreig
 
 use crate::adoption::{create, found_in};
 use crate::fault::TableFault;
+use crate::listed::Listed;
 use crate::reading::Found;
 use crate::statement::keep;
 use crate::watch::{Unwatched, Watch};
@@ -223,12 +224,17 @@ impl<S: Alter> Table<S> {
         self.keep_watched(batch, &Unwatched)
     }
 
-    /// As [`Table::keep`]; the watch is told after each thousand events how many of them are in.
-    pub fn keep_watched<W: Watch>(&mut self, batch: &Batch, watch: &W) -> Result<u64, TableFault>
-        ensures takes { HasCleanDisk (state S.Store self.new.conn) → OnOk result (Takes batch.now
+    /// As [`Table::keep`]; the watch is told after each thousand events how many of them are in. The
+    /// events may be anyone's who lends them: a batch, or the last arrivals of a site.
+    pub fn keep_watched<E: Listed, W: Watch>(
+        &mut self,
+        events: &E,
+        watch: &W,
+    ) -> Result<u64, TableFault>
+        ensures takes { HasCleanDisk (state S.Store self.new.conn) → OnOk result (Takes (E.listed events.now)
             (state S.Store self.old.conn).now (state S.Store self.new.conn).now) }
         ensures fresh { HasCleanDisk (state S.Store self.new.conn)
-            → IfOk result (AreFresh batch.now (state S.Store self.old.conn).now) }
+            → IfOk result (AreFresh (E.listed events.now) (state S.Store self.old.conn).now) }
         ensures rows { IfOk result (λ fresh. self.new.rows ≡ self.old.rows + fresh) }
         ensures settled { HasCleanDisk (state S.Store self.new.conn)
             → OnOk result (IsSettled (state S.Store self.new.conn)) }
@@ -245,12 +251,12 @@ impl<S: Alter> Table<S> {
         ensures fault { IfErr result IsOfStore }
         ensures crash { Survives (state S.Store self.old.conn) (state S.Store self.new.conn)
             (λ trees. Stands (state S.Store self.old.conn).now self.old.rows
-            → MayTake batch.now (state S.Store self.old.conn).now trees) }
+            → MayTake (E.listed events.now) (state S.Store self.old.conn).now trees) }
     {
-        if self.rows > MAX_PLACE || batch.len() > MAX_PLACE - self.rows {
+        if self.rows > MAX_PLACE || events.count() > MAX_PLACE - self.rows {
             return Err(TableFault::Store);
         }
-        match keep(&mut self.conn, self.rows, batch, watch) {
+        match keep(&mut self.conn, self.rows, events, watch) {
             Ok(fresh) => {
                 self.rows = self.rows + fresh;
                 Ok(fresh)

@@ -14,13 +14,13 @@ ghost use Rattle.keeper.specs.Keep.{Asks, Grows, HasAll, HasFirst, KeepsUp, MayK
 ghost use Rattle.keeper.specs.declared.fault.KeepFault.TheVariants.{Foreign, OutOfMemory};
 
 use crate::fault::KeepFault;
-use attributes::Batch;
-use inbox_table::{Table, Watch};
+use attributes::{Batch, Sequenced};
+use inbox_table::{Listed, Table, Watch};
 use site::Site;
 use site_lock::laws::calls_follow;
 use site_lock::{Pass, SharedSite};
 use sqlite::Alter;
-use std::alloc::{AllocError, Global};
+use std::alloc::Global;
 use std::marker::Model;
 use std::sync::Wait;
 
@@ -35,16 +35,34 @@ pub struct Keeper<S: Alter> {
 }
 
 /// The arrivals of a site behind the first n.
-fn rest_of(alloc: Global, site: &Site, n: u64) -> Result<Batch, AllocError>
-    ensures rest { IfOk result (λ rest. rest ≡ drop n site.now) }
+#[derive(Drop)]
+struct Rest<'a> {
+    site: &'a Site,
+    n: u64,
+}
+
+impl<'a> Listed for Rest<'a> {
+    ghost listed = { λ rest. drop rest.n rest.site.now };
+
+    fn count(&self) -> u64 {
+        self.site.arrived().saturating_sub(self.n)
+    }
+
+    fn lent(&self, i: u64) -> &Sequenced {
+        // The count bounds the sum below.
+        let _arrived = self.site.arrived();
+        self.site.arrived_at(self.n + i)
+    }
+}
+
+/// The arrivals of a site behind the first n, lent. Takes no memory.
+fn rest_of<'a>(site: &'a Site, n: u64) -> Rest<'a>
+    ensures rest { drop result.n result.site.now ≡ drop n site.now }
     ensures once { AreDistinct site.now }
 {
-    let mut rest = Batch::empty(alloc);
-    let count = site.arrived().saturating_sub(n);
-    for k in 0..count {
-        rest.push(site.arrived_at(n + k).copy()?)?;
-    }
-    Ok(rest)
+    // To count them tells that they are distinct.
+    let _arrived = site.arrived();
+    Rest { site, n }
 }
 
 /// Counts what is kept behind so many events.
@@ -202,14 +220,9 @@ impl<S: Alter + Drop> Keeper<S> {
     /// yet; then the mark is their number. The table has the first arrivals of that site. For a
     /// site that was shared and is closed: no turn is needed any more.
     ///
-    /// A refusal leaves the mark. Time and memory in proportion to what is kept. The watch is told
-    /// from time to time how many of the site's arrivals the table has.
-    pub fn catch_up<W: Watch>(
-        &mut self,
-        alloc: Global,
-        site: &Site,
-        watch: &W,
-    ) -> Result<(), KeepFault>
+    /// A refusal leaves the mark. Time in proportion to what is kept; no event is copied. The watch is
+    /// told from time to time how many of the site's arrivals the table has.
+    pub fn catch_up<W: Watch>(&mut self, site: &Site, watch: &W) -> Result<(), KeepFault>
         requires { KeepsUp (state S.Store self.old.conn) self.old.rows site.now }
         ensures all { HasCleanDisk (state S.Store self.new.conn)
             → OnOk result (HasAll (state S.Store self.new.conn) self.new.rows site.now) }
@@ -224,13 +237,12 @@ impl<S: Alter + Drop> Keeper<S> {
         ensures list { Grows (state S.Store self.old.conn) (state S.Store self.new.conn) }
     {
         let before = self.table.rows();
-        match rest_of(alloc, site, before) {
-            Ok(rest) => match self.table.keep_watched(&rest, &Behind { watch, before }) {
-                Ok(_) => Ok(()),
-                Err(fault) => Err(KeepFault::from(fault)),
-            },
-            Err(_) => Err(KeepFault::OutOfMemory),
-        }
+        let rest = rest_of(site, before);
+        let _fresh = match self.table.keep_watched(&rest, &Behind { watch, before }) {
+            Ok(fresh) => fresh,
+            Err(fault) => return Err(KeepFault::from(fault)),
+        };
+        Ok(())
     }
 
     /// The mark: how many of the site's arrivals the table has, from the first on. Takes no time.

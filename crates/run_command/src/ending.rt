@@ -173,7 +173,7 @@ fn outcome_of<S: Alter + Drop, W: Watch>(
     if let Some(why) = stopped {
         return Err(either(first, of_keep(why)));
     }
-    match keeper.catch_up(alloc, site, watch) {
+    match keeper.catch_up(site, watch) {
         Ok(()) => match first {
             Some(fault) => Err(fault),
             None => said(alloc, reports, feeds, site),

@@ -9,4 +9,4 @@ invariant-loop-i g l =
     let old = state g.S.Store l.fn.conn in
     let now = state g.S.Store l.tx.conn.now in
     (l.tx.conn.ghost_name ≡ l.initial.tx.conn.ghost_name) × Survives old now (λ _. ⊥)
-    × (HasCleanDisk now → IsKeeping l.rows l.batch (drop l.i l.batch) old now l.fresh) × (l.fresh ≤ l.i)
+    × (HasCleanDisk now → IsKeeping l.rows (g.E.Listed.listed l.events) (drop l.i (g.E.Listed.listed l.events)) old now l.fresh) × (l.fresh ≤ l.i)

@@ -1,0 +1,176 @@
+#!/usr/bin/env python3
+"""Measures the built program beside plain Rust programs, and prints tables in Markdown.
+
+usage: tools/measure.py PLAIN [PLAIN_TABLES] [--program FILE] [--rounds N] [--folder FOLDER] [--groups GROUP..]
+
+PLAIN is the program of tools/baseline, PLAIN_TABLES that of tools/baseline_tables. The programs run in turn, the same
+words over the same files, N rounds (3 by default). A table gives of each the least and the middle of processor time
+(user and system), the middle time by the clock where that differs, the largest memory that a round took, and the
+ratios of ours to the plain one, middle by middle. Where two programs answer a question, their outputs must be equal
+byte for byte, or the exit status is 1. The batches are made in FOLDER, or in one of its own that goes in the end.
+
+The groups: questions (no data), data, conflicts (times and conflicts), files (several files), tables (take and run),
+million. All but the last by default.
+"""
+import argparse
+import hashlib
+import os
+import subprocess
+import sys
+import tempfile
+import time
+
+TOP = os.path.dirname(os.path.dirname(os.path.realpath(__file__)))
+QUESTIONS = ("cover", "shown", "gaps", "latest", "kinds", "days", "conflicts")
+# A batch: the name of its file, and how tools/make_batch.py makes it.
+BATCHES = {
+    "plain": [],
+    "data": ["--data", "200", "--events", "60000"],
+    "conflicts": ["--events", "110000", "--conflicts", "0.05", "--gaps", "0.05", "--days", "30", "--subjects", "5000"],
+    "bytes": ["--events", "60000"],
+    **{f"part{i}": ["--data", "200", "--events", "7500", "--seed", str(i)] for i in range(1, 9)},
+    **{f"many{i}": ["--data", "200", "--events", "25000", "--seed", str(i)] for i in range(1, 41)},
+}
+GROUPS = ("questions", "data", "conflicts", "files", "tables", "million")
+
+
+class Measured:
+    """What the runs of one program took."""
+
+    def __init__(self):
+        self.processor, self.clock, self.memory, self.output = [], [], 0, None
+
+    def add(self, words, folder):
+        began = time.monotonic()
+        with subprocess.Popen(words, cwd=folder, stdin=subprocess.DEVNULL, stdout=subprocess.PIPE) as ran:
+            digest = hashlib.sha256()
+            while chunk := ran.stdout.read(1 << 20):
+                digest.update(chunk)
+            _, status, used = os.wait4(ran.pid, 0)
+            ran.returncode = os.waitstatus_to_exitcode(status)
+        if ran.returncode:
+            sys.exit(f"{' '.join(words)} ended with {ran.returncode}")
+        self.clock.append(time.monotonic() - began)
+        self.processor.append(used.ru_utime + used.ru_stime)
+        self.memory = max(self.memory, used.ru_maxrss * 1024)
+        self.output = digest.hexdigest()
+
+    def text(self):
+        return f"{min(self.processor):.2f} s, {middle(self.processor):.2f} s, {self.memory / 1e6:.0f} MB"
+
+
+def middle(values):
+    return sorted(values)[len(values) // 2]
+
+
+class Bench:
+    def __init__(self, given, folder):
+        self.given, self.folder, self.well = given, folder, True
+
+    def batch(self, name):
+        path = f"{self.folder}/{name}.json"
+        if not os.path.exists(path):
+            with open(path, "wb") as out:
+                subprocess.run([f"{TOP}/tools/make_batch.py", *BATCHES[name]], stdout=out, check=True)
+        return path
+
+    def turns(self, runs, before=lambda: None):
+        """What each of some programs took, run in turn."""
+        found = [Measured() for _ in runs]
+        for _ in range(self.given.rounds):
+            for words, it in zip(runs, found):
+                before()
+                it.add(words, self.folder)
+        return found
+
+    def question(self, what, words):
+        ours, plain = self.turns([[self.given.program, *words], [self.given.plain, *words]])
+        if ours.output != plain.output:
+            print(f"{what}: the outputs differ", file=sys.stderr)
+            self.well = False
+        ratio = middle(ours.processor) / middle(plain.processor)
+        print(f"| {what} | {ours.text()} | {plain.text()} | {ratio:.2f} | {ours.memory / plain.memory:.2f} |", flush=True)
+
+    def heads(self, title):
+        print(f"\n{title}\n\n| what | `site` | plain Rust | time | memory |\n|---|---|---|---|---|")
+
+    def questions(self, name):
+        path = self.batch(name)
+        self.heads(f"{os.path.basename(path)}, {os.path.getsize(path) / 1e6:.1f} MB")
+        for it in QUESTIONS:
+            self.question(f"`{it}`", [it, path])
+
+    def files(self):
+        eight = [self.batch(f"part{i}") for i in range(1, 9)]
+        size = sum(os.path.getsize(it) for it in eight)
+        self.heads(f"several files with data, eight of {size / 1e6:.1f} MB in all")
+        for it in ("cover", "shown", "latest"):
+            self.question(f"`{it}` of eight files", [it, *eight])
+        self.question("`cover` of four of them", ["cover", *eight[:4]])
+
+    def tables(self):
+        database = f"{self.folder}/measured.db"
+
+        def gone():
+            for end in ("", "-wal", "-shm", "-journal"):
+                if os.path.exists(database + end):
+                    os.remove(database + end)
+
+        data, without = self.batch("data"), self.batch("bytes")
+        four = [self.batch(f"part{i}") for i in range(1, 5)]
+        print("\n| what | processor time, memory | by the clock |\n|---|---|---|")
+        for what, words in (
+            (f"`take` of 60,000 events with data, {os.path.getsize(data) / 1e6:.1f} MB", ["take", "--db", database, data]),
+            (f"`take` of 60,000 without, {os.path.getsize(without) / 1e6:.1f} MB", ["take", "--db", database, without]),
+            (f"`take` of four files with data, {sum(map(os.path.getsize, four)) / 1e6:.1f} MB", ["take", "--db", database, *four]),
+            ("`run` of the same four", ["run", "--db", database, *four]),
+        ):
+            programs = [[self.given.program, *words]]
+            found = self.turns(programs, gone)[0]
+            print(f"| {what} | {found.text()} | {middle(found.clock):.2f} s |", flush=True)
+        if self.given.plain_tables:
+            found = self.turns([[self.given.plain_tables, "take", database, data]], gone)[0]
+            print(f"| plain Rust takes the 60,000 with data | {found.text()} | {middle(found.clock):.2f} s |", flush=True)
+        gone()
+
+    def million(self):
+        """Forty files, and the memory that grows from twenty of them to all: that of the files and what is kept."""
+        paths = [self.batch(f"many{i}") for i in range(1, 41)]
+        sizes = [os.path.getsize(it) for it in paths]
+        self.heads(f"a million events with data in forty files, {sum(sizes) / 1e6:.0f} MB")
+        self.question("`cover`", ["cover", *paths])
+        half, whole = self.turns([[self.given.program, "shown", *it] for it in (paths[:20], paths)])
+        shown = subprocess.run([self.given.program, "shown", *paths], stdout=subprocess.PIPE, check=True).stdout
+        events, text = shown.count(b"\n"), len(shown)
+        kept = 2 * (whole.memory - half.memory - sum(sizes[20:]))
+        print(f"\n{events} events of {text / 1e6:.0f} MB of canonical text; kept of them are {kept / 1e6:.0f} MB: ", end="")
+        print(f"{kept / text:.2f} times the text, or the text and {(kept - text) / events:.0f} bytes an event")
+
+    def run(self, group):
+        if group in ("files", "tables", "million"):
+            getattr(self, group)()
+        else:
+            self.questions("plain" if group == "questions" else group)
+
+
+def main():
+    words = argparse.ArgumentParser(description=__doc__, formatter_class=argparse.RawDescriptionHelpFormatter)
+    words.add_argument("plain")
+    words.add_argument("plain_tables", nargs="?")
+    words.add_argument("--program", default=f"{TOP}/crates/site_cli/out/site_cli")
+    words.add_argument("--rounds", type=int, default=3)
+    words.add_argument("--folder")
+    words.add_argument("--groups", nargs="*", choices=GROUPS, default=GROUPS[:-1])
+    given = words.parse_args()
+    given.program, given.plain = os.path.realpath(given.program), os.path.realpath(given.plain)
+    if given.plain_tables:
+        given.plain_tables = os.path.realpath(given.plain_tables)
+    with tempfile.TemporaryDirectory() as own:
+        bench = Bench(given, os.path.realpath(given.folder or own))
+        for it in given.groups:
+            bench.run(it)
+    return 0 if bench.well else 1
+
+
+if __name__ == "__main__":
+    sys.exit(main())
