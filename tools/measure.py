@@ -139,7 +139,7 @@ class Bench:
         sizes = [os.path.getsize(it) for it in paths]
         self.heads(f"a million events with data in forty files, {sum(sizes) / 1e6:.0f} MB")
         self.question("`cover`", ["cover", *paths])
-        half, whole = self.turns([[self.given.program, "shown", *it] for it in (paths[:20], paths)])
+        half, whole = self.turns([[self.given.program, "cover", *it] for it in (paths[:20], paths)])
         shown = subprocess.run([self.given.program, "shown", *paths], stdout=subprocess.PIPE, check=True).stdout
         events, text = shown.count(b"\n"), len(shown)
         kept = 2 * (whole.memory - half.memory - sum(sizes[20:]))

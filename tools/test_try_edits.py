@@ -20,6 +20,15 @@ pub fn least(first: u8, second: u8) -> u8
 {
     if first < second { first } else { second }
 }
+
+/// The least of three numbers.
+pub fn least_of(first: u8, second: u8, third: u8) -> u8
+    ensures first { result ≤ first }
+    ensures third { result ≤ third }
+{
+    let last = least(second, third);
+    least(first, last)
+}
 """
 BODY = "if first < second { first } else { second }"
 # What is tried: the function, the clause, the old line, the new one; whether it counts as refused, and what is told.
@@ -36,13 +45,37 @@ ROWS = {
 
 def tried(room, row):
     """Whether the script says of a row's edit what it is to say, and what it said."""
-    name, (only, clause, old, new, is_refused, told) = row
+    name, (_, _, _, _, is_refused, told) = row
+    well, text, _ = try_edits.tried({"small": ([], [])}, written(room, row), try_edits.BUILT, f"{room}/kept")
+    return well == is_refused and text.startswith(told), f"wrong: {name}: {text}, and not {told}"
+
+
+# What is tried in one check, each edit as above: `least_of` calls `least`, whose body is wrong.
+TOGETHER = {
+    "a callee's wrong body": ("least", "first", BODY, "second", True, "refused at returns-clause-first"),
+    "a caller's": ("least_of", "third", "least(first, last)", "least(first, second)", True, "refused at returns-clause-third"),
+}
+BESIDE = {
+    "a callee's again": ("least", "first", BODY, "second", True, "refused at returns-clause-first"),
+    "a caller that is right": ("least_of", "third", "least(first, last)", "least(last, first)", False, "LET THROUGH"),
+    "one that doesn't compile either": ("least_of", "third", "least(first, last)", "fourth", False, "ERROR: the edit did"),
+}
+
+
+def written(room, row):
+    name, (only, clause, old, new, _, _) = row
     file = f"{room}/crates/small/edits/{name.replace(' ', '_')}.edit"
     with open(file, "w", encoding="utf-8") as it:
         it.write(f"only: {only}\nclause: {clause}\nfile: src/lib.rt\nold: {old}\nnew: {new}\n")
-    well, text, _ = try_edits.tried({"small": ([], [])}, file, try_edits.BUILT, f"{room}/kept")
-    is_right = well == is_refused and text.startswith(told)
-    return is_right, f"wrong: {name}: {text}, and not {told}"
+    return file
+
+
+def tried_together(room, rows):
+    """Whether the script says of each of some edits, tried in as few checks as it can, what it is to say."""
+    files = [written(room, row) for row in rows.items()]
+    found = try_edits.tried_of({"small": ([], [])}, files, try_edits.BUILT)
+    for (name, (_, _, _, _, is_refused, told)), (_, well, text, _) in zip(rows.items(), found):
+        yield well == is_refused and text.startswith(told), f"wrong: {name}: {text}, and not {told}"
 
 
 def told_of_tables(room):
@@ -64,6 +97,8 @@ def main():
             it.write(CRATE)
         build.TOP = try_edits.TOP = room
         answers = [tried(room, row) for row in ROWS.items()] + [told_of_tables(room)]
+        for rows in (TOGETHER, BESIDE):
+            answers += tried_together(room, rows)
     for is_right, text in answers:
         if not is_right:
             print(text)

@@ -116,6 +116,24 @@ run_over() {
     run "$@"
     [ "$before" = "$(cksum <"$file")" ] || status="$status, and the file changed"
 }
+run_over other.db order --db other.db --source /north --at 2024-02-29T10:00:00Z place 2
+is 'another source than the service has' 1 '' "site: other.db: another source$lf"
+run_over other.db order --db other.db --source /south/ --at 2024-02-29T10:00:00Z ship 1
+is 'a source that begins like it' 1 '' "site: other.db: another source$lf"
+run order --db other.db --source /south --at 2024-02-29T10:00:00Z ship 1
+cut -d, -f1 got.out >id
+cp id got.out
+is 'the source that it has' 0 "{\"id\":\"00000000000000000002\"$lf" ''
+run order --db other.db --at 2024-02-29T10:00:00Z place 2
+sed 's/.*"source":"\([^"]*\)".*/\1/' got.out >source
+cp source got.out
+is 'no source named' 0 "/south$lf" ''
+run relay --db early.db --after 0
+is 'a relay before the first order' 0 "[]$lf" ''
+run_over early.db order --db early.db --source /north --at 2024-02-29T10:00:00Z place 1
+is 'the service that it made has the usual source' 1 '' "site: early.db: another source$lf"
+run order --db early.db --source /orders --at 2024-02-29T10:00:00Z place 1
+is 'which may be named' 0 "$(row 1 1 placed)$lf" ''
 printf 'no database, but a text that is long enough to be taken for a header of one, and more\n' >text.db
 run_over text.db take --db text.db three.json
 is 'a text' 1 '' "site: text.db: Store$lf"

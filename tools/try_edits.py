@@ -7,8 +7,9 @@ An edit is a file of lines: 'only: PATH', the function whose proof is to refuse 
 which ('ensures' for a contract of one clause without a name), or another goal by the name that a check gives it
 ('CALL-requires' of what a call asks, 'invariant_of-result'); and then 'file: src/..', 'old: TEXT' (once in that file)
 and 'new: TEXT', a line each. It is applied to a copy of the crate, and that one function is checked with what it calls, over the
-libraries as they are built. Crates are tried side by side; a crate's edits in turn, each over what the checks of
-those before it proved of functions that it leaves as they are. An edit that proves is let through; one that doesn't read or compile, whose old line isn't there
+libraries as they are built. Crates are tried side by side; a crate's edits in one check where they change different
+functions, since a proof rests on what a function calls by its contract alone; else in turn, each over what the checks
+before it proved. An edit that proves is let through; one that doesn't read or compile, whose old line isn't there
 once, or that takes away a name that the proof uses, is an error; one that is refused at other clauses alone is told
 with those. Each of these fails, and so does a README.md beside the edits whose table doesn't name just these. The last
 line is 'N passed, M failed'.
@@ -31,8 +32,8 @@ from build import BUILT, OF_RT, SOURCES, TOP, crates_listed, is_made, kit, lanes
 # A proof that cites what the edit took away says nothing of the clause.
 TAKEN_AWAY = re.compile(r"is not in scope|has no field|has no `|is no name|was not admitted")
 # A goal, as a check names it where its written answer is refused, and where none is written and the search finds none.
-ANSWERED = re.compile(r"^\S+?:\d+:\d+: error: `([^`]+)`: ")
-SEARCHED = re.compile(r"^note: src/\S+?:\d+:\d+: it is not proved that .*\(`([^`]+)`\)")
+ANSWERED = re.compile(r"^(?:\./)?proofs/(\S+?)/\w+\.antt:\d+:\d+: error: `([^`]+)`: ")
+SEARCHED = re.compile(r"^note: (src/\S+?):(\d+):\d+: it is not proved that .*\(`([^`]+)`\)")
 
 
 class BadEdit(Exception):
@@ -73,64 +74,151 @@ def is_goal_of(clause, goal):
     return goal == clause or goal.startswith("returns") and goal.endswith(f"-clause-{clause}")
 
 
-def judged(only, clause, status, said):
-    """Whether what a check said is the refusal that is wanted, and what to tell."""
-    lines = said.splitlines()
-    counts = re.fullmatch(r"only=(\d+) proved=(\d+)", lines[-1] if lines else "")
-    if not counts or counts[1] == "0" or status not in (0, 1):
-        first = next((it for it in lines if re.search(r"\berror\b[:\[]", it)), lines[-1] if lines else "nothing was said")
-        return False, f"ERROR: the edit did not reach the prover: {first[:200]}"
-    if counts[1] == counts[2]:
-        return False, f"LET THROUGH: {only} is still proved"
-    goals = {}
+def goals_of(only, changes, lines, room):
+    """The goals of a function that a check refused, by what it said, each with whether its proof only names what was
+    taken away. An answer that is written stands in a folder of the function's path; where none is, the place in the
+    source is that of the function."""
+    goals, name = {}, only.split("::")[-1]
     for line in lines:
-        found = ANSWERED.match(line) or SEARCHED.match(line)
-        if found:
-            goals.setdefault(found[1], TAKEN_AWAY.search(line) is not None)
+        answered, searched = ANSWERED.match(line), SEARCHED.match(line)
+        if answered:
+            is_of = f"/{answered[1]}".endswith("/" + only.replace("::", "/"))
+        elif searched:
+            is_of = any(path == searched[1] for path, _, _ in changes) and names_at(room, *searched.groups()[:2]) == name
+        if (answered or searched) and is_of:
+            goals.setdefault((answered or searched)[answered and 2 or 3], TAKEN_AWAY.search(line) is not None)
+    return goals
+
+
+def names_at(room, path, line):
+    """The function in which a line of a source stands; that line may be one of the lines right above it."""
+    with open(f"{room}/{path}", encoding="utf-8") as it:
+        lines = it.read().splitlines()
+    at = int(line) - 1
+    while re.match(r"\s*(///|#\[|//)", lines[at]):
+        at += 1
+    for text in reversed(lines[: at + 1]):
+        if found := re.match(r"\s*(?:pub(?:\([a-z]+\))? )?(?:const |unsafe )*fn (\w+)", text):
+            return found[1]
+    return None
+
+
+def asked_and_proved(status, lines):
+    """How many functions a check was asked for and how many it proved, or None where the prover wasn't reached."""
+    counts = re.fullmatch(r"only=(\d+) proved=(\d+)", lines[-1] if lines else "")
+    return None if not counts or counts[1] == "0" or status not in (0, 1) else (int(counts[1]), int(counts[2]))
+
+
+def unreached(lines):
+    first = next((it for it in lines if re.search(r"\berror\b[:\[]", it)), lines[-1] if lines else "nothing was said")
+    return False, f"ERROR: the edit did not reach the prover: {first[:200]}"
+
+
+def judged(only, clause, goals):
+    """Whether the goals that were refused are what is wanted, and what to tell."""
     met = [it for it in goals if is_goal_of(clause, it)]
     if any(not goals[it] for it in met):
         return True, "refused at " + ", ".join(met)
     if met:
         return False, "ERROR: the proof names what the edit took away, so nothing is said of the clause"
-    told = ", ".join(goals) or next((it for it in lines if "error" in it), "no goal was named")[:200]
-    return False, f"REFUSED ELSEWHERE, not at {clause}: {told}"
+    return False, f"REFUSED ELSEWHERE, not at {clause}: {', '.join(goals) or 'no goal of its own'}"
+
+
+def apply(room, changes):
+    """Makes the changes in a copy of the crate, all or none."""
+    texts = {}
+    for path, old, new in changes:
+        if path not in texts:
+            with open(f"{room}/{path}", encoding="utf-8") as it:
+                texts[path] = it.read()
+        if texts[path].count(old) != 1:
+            raise BadEdit(f"an old line stands in {path} {texts[path].count(old)} times, and not once")
+        texts[path] = texts[path].replace(old, new)
+    for path, text in texts.items():
+        with open(f"{room}/{path}", "w", encoding="utf-8") as it:
+            it.write(text)
+
+
+def checked(crates, name, edits, folder, kept):
+    """Checks the edits' functions over a copy of the crate with all of these edits. Answers the status, the lines that
+    the check said, the processor seconds, and the refused goals of each edit."""
+    with tempfile.TemporaryDirectory(prefix="try-edit-") as room:
+        for part in SOURCES:
+            if os.path.isdir(f"{TOP}/crates/{name}/{part}"):
+                shutil.copytree(f"{TOP}/crates/{name}/{part}", f"{room}/{part}")
+        for _, (_, _, changes) in edits:
+            apply(room, changes)
+        how = {"cwd": room, "stdin": subprocess.DEVNULL, "stdout": subprocess.PIPE, "stderr": subprocess.STDOUT}
+        words = ["rattle", "check", *words_of(crates, name, folder, kit()), "--jobs", "1", "--incremental", kept]
+        for _, (only, _, _) in edits:
+            words += ["--only", only]
+        with subprocess.Popen(words, errors="replace", **how) as ran:
+            lines = ran.stdout.read().splitlines()
+            _, status, used = os.wait4(ran.pid, 0)
+            ran.returncode = os.waitstatus_to_exitcode(status)
+        goals = [goals_of(only, changes, lines, room) for _, (only, _, changes) in edits]
+        return ran.returncode, lines, used.ru_utime + used.ru_stime, goals
 
 
 def tried(crates, file, folder, kept):
-    """Whether the edit is refused at its clause, what to tell, and the processor seconds that it took. The libraries
-    below stand in their out/FOLDER, and `kept` has what earlier checks of the crate proved."""
-    seconds, name = 0.0, file.split(os.sep)[-3]
+    """Whether an edit is refused at its clause, alone, what to tell, and the processor seconds that it took. The
+    libraries below stand in their out/FOLDER, and `kept` has what earlier checks of the crate proved."""
     try:
         only, clause, changes = read_edit(file)
-        with tempfile.TemporaryDirectory(prefix="try-edit-") as room:
-            for part in SOURCES:
-                if os.path.isdir(f"{TOP}/crates/{name}/{part}"):
-                    shutil.copytree(f"{TOP}/crates/{name}/{part}", f"{room}/{part}")
-            for path, old, new in changes:
-                with open(f"{room}/{path}", "r+", encoding="utf-8") as it:
-                    text = it.read()
-                    if text.count(old) != 1:
-                        raise BadEdit(f"an old line stands in {path} {text.count(old)} times, and not once")
-                    it.seek(0)
-                    it.truncate()
-                    it.write(text.replace(old, new))
-            how = {"cwd": room, "stdin": subprocess.DEVNULL, "stdout": subprocess.PIPE, "stderr": subprocess.STDOUT}
-            words = ["rattle", "check", *words_of(crates, name, folder, kit()), "--jobs", "1"]
-            with subprocess.Popen([*words, "--incremental", kept, "--only", only], errors="replace", **how) as ran:
-                said = ran.stdout.read()
-                _, status, used = os.wait4(ran.pid, 0)
-                ran.returncode = os.waitstatus_to_exitcode(status)
-            seconds = used.ru_utime + used.ru_stime
-            well, text = judged(only, clause, ran.returncode, said)
+        name = file.split(os.sep)[-3]
+        status, lines, seconds, goals = checked(crates, name, [(file, (only, clause, changes))], folder, kept)
     except (BadEdit, OSError) as why:
-        well, text = False, f"ERROR: {why}"
-    return well, text, seconds
+        return False, f"ERROR: {why}", 0.0
+    counts = asked_and_proved(status, lines)
+    if counts is None:
+        return *unreached(lines), seconds
+    if counts[0] == counts[1]:
+        return False, f"LET THROUGH: {only} is still proved", seconds
+    return *judged(only, clause, goals[0]), seconds
 
 
-def tried_in_turn(crates, files, folder):
-    """What came of each of a crate's edits."""
+def rounds(files):
+    """The edits that can be tried in one check: each changes another function, and no two share a line."""
+    made = []
+    for file in files:
+        try:
+            edit = read_edit(file)
+        except (BadEdit, OSError):
+            continue
+        touched = {(path, text) for path, *texts in edit[2] for text in texts}
+        for onlys, taken, edits in made:
+            if edit[0] not in onlys and not any(path == at and (old in text or text in old) for path, old in touched for at, text in taken):
+                break
+        else:
+            onlys, taken, edits = set(), set(), []
+            made.append((onlys, taken, edits))
+        onlys.add(edit[0])
+        taken.update(touched)
+        edits.append((file, edit))
+    return [edits for _, _, edits in made]
+
+
+def tried_of(crates, files, folder):
+    """What came of a crate's edits. Those of different functions are tried in one check, since a proof rests on the
+    contracts of what the function calls and not on its bodies; where that doesn't show an edit refused at its clause,
+    it is tried alone."""
+    found = {}
     with tempfile.TemporaryDirectory(prefix="edits-kept-") as kept:
-        return [(file, *tried(crates, file, folder, kept)) for file in files]
+        for edits in rounds(files):
+            if len(edits) == 1:
+                continue
+            try:
+                name = edits[0][0].split(os.sep)[-3]
+                status, lines, seconds, goals = checked(crates, name, edits, folder, kept)
+            except (BadEdit, OSError):
+                continue
+            if asked_and_proved(status, lines) is None:
+                continue
+            for (file, (only, clause, _)), refused in zip(edits, goals):
+                well, text = judged(only, clause, refused)
+                if well:
+                    found[file] = well, text, seconds / len(edits)
+        return [(file, *(found.get(file) or tried(crates, file, folder, kept))) for file in files]
 
 
 def untold(files):
@@ -174,7 +262,7 @@ def main():
             print(f"{os.path.relpath(os.path.dirname(files[0]), f'{TOP}/crates')}/README.md: {text}")
     with ThreadPoolExecutor(lanes) as pool:
         # The highest crates first: theirs are the longest checks.
-        runs = [pool.submit(tried_in_turn, crates, files, folder) for _, files in reversed(edits.items())]
+        runs = [pool.submit(tried_of, crates, files, folder) for _, files in reversed(edits.items())]
         for run in as_completed(runs):
             for file, well, text, seconds in run.result():
                 passed, failed = passed + well, failed + (not well)

@@ -1,2 +1,3 @@
 mod ClapLemmas
+mod GivenLemmas
 mod PlanLemmas

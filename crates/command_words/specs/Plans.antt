@@ -1,8 +1,11 @@
 -- What the words after the program's name ask for.
-use Rattle.std.specs.Prelude.{◌≡◌, ◌≢◌, ◌≤◌, ◌<◌, ◌+◌, ◌^◌, Bool, ℕ, List, [], true, codes, length, None, Some, slice_get, unwrap_or, if◌then◌else◌}
+use Rattle.std.specs.Prelude.{◌≡◌, ◌≢◌, ◌≤◌, ◌<◌, ◌+◌, ◌^◌, Bool, ℕ, List, [], true, false, codes, find, length, Option, None, Some, option_and_then, slice_get, unwrap_or, if◌then◌else◌}
 use Rattle.std.specs.Option.{is_some}
+use Rattle.std.specs.Str.{bytes_eq}
 use Rattle.std.specs.Str.Parse.{IsNumeral, digits_value}
 use Rattle.clap.specs.Words.{Row, Text, all_of, fault_of, first_of, matches_of}
+use Rattle.clap.specs.declared.parser.matches.ValueSource.{ValueSource}
+use Rattle.clap.specs.declared.parser.matches.ValueSource.TheVariants.{CommandLine, DefaultValue}
 use Rattle.attributes.specs.Character.{is_filled}
 use Rattle.attributes.specs.Sequence.{max_sequence}
 use Rattle.attributes.specs.Time.{time_day}
@@ -73,10 +76,21 @@ texts_in rows id = unwrap_or (all_of id rows) []
 abbrev pub text_in : List Row → Text → Text
 text_in rows id = unwrap_or (first_of id rows) []
 
+-- the words gave a value
+abbrev pub is_of_words : Option ValueSource → Bool
+is_of_words None = false
+is_of_words (Some DefaultValue) = false
+is_of_words (Some CommandLine) = true
+
+-- the words themselves gave the argument, and not its default
+abbrev pub is_given : List Row → Text → Bool
+is_given rows id = is_of_words (option_and_then (λ r. r.source) (find (λ r. bytes_eq r.id id) rows))
+
 -- what is asked of an order has the values that were matched for the arguments
 pub record HasRequestOf (rows : List Row) (r : Request) : Type 0 where
   pub db : r.db ≡ text_in rows (codes "db")
   pub source : r.source ≡ text_in rows (codes "source")
+  pub named : r.is_source_named ≡ is_given rows (codes "source")
   pub allowed : IsServiceSource r.source
   pub at : r.at ≡ text_in rows (codes "at")
   pub time : IsTime r.at

@@ -72,7 +72,7 @@ pub fn source<'a>(alloc: Global) -> Arg<'a>
     Arg::new(alloc, "source")
         .long("source")
         .value_name("S")
-        .help("The source of the service's events, for a database that is new")
+        .help("The source of the service's events; a service that is there must have it")
         .default_value("/orders")
 }
 

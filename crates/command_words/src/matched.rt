@@ -1,10 +1,11 @@
 //! The texts that clap matched for arguments.
 ghost use Rattle.std.specs.Prelude.{◌≡◌, IfOk, [], unwrap_or, map};
 ghost use Rattle.clap.specs.Words.{all_of, first_of, found_of, rows_of};
-ghost use Rattle.command_words.specs.Plans.{text_in, texts_in};
+ghost use Rattle.command_words.specs.Plans.{is_given, text_in, texts_in};
 
 use attributes::{Text, Texts};
 use clap::ArgMatches;
+use clap::parser::ValueSource;
 use std::alloc::{AllocError, Global};
 
 /// The text that was matched for an argument; empty where it wasn't given.
@@ -35,6 +36,17 @@ pub fn given_text_of(
     match matches.get_str(id) {
         Some(text) => Ok(Some(Text::of(alloc, text)?)),
         None => Ok(None),
+    }
+}
+
+/// Whether the words themselves gave the argument, and not its default.
+pub fn is_given(matches: &ArgMatches<'_>, id: &str) -> bool
+    ensures { result ≡ is_given (rows_of (found_of matches.now)) id.now }
+{
+    match matches.value_source(id) {
+        Some(ValueSource::CommandLine) => true,
+        Some(ValueSource::DefaultValue) => false,
+        None => false,
     }
 }
 

@@ -46,9 +46,10 @@ pub enum Plan {
 #[derive(Drop)]
 pub struct Request {
     pub db: Text,
-    /// The source of the service's events, for a database that is new: 1 to 1,024 bytes without a
-    /// control character.
+    /// The source of the service's events: 1 to 1,024 bytes without a control character.
     pub source: Text,
+    /// Whether the words named that source, so that a service with another one isn't meant.
+    pub is_source_named: bool,
     /// A text of at most 64 bytes.
     pub at: Moment,
     pub action: Action,

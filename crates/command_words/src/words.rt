@@ -9,7 +9,7 @@ ghost use Rattle.command_words.specs.declared.request.Request.{Request};
 
 use crate::command::{Command, row_of};
 use crate::fault::Faulty;
-use crate::matched::{given_text_of, str_of, text_of, texts_of};
+use crate::matched::{given_text_of, is_given, str_of, text_of, texts_of};
 use crate::program::{faulty_of, no_command};
 use crate::request::{Plan, Request};
 use crate::value::{action, number, order_number, source, time, workers};
@@ -125,6 +125,7 @@ fn request(alloc: Global, matches: &ArgMatches<'_>) -> Result<Request, Faulty>
         Ok(source) => source,
         Err(faulty) => return Err(faulty),
     };
+    let is_source_named = is_given(matches, "source");
     let action = match action(alloc, str_of(matches, "action")) {
         Ok(action) => action,
         Err(faulty) => return Err(faulty),
@@ -133,6 +134,7 @@ fn request(alloc: Global, matches: &ArgMatches<'_>) -> Result<Request, Faulty>
         Ok(order) => Ok(Request {
             db,
             source,
+            is_source_named,
             at,
             action,
             order,

@@ -1,5 +1,5 @@
 -- What a database holds for a command.
-use Rattle.std.specs.Prelude.{◌≡◌, ◌⊎◌, ◌+◌, ◌++◌, ℕ, suc, List, [], ◌∷◌, Some, None, length, true, false}
+use Rattle.std.specs.Prelude.{◌≡◌, ◌≢◌, ◌⊎◌, ◌+◌, ◌++◌, ℕ, suc, List, [], ◌∷◌, Some, None, length, true, false}
 use Rattle.sqlite.specs.Effect.{Database}
 use Rattle.attributes.specs.Event.{EventValue}
 use Rattle.inbox.specs.KeyOrder.{key_cmp}
@@ -20,6 +20,7 @@ use Rattle.relay.specs.Route.{AreIn}
 use Rattle.database_commands.specs.Fault.{of_outbox}
 use Rattle.database_commands.specs.Print.{batch_line, counts_line, event_line}
 use Rattle.database_commands.specs.declared.fault.CommandFault.{CommandFault}
+use Rattle.database_commands.specs.declared.fault.CommandFault.TheVariants as command
 
 -- the database has an inbox with these events, or none, and then they are none
 pub record Holds (db : Database) (events : List EventValue) : Type 0 where
@@ -71,6 +72,24 @@ Serves db given source base commands = IsService db source base commands
 abbrev pub IsServed : List ℕ → Database → List ℕ → ℕ → Database → Type 0
 IsServed given old source base new = (s : List ℕ) (b : ℕ) (commands : List Accepted)
     → Serves old given s b commands → (source ≡ s) × (base ≡ b) × IsService new s b commands
+
+-- the service that the database has, or would have, has the source that is given
+abbrev pub IsMeant : List ℕ → Database → Type 0
+IsMeant given db = (source : List ℕ) (base : ℕ) (commands : List Accepted)
+    → Serves db given source base commands → source ≡ given
+
+-- the database has a service with another source than the one that is given
+pub record HasAnother (given : List ℕ) (db : Database) : Type 0 where
+  pub source : List ℕ
+  pub base : ℕ
+  pub commands : List Accepted
+  pub service : IsService db source base commands
+  pub other : source ≢ given
+
+-- the fault says that there is no service to give commands to, and nothing of an order
+abbrev pub IsNoOrders : CommandFault → Type 0
+IsNoOrders f = (f ≡ command.OutOfMemory) ⊎ ((f ≡ command.Store)
+    ⊎ ((f ≡ command.Foreign) ⊎ (f ≡ command.AnotherSource)))
 
 -- a service accepted one command more, and the text is the event of its row
 pub record IsOrdered (source : List ℕ) (base : ℕ) (commands : List Accepted) (c : Accepted)

@@ -37,6 +37,9 @@ pub enum CommandFault {
     /// A route didn't take the rows.
     #[error("RouteFailed")]
     RouteFailed,
+    /// The service has another source than the one that was named.
+    #[error("AnotherSource")]
+    AnotherSource,
 }
 
 impl From<AllocError> for CommandFault {

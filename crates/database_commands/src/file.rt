@@ -66,6 +66,7 @@ pub trait Databases {
         alloc: Global,
         name: &str,
         source: &Text,
+        is_source_named: bool,
         status: Status,
         order: u64,
         at: &Moment,
@@ -128,12 +129,21 @@ impl Databases for HostRuntime {
         alloc: Global,
         name: &str,
         source: &Text,
+        is_source_named: bool,
         status: Status,
         number: u64,
         at: &Moment,
     ) -> Result<Text, CommandFault> {
         match open(self, name, 0) {
-            Ok(conn) => closed(order(alloc, conn, source, status, number, at)),
+            Ok(conn) => closed(order(
+                alloc,
+                conn,
+                source,
+                is_source_named,
+                status,
+                number,
+                at,
+            )),
             Err(fault) => Err(fault),
         }
     }

@@ -1,17 +1,19 @@
 //! The service of a database: commands on its orders, and the rows of its outbox.
-ghost use Rattle.std.specs.Prelude.{◌≡◌, ◌≢◌, ◌≤◌, ◌⊎◌, ℕ, List, length, true, IfErr, IfOk, IsTrue, OnErr};
+ghost use Rattle.std.specs.Prelude.{◌≡◌, ◌≢◌, ◌<◌, ◌≤◌, ◌↔◌, ◌⊎◌, ℕ, suc, List, length, true, IfErr, IfOk, IsTrue, OnErr, OnOk};
 ghost use Rattle.sqlite.specs.Held.{state};
 ghost use Rattle.sqlite.specs.State.{HasCleanDisk};
 ghost use Rattle.attributes.specs.Character.{is_filled};
 ghost use Rattle.attributes.specs.Event.{EventValue};
 ghost use Rattle.attributes.specs.Sequence.{max_sequence};
 ghost use Rattle.outbox.specs.Call.{Accepts, IsAsItWas, IsSame, Refuses};
+ghost use Rattle.outbox.specs.Row.{row_event};
+ghost use Rattle.outbox.specs.Schema.{has_name};
 ghost use Rattle.outbox.specs.declared.fault.OutboxFault.{OutboxFault};
 ghost use Rattle.outbox.specs.declared.fault.OutboxFault.TheVariants.{Foreign, OutOfMemory, Store};
 ghost use Rattle.relay.specs.Relay.{ForNextRows};
 ghost use Rattle.database_commands.specs.declared.fault.CommandFault.TheVariants as command;
 ghost use Rattle.database_commands.specs.Fault.{of_outbox};
-ghost use Rattle.database_commands.specs.Held.{IsServed, KeepsService, Orders, PrintsRows, RefusesOrder, ShowsRows};
+ghost use Rattle.database_commands.specs.Held.{HasAnother, IsMeant, IsNoOrders, IsServed, KeepsService, Orders, PrintsRows, RefusesOrder, ShowsRows};
 ghost use Rattle.database_commands.specs.Print.{batch_line, event_line};
 
 use crate::Ended;
@@ -26,27 +28,85 @@ use std::alloc::Global;
 /// The base of a service that is new: its first row has the number 1.
 const BASE: u64 = 0;
 
-/// The service of a database, made with this source where there is none.
+/// A database whose service isn't to be had, and why.
+#[derive(Drop)]
+struct NotServed<S: Alter> {
+    conn: Connection<S>,
+    fault: CommandFault,
+}
+
+/// Whether the texts are the same.
+fn is_same(one: &Text, other: &Text) -> bool
+    ensures { IsTrue result ↔ (one.now ≡ other.now) }
+{
+    one.as_str() == other.as_str()
+}
+
+/// The service that is there; where the source was named, it has to be that of the service.
+fn found<S: Alter + Drop>(
+    alloc: Global,
+    conn: Connection<S>,
+    source: &Text,
+    is_named: bool,
+) -> Result<Service<S>, NotServed<S>>
+    requires { has_name (state S.Store conn).now.schema ≡ true }
+    ensures served { IfOk result (λ s. HasCleanDisk (state S.Store s.conn)
+        → IsServed source.now (state S.Store conn).now s.source s.base
+        (state S.Store s.conn).now) }
+    ensures named { IsTrue is_named → IfOk result (λ s. s.source ≡ source.now) }
+    ensures back { IfErr result (λ e. IsAsItWas (state S.Store conn) (state S.Store e.conn)) }
+    ensures another { IfErr result (λ e. e.fault ≡ command.AnotherSource → IsTrue is_named
+        × (HasCleanDisk (state S.Store e.conn) → HasAnother source.now (state S.Store conn).now)) }
+    ensures fault { IfErr result (λ e. IsNoOrders e.fault) }
+{
+    match Service::adopt(alloc, conn) {
+        Ok(service) => {
+            if is_named && !is_same(service.source(), source) {
+                return Err(NotServed {
+                    conn: service.into_connection(),
+                    fault: CommandFault::AnotherSource,
+                });
+            }
+            Ok(service)
+        }
+        Err(refused) => {
+            let NotMade { conn, fault } = refused;
+            Err(NotServed {
+                conn,
+                fault: of_outbox(fault),
+            })
+        }
+    }
+}
+
+/// The service of a database, made with this source where there is none. Where the source was
+/// named, a service that is there has to have it.
 fn service_of<S: Alter + Drop>(
     alloc: Global,
     conn: Connection<S>,
     source: &Text,
-) -> Result<Service<S>, NotMade<S>>
+    is_named: bool,
+) -> Result<Service<S>, NotServed<S>>
     requires { (is_filled source.now ≡ true) × (length source.now ≤ 1024) }
     ensures served { IfOk result (λ s. HasCleanDisk (state S.Store s.conn)
         → IsServed source.now (state S.Store conn).now s.source s.base
         (state S.Store s.conn).now) }
+    ensures named { IsTrue is_named → IfOk result (λ s. s.source ≡ source.now) }
     ensures back { IfErr result (λ e. IsAsItWas (state S.Store conn) (state S.Store e.conn)) }
-    ensures fault { IfErr result (λ e.
-        (e.fault ≡ OutOfMemory) ⊎ ((e.fault ≡ Store) ⊎ (e.fault ≡ Foreign))) }
+    ensures another { IfErr result (λ e. e.fault ≡ command.AnotherSource → IsTrue is_named
+        × (HasCleanDisk (state S.Store e.conn) → HasAnother source.now (state S.Store conn).now)) }
+    ensures fault { IfErr result (λ e. IsNoOrders e.fault) }
 {
     match Service::create(alloc, conn, source, BASE) {
         Ok(service) => Ok(service),
         Err(refused) => {
             let NotMade { conn, fault } = refused;
             match fault {
-                OutboxFault::Foreign => Service::adopt(alloc, conn),
-                _ => Err(NotMade { conn, fault }),
+                OutboxFault::Foreign => found(alloc, conn, source, is_named),
+                _ => Err(NotServed {
+                    conn,
+                    fault: of_outbox(fault),
+                }),
             }
         }
     }
@@ -70,6 +130,9 @@ fn command<S: Alter>(
         → IfErr result (λ f. f ≢ OutOfMemory → f ≢ Store
         → Refuses service.old.source service.old.base status order
         (state S.Store service.old.conn).now f) }
+    ensures next { IfOk result (λ e. (service.old.last < max_sequence)
+        × (e ≡ row_event service.old.source (suc service.old.last)
+        (record { status = status; order = order; at = at.now }))) }
     ensures same { OnErr result
         (IsAsItWas (state S.Store service.old.conn) (state S.Store service.new.conn)) }
     ensures clean { HasCleanDisk (state S.Store service.new.conn)
@@ -83,11 +146,13 @@ fn command<S: Alter>(
 }
 
 /// Gives an order of a database's service a status, and answers the line of the event that says so.
-/// The service is made with this source where there is none.
+/// The service is made with this source where there is none. Where the source was named, a service
+/// that is there has to have it: `AnotherSource` else, and nothing is written.
 pub fn order<S: Alter + Drop>(
     alloc: Global,
     conn: Connection<S>,
     source: &Text,
+    is_source_named: bool,
     status: Status,
     order: u64,
     at: &Moment,
@@ -101,23 +166,29 @@ pub fn order<S: Alter + Drop>(
     ensures refused { HasCleanDisk (state S.Store result.conn)
         → IsTrue (state S.Store result.conn).is_open → IfErr result.outcome (λ f.
         f ≢ command.OutOfMemory → f ≢ command.Store → f ≢ command.Foreign
-        → RefusesOrder source.now status order (state S.Store conn).now f) }
+        → f ≢ command.AnotherSource → RefusesOrder source.now status order (state S.Store conn).now f) }
     ensures kept { HasCleanDisk (state S.Store result.conn)
-        → IsTrue (state S.Store result.conn).is_open → IfErr result.outcome (λ f.
-        f ≢ command.OutOfMemory
-        → KeepsService source.now (state S.Store conn).now (state S.Store result.conn).now) }
+        → IsTrue (state S.Store result.conn).is_open → OnErr result.outcome
+        (KeepsService source.now (state S.Store conn).now (state S.Store result.conn).now) }
+    ensures meant { IsTrue is_source_named → HasCleanDisk (state S.Store result.conn)
+        → OnOk result.outcome (IsMeant source.now (state S.Store conn).now) }
+    ensures another { IfErr result.outcome (λ f. f ≡ command.AnotherSource
+        → IsTrue is_source_named × (HasCleanDisk (state S.Store result.conn)
+        → HasAnother source.now (state S.Store conn).now)) }
     ensures line { IfOk result.outcome (λ text. (e : EventValue) × (text ≡ event_line e)) }
 {
-    match service_of(alloc, conn, source) {
+    match service_of(alloc, conn, source, is_source_named) {
         Ok(mut service) => {
             let outcome = command_line(alloc, &mut service, status, order, at);
             let conn = service.into_connection();
             Ended { conn, outcome }
         }
         Err(refused) => {
-            let NotMade { conn, fault } = refused;
-            let outcome = Err(of_outbox(fault));
-            Ended { conn, outcome }
+            let NotServed { conn, fault } = refused;
+            Ended {
+                conn,
+                outcome: Err(fault),
+            }
         }
     }
 }
@@ -142,13 +213,38 @@ fn command_line<S: Alter>(
         f ≢ command.OutOfMemory → f ≢ command.Store → (why : OutboxFault) × (f ≡ of_outbox why)
         × Refuses service.old.source service.old.base status order
         (state S.Store service.old.conn).now why) }
-    ensures same { IfErr result (λ f. f ≢ command.OutOfMemory
-        → IsAsItWas (state S.Store service.old.conn) (state S.Store service.new.conn)) }
+    ensures same { OnErr result
+        (IsAsItWas (state S.Store service.old.conn) (state S.Store service.new.conn)) }
     ensures clean { HasCleanDisk (state S.Store service.new.conn)
         → HasCleanDisk (state S.Store service.old.conn) }
+    ensures fault { IfErr result (λ f. f ≢ command.AnotherSource) }
     ensures line { IfOk result (λ text. (e : EventValue) × (text ≡ event_line e)) }
 {
-    match command(service, status, order, at) {
+    // The line is made first, so that no memory is wanted once the command is written.
+    match next_line(alloc, service, status, order, at) {
+        Ok(text) => match command(service, status, order, at) {
+            Ok(_) => Ok(text),
+            Err(fault) => Err(of_outbox(fault)),
+        },
+        Err(fault) => Err(fault),
+    }
+}
+
+/// The line of the event that the command has where it is accepted.
+fn next_line<S: Alter>(
+    alloc: Global,
+    service: &Service<S>,
+    status: Status,
+    order: u64,
+    at: &Moment,
+) -> Result<Text, CommandFault>
+    ensures next { service.now.last < max_sequence → IfOk result (λ text.
+        text ≡ event_line (row_event service.now.source (suc service.now.last)
+        (record { status = status; order = order; at = at.now }))) }
+    ensures line { IfOk result (λ text. (e : EventValue) × (text ≡ event_line e)) }
+    ensures fault { IfErr result (λ f. (f ≡ command.OutOfMemory) ⊎ (f ≡ command.Store)) }
+{
+    match service.next_event(status, order, at) {
         Ok(event) => said(alloc, &event),
         Err(fault) => Err(of_outbox(fault)),
     }
@@ -182,16 +278,18 @@ pub fn relay<S: Alter + Drop>(
     ensures line { IfOk result.outcome (λ text.
         (events : List EventValue) × (text ≡ batch_line events)) }
 {
-    match service_of(alloc, conn, source) {
+    match service_of(alloc, conn, source, false) {
         Ok(mut service) => {
             let outcome = rows_line(alloc, &mut service, after);
             let conn = service.into_connection();
             Ended { conn, outcome }
         }
         Err(refused) => {
-            let NotMade { conn, fault } = refused;
-            let outcome = Err(of_outbox(fault));
-            Ended { conn, outcome }
+            let NotServed { conn, fault } = refused;
+            Ended {
+                conn,
+                outcome: Err(fault),
+            }
         }
     }
 }

@@ -1,6 +1,6 @@
 //! A service: its orders, and the rows of its outbox.
 
-ghost use Rattle.std.specs.Prelude.{◌≡◌, ◌≢◌, ◌⊎◌, ◌<◌, ◌≤◌, ◌^◌, ◌+◌, ℕ, pos, List, length, string_bytes, Some, None, IsTrue, OnOk, OnErr, IfOk, IfErr};
+ghost use Rattle.std.specs.Prelude.{◌≡◌, ◌≢◌, ◌⊎◌, ◌<◌, ◌≤◌, ◌^◌, ◌+◌, ℕ, suc, pos, List, length, string_bytes, Some, None, IsTrue, OnOk, OnErr, IfOk, IfErr};
 ghost use Rattle.sqlite_value.specs.declared.value.Value.TheVariants.{Int, Text as Words};
 ghost use Rattle.sqlite_value.specs.Order.{column};
 ghost use Rattle.sqlite.specs.State.{HasCleanDisk};
@@ -163,6 +163,13 @@ fn decide<S: Alter>(
     Ok(())
 }
 
+/// The number behind this one; where there is none, this one.
+fn next_number(last: u64) -> u64
+    ensures { last < max_sequence → result ≡ suc last }
+{
+    if last < MAX { last + 1 } else { last }
+}
+
 impl<S: Alter> Service<S> {
     /// The source of its events: at least one character, no control character, and at most 1,024
     /// bytes.
@@ -197,6 +204,34 @@ impl<S: Alter> Service<S> {
         conn
     }
 
+    /// The event of the next row, where that is this command's: what [`Service::place`],
+    /// [`Service::ship`] or [`Service::cancel`] answers if it is accepted. Nothing is asked of the
+    /// database, so it may be refused all the same. For whoever wants the memory of an answer before
+    /// anything is written. Where no number is left, and no command accepted, it is the event of
+    /// the last number.
+    ///
+    /// The fault is want of memory or, never in fact, `Store`.
+    pub fn next_event(
+        &self,
+        status: Status,
+        order: u64,
+        at: &Moment,
+    ) -> Result<Sequenced, OutboxFault>
+        ensures event { self.now.last < max_sequence → IfOk result (λ e.
+            e ≡ row_event self.now.source (suc self.now.last)
+            (record { status = status; order = order; at = at.now })) }
+        ensures fault { IfErr result (λ f. (f ≡ OutOfMemory) ⊎ (f ≡ Store)) }
+    {
+        event(
+            self.alloc,
+            self.source.as_str(),
+            next_number(self.last),
+            status,
+            order,
+            at.as_str(),
+        )
+    }
+
     /// Decides on a command, makes its event, and only then writes.
     fn accept(&mut self, status: Status, order: u64, at: &Moment) -> Result<Sequenced, OutboxFault>
         requires order { (1 ≤ order) × (order ≤ max_sequence) }
@@ -206,6 +241,9 @@ impl<S: Alter> Service<S> {
             (Accepts self.old.source self.old.base
             (record { status = status; order = order; at = at.now })
             (state S.Store self.old.conn).now (state S.Store self.new.conn).now) }
+        ensures next { IfOk result (λ e. (self.old.last < max_sequence)
+            × (e ≡ row_event self.old.source (suc self.old.last)
+            (record { status = status; order = order; at = at.now }))) }
         ensures refused { HasCleanDisk (state S.Store self.new.conn)
             → IsTrue (state S.Store self.new.conn).is_open
             → IfErr result (λ f. f ≢ OutOfMemory → f ≢ Store
@@ -253,6 +291,9 @@ impl<S: Alter> Service<S> {
             (Accepts self.old.source self.old.base
             (record { status = Placed; order = order; at = at.now })
             (state S.Store self.old.conn).now (state S.Store self.new.conn).now) }
+        ensures next { IfOk result (λ e. (self.old.last < max_sequence)
+            × (e ≡ row_event self.old.source (suc self.old.last)
+            (record { status = Placed; order = order; at = at.now }))) }
         ensures refused { HasCleanDisk (state S.Store self.new.conn)
             → IsTrue (state S.Store self.new.conn).is_open
             → IfErr result (λ f. f ≢ OutOfMemory → f ≢ Store
@@ -280,6 +321,9 @@ impl<S: Alter> Service<S> {
             (Accepts self.old.source self.old.base
             (record { status = Shipped; order = order; at = at.now })
             (state S.Store self.old.conn).now (state S.Store self.new.conn).now) }
+        ensures next { IfOk result (λ e. (self.old.last < max_sequence)
+            × (e ≡ row_event self.old.source (suc self.old.last)
+            (record { status = Shipped; order = order; at = at.now }))) }
         ensures refused { HasCleanDisk (state S.Store self.new.conn)
             → IsTrue (state S.Store self.new.conn).is_open
             → IfErr result (λ f. f ≢ OutOfMemory → f ≢ Store
@@ -307,6 +351,9 @@ impl<S: Alter> Service<S> {
             (Accepts self.old.source self.old.base
             (record { status = Cancelled; order = order; at = at.now })
             (state S.Store self.old.conn).now (state S.Store self.new.conn).now) }
+        ensures next { IfOk result (λ e. (self.old.last < max_sequence)
+            × (e ≡ row_event self.old.source (suc self.old.last)
+            (record { status = Cancelled; order = order; at = at.now }))) }
         ensures refused { HasCleanDisk (state S.Store self.new.conn)
             → IsTrue (state S.Store self.new.conn).is_open
             → IfErr result (λ f. f ≢ OutOfMemory → f ≢ Store

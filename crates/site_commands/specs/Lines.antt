@@ -127,6 +127,7 @@ database_line db number database.NoOrder = order_line number (codes "NoOrder")
 database_line db number database.WrongState = order_line number (codes "WrongState")
 database_line db number database.Full = order_line number (codes "Full")
 database_line db number database.RouteFailed = codes "site: route failed" ++ 10 ∷ []
+database_line db number database.AnotherSource = file_line db (codes "another source")
 
 -- ---- what a plan names
 

@@ -119,6 +119,7 @@ pub fn order<D: Databases>(alloc: Global, databases: &D, request: &Request) -> R
         alloc,
         request.db.as_str(),
         &request.source,
+        request.is_source_named,
         status,
         request.order,
         &request.at,

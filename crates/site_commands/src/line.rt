@@ -160,6 +160,7 @@ fn database_line(
         CommandFault::WrongState => order_line(alloc, number, "WrongState"),
         CommandFault::Full => order_line(alloc, number, "Full"),
         CommandFault::RouteFailed => Text::of(alloc, "site: route failed\n"),
+        CommandFault::AnotherSource => file_line(alloc, db, "another source"),
     }
 }
 

@@ -1,7 +1,8 @@
-use Rattle.std.proofs.Common.{◌∙◌, ap}
-use Rattle.database_commands.specs.Fault.{of_outbox}
+use Rattle.std.proofs.Common.{sym, ap, ◌∙◌}
+use Rattle.database_commands.specs.Print.{event_line}
 use Rattle.database_commands.proofs.service.command_line.Goals as goal
 
-pub returns-in-Err-clause-refused : goal.returns-in-Err-clause-refused
-returns-in-Err-clause-refused g c clean still no_memory no_store =
-    (c.in-Err.fault, c.of_outbox.ensures, c.in-Err.ensures.refused clean still (λ e. no_memory (c.of_outbox.ensures ∙ ap of_outbox e)) (λ e. no_store (c.of_outbox.ensures ∙ ap of_outbox e)))
+pub returns-in-Ok-command-clause-accepted : goal.returns-in-Ok-command-clause-accepted
+returns-in-Ok-command-clause-accepted g c clean =
+    let done = c.in-Ok-command in
+    (done.field-0, c.in-Ok.ensures.next done.ensures.next.0 ∙ ap event_line (sym done.ensures.next.1), done.ensures.accepted clean)

@@ -5,6 +5,7 @@ use Rattle.sqlite.specs.State.{HasCleanDisk}
 use Rattle.outbox.specs.Order.{Accepted}
 use Rattle.database_commands.specs.Fault.{of_outbox}
 use Rattle.database_commands.specs.Held.{KeepsService, Orders}
+use Rattle.database_commands.proofs.HeldLemmas.{on_err, on_ok}
 use Rattle.database_commands.proofs.ServedLemmas.{kept_all, kept_served, ordered, refused_order}
 use Rattle.database_commands.proofs.service.order.Goals as goal
 
@@ -30,7 +31,7 @@ returns-in-Ok-clause-refused g c clean still =
     let open_late : IsTrue (state g.S.Store last.conn).is_open = subst (λ h. IsTrue (state g.S.Store h).is_open) c.into_connection-conn.ensures still in
     let early = c.command_line-outcome.ensures.clean late in
     IfErr-weaker c.command_line-outcome.result _ _
-    (λ f refuses no_memory no_store _. refused_order c.args.source.now old (state g.S.Store mid.conn).now mid.source mid.base (c.in-Ok.ensures.served early) c.args.status c.args.order f (refuses no_memory no_store))
+    (λ f refuses no_memory no_store _ _. refused_order c.args.source.now old (state g.S.Store mid.conn).now mid.source mid.base (c.in-Ok.ensures.served early) c.args.status c.args.order f (refuses no_memory no_store))
     (c.command_line-outcome.ensures.refused late open_late)
 
 pub returns-in-Ok-clause-kept : goal.returns-in-Ok-clause-kept
@@ -41,17 +42,25 @@ returns-in-Ok-clause-kept g c clean still =
     let late : HasCleanDisk (state g.S.Store last.conn) = subst (λ h. HasCleanDisk (state g.S.Store h)) c.into_connection-conn.ensures clean in
     let open_late : IsTrue (state g.S.Store last.conn).is_open = subst (λ h. IsTrue (state g.S.Store h).is_open) c.into_connection-conn.ensures still in
     let early = c.command_line-outcome.ensures.clean late in
-    IfErr-weaker c.command_line-outcome.result _ _
-    (λ f same no_memory. subst (λ h. KeepsService c.args.source.now old (state g.S.Store h).now) (sym c.into_connection-conn.ensures)
-    (kept_served c.args.source.now old (state g.S.Store mid.conn).now mid.source mid.base (c.in-Ok.ensures.served early) (state g.S.Store last.conn).now (same no_memory late open_late)))
+    on_err c.command_line-outcome.result _ _
+    (λ same. subst (λ h. KeepsService c.args.source.now old (state g.S.Store h).now) (sym c.into_connection-conn.ensures)
+    (kept_served c.args.source.now old (state g.S.Store mid.conn).now mid.source mid.base (c.in-Ok.ensures.served early) (state g.S.Store last.conn).now (same late open_late)))
     c.command_line-outcome.ensures.same
 
 pub returns-in-Err-clause-refused : goal.returns-in-Err-clause-refused
-returns-in-Err-clause-refused g c clean still no_memory no_store no_foreign = absurd (elim c.in-Err.ensures.fault [
-  | inl is ↦ no_memory (c.of_outbox.ensures ∙ ap of_outbox is)
-  | inr (inl is) ↦ no_store (c.of_outbox.ensures ∙ ap of_outbox is)
-  | inr (inr is) ↦ no_foreign (c.of_outbox.ensures ∙ ap of_outbox is)
+returns-in-Err-clause-refused g c clean still no_memory no_store no_foreign no_other = absurd (elim c.in-Err.ensures.fault [
+  | inl is ↦ no_memory is
+  | inr (inl is) ↦ no_store is
+  | inr (inr (inl is)) ↦ no_foreign is
+  | inr (inr (inr is)) ↦ no_other is
 ])
 
 pub returns-in-Err-clause-kept : goal.returns-in-Err-clause-kept
-returns-in-Err-clause-kept g c clean still no_memory = kept_all c.args.source.now (state g.S.Store c.args.conn).now (state g.S.Store c.in-Err.refused.conn).now (c.in-Err.ensures.back clean still)
+returns-in-Err-clause-kept g c clean still = kept_all c.args.source.now (state g.S.Store c.args.conn).now (state g.S.Store c.in-Err.refused.conn).now (c.in-Err.ensures.back clean still)
+
+pub returns-in-Ok-clause-meant : goal.returns-in-Ok-clause-meant
+returns-in-Ok-clause-meant g c named clean =
+    let last = c.command_line-outcome.new.service in
+    let late : HasCleanDisk (state g.S.Store last.conn) = subst (λ h. HasCleanDisk (state g.S.Store h)) c.into_connection-conn.ensures clean in
+    let early = c.command_line-outcome.ensures.clean late in
+    on_ok c.command_line-outcome.result _ (λ s b commands h. sym (c.in-Ok.ensures.served early s b commands h).0 ∙ c.in-Ok.ensures.named named)

@@ -1,10 +1,10 @@
-use Rattle.std.proofs.Common.{◌≡◌, rules, subst, sym, ap, ◌∙◌}
-use Rattle.std.proofs.lemmas.Result.{IfOk-weaker}
+use Rattle.std.proofs.Common.{◌≡◌, rules, subst}
+use Rattle.std.specs.Result.{IfOk}
 use Rattle.sqlite.specs.Held.{state}
-use Rattle.outbox.specs.Schema.{has_name}
-use Rattle.outbox.specs.Shown.{HasNoOther}
-use Rattle.database_commands.proofs.HeldLemmas.{both_ok}
-use Rattle.database_commands.proofs.ServedLemmas.{made_served, taken_served}
+use Rattle.sqlite.specs.State.{HasCleanDisk}
+use Rattle.outbox.specs.Shown.{Shown}
+use Rattle.database_commands.specs.Held.{IsServed}
+use Rattle.database_commands.proofs.ServedLemmas.{made_served}
 use Rattle.database_commands.proofs.service.service_of.Goals as goal
 
 pub returns-in-Ok-clause-served : goal.returns-in-Ok-clause-served
@@ -14,8 +14,4 @@ returns-in-Ok-clause-served g c clean =
 pub returns-in-Foreign-clause-served : goal.returns-in-Foreign-clause-served
 returns-in-Foreign-clause-served g c =
     let untouched : c.in-Err.refused.conn ≡ c.args.conn = search rules in
-    let there : has_name (state g.S.Store c.args.conn).now.schema ≡ Rattle.std.proofs.Common.true = c.in-Err.ensures.foreign (search rules) in
-    IfOk-weaker c.adopt.result _ _
-    (λ s f clean.
-    taken_served (state g.S.Store c.args.conn).now (state g.S.Store s.conn).now c.args.source.now s.source s.base there (subst (λ conn. HasNoOther (state g.S.Store conn).now s.source s.base) untouched (f.0 clean)) (f.1.0 clean (f.1.1 clean) ∙ ap (λ conn. (state g.S.Store conn).now) untouched))
-    (both_ok c.adopt.result _ _ c.adopt.ensures.exact (both_ok c.adopt.result _ _ c.adopt.ensures.same c.adopt.ensures.open))
+    subst (λ conn. IfOk c.found.result (λ (s : Shown _). HasCleanDisk (state g.S.Store s.conn) → IsServed c.args.source.now (state g.S.Store conn).now s.source s.base (state g.S.Store s.conn).now)) untouched c.found.ensures.served

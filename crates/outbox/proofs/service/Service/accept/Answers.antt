@@ -1,4 +1,5 @@
-use Rattle.std.proofs.Common.{◌≡◌, ◌+◌, ◌++◌, ◌∷◌, [], List, suc, length, None, Some, ◌∙◌, ap, refl, arith, subst, IsUtf8}
+use Rattle.std.proofs.Common.{◌≡◌, ◌<◌, ◌+◌, ◌++◌, ◌∷◌, [], List, suc, length, None, Some, ◌∙◌, ap, refl, arith, subst, IsUtf8}
+use Rattle.attributes.specs.Sequence.{max_sequence}
 use Rattle.sqlite.specs.State.{HasCleanDisk}
 use Rattle.sqlite.specs.Held.{state}
 use Rattle.outbox.specs.Order.{Accepted, refusal}
@@ -69,3 +70,10 @@ returns-clause-accepted g c clean =
     (λ commands box.
     let done = after_write old mid new c.self.inside.source c.self.inside.base c.self.inside.last (c.self.inside.last + 1) it (commanded c.args.status c.args.order c.args.at.now c.day-day.result c.requires.order (subst IsUtf8 c.as_str-3.ensures c.as_str-3.utf8) c.requires.short c.day-day.ensures) refl c.decide.ensures.same clean_mid stays.1 c.self.invariant.stands (c.in-Ok.ensures.accepted clean_mid) adds commands box in
     (done.0, done.1, event ∙ ap (λ n. row_event c.self.inside.source n it) done.2))
+
+pub returns-clause-next : goal.returns-clause-next
+returns-clause-next g c =
+    let it : Accepted = record { status = c.args.status; order = c.args.order; at = c.args.at.now } in
+    let event : c.in_ok-event.event ≡ row_event c.self.inside.source (c.self.inside.last + 1) it = rw (c.as_str.ensures, c.as_str-2.ensures) at c.in_ok-event.ensures.event in
+    let one : c.self.inside.last + 1 ≡ suc c.self.inside.last = omega arith in
+    subst (λ (v : Shown _). (v.last < max_sequence) × (c.in_ok-event.event ≡ row_event v.source (suc v.last) it)) c.self.view_is (c.in-Ok.ensures.room, event ∙ ap (λ n. row_event c.self.inside.source n it) one)
