@@ -82,7 +82,10 @@ def goals_of(only, changes, lines, room):
     for line in lines:
         answered, searched = ANSWERED.match(line), SEARCHED.match(line)
         if answered:
-            is_of = f"/{answered[1]}".endswith("/" + only.replace("::", "/"))
+            folder, own = f"/{answered[1]}", "/" + only.replace("::", "/")
+            # Functions that call one another have one folder, `+` and a name, in the place of theirs.
+            in_cycle = os.path.basename(folder).startswith("+")
+            is_of = os.path.dirname(folder).endswith(os.path.dirname(own)) if in_cycle else folder.endswith(own)
         elif searched:
             is_of = any(path == searched[1] for path, _, _ in changes) and names_at(room, *searched.groups()[:2]) == name
         if (answered or searched) and is_of:

@@ -135,15 +135,7 @@ impl Databases for HostRuntime {
         at: &Moment,
     ) -> Result<Text, CommandFault> {
         match open(self, name, 0) {
-            Ok(conn) => closed(order(
-                alloc,
-                conn,
-                source,
-                is_source_named,
-                status,
-                number,
-                at,
-            )),
+            Ok(conn) => closed(order(alloc, conn, source, is_source_named, status, number, at)),
             Err(fault) => Err(fault),
         }
     }

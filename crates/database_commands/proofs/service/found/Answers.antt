@@ -1,4 +1,3 @@
-use Rattle.std.proofs.Common.{refl}
 use Rattle.sqlite.specs.Held.{state}
 use Rattle.database_commands.proofs.ServedLemmas.{taken_served}
 use Rattle.database_commands.proofs.service.found.Goals as goal

@@ -1,9 +1,8 @@
-use Rattle.std.proofs.Common.{◌∙◌, inl, inr, IsTrue, ap, subst, sym}
+use Rattle.std.proofs.Common.{◌∙◌, inl, inr, IsTrue, subst, sym}
 use Rattle.std.proofs.lemmas.Result.{IfErr-weaker, IfOk-weaker}
 use Rattle.sqlite.specs.Held.{state}
 use Rattle.sqlite.specs.State.{HasCleanDisk}
 use Rattle.outbox.specs.Order.{Accepted}
-use Rattle.database_commands.specs.Fault.{of_outbox}
 use Rattle.database_commands.specs.Held.{KeepsService, Orders}
 use Rattle.database_commands.proofs.HeldLemmas.{on_err, on_ok}
 use Rattle.database_commands.proofs.ServedLemmas.{kept_all, kept_served, ordered, refused_order}
