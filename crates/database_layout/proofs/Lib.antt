@@ -1,0 +1,2 @@
+pub mod TermLemmas
+pub mod MakingLemmas

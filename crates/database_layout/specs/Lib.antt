@@ -1,0 +1,5 @@
+pub mod Tables
+pub mod Texts
+pub mod Layout
+pub mod Making
+pub mod steps
