@@ -129,7 +129,7 @@ service_made a b c d i j k x y z l after gains has =
     let in_two = record (orders 0) { tree = next_tree (with_one l) } in
     let kept_in_three = first_of (λ t. d.now.trees t.tree ≡ c.now.trees t.tree) (start.tables ++ in_one ∷ []) (in_two ∷ []) three.changed.rows in
     let first : d.now.trees (next_tree start) ≡ [] =
-        last_of (λ t. d.now.trees t.tree ≡ c.now.trees t.tree) start.tables in_one kept_in_three ∙ last_of (λ t. c.now.trees t.tree ≡ b.now.trees t.tree) start.tables in_one two.changed.rows ∙ one.empty.0 in
+    last_of (λ t. d.now.trees t.tree ≡ c.now.trees t.tree) start.tables in_one kept_in_three ∙ last_of (λ t. c.now.trees t.tree ≡ b.now.trees t.tree) start.tables in_one two.changed.rows ∙ one.empty.0 in
     let second : d.now.trees (next_tree (with_one l)) ≡ [] = last_of (λ t. d.now.trees t.tree ≡ c.now.trees t.tree) (start.tables ++ in_one ∷ []) in_two three.changed.rows ∙ two.empty.0 in
     record {
       changed = record {
@@ -241,8 +241,10 @@ inbox_dropped old new count x l there has =
       committed = x.1.committed_is;
       mode = x.1.mode;
     }
+
     task : (l : Layout) → ℕ → Task
     task l tree = record { limit = old.step_limit; keys = (mode_of old).keys; schema = both_in l; table = inbox tree; params = [] }
+
     go : (l : Layout) (tally : Tally) → HasInbox l → Does old.step_limit (mode_of old) [] (record old.now { schema = both_in l }) (statement_of drop_inbox (understood (both_in l) drop_inbox)) None (DropTable (at_place l)) (Ok (tally, new.now)) → IsDatabase new.now
         → Changes (both_in l) (schema_in (upgraded l)) (schema_in (upgraded l)) old new
     go Inbox tally h does sound = done Inbox 0 refl (drops (task Inbox 0) (mode_of old) old.now.trees tally new.now refl refl does) sound

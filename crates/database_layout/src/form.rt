@@ -260,9 +260,7 @@ pub(crate) fn are_inbox(table: &Table, index: &Index, tree: u32) -> bool
     ensures table { IsTrue result → table.now ≡ inbox tree }
     ensures index { IsTrue result → index.now ≡ inbox_index tree }
 {
-    table.tree == tree
-        && is_inbox(table)
-        && is_key_index(index, "sqlite_autoindex_inbox_1", tree)
+    table.tree == tree && is_inbox(table) && is_key_index(index, "sqlite_autoindex_inbox_1", tree)
 }
 
 /// Whether they are an inbox of version 2 in this tree, and its index.
@@ -271,9 +269,7 @@ pub(crate) fn are_inbox2(table: &Table, index: &Index, tree: u32) -> bool
     ensures table { IsTrue result → table.now ≡ inbox2 tree }
     ensures index { IsTrue result → index.now ≡ inbox2_index tree }
 {
-    table.tree == tree
-        && is_inbox2(table)
-        && is_key_index(index, "sqlite_autoindex_inbox2_1", tree)
+    table.tree == tree && is_inbox2(table) && is_key_index(index, "sqlite_autoindex_inbox2_1", tree)
 }
 
 /// Whether an inbox of our form is there, of either version, wherever its rows lie and whatever lies

@@ -139,7 +139,10 @@ impl Layout {
     pub fn has_inbox(self) -> bool
         ensures { IsTrue result → HasInbox self }
     {
-        matches!(self, Layout::Inbox | Layout::InboxService | Layout::ServiceInbox)
+        matches!(
+            self,
+            Layout::Inbox | Layout::InboxService | Layout::ServiceInbox
+        )
     }
 
     /// Whether an inbox of version 2 is among them.
