@@ -5,7 +5,7 @@ use Rattle.sqlite.specs.State.{State, HasCleanDisk}
 use Rattle.attributes.specs.Event.{EventValue}
 use Rattle.outbox.specs.Call.{Accepts, IsSame, Refuses}
 use Rattle.outbox.specs.Order.{Accepted}
-use Rattle.outbox.specs.Schema.{has_name}
+use Rattle.database_layout.specs.Layout.{has_name}
 use Rattle.outbox.specs.Service.{IsService}
 use Rattle.outbox.specs.Shown.{HasNoOther}
 use Rattle.outbox.specs.declared.fault.OutboxFault.{OutboxFault}

@@ -12,7 +12,7 @@ use Rattle.inbox_table.specs.Rows.{IsInbox}
 use Rattle.inbox_table.specs.Schema.{has_inbox}
 use Rattle.outbox.specs.Order.{Accepted, refusal}
 use Rattle.outbox.specs.Row.{row_event, rows_after}
-use Rattle.outbox.specs.Schema.{has_name}
+use Rattle.database_layout.specs.Layout.{has_name}
 use Rattle.outbox.specs.Service.{IsService}
 use Rattle.outbox.specs.declared.fault.OutboxFault.{OutboxFault}
 use Rattle.outbox.specs.declared.status.Status.{Status}

@@ -7,7 +7,7 @@ ghost use Rattle.attributes.specs.Event.{EventValue};
 ghost use Rattle.attributes.specs.Sequence.{max_sequence};
 ghost use Rattle.outbox.specs.Call.{Accepts, IsAsItWas, IsSame, Refuses};
 ghost use Rattle.outbox.specs.Row.{row_event};
-ghost use Rattle.outbox.specs.Schema.{has_name};
+ghost use Rattle.database_layout.specs.Layout.{has_name};
 ghost use Rattle.outbox.specs.declared.fault.OutboxFault.{OutboxFault};
 ghost use Rattle.outbox.specs.declared.fault.OutboxFault.TheVariants.{OutOfMemory, Store};
 ghost use Rattle.relay.specs.Relay.{ForNextRows};
@@ -20,6 +20,7 @@ use crate::Ended;
 use crate::fault::{CommandFault, of_outbox, of_relay};
 use crate::text::{batch_line, event_line};
 use attributes::{Moment, Sequenced, Text};
+use database_layout::has_name;
 use outbox::{NotMade, OutboxFault, Service, Status};
 use relay::{MemoryRoute, Relay};
 use sqlite::{Alter, Connection};
@@ -97,17 +98,17 @@ fn service_of<S: Alter + Drop>(
         × (HasCleanDisk (state S.Store e.conn) → HasAnother source.now (state S.Store conn).now)) }
     ensures fault { IfErr result (λ e. IsNoOrders e.fault) }
 {
+    if has_name(conn.schema()) {
+        return found(alloc, conn, source, is_named);
+    }
     match Service::create(alloc, conn, source, BASE) {
         Ok(service) => Ok(service),
         Err(refused) => {
             let NotMade { conn, fault } = refused;
-            match fault {
-                OutboxFault::Foreign => found(alloc, conn, source, is_named),
-                _ => Err(NotServed {
-                    conn,
-                    fault: of_outbox(fault),
-                }),
-            }
+            Err(NotServed {
+                conn,
+                fault: of_outbox(fault),
+            })
         }
     }
 }

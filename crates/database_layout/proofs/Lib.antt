@@ -1,2 +1,3 @@
 pub mod TermLemmas
 pub mod MakingLemmas
+pub mod LayoutLemmas

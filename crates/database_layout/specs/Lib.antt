@@ -2,4 +2,5 @@ pub mod Tables
 pub mod Texts
 pub mod Layout
 pub mod Making
+pub mod Beside
 pub mod steps

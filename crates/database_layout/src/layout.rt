@@ -6,9 +6,9 @@ ghost use Rattle.database_layout.specs.Layout.{GainsInbox2, GainsService, HasInb
 use crate::form::{are_inbox, are_inbox2, are_service};
 use sqlite_schema::schema::{Index, Schema, Table};
 
-/// Which tables of ours a database has, in the order in which they were made. A schema numbers the
-/// trees of its tables and indexes: a new one gets the number above all others, and a file that is
-/// opened has them from 0 on in order. The number in a comment is that of a part's first tree.
+/// Which tables of ours a database has, in the order in which they were made. The rows of a table lie
+/// in a tree with a number, an index in one of its own; a new one gets the number above all others
+/// and keeps it, so an upgrade leaves a gap. The number in a comment is that of a part's first tree.
 #[derive(Clone, Copy, PartialEq, Eq, Debug)]
 pub enum Layout {
     /// None.
@@ -27,13 +27,13 @@ pub enum Layout {
     Inbox2Service,
     /// A service at 0, an inbox of version 2 at 3.
     ServiceInbox2,
-    /// An inbox at 2, which was made in place of one of version 1 since the database was opened.
+    /// An inbox of version 2 at 2, which was made in place of one of version 1.
     Upgraded,
-    /// Such an inbox at 2, a service at 4.
+    /// Such an inbox at 2, a service at 4, made after the upgrade.
     UpgradedService,
     /// A service at 0, such an inbox at 5.
     ServiceUpgraded,
-    /// A service at 2, such an inbox at 5.
+    /// A service at 2, such an inbox at 5; version 1 had come before the service.
     ShiftedUpgraded,
 }
 

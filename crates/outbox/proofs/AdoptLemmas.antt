@@ -18,13 +18,14 @@ use Rattle.sqlite.specs.State.{State, Shown}
 use Rattle.sqlite.proofs.Callers.{reads_as, one_permutation}
 use Rattle.sqlite_schema.specs.declared.schema.Schema.{Schema}
 use Rattle.outbox.specs.Order.{Accepted}
-use Rattle.outbox.specs.Schema.{service, orders, outbox, schema_in, first_tree}
+use Rattle.database_layout.specs.Tables.{service, orders, outbox}
+use Rattle.outbox.specs.Layout.{schema_in, first_tree}
 use Rattle.outbox.specs.Service.{service_row, order_row, outbox_rows, AreOrders}
 use Rattle.outbox.specs.steps.Change.{shown_row, shown_rows, shown_service, ShowOrders}
-use Rattle.outbox.specs.declared.layout.Layout.{Layout}
+use Rattle.outbox.specs.Layout.{ServiceLayout}
 use Rattle.outbox.proofs.StepLemmas.{has_permuted}
 use Rattle.outbox.proofs.LayoutLemmas.{service_passes, orders_passes, outbox_passes, no_overlay}
-use Rattle.outbox.proofs.TextLemmas.{all_rows_text, all_rows_is, all_rows_plain, all_rows_query, all_orders_text, all_orders_is, all_orders_plain, all_orders_query, service_row_text, service_row_is, service_row_plain, service_query}
+use Rattle.outbox.proofs.TextLemmas.{all_rows_text, all_rows_is, all_rows_query, all_orders_text, all_orders_is, all_orders_query, service_row_text, service_row_is, service_query}
 
 null_is : (v : Value) → is_null v ≡ true → v ≡ Null
 null_is Null h = refl
@@ -87,12 +88,12 @@ outs : (lost : Value) (db : Trees) (rows : List Row) → map (λ (o : Output). o
 outs lost db [] = refl
 outs lost db (r ∷ rows) = ap (λ x. show r ∷ x) (outs lost db rows)
 
-pub adopts_rows : (old last : State) (l : Layout) (n : ℕ) (commands : List Accepted) → old.now.schema ≡ schema_in l → IsDatabase old.now → Shown all_rows_text [] old last (shown_rows n commands)
+pub adopts_rows : (old last : State) (l : ServiceLayout) (n : ℕ) (commands : List Accepted) → old.now.schema ≡ schema_in l → IsDatabase old.now → Shown all_rows_text [] old last (shown_rows n commands)
     → IsPermutation (outbox_rows n commands) (old.now.trees (suc (suc (first_tree l))))
 adopts_rows old last l n commands has sound h =
     let db = old.now.trees in
     let rows = shown_rows n commands in
-    let read = reads_as all_rows_text [] old last (schema_in l) has _ (all_rows_is l).0 (all_rows_plain l) (all_rows_is l).1 rows h in
+    let read = reads_as all_rows_text [] old last (schema_in l) has _ (all_rows_is l).0 (all_rows_is l).1 (all_rows_is l).2 rows h in
     let a : IsAnswerAs Null (all_rows_query (suc (suc (first_tree l)))) (overlay db []) [] rows = read.answer Null in
     let kept = a.distinct ∙ ap (map (output (all_rows_query (suc (suc (first_tree l)))))) (a.grouped ∙ ap (λ rows. flat_map (λ r. matches_as Null (overlay db []) [] end ([] ∷ r ∷ [])) rows) (no_overlay db (suc (suc (first_tree l))))) in
     let shown : map (λ (o : Output). o.1) a.kept ≡ map show (db (suc (suc (first_tree l)))) = ap (map (λ (o : Output). o.1)) kept ∙ outs Null (overlay db []) (db (suc (suc (first_tree l)))) in
@@ -127,11 +128,11 @@ outs_order : (lost : Value) (db : Trees) (rows : List Row) → map (λ (o : Outp
 outs_order lost db [] = refl
 outs_order lost db (r ∷ rows) = ap (λ x. show_order r ∷ x) (outs_order lost db rows)
 
-pub adopts_orders : (old last : State) (l : Layout) (rows : List Row) (commands : List Accepted) → old.now.schema ≡ schema_in l → IsDatabase old.now → Shown all_orders_text [] old last rows → ShowOrders rows commands
+pub adopts_orders : (old last : State) (l : ServiceLayout) (rows : List Row) (commands : List Accepted) → old.now.schema ≡ schema_in l → IsDatabase old.now → Shown all_orders_text [] old last rows → ShowOrders rows commands
     → AreOrders (old.now.trees (suc (first_tree l))) commands
 adopts_orders old last l rows commands has sound h told =
     let db = old.now.trees in
-    let read = reads_as all_orders_text [] old last (schema_in l) has _ (all_orders_is l).0 (all_orders_plain l) (all_orders_is l).1 rows h in
+    let read = reads_as all_orders_text [] old last (schema_in l) has _ (all_orders_is l).0 (all_orders_is l).1 (all_orders_is l).2 rows h in
     let a : IsAnswerAs Null (all_orders_query (suc (first_tree l))) (overlay db []) [] rows = read.answer Null in
     let kept = a.distinct ∙ ap (map (output (all_orders_query (suc (first_tree l))))) (a.grouped ∙ ap (λ rows. flat_map (λ r. matches_as Null (overlay db []) [] end ([] ∷ r ∷ [])) rows) (no_overlay db (suc (first_tree l)))) in
     let shown : map (λ (o : Output). o.1) a.kept ≡ map show_order (db (suc (first_tree l))) = ap (map (λ (o : Output). o.1)) kept ∙ outs_order Null (overlay db []) (db (suc (first_tree l))) in
@@ -173,12 +174,12 @@ outs_service : (lost : Value) (db : Trees) (rows : List Row) → map (λ (o : Ou
 outs_service lost db [] = refl
 outs_service lost db (r ∷ rows) = ap (λ x. show_service r ∷ x) (outs_service lost db rows)
 
-pub adopts_service : (old last : State) (l : Layout) (source : List ℕ) (base : ℕ) → old.now.schema ≡ schema_in l → IsDatabase old.now → Shown service_row_text [] old last (shown_service source base ∷ [])
+pub adopts_service : (old last : State) (l : ServiceLayout) (source : List ℕ) (base : ℕ) → old.now.schema ≡ schema_in l → IsDatabase old.now → Shown service_row_text [] old last (shown_service source base ∷ [])
     → old.now.trees (first_tree l) ≡ service_row source base ∷ []
 adopts_service old last l source base has sound h =
     let db = old.now.trees in
     let rows : List Row = shown_service source base ∷ [] in
-    let read = reads_as service_row_text [] old last (schema_in l) has _ (service_row_is l).0 (service_row_plain l) (service_row_is l).1 rows h in
+    let read = reads_as service_row_text [] old last (schema_in l) has _ (service_row_is l).0 (service_row_is l).1 (service_row_is l).2 rows h in
     let a : IsAnswerAs Null (service_query (first_tree l)) (overlay db []) [] rows = read.answer Null in
     let kept = a.distinct ∙ ap (map (output (service_query (first_tree l)))) (a.grouped ∙ ap (λ rows. flat_map (λ r. matches_as Null (overlay db []) [] end ([] ∷ r ∷ [])) rows) (no_overlay db (first_tree l))) in
     let shown : map (λ (o : Output). o.1) a.kept ≡ map show_service (db (first_tree l)) = ap (map (λ (o : Output). o.1)) kept ∙ outs_service Null (overlay db []) (db (first_tree l)) in
@@ -191,11 +192,11 @@ adopts_service old last l source base has sound h =
 
 -- ---- what the questions show of a service
 
-pub loads_orders : (old last : State) (l : Layout) (rows : List Row) (commands : List Accepted) → old.now.schema ≡ schema_in l → AreOrders (old.now.trees (suc (first_tree l))) commands → Shown all_orders_text [] old last rows → ShowOrders rows commands
+pub loads_orders : (old last : State) (l : ServiceLayout) (rows : List Row) (commands : List Accepted) → old.now.schema ≡ schema_in l → AreOrders (old.now.trees (suc (first_tree l))) commands → Shown all_orders_text [] old last rows → ShowOrders rows commands
 loads_orders old last l rows commands has olds h =
     let db = old.now.trees in
     let t = suc (first_tree l) in
-    let read = reads_as all_orders_text [] old last (schema_in l) has _ (all_orders_is l).0 (all_orders_plain l) (all_orders_is l).1 rows h in
+    let read = reads_as all_orders_text [] old last (schema_in l) has _ (all_orders_is l).0 (all_orders_is l).1 (all_orders_is l).2 rows h in
     let a : IsAnswerAs Null (all_orders_query t) (overlay db []) [] rows = read.answer Null in
     let kept = a.distinct ∙ ap (map (output (all_orders_query t))) (a.grouped ∙ ap (λ rows. flat_map (λ r. matches_as Null (overlay db []) [] end ([] ∷ r ∷ [])) rows) (no_overlay db t)) in
     let shown : map (λ (o : Output). o.1) a.kept ≡ map show_order (db t) = ap (map (λ (o : Output). o.1)) kept ∙ outs_order Null (overlay db []) (db t) in
@@ -209,12 +210,12 @@ loads_orders old last l rows commands has olds h =
       complete = λ order status is. has_permuted (map show_order (db t)) rows cut _ (mapped_has show_order (db t) _ (olds.complete order status is));
     }
 
-pub loads_service : (old last : State) (l : Layout) (source : List ℕ) (base : ℕ) (rows : List Row) → old.now.schema ≡ schema_in l → old.now.trees (first_tree l) ≡ service_row source base ∷ [] → Shown service_row_text [] old last rows
+pub loads_service : (old last : State) (l : ServiceLayout) (source : List ℕ) (base : ℕ) (rows : List Row) → old.now.schema ≡ schema_in l → old.now.trees (first_tree l) ≡ service_row source base ∷ [] → Shown service_row_text [] old last rows
     → rows ≡ shown_service source base ∷ []
 loads_service old last l source base rows has is h =
     let db = old.now.trees in
     let t = first_tree l in
-    let read = reads_as service_row_text [] old last (schema_in l) has _ (service_row_is l).0 (service_row_plain l) (service_row_is l).1 rows h in
+    let read = reads_as service_row_text [] old last (schema_in l) has _ (service_row_is l).0 (service_row_is l).1 (service_row_is l).2 rows h in
     let a : IsAnswerAs Null (service_query t) (overlay db []) [] rows = read.answer Null in
     let kept = a.distinct ∙ ap (map (output (service_query t))) (a.grouped ∙ ap (λ rows. flat_map (λ r. matches_as Null (overlay db []) [] end ([] ∷ r ∷ [])) rows) (no_overlay db t)) in
     let shown : map (λ (o : Output). o.1) a.kept ≡ map show_service (db t) = ap (map (λ (o : Output). o.1)) kept ∙ outs_service Null (overlay db []) (db t) in

@@ -1,27 +1,30 @@
 -- The tables that were found are those of a service.
-use Rattle.std.proofs.Common.{◌≡◌, ◌≢◌, Bool, true, false, ℕ, suc, List, [], ◌∷◌, IsTrue, refl, sym, ap, subst, ◌∙◌, arith, IsPermutation}
+use Rattle.std.proofs.Common.{◌≡◌, ◌≢◌, ◌≤◌, Bool, true, false, ℕ, suc, List, [], ◌∷◌, IsTrue, refl, sym, ap, subst, ◌∙◌, arith, IsPermutation}
 use Rattle.sqlite_value.specs.Order.{Row}
+use Rattle.sqlite_trees.specs.View.{doubt}
 use Rattle.sqlite.specs.Effect.{Database}
 use Rattle.sqlite.specs.State.{State, HasCleanDisk, IsLive, Shown}
 use Rattle.std.specs.BTreeMap.{get}
 use Rattle.std.proofs.Common.{nat_cmp}
 use Rattle.outbox.specs.Order.{Accepted, AreAccepted, status_of}
-use Rattle.outbox.specs.Schema.{first_tree, has_name, lacks_name, schema_in}
+use Rattle.database_layout.specs.Layout.{HasService, has_name, lacks_name, schema_in as whole_schema}
+use Rattle.database_layout.specs.declared.layout.Layout.{Layout}
+use Rattle.outbox.specs.Layout.{first_tree, schema_in}
 use Rattle.outbox.specs.Service.{service_row, outbox_rows, AreOrders, IsService}
 use Rattle.outbox.specs.Shown.{HasNoOther, IsAllowed, IsNoService, Stands}
-use Rattle.outbox.specs.Call.{IsSame}
+use Rattle.outbox.specs.Call.{IsSame, Leaves, LeavesAsBefore}
 use Rattle.outbox.specs.steps.Change.{ShowOrders, shown_rows, shown_service}
 use Rattle.outbox.specs.steps.Replay.{IsReplay}
 use Rattle.outbox.specs.declared.adoption.Replayed.{Replayed}
-use Rattle.outbox.specs.declared.layout.Layout.{Layout}
-use Rattle.outbox.specs.declared.layout.Layout.TheVariants.{Alone, BehindInbox, BeforeInbox}
+use Rattle.outbox.specs.Layout.{ServiceLayout}
+use Rattle.database_layout.specs.declared.layout.Layout.TheVariants.{Service, InboxService, ServiceInbox, Inbox2Service, ServiceInbox2, UpgradedService, ServiceUpgraded, ShiftedUpgraded}
 use Rattle.sqlite_tied.specs.Compute.{everything}
 use Rattle.outbox.proofs.AdoptLemmas.{adopts_rows, adopts_orders, adopts_service, loads_orders, loads_service}
 use Rattle.outbox.proofs.LoadLemmas.{loads_rows}
 use Rattle.outbox.proofs.ReplayLemmas.{rows_tell}
 use Rattle.outbox.proofs.TextLemmas.{all_rows_text, all_orders_text, service_row_text}
 
-pub found : (a b c d : State) (l : Layout) (source : List ℕ) (base : ℕ) (services rows orders : List Row) (r : Replayed) → a.now.schema ≡ schema_in l → HasCleanDisk d → IsTrue d.is_open
+pub found : (a b c d : State) (l : ServiceLayout) (source : List ℕ) (base : ℕ) (services rows orders : List Row) (r : Replayed) → a.now.schema ≡ schema_in l → HasCleanDisk d → IsTrue d.is_open
     → IsSame a b → IsSame b c → IsSame c d → IsLive a → IsLive b → IsLive c
     → (HasCleanDisk b → Shown service_row_text [] a b services) → (HasCleanDisk c → Shown all_rows_text [] b c rows) → (HasCleanDisk d → Shown all_orders_text [] c d orders)
     → services ≡ shown_service source base ∷ [] → IsReplay base rows r
@@ -53,28 +56,45 @@ found a b c d l source base services rows orders r has clean still one two three
       count = replay.last;
     }
 
-pub all_same : (a b c d : State) (l : Layout) → a.now.schema ≡ schema_in l → IsSame a b → IsSame b c → IsSame c d → HasCleanDisk d → IsTrue d.is_open → d.now ≡ a.now
-all_same a b c d l has one two three clean still =
-    let clean_c : HasCleanDisk c = omega (arith, three.clean, clean) in
-    let clean_b : HasCleanDisk b = omega (arith, two.clean, clean_c) in
-    let open_c = three.was_open clean still in
-    let open_b = two.was_open clean_c open_c in
-    let ab : b.now ≡ a.now = (one.same clean_b open_b l has).0 in
-    let has_b : b.now.schema ≡ schema_in l = ap (λ (x : Database). x.schema) ab ∙ has in
-    let bc : c.now ≡ b.now = (two.same clean_c open_c l has_b).0 in
-    let has_c : c.now.schema ≡ schema_in l = ap (λ (x : Database). x.schema) bc ∙ has_b in
-    (three.same clean still l has_c).0 ∙ bc ∙ ab
+-- ---- readings leave the database alone
 
-pub two_same : (a b c : State) (l : Layout) → a.now.schema ≡ schema_in l → IsSame a b → IsSame b c → HasCleanDisk c → IsTrue c.is_open → c.now ≡ a.now
-two_same a b c l has one two clean still =
-    let clean_b : HasCleanDisk b = omega (arith, two.clean, clean) in
-    let open_b = two.was_open clean still in
-    let ab : b.now ≡ a.now = (one.same clean_b open_b l has).0 in
-    let has_b : b.now.schema ≡ schema_in l = ap (λ (x : Database). x.schema) ab ∙ has in
-    (two.same clean still l has_b).0 ∙ ab
+pub one_leaves : (a b : State) (l : Layout) (h : HasService l) → a.now.schema ≡ whole_schema l → IsSame a b → LeavesAsBefore a b → Leaves a b
+one_leaves a b l h has one crash = record { clean = one.clean; same = λ clean still. (one.same clean still (l, h) has).0; crash = λ clean. crash clean (l, h) has }
 
-pub one_same : (a b : State) (l : Layout) → a.now.schema ≡ schema_in l → IsSame a b → HasCleanDisk b → IsTrue b.is_open → b.now ≡ a.now
-one_same a b l has one clean still = (one.same clean still l has).0
+pub two_leave : (a b c : State) (l : Layout) (h : HasService l) → a.now.schema ≡ whole_schema l → IsSame a b → LeavesAsBefore a b → (HasCleanDisk b → IsTrue a.is_open × IsTrue b.is_open) → IsSame b c → LeavesAsBefore b c → Leaves a c
+two_leave a b c l h has one crash_b open_b two crash_c = record {
+  clean = (let e : doubt a.is_clean ≤ doubt c.is_clean = omega (arith, one.clean, two.clean) in e);
+  same = λ clean still. (two.same clean still (l, h) (has_b clean)).0 ∙ is clean;
+  crash = λ clean db may. crash_b (clean_b clean) (l, h) has db (crash_c clean (l, h) (has_b clean) db may);
+}
+  where
+    clean_b : HasCleanDisk c → HasCleanDisk b
+    clean_b clean = omega (arith, two.clean, clean)
+
+    is : HasCleanDisk c → b.now ≡ a.now
+    is clean = (one.same (clean_b clean) (open_b (clean_b clean)).1 (l, h) has).0
+
+    has_b : HasCleanDisk c → b.now.schema ≡ whole_schema l
+    has_b clean = ap (λ (x : Database). x.schema) (is clean) ∙ has
+
+pub all_leave : (a b c d : State) (l : Layout) (h : HasService l) → a.now.schema ≡ whole_schema l → IsSame a b → LeavesAsBefore a b → (HasCleanDisk b → IsTrue a.is_open × IsTrue b.is_open) → IsSame b c → LeavesAsBefore b c → (HasCleanDisk c → IsTrue b.is_open × IsTrue c.is_open) → IsSame c d → LeavesAsBefore c d → Leaves a d
+all_leave a b c d l h has one crash_b open_b two crash_c open_c three crash_d = record {
+  clean = (let e : doubt a.is_clean ≤ doubt d.is_clean = omega (arith, first.clean, three.clean) in e);
+  same = λ clean still. (three.same clean still (l, h) (has_c clean)).0 ∙ is clean;
+  crash = λ clean db may. first.crash (clean_c clean) db (crash_d clean (l, h) (has_c clean) db may);
+}
+  where
+    first : Leaves a c
+    first = two_leave a b c l h has one crash_b open_b two crash_c
+
+    clean_c : HasCleanDisk d → HasCleanDisk c
+    clean_c clean = omega (arith, three.clean, clean)
+
+    is : HasCleanDisk d → c.now ≡ a.now
+    is clean = first.same (clean_c clean) (open_c (clean_c clean)).1
+
+    has_c : HasCleanDisk d → c.now.schema ≡ whole_schema l
+    has_c clean = ap (λ (x : Database). x.schema) (is clean) ∙ has
 
 -- ---- a database that is no service's
 
@@ -114,14 +134,26 @@ pub not_both : (b : Bool) → b ≡ true → b ≡ false → ⊥
 not_both b holds fails = absurd (let e : ◌≡◌ {A = Bool} true false = sym holds ∙ fails in cc)
 
 -- the schema of a service lacks none of its tables
-pub all_named : (l : Layout) → lacks_name (schema_in l) ≡ false
+pub all_named : (l : ServiceLayout) → lacks_name (schema_in l) ≡ false
 unfolding everything
-all_named Alone = refl
-all_named BehindInbox = refl
-all_named BeforeInbox = refl
+all_named (Service, h) = refl
+all_named (InboxService, h) = refl
+all_named (ServiceInbox, h) = refl
+all_named (Inbox2Service, h) = refl
+all_named (ServiceInbox2, h) = refl
+all_named (UpgradedService, h) = refl
+all_named (ServiceUpgraded, h) = refl
+all_named (ShiftedUpgraded, h) = refl
+all_named (_, h) = absurd h
 
-pub has_all : (l : Layout) → has_name (schema_in l) ≡ true
+pub has_all : (l : ServiceLayout) → has_name (schema_in l) ≡ true
 unfolding everything
-has_all Alone = refl
-has_all BehindInbox = refl
-has_all BeforeInbox = refl
+has_all (Service, h) = refl
+has_all (InboxService, h) = refl
+has_all (ServiceInbox, h) = refl
+has_all (Inbox2Service, h) = refl
+has_all (ServiceInbox2, h) = refl
+has_all (UpgradedService, h) = refl
+has_all (ServiceUpgraded, h) = refl
+has_all (ShiftedUpgraded, h) = refl
+has_all (_, h) = absurd h

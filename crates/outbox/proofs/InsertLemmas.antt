@@ -8,36 +8,41 @@ use Rattle.sqlite_schema.specs.declared.command.Source.TheVariants.{Values}
 use Rattle.sqlite_schema.specs.declared.command.Command.TheVariants.{Insert}
 use Rattle.sqlite_rules.specs.declared.error.Rowids.TheVariants.{Chosen}
 use Rattle.sqlite_rules.specs.Edit.{edit_of, is_taken, taken_by, with_rowid}
-use Rattle.sqlite.specs.Effect.{Database}
+use Rattle.sqlite.specs.Effect.{Database, IsDatabase}
 use Rattle.sqlite.specs.Rows.{Written, Task, Edited, count_of, rowids_for}
 use Rattle.sqlite.specs.Does.{Tally, Does, AtPlace, OnRows}
 use Rattle.sqlite.specs.State.{State, mode_of, Executes}
 use Rattle.sqlite.specs.Listing.{understood}
 use Rattle.sqlite.proofs.Callers.{statement_of, runs_as, one_step}
 use Rattle.outbox.specs.Order.{Accepted}
-use Rattle.outbox.specs.Schema.{service, outbox, schema_in, first_tree}
+use Rattle.database_layout.specs.Tables.{service, outbox}
+use Rattle.database_layout.specs.Beside.{HasAnyInbox}
+use Rattle.database_layout.specs.Layout.{inbox_tree}
+use Rattle.outbox.specs.Layout.{schema_in, first_tree}
 use Rattle.outbox.specs.Service.{code, service_row, outbox_row}
-use Rattle.outbox.specs.declared.layout.Layout.{Layout}
+use Rattle.outbox.specs.Layout.{ServiceLayout}
 use Rattle.outbox.proofs.StepLemmas.{went, same_value, put_new}
 use Rattle.outbox.proofs.PutLemmas.{cast_outbox, cast_service}
-use Rattle.outbox.proofs.LayoutLemmas.{service_listed, outbox_listed, no_works, no_index_0, no_index_1, no_index_2}
-use Rattle.outbox.proofs.TextLemmas.{first_table, found_text, found_is, found_plain, found_terms, append_text, append_is, append_plain, append_terms}
+use Rattle.outbox.proofs.LayoutLemmas.{service_listed, outbox_listed, no_works, no_index_0, no_index_1, no_index_2, apart, apart_first}
+use Rattle.outbox.proofs.TextLemmas.{first_table, found_text, found_is, found_terms, append_text, append_is, append_terms}
 
 not_true : (b : Bool) → (not b && true) ≡ true → b ≡ false
 not_true true h = absurd (cc)
 not_true false h = refl
 
 -- the trees after a row was appended
-pub record Appends (tree number : ℕ) (c : Accepted) (db next : Trees) : Type 0 where
-  pub outbox : IsPermutation (outbox_row number c ∷ db (suc (suc tree))) (next (suc (suc tree)))
-  pub service : next tree ≡ db tree
-  pub orders : next (suc tree) ≡ db (suc tree)
+pub record Appends (l : ServiceLayout) (number : ℕ) (c : Accepted) (db next : Trees) : Type 0 where
+  pub outbox : IsPermutation (outbox_row number c ∷ db (suc (suc (first_tree l)))) (next (suc (suc (first_tree l))))
+  pub service : next (first_tree l) ≡ db (first_tree l)
+  pub orders : next (suc (first_tree l)) ≡ db (suc (first_tree l))
+  pub beside : HasAnyInbox l.0 → next (inbox_tree l.0) ≡ db (inbox_tree l.0)
 
 -- the trees after the row of `service` was put in
-pub record Founds (tree : ℕ) (source : List ℕ) (base : ℕ) (db next : Trees) : Type 0 where
-  pub service : IsPermutation (service_row source base ∷ db tree) (next tree)
-  pub orders : next (suc tree) ≡ db (suc tree)
-  pub outbox : next (suc (suc tree)) ≡ db (suc (suc tree))
+pub record Founds (l : ServiceLayout) (source : List ℕ) (base : ℕ) (db next : Trees) : Type 0 where
+  pub service : IsPermutation (service_row source base ∷ db (first_tree l)) (next (first_tree l))
+  pub orders : next (suc (first_tree l)) ≡ db (suc (first_tree l))
+  pub outbox : next (suc (suc (first_tree l))) ≡ db (suc (suc (first_tree l)))
+  pub beside : HasAnyInbox l.0 → next (inbox_tree l.0) ≡ db (inbox_tree l.0)
 
 abbrev pub append_params : ℕ → Accepted → Row
 append_params number c = Int (pos number) ∷ Int (pos (code c.status)) ∷ Int (pos c.order) ∷ Words c.at ∷ []
@@ -45,8 +50,8 @@ append_params number c = Int (pos number) ∷ Int (pos (code c.status)) ∷ Int 
 abbrev pub found_params : List ℕ → ℕ → Row
 found_params source base = Int (pos 1) ∷ Words source ∷ Int (pos base) ∷ []
 
-pub appends : (old last : State) (l : Layout) (number : ℕ) (c : Accepted) (count : ℕ) → old.now.schema ≡ schema_in l
-    → Executes append_text (append_params number c) old last (Ok count) → (last.now.schema ≡ schema_in l) × Appends (first_tree l) number c old.now.trees last.now.trees
+pub appends : (old last : State) (l : ServiceLayout) (number : ℕ) (c : Accepted) (count : ℕ) → old.now.schema ≡ schema_in l
+    → Executes append_text (append_params number c) old last (Ok count) → (last.now.schema ≡ schema_in l) × Appends l number c old.now.trees last.now.trees × IsDatabase last.now
 unfolding unary
 appends old last l number c count has h =
     let params = (append_params number c) in
@@ -57,7 +62,7 @@ appends old last l number c count has h =
     let command = Insert (suc (suc (first_table l))) (Values append_terms 5) in
     let keys = (mode_of old).keys in
     let new = outbox_row number c in
-    let w = runs_as append_text params old last schema has command (append_is l) (append_plain l) count h in
+    let w = runs_as append_text params old last schema has command (append_is l).0 (append_is l).1 count h in
     let text = statement_of append_text (understood schema append_text) in
     let task : Task = record { limit = old.step_limit; keys = keys; schema = schema; table = table; params = params } in
     let does = subst (λ s. Does old.step_limit (mode_of old) params (record old.now { schema = s }) text None command (Ok (w.tally, last.now))) has w.changed in
@@ -78,11 +83,12 @@ appends old last l number c count has h =
     let trees : last.now.trees ≡ wrote.0 = ap (λ (p : Tally × Database). p.1.trees) end ∙ ap (λ (it : Written). it.trees) (same_value counted.2) ∙ same_value counted.1 in
     let put : IsPermutation (new ∷ db tree) (last.now.trees tree) = subst (IsPermutation (new ∷ db tree)) (sym (ap (λ (t : Trees). t tree) trees ∙ rows)) (put_new new (db tree) free) in (
       ap (λ (p : Tally × Database). p.1.schema) end,
-      record { outbox = put; service = ap (λ (t : Trees). t (first_tree l)) trees ∙ step.others (first_tree l) (λ e. absurd (omega (arith, e))) (no_index_0 l); orders = ap (λ (t : Trees). t (suc (first_tree l))) trees ∙ step.others (suc (first_tree l)) (λ e. absurd (omega (arith, e))) (no_index_1 l) },
+      record { outbox = put; service = ap (λ (t : Trees). t (first_tree l)) trees ∙ step.others (first_tree l) (λ e. absurd (omega (arith, e))) (no_index_0 l); orders = ap (λ (t : Trees). t (suc (first_tree l))) trees ∙ step.others (suc (first_tree l)) (λ e. absurd (omega (arith, e))) (no_index_1 l); beside = λ has. let away = apart l has in ap (λ (t : Trees). t (inbox_tree l.0)) trees ∙ step.others (inbox_tree l.0) away.1 away.2 },
+      w.sound,
     )
 
-pub founds : (old last : State) (l : Layout) (source : List ℕ) (base : ℕ) (count : ℕ) → old.now.schema ≡ schema_in l
-    → Executes found_text (found_params source base) old last (Ok count) → (last.now.schema ≡ schema_in l) × Founds (first_tree l) source base old.now.trees last.now.trees
+pub founds : (old last : State) (l : ServiceLayout) (source : List ℕ) (base : ℕ) (count : ℕ) → old.now.schema ≡ schema_in l
+    → Executes found_text (found_params source base) old last (Ok count) → (last.now.schema ≡ schema_in l) × Founds l source base old.now.trees last.now.trees × IsDatabase last.now
 unfolding unary
 founds old last l source base count has h =
     let params = (found_params source base) in
@@ -93,7 +99,7 @@ founds old last l source base count has h =
     let command = Insert (first_table l) (Values found_terms 4) in
     let keys = (mode_of old).keys in
     let new = service_row source base in
-    let w = runs_as found_text params old last schema has command (found_is l) (found_plain l) count h in
+    let w = runs_as found_text params old last schema has command (found_is l).0 (found_is l).1 count h in
     let text = statement_of found_text (understood schema found_text) in
     let task : Task = record { limit = old.step_limit; keys = keys; schema = schema; table = table; params = params } in
     let does = subst (λ s. Does old.step_limit (mode_of old) params (record old.now { schema = s }) text None command (Ok (w.tally, last.now))) has w.changed in
@@ -114,5 +120,6 @@ founds old last l source base count has h =
     let trees : last.now.trees ≡ wrote.0 = ap (λ (p : Tally × Database). p.1.trees) end ∙ ap (λ (it : Written). it.trees) (same_value counted.2) ∙ same_value counted.1 in
     let put : IsPermutation (new ∷ db tree) (last.now.trees tree) = subst (IsPermutation (new ∷ db tree)) (sym (ap (λ (t : Trees). t tree) trees ∙ rows)) (put_new new (db tree) free) in (
       ap (λ (p : Tally × Database). p.1.schema) end,
-      record { service = put; orders = ap (λ (t : Trees). t (suc (first_tree l))) trees ∙ step.others (suc (first_tree l)) (λ e. absurd (omega (arith, e))) (no_index_1 l); outbox = ap (λ (t : Trees). t (suc (suc (first_tree l)))) trees ∙ step.others (suc (suc (first_tree l))) (λ e. absurd (omega (arith, e))) (no_index_2 l) },
+      record { service = put; orders = ap (λ (t : Trees). t (suc (first_tree l))) trees ∙ step.others (suc (first_tree l)) (λ e. absurd (omega (arith, e))) (no_index_1 l); outbox = ap (λ (t : Trees). t (suc (suc (first_tree l)))) trees ∙ step.others (suc (suc (first_tree l))) (λ e. absurd (omega (arith, e))) (no_index_2 l); beside = λ has. let away = apart l has in ap (λ (t : Trees). t (inbox_tree l.0)) trees ∙ step.others (inbox_tree l.0) (apart_first l has) away.2 },
+      w.sound,
     )

@@ -13,4 +13,3 @@ pub mod AdoptLemmas
 pub mod ReplayLemmas
 pub mod FoundLemmas
 pub mod CreateLemmas
-pub mod TermLemmas

@@ -23,19 +23,23 @@ use Rattle.sqlite.specs.State.{State, mode_of, Executes}
 use Rattle.sqlite.specs.Listing.{understood}
 use Rattle.sqlite.proofs.Callers.{statement_of, runs_as, one_step}
 use Rattle.outbox.specs.Order.{Accepted}
-use Rattle.outbox.specs.Schema.{orders, schema_in, first_tree}
+use Rattle.database_layout.specs.Tables.{orders}
+use Rattle.database_layout.specs.Beside.{HasAnyInbox}
+use Rattle.database_layout.specs.Layout.{inbox_tree}
+use Rattle.outbox.specs.Layout.{schema_in, first_tree}
 use Rattle.outbox.specs.Service.{code, order_row, AreOrders}
-use Rattle.outbox.specs.declared.layout.Layout.{Layout}
+use Rattle.outbox.specs.Layout.{ServiceLayout}
 use Rattle.outbox.proofs.StepLemmas.{went, same_value, put_new}
 use Rattle.outbox.proofs.PutLemmas.{cast_order, noted, within_all, stays_in, conflict_is, same_int}
-use Rattle.outbox.proofs.LayoutLemmas.{orders_listed, no_works, no_index_0, no_index_2, no_unique}
-use Rattle.outbox.proofs.TextLemmas.{first_table, note_text, note_is, note_plain, note_terms}
+use Rattle.outbox.proofs.LayoutLemmas.{orders_listed, no_works, no_index_0, no_index_2, no_unique, apart}
+use Rattle.outbox.proofs.TextLemmas.{first_table, note_text, note_is, note_terms}
 
 -- the trees after a status was noted
-pub record Notes (l : Layout) (commands : List Accepted) (c : Accepted) (db next : Trees) : Type 0 where
+pub record Notes (l : ServiceLayout) (commands : List Accepted) (c : Accepted) (db next : Trees) : Type 0 where
   pub orders : AreOrders (next (suc (first_tree l))) (commands ++ c ∷ [])
   pub service : next (first_tree l) ≡ db (first_tree l)
   pub outbox : next (suc (suc (first_tree l))) ≡ db (suc (suc (first_tree l)))
+  pub beside : HasAnyInbox l.0 → next (inbox_tree l.0) ≡ db (inbox_tree l.0)
 
 abbrev pub note_params : Accepted → Row
 note_params c = Int (pos c.order) ∷ Int (pos (code c.status)) ∷ []
@@ -48,7 +52,7 @@ not_true : (b : Bool) → (not b && true) ≡ true → b ≡ false
 not_true true h = absurd (cc)
 not_true false h = refl
 
-module _ (l : Layout) (limit : Option ℕ) (keys : Keys) (params : Row) (db : Trees) (commands : List Accepted) (c : Accepted) (olds : AreOrders (db (suc (first_tree l))) commands) where
+module _ (l : ServiceLayout) (limit : Option ℕ) (keys : Keys) (params : Row) (db : Trees) (commands : List Accepted) (c : Accepted) (olds : AreOrders (db (suc (first_tree l))) commands) where
   abbrev task : Task
   task = record { limit = limit; keys = keys; schema = (schema_in l); table = orders (suc (first_tree l)); params = params }
 
@@ -56,8 +60,8 @@ module _ (l : Layout) (limit : Option ℕ) (keys : Keys) (params : Row) (db : Tr
   new = order_row c.order c.status
 
   put : (from : Trees) → ((r : Row) → Has (from (suc (first_tree l))) r → Has (db (suc (first_tree l))) r) → ((m : ℕ) (s : _) → eqb m c.order ≡ false → Has (db (suc (first_tree l))) (order_row m s) → Has (from (suc (first_tree l))) (order_row m s))
-      → from (first_tree l) ≡ db (first_tree l) → from (suc (suc (first_tree l))) ≡ db (suc (suc (first_tree l))) → (one : Written) → Puts task new from (Ok one) → Notes l commands c db one.trees
-  put from within keeps service outbox one h =
+      → from (first_tree l) ≡ db (first_tree l) → from (suc (suc (first_tree l))) ≡ db (suc (suc (first_tree l))) → (HasAnyInbox l.0 → from (inbox_tree l.0) ≡ db (inbox_tree l.0)) → (one : Written) → Puts task new from (Ok one) → Notes l commands c db one.trees
+  put from within keeps service outbox beside one h =
       let it = went h in
       let edit = edit_of from (orders (suc (first_tree l))) [] Given 0 (new ∷ []) in
       let step = one_step (schema_in l) keys from it.0 edit (no_works l keys (suc (first_tree l)) (taken_by from edit) edit.news) it.1 in
@@ -69,6 +73,7 @@ module _ (l : Layout) (limit : Option ℕ) (keys : Keys) (params : Row) (db : Tr
         orders = noted (db (suc (first_tree l))) (from (suc (first_tree l))) (one.trees (suc (first_tree l))) commands c within keeps free (subst (IsPermutation (new ∷ from (suc (first_tree l)))) (sym (ap (λ (t : Trees). t (suc (first_tree l))) is ∙ rows)) (put_new new (from (suc (first_tree l))) free)) olds;
         service = ap (λ (t : Trees). t (first_tree l)) is ∙ step.others (first_tree l) (λ e. absurd (omega (arith, e))) (no_index_0 l) ∙ service;
         outbox = ap (λ (t : Trees). t (suc (suc (first_tree l)))) is ∙ step.others (suc (suc (first_tree l))) (λ e. absurd (omega (arith, e))) (no_index_2 l) ∙ outbox;
+        beside = λ has. let away = apart l has in ap (λ (t : Trees). t (inbox_tree l.0)) is ∙ step.others (inbox_tree l.0) away.0 away.2 ∙ beside has;
       }
 
   all_of_order : (found : List Row) → ((x : Row) → Has found x → (r : Row) × Has (db (suc (first_tree l))) r × (conflicts None (schema_in l).indexes (orders (suc (first_tree l))) new r ≡ true) × (x ≡ rowid r ∷ []))
@@ -83,7 +88,7 @@ module _ (l : Layout) (limit : Option ℕ) (keys : Keys) (params : Row) (db : Tr
   all_of_order (x ∷ found) sound id (inr h) = all_of_order found (λ y k. sound y (inr k)) id h
 
   cleared : (one : Written) (found : List Row) → AreConflicts None (schema_in l).indexes (orders (suc (first_tree l))) (db (suc (first_tree l))) new found → Clears task Replace new db found (Ok one) → Notes l commands c db one.trees
-  cleared one [] real h = put db (λ r k. k) (λ m s e k. k) refl refl one h
+  cleared one [] real h = put db (λ r k. k) (λ m s e k. k) refl refl (λ has. refl) one h
   cleared one (x ∷ more) real h =
       let it = went h in
       let edit = edit_of db (orders (suc (first_tree l))) (ids_of (x ∷ more)) Given 0 [] in
@@ -93,7 +98,7 @@ module _ (l : Layout) (limit : Option ℕ) (keys : Keys) (params : Row) (db : Tr
       (λ m s apart k. subst (λ l. Has l (order_row m s)) (sym rows)
       (stays_in (ids_of (x ∷ more)) (db (suc (first_tree l))) (order_row m s)
       (λ id gone. ap (λ i. has_rowid i (order_row m s)) (all_of_order (x ∷ more) real.sound id gone) ∙ ap is_eq (value_cmp-Int (pos m) (pos c.order)) ∙ same_int m c.order ∙ apart) k))
-      (step.others (first_tree l) (λ e. absurd (omega (arith, e))) (no_index_0 l)) (step.others (suc (suc (first_tree l))) (λ e. absurd (omega (arith, e))) (no_index_2 l)) one it.2
+      (step.others (first_tree l) (λ e. absurd (omega (arith, e))) (no_index_0 l)) (step.others (suc (suc (first_tree l))) (λ e. absurd (omega (arith, e))) (no_index_2 l)) (λ has. let away = apart l has in step.others (inbox_tree l.0) away.0 away.2) one it.2
 
   pub tried : (one : Written) → Tries task Replace [] new db (Ok one) → Notes l commands c db one.trees
   tried one (inl big) = absurd (let b = big.1 in cc)
@@ -108,14 +113,14 @@ module _ (l : Layout) (limit : Option ℕ) (keys : Keys) (params : Row) (db : Tr
       let same : done.0.trees ≡ it.0.trees = ap (λ (p : Written × ℤ). p.0.trees) (same_value it.2) in
       subst (Notes l commands c db) (sym same) left
 
-pub notes : (old last : State) (l : Layout) (commands : List Accepted) (c : Accepted) (count : ℕ) → old.now.schema ≡ (schema_in l) → AreOrders (old.now.trees (suc (first_tree l))) commands
+pub notes : (old last : State) (l : ServiceLayout) (commands : List Accepted) (c : Accepted) (count : ℕ) → old.now.schema ≡ (schema_in l) → AreOrders (old.now.trees (suc (first_tree l))) commands
     → Executes note_text (note_params c) old last (Ok count) → (last.now.schema ≡ (schema_in l)) × Notes l commands c old.now.trees last.now.trees
 unfolding unary
 notes old last l commands c count has olds h =
     let params = note_params c in
     let db = old.now.trees in
     let command = InsertOr (suc (first_table l)) Replace (Values note_terms 3) [] in
-    let w = runs_as note_text params old last (schema_in l) has command (note_is l) (note_plain l) count h in
+    let w = runs_as note_text params old last (schema_in l) has command (note_is l).0 (note_is l).1 count h in
     let text = statement_of note_text (understood (schema_in l) note_text) in
     let does = subst (λ s. Does old.step_limit (mode_of old) params (record old.now { schema = s }) text None command (Ok (w.tally, last.now))) has w.changed in
     let done = went (subst (λ o. AtPlace (λ table. OnRows (record { limit = old.step_limit; keys = (mode_of old).keys; schema = schema_in l; table = table; params = params }) (mode_of old) None command db) o (Ok (w.tally, last.now))) (orders_listed l) does) in

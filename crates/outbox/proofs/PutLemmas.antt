@@ -20,7 +20,7 @@ use Rattle.sqlite_rules.specs.Keys.{conflicts}
 use Rattle.sqlite_rules.specs.Lists.{Has}
 use Rattle.outbox.specs.Order.{Accepted, AreAccepted, IsCommand, refusal, status_of}
 use Rattle.outbox.specs.declared.status.Status.{Status}
-use Rattle.outbox.specs.Schema.{service, orders, outbox}
+use Rattle.database_layout.specs.Tables.{service, orders, outbox}
 use Rattle.outbox.specs.Service.{order_row, outbox_row, outbox_rows, AreOrders}
 use Rattle.outbox.proofs.StepLemmas.{has_permuted}
 

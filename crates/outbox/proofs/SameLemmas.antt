@@ -6,11 +6,11 @@ use Rattle.sqlite_schema.specs.declared.command.Returning.{Returning}
 use Rattle.sqlite.specs.declared.error.Error.{Error}
 use Rattle.sqlite.specs.Clock.{timed}
 use Rattle.sqlite.specs.Listing.{understood}
-use Rattle.sqlite.specs.State.{State, HasCleanDisk, Survives, IsUnchanged, IsRolledBack, FailsToQuery, FailsToShow, IsNotRun, Shown, ShowsRows}
+use Rattle.sqlite.specs.State.{State, HasCleanDisk, Survives, IsUnchanged, IsRolledBack, FailsToQuery, CommitsShowing, FailsToShow, IsNotRun, Shown, ShowsRows}
 use Rattle.sqlite.proofs.Callers.{IsPlain}
-use Rattle.outbox.specs.Schema.{schema_in}
-use Rattle.outbox.specs.Call.{IsSame}
-use Rattle.outbox.specs.declared.layout.Layout.{Layout}
+use Rattle.outbox.specs.Layout.{schema_in}
+use Rattle.outbox.specs.Call.{IsSame, LeavesAsBefore}
+use Rattle.outbox.specs.Layout.{ServiceLayout}
 
 pub not_shown : (sql : List ℕ) (params : Row) (old new : State) (e : Error) → FailsToQuery sql params old new e → IsUnchanged old new ⊎ IsRolledBack old new
 unfolding FailsToQuery IsNotRun
@@ -24,7 +24,7 @@ not_shown sql params old new e (inr (c, it, shows)) = go c.returning shows
     go (Some what) (inr h) = inr h.3
 
 -- the answer of a query that writes nothing
-pub shown : (l : Layout) (sql : List ℕ) (params : Row) (old new : State) (rows : List Row) → IsPlain (understood (schema_in l) sql) → old.now.schema ≡ schema_in l → Shown sql params old new rows → IsUnchanged old new
+pub shown : (l : ServiceLayout) (sql : List ℕ) (params : Row) (old new : State) (rows : List Row) → IsPlain (understood (schema_in l) sql) → old.now.schema ≡ schema_in l → Shown sql params old new rows → IsUnchanged old new
 unfolding Shown
 shown l sql params old new rows plain has h =
     let known = sym h.1.is ∙ ap (λ s. understood s sql) has in
@@ -39,8 +39,26 @@ open_where : (old new : State) → IsUnchanged old new ⊎ IsRolledBack old new 
 open_where old new (inl h) still = h.0.was_open
 open_where old new (inr h) still = h.was_open still
 
-pub refused_same : (sql : List ℕ) (params : Row) (old new : State) (e : Error) (P : Trees → Type 0) → Survives old new P → (IsTrue old.is_open → old.now ≡ old.committed) → (HasCleanDisk new → FailsToQuery sql params old new e) → IsSame old new
-refused_same sql params old new e P survives settled fails = record {
+-- a query that is plain under the schema commits nothing
+no_commit : (l : ServiceLayout) (sql : List ℕ) (params : Row) (s : State) (db : Trees) → IsPlain (understood (schema_in l) sql) → s.now.schema ≡ schema_in l → ¬ CommitsShowing sql params s db
+unfolding CommitsShowing
+no_commit l sql params s db plain has h =
+    let known = sym h.1.is ∙ ap (λ x. understood x sql) has in
+    let bare = subst IsPlain (sym known) plain in
+    absurd (let e = (rw bare.0 at h.2) in cc)
+
+abbrev ArePlain : List ℕ → Type 0
+ArePlain sql = (l : ServiceLayout) → IsPlain (understood (schema_in l) sql)
+
+pub leaves : (sql : List ℕ) (params : Row) (old new : State) → ArePlain sql → Survives old new (CommitsShowing sql params old) → LeavesAsBefore old new
+leaves sql params old new plain survives clean l has db may = go (survives.crash clean db may)
+  where
+    go : old.may_leave db ⊎ CommitsShowing sql params old db → old.may_leave db
+    go (inl before) = before
+    go (inr commits) = absurd (no_commit l sql params old db (plain l) has commits)
+
+pub refused_same : (sql : List ℕ) (params : Row) (old new : State) (e : Error) → Survives old new (CommitsShowing sql params old) → (IsTrue old.is_open → old.now ≡ old.committed) → (HasCleanDisk new → FailsToQuery sql params old new e) → IsSame old new
+refused_same sql params old new e survives settled fails = record {
   clean = survives.clean;
   was_open = λ clean still. open_where old new (not_shown sql params old new e (fails clean)) still;
   same = λ clean still l has. let how = not_shown sql params old new e (fails clean) in same_where old new (settled (open_where old new how still)) how still;
@@ -62,8 +80,8 @@ shown_stays_open sql params old new rows h = go h.0.returning h.2
     go None k = k.3.0.is_open
     go (Some what) k = k.1.shown.is_open
 
-pub answered_same : (sql : List ℕ) (params : Row) (old new : State) (rows : List Row) (P : Trees → Type 0) → ((l : Layout) → IsPlain (understood (schema_in l) sql)) → Survives old new P → (HasCleanDisk new → Shown sql params old new rows) → IsSame old new
-answered_same sql params old new rows P plain survives shows = record {
+pub answered_same : (sql : List ℕ) (params : Row) (old new : State) (rows : List Row) → ArePlain sql → Survives old new (CommitsShowing sql params old) → (HasCleanDisk new → Shown sql params old new rows) → IsSame old new
+answered_same sql params old new rows plain survives shows = record {
   clean = survives.clean;
   was_open = λ clean still. shown_open sql params old new rows (shows clean);
   same = λ clean still l has. let is = shown l sql params old new rows (plain l) has (shows clean) in (is.0.now_is, is.0.committed_is);

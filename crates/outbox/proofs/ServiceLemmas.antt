@@ -1,28 +1,29 @@
 -- What a service stands for, from call to call.
-use Rattle.std.proofs.Common.{◌≡◌, ◌≢◌, ◌⊎◌, inl, inr, ℕ, zero, suc, ◌+◌, ◌-◌, ◌≤◌, ◌<◌, eqb, length, take, drop, pos, List, [], ◌∷◌, ◌++◌, Option, Some, None, if◌then◌else◌, Bool, true, false, IsTrue, IsUtf8, ℤ, refl, sym, ap, subst, ◌∙◌, arith, get_or, drop-cons, add-one, append_assoc, append-nil, length-append}
+use Rattle.std.proofs.Common.{◌≡◌, ◌≢◌, ◌⊎◌, inl, inr, ℕ, zero, suc, ◌+◌, ◌-◌, ◌≤◌, ◌<◌, eqb, length, take, drop, pos, List, [], ◌∷◌, ◌++◌, Option, Some, None, Ok, Err, if◌then◌else◌, Bool, true, false, IsTrue, IsUtf8, ℤ, refl, sym, ap, subst, ◌∙◌, arith, get_or, drop-cons, add-one, append_assoc, append-nil, length-append}
 use Rattle.std.specs.Option.{option_or}
 use Rattle.std.proofs.lemmas.Bool.Decides.{nat_tests}
 use Rattle.std.proofs.lemmas.List.{drop_all}
 use Rattle.std.proofs.lemmas.List.Sorted.{length_permutation}
 use Rattle.sqlite_value.specs.Order.{Row, column}
 use Rattle.sqlite_value.specs.declared.value.Value.TheVariants.{Int}
+use Rattle.sqlite_trees.specs.Tree.{Trees}
 use Rattle.sqlite.specs.Effect.{Database}
-use Rattle.sqlite.specs.State.{State, HasCleanDisk}
+use Rattle.sqlite.specs.State.{State, HasCleanDisk, Survives}
 use Rattle.attributes.specs.Event.{EventValue}
 use Rattle.attributes.specs.Sequence.{max_sequence}
 use Rattle.attributes.specs.Time.{time_day}
 use Rattle.outbox.specs.Order.{Accepted, AreAccepted, IsCommand, refusal, status_fault, status_of}
 use Rattle.outbox.specs.Row.{row_event, events_from, rows_after}
 use Rattle.outbox.specs.Service.{IsService, code, outbox_rows}
-use Rattle.outbox.specs.Shown.{Stands}
-use Rattle.outbox.specs.Call.{IsSame}
-use Rattle.outbox.specs.steps.Change.{Adds, TellsStatus, shown_row, shown_rows}
+use Rattle.outbox.specs.Shown.{Shown, Stands}
+use Rattle.outbox.specs.Call.{CommandEffect, IsSame, IsSettled, LeavesAsBefore, MayAccept, Refuses}
+use Rattle.outbox.specs.steps.Change.{Adds, HasAdded, MayAdd, TellsStatus, shown_row, shown_rows}
 use Rattle.outbox.specs.declared.fault.OutboxFault.{OutboxFault}
-use Rattle.outbox.specs.declared.fault.OutboxFault.TheVariants.{Foreign, Full}
+use Rattle.outbox.specs.declared.fault.OutboxFault.TheVariants.{Foreign, Full, OutOfMemory, Store}
 use Rattle.outbox.specs.declared.status.Status.{Status}
 use Rattle.outbox.specs.declared.status.Status.TheVariants.{Placed, Shipped, Cancelled}
-use Rattle.outbox.specs.Schema.{first_tree}
-use Rattle.outbox.proofs.LayoutLemmas.{same_layout}
+use Rattle.outbox.specs.Layout.{first_tree}
+use Rattle.outbox.proofs.LayoutLemmas.{same_tree}
 
 -- ---- refusals
 
@@ -63,21 +64,22 @@ length_rows n (c ∷ commands) = ap suc (length_rows (suc n) commands)
 
 pub same_count : (db : Database) (source : List ℕ) (base : ℕ) (one two : List Accepted) → IsService db source base one → IsService db source base two → length one ≡ length two
 same_count db source base one two a b =
-    let same : a.layout ≡ b.layout = same_layout a.layout b.layout (sym a.schema ∙ b.schema) in
-    let trees : length (db.trees (suc (suc (first_tree a.layout)))) ≡ length (db.trees (suc (suc (first_tree b.layout)))) = ap (λ l. length (db.trees (suc (suc (first_tree l))))) same in
+    let same = same_tree a.layout b.layout (sym a.schema ∙ b.schema) in
+    let trees : length (db.trees (suc (suc (first_tree a.layout)))) ≡ length (db.trees (suc (suc (first_tree b.layout)))) = ap (λ t. length (db.trees (suc (suc t)))) same in
     sym (length_rows (suc base) one) ∙ sym (length_permutation _ _ a.outbox) ∙ trees ∙ length_permutation _ _ b.outbox ∙ length_rows (suc base) two
 
-pub after_write : (old mid new : State) (source : List ℕ) (base last number : ℕ) (c : Accepted) → IsCommand c → number ≡ last + 1 → IsSame old mid → HasCleanDisk mid → IsTrue mid.is_open
+pub after_write : (old mid : State) (new : Database) (source : List ℕ) (base last number : ℕ) (c : Accepted) → IsCommand c → number ≡ last + 1 → IsSame old mid → HasCleanDisk mid → IsTrue mid.is_open
     → (HasCleanDisk old → IsTrue old.is_open → Stands old.now source base last)
-    → ((source : List ℕ) (base : ℕ) (commands : List Accepted) → last ≡ base + length commands → IsService old.now source base commands → refusal base commands c.status c.order ≡ None) → Adds number c mid.now new.now
-    → (commands : List Accepted) → IsService old.now source base commands → (refusal base commands c.status c.order ≡ None) × IsService new.now source base (commands ++ c ∷ []) × (number ≡ suc (base + length commands))
+    → ((source : List ℕ) (base : ℕ) (commands : List Accepted) → last ≡ base + length commands → IsService old.now source base commands → refusal base commands c.status c.order ≡ None) → Adds number c mid.now new
+    → (commands : List Accepted) → IsService old.now source base commands → (refusal base commands c.status c.order ≡ None) × HasAdded source base commands c old.now new × (number ≡ suc (base + length commands))
 after_write old mid new source base last number c command next same clean still stands decided adds commands box =
     let was_clean : HasCleanDisk old = omega (arith, same.clean, clean) in
     let was = stands was_clean (same.was_open clean still) in
     let count : last ≡ base + length commands = omega (arith, was.count, same_count old.now source base was.commands commands was.table box) in
     let none = decided source base commands count box in
     let number_is : number ≡ suc (base + length commands) = omega arith in
-    (none, adds source base commands number_is command none (subst (λ (d : Database). IsService d source base commands) (sym (same.same clean still box.layout box.schema).0) box), number_is)
+    let is : old.now ≡ mid.now = sym (same.same clean still box.layout box.schema).0 in
+    (none, subst (λ (d : Database). HasAdded source base commands c d new) (sym is) (adds source base commands number_is command none (subst (λ (d : Database). IsService d source base commands) is box)), number_is)
 
 pub stands_after : (old mid new : State) (source : List ℕ) (base last number : ℕ) (c : Accepted) → IsCommand c → number ≡ last + 1 → IsSame old mid → HasCleanDisk mid → IsTrue mid.is_open
     → (HasCleanDisk old → IsTrue old.is_open → Stands old.now source base last)
@@ -86,8 +88,8 @@ pub stands_after : (old mid new : State) (source : List ℕ) (base last number :
 stands_after old mid new source base last number c command next same clean still stands decided adds =
     let was_clean : HasCleanDisk old = omega (arith, same.clean, clean) in
     let was = stands was_clean (same.was_open clean still) in
-    let it = after_write old mid new source base last number c command next same clean still stands decided adds was.commands was.table in
-    record { commands = was.commands ++ c ∷ []; table = it.1; count = (let e : last + 1 ≡ base + length (was.commands ++ c ∷ []) = omega (arith, was.count, length-append was.commands (c ∷ [])) in e) }
+    let it = after_write old mid new.now source base last number c command next same clean still stands decided adds was.commands was.table in
+    record { commands = was.commands ++ c ∷ []; table = it.1.service; count = (let e : last + 1 ≡ base + length (was.commands ++ c ∷ []) = omega (arith, was.count, length-append was.commands (c ∷ [])) in e) }
 
 -- a refused call leaves what it stands for
 pub stands_back : (old mid new : State) (source : List ℕ) (base last : ℕ) → (HasCleanDisk old → IsTrue old.is_open → Stands old.now source base last) → IsSame old mid → HasCleanDisk mid → IsTrue mid.is_open → new.now ≡ mid.now → Stands new.now source base last
@@ -109,6 +111,82 @@ stands_same old new source base last stands same clean still =
     let was_clean : HasCleanDisk old = omega (arith, same.clean, clean) in
     let was = stands was_clean (same.was_open clean still) in
     record { commands = was.commands; table = subst (λ (d : Database). IsService d source base was.commands) (sym (same.same clean still was.table.layout was.table.schema).0) was.table; count = was.count }
+
+-- ---- what a command does
+
+pub of_store_not_foreign : (f : OutboxFault) → (f ≡ OutOfMemory) ⊎ (f ≡ Store) → f ≢ Foreign
+of_store_not_foreign f (inl is) e = absurd (cc)
+of_store_not_foreign f (inr is) e = absurd (cc)
+
+pub store_or_memory : (f : OutboxFault) → (f ≡ OutOfMemory) ⊎ (f ≡ Store) → f ≢ OutOfMemory → f ≢ Store → ⊥
+store_or_memory f (inl is) no_memory no_store = no_memory is
+store_or_memory f (inr is) no_memory no_store = no_store is
+
+module _ {S : Type 0} (c : Accepted) (was : Shown S) (old mid : State) (stands : HasCleanDisk old → IsTrue old.is_open → Stands old.now was.source was.base was.last) (same : IsSame old mid) (leaves : LeavesAsBefore old mid) (clean : HasCleanDisk mid) where
+  was_clean : HasCleanDisk old
+  was_clean = omega (arith, same.clean, clean)
+
+  -- refused before it is written
+  pub effect_left : (f : OutboxFault) → (IsTrue mid.is_open → f ≢ OutOfMemory → f ≢ Store → Refuses was.source was.base c.status c.order old.now f) → CommandEffect c was old mid (Err f)
+  effect_left f refused = record {
+    clean = was_clean;
+    accepted = tt;
+    beside = tt;
+    stays_open = tt;
+    settled = tt;
+    refused = refused;
+    same = λ still. let it = (stands was_clean (same.was_open clean still)).table in (same.same clean still it.layout it.schema).0;
+    crash = λ open_then db may. let it = (stands was_clean open_then).table in inl (leaves clean it.layout it.schema db may);
+  }
+
+  module _ (still : IsTrue mid.is_open) (number : ℕ) (command : IsCommand c) (next : number ≡ was.last + 1)
+      (decided : (source : List ℕ) (base : ℕ) (commands : List Accepted) → was.last ≡ base + length commands → IsService old.now source base commands → refusal base commands c.status c.order ≡ None)
+      (new : State) (survives : Survives mid new (MayAdd number c mid)) where
+    it_stands : Stands old.now was.source was.base was.last
+    it_stands = stands was_clean (same.was_open clean still)
+
+    added : (db : Database) → Adds number c mid.now db → (commands : List Accepted) → IsService old.now was.source was.base commands
+        → (refusal was.base commands c.status c.order ≡ None) × HasAdded was.source was.base commands c old.now db × (number ≡ suc (was.base + length commands))
+    added db adds = after_write old mid db was.source was.base was.last number c command next same clean still stands decided adds
+
+    crashes : HasCleanDisk new → (db : Trees) → new.may_leave db → old.may_leave db ⊎ MayAccept was.source was.base c old.now db
+    crashes clean_new db may = go (survives.crash clean_new db may)
+      where
+        go : mid.may_leave db ⊎ MayAdd number c mid db → old.may_leave db ⊎ MayAccept was.source was.base c old.now db
+        go (inl before) = inl (leaves clean it_stands.table.layout it_stands.table.schema db before)
+        go (inr (d, adds, are)) = let has = (added d adds it_stands.commands it_stands.table).1 in inr (record {
+          db = d;
+          are = are;
+          sound = has.sound;
+          beside = has.beside;
+          service = λ commands box. (added d adds commands box).1.service;
+        })
+
+    -- the write was refused
+    pub effect_failed : (f : OutboxFault) → (f ≡ OutOfMemory) ⊎ (f ≡ Store) → HasCleanDisk new → (IsTrue new.is_open → new.now ≡ mid.now) → CommandEffect c was old new (Err f)
+    effect_failed f of_store clean_new back = record {
+      clean = was_clean;
+      accepted = tt;
+      beside = tt;
+      stays_open = tt;
+      settled = tt;
+      refused = λ open_now no_memory no_store. absurd (store_or_memory f of_store no_memory no_store);
+      same = λ open_now. back open_now ∙ (same.same clean still it_stands.table.layout it_stands.table.schema).0;
+      crash = λ open_then. crashes clean_new;
+    }
+
+    -- the write was answered
+    pub effect_done : (e : EventValue) → HasCleanDisk new → Adds number c mid.now new.now → IsTrue new.is_open → IsSettled new → e ≡ row_event was.source number c → CommandEffect c was old new (Ok e)
+    effect_done e clean_new adds open_now rests event = record {
+      clean = was_clean;
+      accepted = λ commands box. let it = added new.now adds commands box in (it.0, it.1.service, event ∙ ap (λ n. row_event was.source n c) it.2);
+      beside = (added new.now adds it_stands.commands it_stands.table).1.beside;
+      stays_open = open_now;
+      settled = rests;
+      refused = λ _. tt;
+      same = λ _. tt;
+      crash = λ open_then. crashes clean_new;
+    }
 
 -- ---- the status that is read
 

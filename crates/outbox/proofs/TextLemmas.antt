@@ -13,19 +13,20 @@ use Rattle.sqlite_schema.specs.declared.command.Command.TheVariants.{Insert, Ins
 use Rattle.sqlite_tied.specs.Compute.{everything}
 use Rattle.sqlite.specs.Listing.{understood, reads_listing}
 use Rattle.sqlite.proofs.Callers.{IsPlain, command_of}
-use Rattle.outbox.specs.Schema.{schema_in, first_tree}
-use Rattle.outbox.specs.declared.layout.Layout.{Layout}
-use Rattle.outbox.specs.declared.layout.Layout.TheVariants.{Alone, BehindInbox, BeforeInbox}
+use Rattle.outbox.specs.Layout.{ServiceLayout, first_tree, schema_in}
+use Rattle.database_layout.specs.declared.layout.Layout.TheVariants.{Service, InboxService, ServiceInbox, Inbox2Service, ServiceInbox2, UpgradedService, ServiceUpgraded, ShiftedUpgraded}
 pub use Rattle.outbox.specs.steps.Statement.{found_text, note_text, append_text, status_text, page_text, all_rows_text, all_orders_text, service_row_text}
 
-abbrev pub means : Layout → List ℕ → Command
-means l text = command_of (understood (schema_in l) text)
+-- the text is this command, plain and without the list of the schema
+abbrev pub Means : ServiceLayout → List ℕ → Command → Type 0
+Means l text command = (command_of (understood (schema_in l) text) ≡ command) × IsPlain (understood (schema_in l) text) × (reads_listing (schema_in l) text ≡ false)
 
 -- the place of `service` among the tables
-abbrev pub first_table : Layout → ℕ
-first_table Alone = 0
-first_table BehindInbox = 1
-first_table BeforeInbox = 0
+abbrev pub first_table : ServiceLayout → ℕ
+first_table (InboxService, h) = 1
+first_table (Inbox2Service, h) = 1
+first_table (UpgradedService, h) = 1
+first_table (_, h) = 0
 
 abbrev pub found_terms : List Term
 found_terms = col 0 0 ∷ lit Null ∷ col 0 1 ∷ col 0 2 ∷ []
@@ -73,98 +74,98 @@ all_orders_query tree = by_rowid (query tree [] (col 1 0 ∷ col 1 2 ∷ []))
 abbrev pub service_query : ℕ → Query
 service_query tree = by_rowid (query tree [] (col 1 0 ∷ col 1 2 ∷ col 1 3 ∷ []))
 
-pub found_is : (l : Layout) → means l found_text ≡ Insert (first_table l) (Values found_terms 4)
+pub found_is : (l : ServiceLayout) → Means l found_text (Insert (first_table l) (Values found_terms 4))
 unfolding understood everything
-found_is Alone = refl
-found_is BehindInbox = refl
-found_is BeforeInbox = refl
+found_is (Service, h) = (refl, (refl, refl), refl)
+found_is (InboxService, h) = (refl, (refl, refl), refl)
+found_is (ServiceInbox, h) = (refl, (refl, refl), refl)
+found_is (Inbox2Service, h) = (refl, (refl, refl), refl)
+found_is (ServiceInbox2, h) = (refl, (refl, refl), refl)
+found_is (UpgradedService, h) = (refl, (refl, refl), refl)
+found_is (ServiceUpgraded, h) = (refl, (refl, refl), refl)
+found_is (ShiftedUpgraded, h) = (refl, (refl, refl), refl)
+found_is (_, h) = absurd h
 
-pub found_plain : (l : Layout) → IsPlain (understood (schema_in l) found_text)
+pub note_is : (l : ServiceLayout) → Means l note_text (InsertOr (suc (first_table l)) Replace (Values note_terms 3) [])
 unfolding understood everything
-found_plain Alone = (refl, refl)
-found_plain BehindInbox = (refl, refl)
-found_plain BeforeInbox = (refl, refl)
+note_is (Service, h) = (refl, (refl, refl), refl)
+note_is (InboxService, h) = (refl, (refl, refl), refl)
+note_is (ServiceInbox, h) = (refl, (refl, refl), refl)
+note_is (Inbox2Service, h) = (refl, (refl, refl), refl)
+note_is (ServiceInbox2, h) = (refl, (refl, refl), refl)
+note_is (UpgradedService, h) = (refl, (refl, refl), refl)
+note_is (ServiceUpgraded, h) = (refl, (refl, refl), refl)
+note_is (ShiftedUpgraded, h) = (refl, (refl, refl), refl)
+note_is (_, h) = absurd h
 
-pub note_is : (l : Layout) → means l note_text ≡ InsertOr (suc (first_table l)) Replace (Values note_terms 3) []
+pub append_is : (l : ServiceLayout) → Means l append_text (Insert (suc (suc (first_table l))) (Values append_terms 5))
 unfolding understood everything
-note_is Alone = refl
-note_is BehindInbox = refl
-note_is BeforeInbox = refl
+append_is (Service, h) = (refl, (refl, refl), refl)
+append_is (InboxService, h) = (refl, (refl, refl), refl)
+append_is (ServiceInbox, h) = (refl, (refl, refl), refl)
+append_is (Inbox2Service, h) = (refl, (refl, refl), refl)
+append_is (ServiceInbox2, h) = (refl, (refl, refl), refl)
+append_is (UpgradedService, h) = (refl, (refl, refl), refl)
+append_is (ServiceUpgraded, h) = (refl, (refl, refl), refl)
+append_is (ShiftedUpgraded, h) = (refl, (refl, refl), refl)
+append_is (_, h) = absurd h
 
-pub note_plain : (l : Layout) → IsPlain (understood (schema_in l) note_text)
+pub status_is : (l : ServiceLayout) → Means l status_text (Select (record { lets = []; body = status_query (suc (first_tree l)) }) (codes "state" ∷ []))
 unfolding understood everything
-note_plain Alone = (refl, refl)
-note_plain BehindInbox = (refl, refl)
-note_plain BeforeInbox = (refl, refl)
+status_is (Service, h) = (refl, (refl, refl), refl)
+status_is (InboxService, h) = (refl, (refl, refl), refl)
+status_is (ServiceInbox, h) = (refl, (refl, refl), refl)
+status_is (Inbox2Service, h) = (refl, (refl, refl), refl)
+status_is (ServiceInbox2, h) = (refl, (refl, refl), refl)
+status_is (UpgradedService, h) = (refl, (refl, refl), refl)
+status_is (ServiceUpgraded, h) = (refl, (refl, refl), refl)
+status_is (ShiftedUpgraded, h) = (refl, (refl, refl), refl)
+status_is (_, h) = absurd h
 
-pub append_is : (l : Layout) → means l append_text ≡ Insert (suc (suc (first_table l))) (Values append_terms 5)
+pub page_is : (l : ServiceLayout) → Means l page_text (Select (record { lets = []; body = page_query (suc (suc (first_tree l))) }) row_names)
 unfolding understood everything
-append_is Alone = refl
-append_is BehindInbox = refl
-append_is BeforeInbox = refl
+page_is (Service, h) = (refl, (refl, refl), refl)
+page_is (InboxService, h) = (refl, (refl, refl), refl)
+page_is (ServiceInbox, h) = (refl, (refl, refl), refl)
+page_is (Inbox2Service, h) = (refl, (refl, refl), refl)
+page_is (ServiceInbox2, h) = (refl, (refl, refl), refl)
+page_is (UpgradedService, h) = (refl, (refl, refl), refl)
+page_is (ServiceUpgraded, h) = (refl, (refl, refl), refl)
+page_is (ShiftedUpgraded, h) = (refl, (refl, refl), refl)
+page_is (_, h) = absurd h
 
-pub append_plain : (l : Layout) → IsPlain (understood (schema_in l) append_text)
+pub all_rows_is : (l : ServiceLayout) → Means l all_rows_text (Select (record { lets = []; body = all_rows_query (suc (suc (first_tree l))) }) row_names)
 unfolding understood everything
-append_plain Alone = (refl, refl)
-append_plain BehindInbox = (refl, refl)
-append_plain BeforeInbox = (refl, refl)
+all_rows_is (Service, h) = (refl, (refl, refl), refl)
+all_rows_is (InboxService, h) = (refl, (refl, refl), refl)
+all_rows_is (ServiceInbox, h) = (refl, (refl, refl), refl)
+all_rows_is (Inbox2Service, h) = (refl, (refl, refl), refl)
+all_rows_is (ServiceInbox2, h) = (refl, (refl, refl), refl)
+all_rows_is (UpgradedService, h) = (refl, (refl, refl), refl)
+all_rows_is (ServiceUpgraded, h) = (refl, (refl, refl), refl)
+all_rows_is (ShiftedUpgraded, h) = (refl, (refl, refl), refl)
+all_rows_is (_, h) = absurd h
 
-pub status_is : (l : Layout) → (means l status_text ≡ Select (record { lets = []; body = status_query (suc (first_tree l)) }) (codes "state" ∷ [])) × (reads_listing (schema_in l) status_text ≡ false)
+pub all_orders_is : (l : ServiceLayout) → Means l all_orders_text (Select (record { lets = []; body = all_orders_query (suc (first_tree l)) }) (codes "number" ∷ codes "state" ∷ []))
 unfolding understood everything
-status_is Alone = (refl, refl)
-status_is BehindInbox = (refl, refl)
-status_is BeforeInbox = (refl, refl)
+all_orders_is (Service, h) = (refl, (refl, refl), refl)
+all_orders_is (InboxService, h) = (refl, (refl, refl), refl)
+all_orders_is (ServiceInbox, h) = (refl, (refl, refl), refl)
+all_orders_is (Inbox2Service, h) = (refl, (refl, refl), refl)
+all_orders_is (ServiceInbox2, h) = (refl, (refl, refl), refl)
+all_orders_is (UpgradedService, h) = (refl, (refl, refl), refl)
+all_orders_is (ServiceUpgraded, h) = (refl, (refl, refl), refl)
+all_orders_is (ShiftedUpgraded, h) = (refl, (refl, refl), refl)
+all_orders_is (_, h) = absurd h
 
-pub status_plain : (l : Layout) → IsPlain (understood (schema_in l) status_text)
+pub service_row_is : (l : ServiceLayout) → Means l service_row_text (Select (record { lets = []; body = service_query (first_tree l) }) (codes "one" ∷ codes "source" ∷ codes "base" ∷ []))
 unfolding understood everything
-status_plain Alone = (refl, refl)
-status_plain BehindInbox = (refl, refl)
-status_plain BeforeInbox = (refl, refl)
-
-pub page_is : (l : Layout) → (means l page_text ≡ Select (record { lets = []; body = page_query (suc (suc (first_tree l))) }) row_names) × (reads_listing (schema_in l) page_text ≡ false)
-unfolding understood everything
-page_is Alone = (refl, refl)
-page_is BehindInbox = (refl, refl)
-page_is BeforeInbox = (refl, refl)
-
-pub page_plain : (l : Layout) → IsPlain (understood (schema_in l) page_text)
-unfolding understood everything
-page_plain Alone = (refl, refl)
-page_plain BehindInbox = (refl, refl)
-page_plain BeforeInbox = (refl, refl)
-
-pub all_rows_is : (l : Layout) → (means l all_rows_text ≡ Select (record { lets = []; body = all_rows_query (suc (suc (first_tree l))) }) row_names) × (reads_listing (schema_in l) all_rows_text ≡ false)
-unfolding understood everything
-all_rows_is Alone = (refl, refl)
-all_rows_is BehindInbox = (refl, refl)
-all_rows_is BeforeInbox = (refl, refl)
-
-pub all_rows_plain : (l : Layout) → IsPlain (understood (schema_in l) all_rows_text)
-unfolding understood everything
-all_rows_plain Alone = (refl, refl)
-all_rows_plain BehindInbox = (refl, refl)
-all_rows_plain BeforeInbox = (refl, refl)
-
-pub all_orders_is : (l : Layout) → (means l all_orders_text ≡ Select (record { lets = []; body = all_orders_query (suc (first_tree l)) }) (codes "number" ∷ codes "state" ∷ [])) × (reads_listing (schema_in l) all_orders_text ≡ false)
-unfolding understood everything
-all_orders_is Alone = (refl, refl)
-all_orders_is BehindInbox = (refl, refl)
-all_orders_is BeforeInbox = (refl, refl)
-
-pub all_orders_plain : (l : Layout) → IsPlain (understood (schema_in l) all_orders_text)
-unfolding understood everything
-all_orders_plain Alone = (refl, refl)
-all_orders_plain BehindInbox = (refl, refl)
-all_orders_plain BeforeInbox = (refl, refl)
-
-pub service_row_is : (l : Layout) → (means l service_row_text ≡ Select (record { lets = []; body = service_query (first_tree l) }) (codes "one" ∷ codes "source" ∷ codes "base" ∷ [])) × (reads_listing (schema_in l) service_row_text ≡ false)
-unfolding understood everything
-service_row_is Alone = (refl, refl)
-service_row_is BehindInbox = (refl, refl)
-service_row_is BeforeInbox = (refl, refl)
-
-pub service_row_plain : (l : Layout) → IsPlain (understood (schema_in l) service_row_text)
-unfolding understood everything
-service_row_plain Alone = (refl, refl)
-service_row_plain BehindInbox = (refl, refl)
-service_row_plain BeforeInbox = (refl, refl)
+service_row_is (Service, h) = (refl, (refl, refl), refl)
+service_row_is (InboxService, h) = (refl, (refl, refl), refl)
+service_row_is (ServiceInbox, h) = (refl, (refl, refl), refl)
+service_row_is (Inbox2Service, h) = (refl, (refl, refl), refl)
+service_row_is (ServiceInbox2, h) = (refl, (refl, refl), refl)
+service_row_is (UpgradedService, h) = (refl, (refl, refl), refl)
+service_row_is (ServiceUpgraded, h) = (refl, (refl, refl), refl)
+service_row_is (ShiftedUpgraded, h) = (refl, (refl, refl), refl)
+service_row_is (_, h) = absurd h

@@ -2,8 +2,9 @@
 use Rattle.std.proofs.Common.{◌≡◌, ℕ, suc, [], ◌∷◌, ◌++◌, Ok, sym, subst, ◌∙◌, arith, IsPermutation}
 use Rattle.sqlite.specs.State.{State, HasCleanDisk, Survives, ExecutesInside}
 use Rattle.sqlite.proofs.StateLemmas.{survives_then}
+use Rattle.database_layout.proofs.LayoutLemmas.{same_inbox}
 use Rattle.outbox.specs.Order.{Accepted}
-use Rattle.outbox.specs.Schema.{first_tree}
+use Rattle.outbox.specs.Layout.{first_tree}
 use Rattle.outbox.specs.Service.{AreOrders, outbox_row}
 use Rattle.outbox.specs.steps.Change.{Adds, MayAdd}
 use Rattle.outbox.proofs.PutLemmas.{appended, accepted_snoc}
@@ -18,12 +19,21 @@ both old mid last number c m n one two source base commands is command ok box =
     let b = appends mid last box.layout number c n a.0 two.0 in
     let tree = first_tree box.layout in
     record {
-      layout = box.layout;
-      schema = b.0;
-      service = b.1.service ∙ a.1.service ∙ box.service;
-      orders = subst (λ rows. AreOrders rows (commands ++ c ∷ [])) (sym b.1.orders) a.1.orders;
-      outbox = appended (suc base) number commands c (old.now.trees (suc (suc tree))) (last.now.trees (suc (suc tree))) (omega arith) box.outbox (subst (λ rows. IsPermutation (outbox_row number c ∷ rows) (last.now.trees (suc (suc tree)))) a.1.outbox b.1.outbox);
-      accepted = accepted_snoc base [] commands c box.accepted command ok;
+      service = record {
+        layout = box.layout;
+        schema = b.0;
+        service = b.1.service ∙ a.1.service ∙ box.service;
+        orders = subst (λ rows. AreOrders rows (commands ++ c ∷ [])) (sym b.1.orders) a.1.orders;
+        outbox = appended (suc base) number commands c (old.now.trees (suc (suc tree))) (last.now.trees (suc (suc tree))) (omega arith) box.outbox (subst (λ rows. IsPermutation (outbox_row number c ∷ rows) (last.now.trees (suc (suc tree)))) a.1.outbox b.1.outbox);
+        accepted = accepted_snoc base [] commands c box.accepted command ok;
+      };
+      beside = record {
+        schema = b.0 ∙ sym box.schema;
+        inbox = λ l has is.
+            let here = same_inbox box.layout.0 l has (sym box.schema ∙ is) in
+            subst (λ t. last.now.trees t ≡ old.now.trees t) here.1 (b.1.beside here.0 ∙ a.1.beside here.0);
+      };
+      sound = b.2;
     }
 
 pub ends : (old mid last end : State) (number : ℕ) (c : Accepted) → (HasCleanDisk last → Adds number c old.now last.now) → Survives old mid (λ _. ⊥) → Survives mid last (λ _. ⊥)

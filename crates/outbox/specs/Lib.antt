@@ -1,6 +1,6 @@
 pub mod Order
 pub mod Row
-pub mod Schema
+pub mod Layout
 pub mod Service
 pub mod Shown
 pub mod Call

@@ -1,6 +1,6 @@
 //! A service of the tables that a database has.
 
-ghost use Rattle.std.specs.Prelude.{◌≡◌, ◌⊎◌, IsTrue, true, [], ◌∷◌, ◌≤◌, ◌≢◌, ◌↔◌, ℕ, suc, List, None, Err, length, IfOk, IfErr, IfSome, IfNone, OnOk};
+ghost use Rattle.std.specs.Prelude.{◌≡◌, ◌⊎◌, IsTrue, false, true, [], ◌∷◌, ◌≤◌, ◌≢◌, ◌↔◌, ℕ, suc, List, None, Err, length, IfOk, IfErr, IfSome, IfNone, OnOk};
 ghost use Rattle.std.specs.BTreeMap.{get};
 ghost use Rattle.std.specs.Result.{IsErrAnd};
 ghost use Rattle.std.specs.Ordering.{nat_cmp};
@@ -12,20 +12,20 @@ ghost use Rattle.attributes.specs.Character.{is_filled};
 ghost use Rattle.attributes.specs.Sequence.{max_sequence};
 ghost use Rattle.attributes.specs.Time.{time_day};
 ghost use Rattle.outbox.specs.Order.{Accepted, AreAccepted, IsCommand, status_of};
-ghost use Rattle.outbox.specs.Schema.{lacks_name, schema_in};
+ghost use Rattle.database_layout.specs.Layout.{HasService, lacks_name, schema_in as whole_schema};
 ghost use Rattle.outbox.specs.Shown.{HasNoOther, IsAllowed, IsNoService, Stands, StandsFor, max_source};
-ghost use Rattle.outbox.specs.Call.{IsAsItWas, IsSame};
+ghost use Rattle.outbox.specs.Call.{IsSame, Leaves, LeavesAsBefore};
 ghost use Rattle.outbox.specs.steps.Change.{ShowOrders, shown_row, shown_rows, shown_service};
 ghost use Rattle.outbox.specs.steps.Replay.{IsReplay};
 ghost use Rattle.outbox.specs.declared.fault.OutboxFault.TheVariants.{OutOfMemory, Store, Foreign};
-ghost use Rattle.outbox.specs.declared.layout.Layout.{Layout};
+ghost use Rattle.outbox.specs.Layout.{IsOthers, ServiceLayout, schema_in};
 
 use crate::fault::OutboxFault;
-use crate::layout::{Layout, lacks_name, layout_of};
 use crate::service::{MAX, NotMade, Service};
 use crate::status::Status;
 use crate::stored::{Stored, order_in, read_row, source_in};
 use attributes::{Fault, Moment, Text};
+use database_layout::{Layout, lacks_name};
 use sqlite::{Alter, Connection, Row};
 use std::alloc::Global;
 use std::collections::BTreeMap;
@@ -185,9 +185,10 @@ fn service_in(alloc: Global, rows: &[Row]) -> Result<Option<(Text, u64)>, Outbox
 
 /// The rows that a question with no parameter shows.
 fn all_of<S: Alter>(conn: &mut Connection<S>, sql: &str) -> Result<Vec<Row>, OutboxFault>
-    requires plain { (layout : Layout) → IsPlain (understood (schema_in layout) sql.now) }
+    requires plain { (layout : ServiceLayout) → IsPlain (understood (schema_in layout) sql.now) }
     ensures shown { HasCleanDisk (state S.Store conn.new) → IfOk result (λ rows.
         Shown sql.now [] (state S.Store conn.old) (state S.Store conn.new) rows.items) }
+    ensures crash { LeavesAsBefore (state S.Store conn.old) (state S.Store conn.new) }
     ensures same { IsSame (state S.Store conn.old) (state S.Store conn.new) }
     ensures live { IsLive (state S.Store conn.old) }
     ensures open { HasCleanDisk (state S.Store conn.new) → OnOk result
@@ -202,13 +203,13 @@ fn all_of<S: Alter>(conn: &mut Connection<S>, sql: &str) -> Result<Vec<Row>, Out
 }
 
 /// What the tables say, where they are those of a service.
-#[tactic(auto, using(crate::proofs::FoundLemmas::all_same, crate::proofs::FoundLemmas::two_same, crate::proofs::FoundLemmas::one_same))]
 pub(crate) fn found_in<S: Alter>(
     alloc: Global,
     conn: &mut Connection<S>,
     layout: Layout,
 ) -> Result<Option<Found>, OutboxFault>
-    requires { (state S.Store conn.old).now.schema ≡ schema_in layout }
+    requires there { HasService layout }
+    requires schema { (state S.Store conn.old).now.schema ≡ whole_schema layout }
     ensures stands { HasCleanDisk (state S.Store conn.new) → IfOk result (λ o. IfSome o (λ f.
         IsTrue (state S.Store conn.new).is_open
         → Stands (state S.Store conn.new).now f.source f.base f.last)) }
@@ -220,7 +221,7 @@ pub(crate) fn found_in<S: Alter>(
         HasNoOther (state S.Store conn.old).now f.source f.base)) }
     ensures open { HasCleanDisk (state S.Store conn.new)
         → IfOk result (λ o. IfSome o (λ _. IsTrue (state S.Store conn.new).is_open)) }
-    ensures same { IsAsItWas (state S.Store conn.old) (state S.Store conn.new) }
+    ensures left { Leaves (state S.Store conn.old) (state S.Store conn.new) }
     ensures fault { IfErr result (λ f. (f ≡ OutOfMemory) ⊎ (f ≡ Store)) }
 {
     let services = all_of(conn, "SELECT one, source, base FROM service ORDER BY one")?;
@@ -251,7 +252,7 @@ fn read<S: Alter>(alloc: Global, conn: &mut Connection<S>) -> Result<Found, Outb
         → Stands (state S.Store conn.new).now f.source f.base f.last) }
     ensures range { IfOk result (λ f. (is_filled f.source ≡ true)
         × (length f.source ≤ max_source) × (f.base ≤ f.last) × (f.last ≤ max_sequence)) }
-    ensures same { IsAsItWas (state S.Store conn.old) (state S.Store conn.new) }
+    ensures left { Leaves (state S.Store conn.old) (state S.Store conn.new) }
     ensures foreign { HasCleanDisk (state S.Store conn.new) → IfErr result (λ f.
         f ≡ Foreign → IsNoService (state S.Store conn.old).now) }
     ensures exact { HasCleanDisk (state S.Store conn.new)
@@ -259,14 +260,19 @@ fn read<S: Alter>(alloc: Global, conn: &mut Connection<S>) -> Result<Found, Outb
     ensures open { HasCleanDisk (state S.Store conn.new)
         → OnOk result (IsTrue (state S.Store conn.new).is_open) }
     ensures missing { lacks_name (state S.Store conn.old).now.schema ≡ true → result ≡ Err Foreign }
+    ensures strange { lacks_name (state S.Store conn.old).now.schema ≡ false
+        → IsOthers (state S.Store conn.old).now.schema → result ≢ Err Foreign }
     ensures fault { IfErr result (λ f. (f ≡ OutOfMemory) ⊎ ((f ≡ Store) ⊎ (f ≡ Foreign))) }
 {
     if lacks_name(conn.schema()) {
         return Err(OutboxFault::Foreign);
     }
-    let Some(layout) = layout_of(conn.schema()) else {
+    let Some(layout) = Layout::of(conn.schema()) else {
         return Err(OutboxFault::Store);
     };
+    if !layout.has_service() {
+        return Err(OutboxFault::Store);
+    }
     match found_in(alloc, conn, layout) {
         Ok(Some(found)) => Ok(found),
         Ok(None) => Err(OutboxFault::Foreign),
@@ -284,8 +290,8 @@ impl<S: Alter + Drop> Service<S> {
     pub fn adopt(alloc: Global, conn: Connection<S>) -> Result<Service<S>, NotMade<S>>
         ensures stands { IfOk result (λ s.
             StandsFor (state S.Store s.conn) s.source s.base s.last) }
-        ensures same { IfOk result (λ s. IsAsItWas (state S.Store conn) (state S.Store s.conn)) }
-        ensures back { IfErr result (λ e. IsAsItWas (state S.Store conn) (state S.Store e.conn)) }
+        ensures left { IfOk result (λ s. Leaves (state S.Store conn) (state S.Store s.conn)) }
+        ensures back { IfErr result (λ e. Leaves (state S.Store conn) (state S.Store e.conn)) }
         ensures foreign { IfErr result (λ e. HasCleanDisk (state S.Store e.conn)
             → e.fault ≡ Foreign → IsNoService (state S.Store conn).now) }
         ensures exact { IfOk result (λ s. HasCleanDisk (state S.Store s.conn)
@@ -296,6 +302,10 @@ impl<S: Alter + Drop> Service<S> {
         // A table that is missing is found before any memory is asked for.
         ensures missing { lacks_name (state S.Store conn).now.schema ≡ true
             → IsErrAnd result (λ e. e.fault ≡ Foreign) }
+
+        // Where all three are there and the tables aren't ours alone, it is `Store`.
+        ensures strange { lacks_name (state S.Store conn).now.schema ≡ false
+            → IsOthers (state S.Store conn).now.schema → IfErr result (λ e. e.fault ≢ Foreign) }
         ensures fault { IfErr result (λ e.
             (e.fault ≡ OutOfMemory) ⊎ ((e.fault ≡ Store) ⊎ (e.fault ≡ Foreign))) }
     {

@@ -7,70 +7,21 @@ ghost use Rattle.sqlite.specs.State.{HasCleanDisk, ExecutesInside, KeepsCommit, 
 ghost use Rattle.sqlite.specs.Held.{state};
 ghost use Rattle.attributes.specs.Character.{is_filled};
 ghost use Rattle.attributes.specs.Sequence.{max_sequence};
-ghost use Rattle.outbox.specs.Schema.{has_name};
+ghost use Rattle.database_layout.specs.Layout.{GainsService, has_name, schema_in};
 ghost use Rattle.outbox.specs.Order.{Accepted};
 ghost use Rattle.outbox.specs.Service.{IsService};
 ghost use Rattle.outbox.specs.Shown.{max_source};
-ghost use Rattle.outbox.specs.Call.{IsAsItWas};
-ghost use Rattle.outbox.specs.steps.Change.{IsRoomFor, MakesTables};
-ghost use Rattle.outbox.specs.steps.Statement.{create_orders, create_outbox, create_service, found_text};
+ghost use Rattle.outbox.specs.Call.{IsAsItWas, IsFounded, IsSettled, MayFound};
+ghost use Rattle.outbox.specs.steps.Statement.{found_text};
 ghost use Rattle.outbox.specs.declared.fault.OutboxFault.TheVariants.{OutOfMemory, Store, Foreign};
 
 use crate::fault::OutboxFault;
-use crate::layout::{Layout, has_name, layout_for};
 use crate::service::{NotMade, Service};
 use crate::statement::signed;
 use attributes::Text;
+use database_layout::{Layout, has_name, make_service};
 use sqlite::{Alter, Connection, Error, ErrorCode, Transaction, params};
 use std::alloc::Global;
-
-/// CREATE TABLE service.
-fn make_service<S: Alter>(tx: &mut Transaction<'_, S>) -> Result<usize, Error>
-    ensures same_reference { tx.new.conn.ghost_name ≡ tx.old.conn.ghost_name }
-    ensures runs { HasCleanDisk (state S.Store tx.new.conn.now)
-        → IsTrue (state S.Store tx.old.conn.now).in_transaction
-        → ExecutesInside 0 create_service []
-        (state S.Store tx.old.conn.now) (state S.Store tx.new.conn.now) result }
-    ensures survives { Survives
-        (state S.Store tx.old.conn.now) (state S.Store tx.new.conn.now) (λ _. ⊥) }
-{
-    tx.execute(
-        "CREATE TABLE service (one INTEGER PRIMARY KEY CHECK (one = 1), source TEXT NOT NULL, base INTEGER NOT NULL CHECK (base >= 0)) STRICT",
-        &[],
-    )
-}
-
-/// CREATE TABLE orders.
-fn make_orders<S: Alter>(tx: &mut Transaction<'_, S>) -> Result<usize, Error>
-    ensures same_reference { tx.new.conn.ghost_name ≡ tx.old.conn.ghost_name }
-    ensures runs { HasCleanDisk (state S.Store tx.new.conn.now)
-        → IsTrue (state S.Store tx.old.conn.now).in_transaction
-        → ExecutesInside 0 create_orders []
-        (state S.Store tx.old.conn.now) (state S.Store tx.new.conn.now) result }
-    ensures survives { Survives
-        (state S.Store tx.old.conn.now) (state S.Store tx.new.conn.now) (λ _. ⊥) }
-{
-    tx.execute(
-        "CREATE TABLE orders (number INTEGER PRIMARY KEY, state INTEGER NOT NULL CHECK (state >= 1 AND state <= 3)) STRICT",
-        &[],
-    )
-}
-
-/// CREATE TABLE outbox.
-fn make_outbox<S: Alter>(tx: &mut Transaction<'_, S>) -> Result<usize, Error>
-    ensures same_reference { tx.new.conn.ghost_name ≡ tx.old.conn.ghost_name }
-    ensures runs { HasCleanDisk (state S.Store tx.new.conn.now)
-        → IsTrue (state S.Store tx.old.conn.now).in_transaction
-        → ExecutesInside 0 create_outbox []
-        (state S.Store tx.old.conn.now) (state S.Store tx.new.conn.now) result }
-    ensures survives { Survives
-        (state S.Store tx.old.conn.now) (state S.Store tx.new.conn.now) (λ _. ⊥) }
-{
-    tx.execute(
-        "CREATE TABLE outbox (number INTEGER PRIMARY KEY, kind INTEGER NOT NULL CHECK (kind >= 1 AND kind <= 3), order_number INTEGER NOT NULL, at TEXT NOT NULL) STRICT",
-        &[],
-    )
-}
 
 /// INSERT INTO service.
 fn fill<S: Alter>(
@@ -93,44 +44,34 @@ fn fill<S: Alter>(
     )
 }
 
-/// Makes the three tables, where there is room for them.
-fn make_tables<S: Alter>(tx: &mut Transaction<'_, S>, layout: Layout) -> Result<(), Error>
-    requires { IsRoomFor layout (state S.Store tx.old.conn.now).now.schema }
-    ensures same_reference { tx.new.conn.ghost_name ≡ tx.old.conn.ghost_name }
-    ensures made { HasCleanDisk (state S.Store tx.new.conn.now)
-        → IsTrue (state S.Store tx.old.conn.now).in_transaction → OnOk result (MakesTables layout
-        (state S.Store tx.old.conn.now) (state S.Store tx.new.conn.now)) }
-    ensures failed { HasCleanDisk (state S.Store tx.new.conn.now)
-        → IsTrue (state S.Store tx.old.conn.now).in_transaction → OnErr result (KeepsCommit
-        (state S.Store tx.old.conn.now) (state S.Store tx.new.conn.now)) }
-    ensures survives { Survives
-        (state S.Store tx.old.conn.now) (state S.Store tx.new.conn.now) (λ _. ⊥) }
-{
-    make_service(tx)?;
-    make_orders(tx)?;
-    make_outbox(tx)?;
-    Ok(())
-}
-
-/// Makes the tables of a service with this source and base in one transaction.
+/// Makes the tables of a service with this source and base in one transaction, in a database with
+/// this layout.
 fn found<S: Alter>(
     conn: &mut Connection<S>,
-    layout: Layout,
+    before: Layout,
+    after: Layout,
     source: &str,
     base: u64,
 ) -> Result<(), Error>
-    requires room { IsRoomFor layout (state S.Store conn.old).now.schema }
+    requires gains { GainsService before after }
+    requires room { (state S.Store conn.old).now.schema ≡ schema_in before }
     requires base { base < 2 ^ 63 }
-    ensures made { HasCleanDisk (state S.Store conn.new)
-        → OnOk result (IsService (state S.Store conn.new).now source.now base []) }
+    ensures made { HasCleanDisk (state S.Store conn.new) → OnOk result (IsFounded source.now base
+        (state S.Store conn.old).now (state S.Store conn.new).now) }
+    ensures open { HasCleanDisk (state S.Store conn.new)
+        → OnOk result (IsTrue (state S.Store conn.new).is_open) }
+    ensures committed { HasCleanDisk (state S.Store conn.new)
+        → OnOk result ((state S.Store conn.new).committed ≡ (state S.Store conn.new).now) }
     ensures same { HasCleanDisk (state S.Store conn.new) → IsTrue (state S.Store conn.new).is_open
         → OnErr result ((state S.Store conn.new).now ≡ (state S.Store conn.old).now) }
+    ensures crash { Survives (state S.Store conn.old) (state S.Store conn.new)
+        (MayFound source.now base (state S.Store conn.old).now) }
 {
     if !conn.is_autocommit() {
         return Err(Error::SqliteFailure(ErrorCode::TransactionState));
     }
     let mut tx = conn.transaction();
-    make_tables(&mut tx, layout)?;
+    make_service(&mut tx)?;
     fill(&mut tx, 1, source, signed(base))?;
     tx.commit()?;
     Ok(())
@@ -144,15 +85,24 @@ fn found_in_room<S: Alter>(
     base: u64,
 ) -> Result<(), OutboxFault>
     requires { base ≤ max_sequence }
-    ensures made { HasCleanDisk (state S.Store conn.new)
-        → OnOk result (IsService (state S.Store conn.new).now source.now base []) }
+    ensures made { HasCleanDisk (state S.Store conn.new) → OnOk result (IsFounded source.now base
+        (state S.Store conn.old).now (state S.Store conn.new).now) }
+    ensures open { HasCleanDisk (state S.Store conn.new)
+        → OnOk result (IsTrue (state S.Store conn.new).is_open) }
+    ensures committed { HasCleanDisk (state S.Store conn.new)
+        → OnOk result ((state S.Store conn.new).committed ≡ (state S.Store conn.new).now) }
     ensures same { OnErr result (IsAsItWas (state S.Store conn.old) (state S.Store conn.new)) }
+    ensures crash { Survives (state S.Store conn.old) (state S.Store conn.new)
+        (MayFound source.now base (state S.Store conn.old).now) }
     ensures fault { IfErr result (λ f. (f ≡ OutOfMemory) ⊎ (f ≡ Store)) }
 {
-    let Some(layout) = layout_for(conn.schema()) else {
+    let Some(before) = Layout::of(conn.schema()) else {
         return Err(OutboxFault::Store);
     };
-    match found(conn, layout, source.as_str(), base) {
+    let Some(after) = before.with_service() else {
+        return Err(OutboxFault::Store);
+    };
+    match found(conn, before, after, source.as_str(), base) {
         Ok(()) => Ok(()),
         Err(error) => Err(OutboxFault::from(error)),
     }
@@ -175,12 +125,20 @@ impl<S: Alter + Drop> Service<S> {
         requires source { (is_filled source.now ≡ true) × (length source.now ≤ max_source) }
         requires base { base ≤ max_sequence }
         ensures made { IfOk result (λ s. HasCleanDisk (state S.Store s.conn)
-            → IsService (state S.Store s.conn).now source.now base []) }
+            → IsFounded source.now base (state S.Store conn).now (state S.Store s.conn).now) }
+        ensures open { IfOk result (λ s. HasCleanDisk (state S.Store s.conn)
+            → IsTrue (state S.Store s.conn).is_open) }
+        ensures settled { IfOk result (λ s. HasCleanDisk (state S.Store s.conn)
+            → IsSettled (state S.Store s.conn)) }
         ensures given { IfOk result (λ s. (s.source ≡ source.now) × (s.base ≡ base)
             × (s.last ≡ base)) }
         ensures first { IfOk result (λ _. (source : List ℕ) (base : ℕ) (commands : List Accepted)
             → IsService (state S.Store conn).now source base commands → ⊥) }
         ensures back { IfErr result (λ e. IsAsItWas (state S.Store conn) (state S.Store e.conn)) }
+        ensures crash { IfOk result (λ s. Survives (state S.Store conn) (state S.Store s.conn)
+            (MayFound source.now base (state S.Store conn).now)) }
+        ensures crash_refused { IfErr result (λ e. Survives (state S.Store conn)
+            (state S.Store e.conn) (MayFound source.now base (state S.Store conn).now)) }
         ensures foreign { IfErr result (λ e.
             e.fault ≡ Foreign → has_name (state S.Store conn).now.schema ≡ true) }
         ensures fault { IfErr result (λ e.

@@ -4,7 +4,6 @@
 mod adoption;
 mod creation;
 mod fault;
-mod layout;
 mod row;
 mod service;
 mod statement;

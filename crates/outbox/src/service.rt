@@ -10,7 +10,7 @@ ghost use Rattle.outbox.specs.Order.{Accepted, status_of, refusal};
 ghost use Rattle.outbox.specs.Row.{row_event, events_from};
 ghost use Rattle.outbox.specs.Service.{code, IsService};
 ghost use Rattle.outbox.specs.Shown.{StandsFor};
-ghost use Rattle.outbox.specs.Call.{Accepts, Refuses, ShowsAfter, IsAsItWas, IsSame};
+ghost use Rattle.outbox.specs.Call.{CommandCall, CommandEffect, IsSame, LeavesAsBefore, ShowsAfter};
 ghost use Rattle.outbox.specs.steps.Change.{shown_row, shown_rows};
 ghost use Rattle.outbox.specs.declared.fault.OutboxFault.TheVariants.{OutOfMemory, Store, Foreign};
 ghost use Rattle.outbox.specs.declared.status.Status.TheVariants.{Placed, Shipped, Cancelled};
@@ -116,6 +116,9 @@ fn status_in<S: Alter>(conn: &mut Connection<S>, order: u64) -> Result<Option<St
         (source : List ℕ) (base : ℕ) (commands : List Accepted)
         → IsService (state S.Store conn.old).now source base commands
         → s ≡ status_of commands order) }
+    ensures open { HasCleanDisk (state S.Store conn.new)
+        → OnOk result (IsTrue (state S.Store conn.new).is_open) }
+    ensures crash { LeavesAsBefore (state S.Store conn.old) (state S.Store conn.new) }
     ensures same { IsSame (state S.Store conn.old) (state S.Store conn.new) }
     ensures fault { IfErr result (λ f. (f ≡ OutOfMemory) ⊎ (f ≡ Store)) }
 {
@@ -144,12 +147,15 @@ fn decide<S: Alter>(
         → IsService (state S.Store conn.old).now source base commands
         → refusal base commands status order ≡ None) }
     ensures room { OnOk result (last < max_sequence) }
+    ensures open { HasCleanDisk (state S.Store conn.new)
+        → OnOk result (IsTrue (state S.Store conn.new).is_open) }
     ensures refused { HasCleanDisk (state S.Store conn.new) → IfErr result (λ f.
         f ≢ OutOfMemory → f ≢ Store
         → (source : List ℕ) (base : ℕ) (commands : List Accepted) → last ≡ base + length commands
         → IsService (state S.Store conn.old).now source base commands
         → refusal base commands status order ≡ Some f) }
     ensures fault { IfErr result (λ f. f ≢ Foreign) }
+    ensures crash { LeavesAsBefore (state S.Store conn.old) (state S.Store conn.new) }
     ensures same { IsSame (state S.Store conn.old) (state S.Store conn.new) }
 {
     let found = status_in(conn, order)?;
@@ -236,24 +242,11 @@ impl<S: Alter> Service<S> {
     fn accept(&mut self, status: Status, order: u64, at: &Moment) -> Result<Sequenced, OutboxFault>
         requires order { (1 ≤ order) × (order ≤ max_sequence) }
         requires short { length at.now ≤ 64 }
-        ensures kept { (self.new.source ≡ self.old.source) × (self.new.base ≡ self.old.base) }
-        ensures accepted { HasCleanDisk (state S.Store self.new.conn) → IfOk result
-            (Accepts self.old.source self.old.base
-            (record { status = status; order = order; at = at.now })
-            (state S.Store self.old.conn).now (state S.Store self.new.conn).now) }
-        ensures next { IfOk result (λ e. (self.old.last < max_sequence)
-            × (e ≡ row_event self.old.source (suc self.old.last)
-            (record { status = status; order = order; at = at.now }))) }
-        ensures refused { HasCleanDisk (state S.Store self.new.conn)
-            → IsTrue (state S.Store self.new.conn).is_open
-            → IfErr result (λ f. f ≢ OutOfMemory → f ≢ Store
-            → Refuses self.old.source self.old.base status order
-            (state S.Store self.old.conn).now f) }
-        ensures fault { IfErr result (λ f. f ≢ Foreign) }
-        ensures same { OnErr result ((self.new.last ≡ self.old.last)
-            × IsAsItWas (state S.Store self.old.conn) (state S.Store self.new.conn)) }
-        ensures clean { HasCleanDisk (state S.Store self.new.conn)
-            → HasCleanDisk (state S.Store self.old.conn) }
+        ensures call { CommandCall (record { status = status; order = order; at = at.now })
+            self.old self.new result }
+        ensures effect { HasCleanDisk (state S.Store self.new.conn) → CommandEffect
+            (record { status = status; order = order; at = at.now }) self.old
+            (state S.Store self.old.conn) (state S.Store self.new.conn) result }
     {
         // The day tells that the time is one.
         let _day = at.day();
@@ -262,14 +255,17 @@ impl<S: Alter> Service<S> {
             Err(fault) => return Err(fault),
         }
         let number = self.last + 1;
-        let event = event(
+        let event = match event(
             self.alloc,
             self.source.as_str(),
             number,
             status,
             order,
             at.as_str(),
-        )?;
+        ) {
+            Ok(event) => event,
+            Err(fault) => return Err(fault),
+        };
         match write(&mut self.conn, number, status, order, at.as_str()) {
             Ok(()) => {}
             Err(error) => return Err(OutboxFault::from(error)),
@@ -286,24 +282,11 @@ impl<S: Alter> Service<S> {
     pub fn place(&mut self, order: u64, at: &Moment) -> Result<Sequenced, OutboxFault>
         requires order { (1 ≤ order) × (order ≤ max_sequence) }
         requires short { length at.now ≤ 64 }
-        ensures kept { (self.new.source ≡ self.old.source) × (self.new.base ≡ self.old.base) }
-        ensures accepted { HasCleanDisk (state S.Store self.new.conn) → IfOk result
-            (Accepts self.old.source self.old.base
-            (record { status = Placed; order = order; at = at.now })
-            (state S.Store self.old.conn).now (state S.Store self.new.conn).now) }
-        ensures next { IfOk result (λ e. (self.old.last < max_sequence)
-            × (e ≡ row_event self.old.source (suc self.old.last)
-            (record { status = Placed; order = order; at = at.now }))) }
-        ensures refused { HasCleanDisk (state S.Store self.new.conn)
-            → IsTrue (state S.Store self.new.conn).is_open
-            → IfErr result (λ f. f ≢ OutOfMemory → f ≢ Store
-            → Refuses self.old.source self.old.base Placed order
-            (state S.Store self.old.conn).now f) }
-        ensures fault { IfErr result (λ f. f ≢ Foreign) }
-        ensures same { OnErr result ((self.new.last ≡ self.old.last)
-            × IsAsItWas (state S.Store self.old.conn) (state S.Store self.new.conn)) }
-        ensures clean { HasCleanDisk (state S.Store self.new.conn)
-            → HasCleanDisk (state S.Store self.old.conn) }
+        ensures call { CommandCall (record { status = Placed; order = order; at = at.now })
+            self.old self.new result }
+        ensures effect { HasCleanDisk (state S.Store self.new.conn) → CommandEffect
+            (record { status = Placed; order = order; at = at.now }) self.old
+            (state S.Store self.old.conn) (state S.Store self.new.conn) result }
     {
         self.accept(Status::Placed, order, at)
     }
@@ -316,24 +299,11 @@ impl<S: Alter> Service<S> {
     pub fn ship(&mut self, order: u64, at: &Moment) -> Result<Sequenced, OutboxFault>
         requires order { (1 ≤ order) × (order ≤ max_sequence) }
         requires short { length at.now ≤ 64 }
-        ensures kept { (self.new.source ≡ self.old.source) × (self.new.base ≡ self.old.base) }
-        ensures accepted { HasCleanDisk (state S.Store self.new.conn) → IfOk result
-            (Accepts self.old.source self.old.base
-            (record { status = Shipped; order = order; at = at.now })
-            (state S.Store self.old.conn).now (state S.Store self.new.conn).now) }
-        ensures next { IfOk result (λ e. (self.old.last < max_sequence)
-            × (e ≡ row_event self.old.source (suc self.old.last)
-            (record { status = Shipped; order = order; at = at.now }))) }
-        ensures refused { HasCleanDisk (state S.Store self.new.conn)
-            → IsTrue (state S.Store self.new.conn).is_open
-            → IfErr result (λ f. f ≢ OutOfMemory → f ≢ Store
-            → Refuses self.old.source self.old.base Shipped order
-            (state S.Store self.old.conn).now f) }
-        ensures fault { IfErr result (λ f. f ≢ Foreign) }
-        ensures same { OnErr result ((self.new.last ≡ self.old.last)
-            × IsAsItWas (state S.Store self.old.conn) (state S.Store self.new.conn)) }
-        ensures clean { HasCleanDisk (state S.Store self.new.conn)
-            → HasCleanDisk (state S.Store self.old.conn) }
+        ensures call { CommandCall (record { status = Shipped; order = order; at = at.now })
+            self.old self.new result }
+        ensures effect { HasCleanDisk (state S.Store self.new.conn) → CommandEffect
+            (record { status = Shipped; order = order; at = at.now }) self.old
+            (state S.Store self.old.conn) (state S.Store self.new.conn) result }
     {
         self.accept(Status::Shipped, order, at)
     }
@@ -346,24 +316,11 @@ impl<S: Alter> Service<S> {
     pub fn cancel(&mut self, order: u64, at: &Moment) -> Result<Sequenced, OutboxFault>
         requires order { (1 ≤ order) × (order ≤ max_sequence) }
         requires short { length at.now ≤ 64 }
-        ensures kept { (self.new.source ≡ self.old.source) × (self.new.base ≡ self.old.base) }
-        ensures accepted { HasCleanDisk (state S.Store self.new.conn) → IfOk result
-            (Accepts self.old.source self.old.base
-            (record { status = Cancelled; order = order; at = at.now })
-            (state S.Store self.old.conn).now (state S.Store self.new.conn).now) }
-        ensures next { IfOk result (λ e. (self.old.last < max_sequence)
-            × (e ≡ row_event self.old.source (suc self.old.last)
-            (record { status = Cancelled; order = order; at = at.now }))) }
-        ensures refused { HasCleanDisk (state S.Store self.new.conn)
-            → IsTrue (state S.Store self.new.conn).is_open
-            → IfErr result (λ f. f ≢ OutOfMemory → f ≢ Store
-            → Refuses self.old.source self.old.base Cancelled order
-            (state S.Store self.old.conn).now f) }
-        ensures fault { IfErr result (λ f. f ≢ Foreign) }
-        ensures same { OnErr result ((self.new.last ≡ self.old.last)
-            × IsAsItWas (state S.Store self.old.conn) (state S.Store self.new.conn)) }
-        ensures clean { HasCleanDisk (state S.Store self.new.conn)
-            → HasCleanDisk (state S.Store self.old.conn) }
+        ensures call { CommandCall (record { status = Cancelled; order = order; at = at.now })
+            self.old self.new result }
+        ensures effect { HasCleanDisk (state S.Store self.new.conn) → CommandEffect
+            (record { status = Cancelled; order = order; at = at.now }) self.old
+            (state S.Store self.old.conn) (state S.Store self.new.conn) result }
     {
         self.accept(Status::Cancelled, order, at)
     }
@@ -380,6 +337,8 @@ impl<S: Alter> Service<S> {
             (state S.Store self.old.conn).now) }
         ensures open { HasCleanDisk (state S.Store self.new.conn)
             → OnOk result (IsTrue (state S.Store self.old.conn).is_open) }
+        ensures crash { LeavesAsBefore (state S.Store self.old.conn)
+            (state S.Store self.new.conn) }
         ensures same { IsSame (state S.Store self.old.conn) (state S.Store self.new.conn) }
         ensures fault { IfErr result (λ f. (f ≡ OutOfMemory) ⊎ (f ≡ Store)) }
     {

@@ -7,7 +7,7 @@ ghost use Rattle.sqlite.specs.State.{HasCleanDisk, Survives, CommitsShowing, Exe
 ghost use Rattle.sqlite.specs.Held.{state};
 ghost use Rattle.outbox.specs.Order.{Accepted};
 ghost use Rattle.outbox.specs.Service.{IsService};
-ghost use Rattle.outbox.specs.Call.{IsSame};
+ghost use Rattle.outbox.specs.Call.{IsSame, LeavesAsBefore};
 ghost use Rattle.outbox.specs.steps.Change.{Adds, MayAdd, TellsStatus, shown_rows};
 ghost use Rattle.outbox.specs.steps.Statement.{note_text, append_text, page_text, status_text};
 ghost use Rattle.outbox.specs.declared.fault.OutboxFault.TheVariants.{OutOfMemory, Store};
@@ -80,6 +80,8 @@ pub(crate) fn write<S: Alter>(
         × ((state S.Store conn.new).committed ≡ (state S.Store conn.old).committed)) }
     ensures was_open { HasCleanDisk (state S.Store conn.new)
         → IsTrue (state S.Store conn.new).is_open → IsTrue (state S.Store conn.old).is_open }
+    ensures committed { HasCleanDisk (state S.Store conn.new)
+        → OnOk result ((state S.Store conn.new).committed ≡ (state S.Store conn.new).now) }
     ensures stays { HasCleanDisk (state S.Store conn.new) → OnOk result
         (IsTrue (state S.Store conn.new).is_open × IsTrue (state S.Store conn.old).is_open) }
     ensures crash { Survives (state S.Store conn.old) (state S.Store conn.new)
@@ -136,6 +138,9 @@ pub(crate) fn status_rows<S: Alter>(
         (source : List ℕ) (base : ℕ) (commands : List Accepted)
         → IsService (state S.Store conn.old).now source base commands
         → TellsStatus commands order rows.items) }
+    ensures open { HasCleanDisk (state S.Store conn.new)
+        → OnOk result (IsTrue (state S.Store conn.new).is_open) }
+    ensures crash { LeavesAsBefore (state S.Store conn.old) (state S.Store conn.new) }
     ensures same { IsSame (state S.Store conn.old) (state S.Store conn.new) }
     ensures fault { IfErr result (λ f. (f ≡ OutOfMemory) ⊎ (f ≡ Store)) }
 {
@@ -160,6 +165,7 @@ pub(crate) fn page<S: Alter>(
         (shown_rows (suc base + (after - base)) (drop (after - base) commands))) }
     ensures open { HasCleanDisk (state S.Store conn.new)
         → OnOk result (IsTrue (state S.Store conn.old).is_open) }
+    ensures crash { LeavesAsBefore (state S.Store conn.old) (state S.Store conn.new) }
     ensures same { IsSame (state S.Store conn.old) (state S.Store conn.new) }
     ensures fault { IfErr result (λ f. (f ≡ OutOfMemory) ⊎ (f ≡ Store)) }
 {

@@ -1,25 +1,29 @@
 -- What the statements change and show.
-use Rattle.std.specs.Prelude.{◌≡◌, ℕ, suc, pos, ◌+◌, List, [], ◌∷◌, ◌++◌, length, Some, None, IsTrue}
+use Rattle.std.specs.Prelude.{◌≡◌, ℕ, suc, pos, ◌+◌, List, [], ◌∷◌, ◌++◌, length, Some, None}
 use Rattle.sqlite_trees.specs.Tree.{Trees}
 use Rattle.sqlite_value.specs.Order.{Row}
 use Rattle.sqlite_value.specs.declared.value.Value.TheVariants.{Int, Text as Words}
 use Rattle.sqlite_rules.specs.Lists.{Has}
-use Rattle.sqlite_schema.specs.declared.schema.Schema.{Schema}
-use Rattle.sqlite.specs.Effect.{Database}
+use Rattle.sqlite.specs.Effect.{Database, IsDatabase}
 use Rattle.sqlite.specs.State.{State}
 use Rattle.outbox.specs.Order.{Accepted, IsCommand, status_of, refusal}
-use Rattle.outbox.specs.Schema.{first_tree, inbox, inbox_index, schema_in, schema_of}
+use Rattle.database_layout.specs.Beside.{KeepsBeside}
 use Rattle.outbox.specs.Service.{IsService, code}
 use Rattle.outbox.specs.declared.status.Status.{Status}
-use Rattle.outbox.specs.declared.layout.Layout.{Layout}
-use Rattle.outbox.specs.declared.layout.Layout.TheVariants.{Alone, BehindInbox, BeforeInbox}
 
--- the database of a service has one more command
+-- the database of a service has one more command, and the inbox beside it is as it was
+pub record HasAdded (source : List ℕ) (base : ℕ) (commands : List Accepted) (c : Accepted)
+    (old new : Database) : Type 0 where
+  pub service : IsService new source base (commands ++ c ∷ [])
+  pub beside : KeepsBeside old new
+  pub sound : IsDatabase new
+
+-- whatever commands the service accepted
 abbrev pub Adds : ℕ → Accepted → Database → Database → Type 0
 Adds number c old new = (source : List ℕ) (base : ℕ) (commands : List Accepted)
     → number ≡ suc (base + length commands) → IsCommand c
     → refusal base commands c.status c.order ≡ None
-    → IsService old source base commands → IsService new source base (commands ++ c ∷ [])
+    → IsService old source base commands → HasAdded source base commands c old new
 
 -- what a crash may find in place of the old commit
 abbrev pub MayAdd : ℕ → Accepted → State → Trees → Type 0
@@ -55,19 +59,3 @@ pub record ShowOrders (rows : List Row) (commands : List Accepted) : Type 0 wher
       × (r ≡ shown_order order status) × (status_of commands order ≡ Some status)
   pub complete : (order : ℕ) (status : Status) → status_of commands order ≡ Some status
       → Has rows (shown_order order status)
-
--- the schema before the tables of a service are made; after them comes no inbox yet
-abbrev pub IsRoomFor : Layout → Schema → Type 0
-IsRoomFor Alone schema = schema ≡ schema_of [] []
-IsRoomFor BehindInbox schema = schema ≡ schema_of (inbox 0 ∷ []) (inbox_index 0 ∷ [])
-IsRoomFor BeforeInbox schema = ⊥
-
--- the three empty tables were made in a transaction
-pub record MakesTables (layout : Layout) (old new : State) : Type 0 where
-  pub schema : new.now.schema ≡ schema_in layout
-  pub service : new.now.trees (first_tree layout) ≡ []
-  pub orders : new.now.trees (suc (first_tree layout)) ≡ []
-  pub outbox : new.now.trees (suc (suc (first_tree layout))) ≡ []
-  pub was_open : IsTrue new.is_open → IsTrue old.is_open
-  pub committed : new.committed ≡ old.committed
-  pub mode : IsTrue new.in_transaction

@@ -1,5 +1,5 @@
 use Rattle.std.proofs.Common.{◌≡◌, ◌∙◌, true, ap, rules}
-use Rattle.outbox.specs.Schema.{lacks_name}
+use Rattle.database_layout.specs.Layout.{HasService, lacks_name, schema_in as whole_schema}
 use Rattle.outbox.proofs.FoundLemmas.{all_named, not_both}
 use Rattle.outbox.proofs.adoption.read.Goals as goal
 
@@ -10,3 +10,9 @@ returns-then-lacks_name-clause-foreign g c clean _ source base commands allowed 
 
 pub returns-in-Ok-None-clause-foreign : goal.returns-in-Ok-None-clause-foreign
 returns-in-Ok-None-clause-foreign g c clean _ = rw c.in-Ok-None.field-0-is at (c.in-Ok-None.ensures.none clean)
+
+pub returns-in-Ok-None-clause-strange : goal.returns-in-Ok-None-clause-strange
+returns-in-Ok-None-clause-strange g c named others _ =
+    let there : HasService c.in-Some.layout = search rules in
+    let schema : c.args.conn.now.schema ≡ whole_schema c.in-Some.layout = search rules in
+    others (c.in-Some.layout, there) schema

@@ -1,18 +1,18 @@
 use Rattle.std.proofs.Common.{rules, w64, FitsSigned, IsTrue}
 use Rattle.std.proofs.lemmas.Int.{to_z-of_z}
 use Rattle.sqlite.specs.Held.{state}
-use Rattle.outbox.proofs.SameLemmas.{refused_same, answered_same, shown_open}
+use Rattle.outbox.proofs.SameLemmas.{leaves, refused_same, answered_same, shown_open}
 use Rattle.outbox.proofs.LoadLemmas.{pages}
-use Rattle.outbox.proofs.TextLemmas.{page_text, page_plain}
+use Rattle.outbox.proofs.TextLemmas.{page_is, page_text}
 use Rattle.outbox.proofs.statement.page.Goals as goal
 
 pub returns-in_err-page_asked-clause-same : goal.returns-in_err-page_asked-clause-same
 returns-in_err-page_asked-clause-same g c =
     let auto : IsTrue c.is_autocommit.result = search rules in
-    refused_same page_text _ (state g.S.Store c.args.conn.now) (state g.S.Store c.page_asked.new.conn) _ _ c.page_asked.ensures.survives (c.is_autocommit.ensures.settled auto) c.in_err-page_asked.ensures.err
+    refused_same page_text _ (state g.S.Store c.args.conn.now) (state g.S.Store c.page_asked.new.conn) _ c.page_asked.ensures.survives (c.is_autocommit.ensures.settled auto) c.in_err-page_asked.ensures.err
 
 pub returns-clause-same : goal.returns-clause-same
-returns-clause-same g c = answered_same page_text _ (state g.S.Store c.args.conn.now) (state g.S.Store c.page_asked.new.conn) _ _ page_plain c.page_asked.ensures.survives c.in_ok-page_asked.ensures.ok
+returns-clause-same g c = answered_same page_text _ (state g.S.Store c.args.conn.now) (state g.S.Store c.page_asked.new.conn) _ (λ l. (page_is l).1) c.page_asked.ensures.survives c.in_ok-page_asked.ensures.ok
 
 pub returns-clause-rows : goal.returns-clause-rows
 returns-clause-rows g c clean source base commands box =
@@ -23,3 +23,9 @@ returns-clause-rows g c clean source base commands box =
 
 pub returns-clause-open : goal.returns-clause-open
 returns-clause-open g c clean = shown_open page_text _ (state g.S.Store c.args.conn.now) (state g.S.Store c.page_asked.new.conn) _ (c.in_ok-page_asked.ensures.ok clean)
+
+pub returns-in_err-page_asked-clause-crash : goal.returns-in_err-page_asked-clause-crash
+returns-in_err-page_asked-clause-crash g c = leaves page_text _ (state g.S.Store c.args.conn.now) (state g.S.Store c.page_asked.new.conn) (λ l. (page_is l).1) c.page_asked.ensures.survives
+
+pub returns-clause-crash : goal.returns-clause-crash
+returns-clause-crash g c = leaves page_text _ (state g.S.Store c.args.conn.now) (state g.S.Store c.page_asked.new.conn) (λ l. (page_is l).1) c.page_asked.ensures.survives

@@ -1,0 +1,21 @@
+-- Where the tables of a service lie in a file.
+use Rattle.std.specs.Prelude.{◌≢◌, ℕ}
+use Rattle.sqlite_schema.specs.declared.schema.Schema.{Schema}
+use Rattle.database_layout.specs.Layout.{HasService, schema_in as whole_schema, service_tree}
+use Rattle.database_layout.specs.declared.layout.Layout.{Layout}
+
+-- a layout that has a service
+abbrev pub ServiceLayout : Type 0
+ServiceLayout = (l : Layout) × HasService l
+
+-- the schema of a file with it
+abbrev pub schema_in : ServiceLayout → Schema
+schema_in l = whole_schema l.0
+
+-- the tree of the first of its three tables; the others follow
+abbrev pub first_tree : ServiceLayout → ℕ
+first_tree l = service_tree l.0
+
+-- the schema is that of no such file: it has other tables too, or others in their place
+abbrev pub IsOthers : Schema → Type 0
+IsOthers schema = (l : ServiceLayout) → schema ≢ schema_in l
