@@ -6,6 +6,8 @@
 #[cfg(test)]
 mod answers;
 #[cfg(test)]
+mod digests;
+#[cfg(test)]
 mod event;
 #[cfg(test)]
 mod events;
