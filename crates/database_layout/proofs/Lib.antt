@@ -1,3 +1,4 @@
 pub mod TermLemmas
 pub mod MakingLemmas
 pub mod LayoutLemmas
+pub mod SchemaLemmas

@@ -3,4 +3,5 @@ pub mod Texts
 pub mod Layout
 pub mod Making
 pub mod Beside
+pub mod Law
 pub mod steps

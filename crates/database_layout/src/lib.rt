@@ -5,6 +5,7 @@
 mod check;
 mod creation;
 mod form;
+pub mod laws;
 mod layout;
 
 pub use creation::{drop_inbox, make_inbox, make_service};

@@ -1,12 +1,15 @@
 pub mod TextLemmas
-pub mod SchemaLemmas
-pub mod CreateLemmas
+pub mod HomeLemmas
 pub mod EventLemmas
 pub mod RowLemmas
 pub mod InsertLemmas
 pub mod KeepLemmas
+pub mod CreateLemmas
+pub mod UpgradeLemmas
+pub mod TableLemmas
 pub mod SameLemmas
 pub mod ReadLemmas
 pub mod LoadLemmas
 pub mod AdoptLemmas
 pub mod OnceLemmas
+pub mod LawLemmas

@@ -1,5 +1,5 @@
 -- What the query shows of the table.
-use Rattle.std.proofs.Common.{◌≡◌, ℕ, suc, ◌+◌, ◌<◌, ◌≤◌, ◌++◌, length, pos, List, [], ◌∷◌, map, flat_map, Less, refl, sym, ap, subst, ◌∙◌, arith, IsPermutation, IsSorted}
+use Rattle.std.proofs.Common.{◌≡◌, ℕ, suc, ◌<◌, pos, List, [], ◌∷◌, map, flat_map, Less, refl, ap, ap₂, subst, ◌∙◌, arith, IsPermutation}
 use Rattle.std.specs.List.{AllByRecursion}
 use Rattle.std.proofs.lemmas.List.Sorted.{IsPermutation-map, IsPermutation-trans}
 use Rattle.sqlite_keyed.proofs.ListLemmas.{IsPermutation-flat_map}
@@ -8,76 +8,73 @@ use Rattle.sqlite_value.specs.declared.value.Value.TheVariants.{Null, Int}
 use Rattle.sqlite_value.specs.Order.{Row, value_cmp}
 use Rattle.sqlite_trees.specs.Tree.{Trees, IsAscending}
 use Rattle.sqlite_sql.specs.Program.{overlay}
-use Rattle.sqlite_sql.specs.Query.{Output, output, output_cmp, end, matches_as, page, IsAnswerAs}
+use Rattle.sqlite_sql.specs.Query.{Output, output, output_cmp, page, IsAnswerAs}
 use Rattle.sqlite_sql.proofs.QueryLemmas.{output_cmp_total}
 use Rattle.sqlite_keyed.proofs.SortLemmas.{sorted_unique}
 use Rattle.sqlite.specs.State.{State, Shown}
 use Rattle.sqlite.proofs.Callers.{reads_as}
 use Rattle.attributes.specs.Event.{EventValue, text}
-use Rattle.inbox_table.specs.Schema.{Layout, Alone, Before, Behind, schema_of, tree_of}
-use Rattle.inbox_table.specs.Rows.{IsInbox, row_of, rows_from, shown_of, shown_from}
-use Rattle.inbox_table.proofs.TextLemmas.{load_query, select_text, select_is, select_plain}
+use Rattle.attributes.specs.Fault.{IsEvent}
+use Rattle.database_layout.specs.Layout.{inbox_tree, schema_in}
+use Rattle.inbox_table.specs.Rows.{AreNumbered, IsListed, rows_from, shown_of, shown_from}
+use Rattle.inbox_table.specs.declared.version.Version.{Version}
+use Rattle.inbox_table.specs.declared.version.Version.TheVariants.{One, Two}
+use Rattle.inbox_table.proofs.HomeLemmas.{gone_over, one}
+use Rattle.inbox_table.proofs.TextLemmas.{load_query, select_text, select_is}
 use Rattle.inbox_table.proofs.RowLemmas.{below}
 
-abbrev out_of : ℕ → EventValue → Output
-out_of p e = (Int (pos p) ∷ [], shown_of p e)
+abbrev out_of : Version → ℕ → EventValue → Output
+out_of v p e = (Int (pos p) ∷ [], shown_of v p e)
 
-abbrev outputs : ℕ → List EventValue → List Output
-outputs p [] = []
-outputs p (x ∷ events) = out_of p x ∷ outputs (suc p) events
+abbrev outputs : Version → ℕ → List EventValue → List Output
+outputs v p [] = []
+outputs v p (x ∷ events) = out_of v p x ∷ outputs v (suc p) events
 
-above : (t p q : ℕ) (e : EventValue) (events : List EventValue) → p < q → AllByRecursion (λ b. output_cmp (load_query t) (out_of p e) b ≡ Less) (outputs q events)
-above t p q e [] h = tt
-above t p q e (x ∷ events) h =
+above : (v : Version) (t p q : ℕ) (e : EventValue) (events : List EventValue) → p < q → AllByRecursion (λ b. output_cmp (load_query v t) (out_of v p e) b ≡ Less) (outputs v q events)
+above v t p q e [] h = tt
+above v t p q e (x ∷ events) h =
     let less : value_cmp (Int (pos p)) (Int (pos q)) ≡ Less = below p q h in
-    (rw less refl, above t p (suc q) e events (omega arith))
+    (rw less refl, above v t p (suc q) e events (omega arith))
 
-rises : (t p : ℕ) (events : List EventValue) → IsAscending (λ a b. output_cmp (load_query t) a b ≡ Less) (outputs p events)
-rises t p [] = tt
-rises t p (x ∷ events) = (above t p (suc p) x events (omega arith), rises t (suc p) events)
+rises : (v : Version) (t p : ℕ) (events : List EventValue) → IsAscending (λ a b. output_cmp (load_query v t) a b ≡ Less) (outputs v p events)
+rises v t p [] = tt
+rises v t p (x ∷ events) = (above v t p (suc p) x events (omega arith), rises v t (suc p) events)
 
-abbrev pub one : Value → Trees → Row → List (List Row)
-one lost db r = matches_as lost db [] end ([] ∷ r ∷ [])
+matched : (v : Version) (lost : Value) (db : Trees) (t p : ℕ) (events : List EventValue) → map (output (load_query v t)) (flat_map (one lost db) (rows_from v p events)) ≡ outputs v p events
+matched v lost db t p [] = refl
+matched One lost db t p (x ∷ events) = ap (λ outs. out_of One p x ∷ outs) (matched One lost db t (suc p) events)
+matched Two lost db t p (x ∷ events) = ap (λ outs. out_of Two p x ∷ outs) (matched Two lost db t (suc p) events)
 
-matched : (lost : Value) (db : Trees) (t p : ℕ) (events : List EventValue) → map (output (load_query t)) (flat_map (one lost db) (rows_from p events)) ≡ outputs p events
-matched lost db t p [] = refl
-matched lost db t p (x ∷ events) = ap (λ outs. out_of p x ∷ outs) (matched lost db t (suc p) events)
+cut : (v : Version) (p : ℕ) (events : List EventValue) → map (λ (o : Output). o.1) (outputs v p events) ≡ shown_from v p events
+cut v p [] = refl
+cut v p (x ∷ events) = ap (λ rows. shown_of v p x ∷ rows) (cut v (suc p) events)
 
-cut : (p : ℕ) (events : List EventValue) → map (λ (o : Output). o.1) (outputs p events) ≡ shown_from p events
-cut p [] = refl
-cut p (x ∷ events) = ap (λ rows. shown_of p x ∷ rows) (cut (suc p) events)
-
--- the query goes over the rows of our table
-pub gone_over : (l : Layout) (lost : Value) (db : Trees) → matches_as lost (overlay db []) (load_query (tree_of l)).filter (load_query (tree_of l)).from ([] ∷ []) ≡ flat_map (one lost (overlay db [])) (db (tree_of l))
-gone_over Alone lost db = refl
-gone_over (Before a b c) lost db = refl
-gone_over (Behind a b c) lost db = refl
-
-pub loads : (old last : State) (events : List EventValue) (rows : List Row) → IsInbox old.now events → Shown select_text [] old last rows → rows ≡ shown_from 1 events
-loads old last events rows box h =
+pub loads : (v : Version) (old last : State) (events : List EventValue) (rows : List Row) → IsListed v old.now events → Shown (select_text v) [] old last rows → rows ≡ shown_from v 1 events
+loads v old last events rows box h =
     let l = box.layout in
-    let t = tree_of l in
+    let t = inbox_tree l in
+    let q = load_query v t in
     let db = overlay old.now.trees [] in
-    let read = reads_as select_text [] old last (schema_of l) box.schema _ (select_is l).0 (select_plain l) (select_is l).1 rows h in
-    let a : IsAnswerAs Null (load_query t) db [] rows = read.answer Null in
-    let kept : a.kept ≡ map (output (load_query t)) (flat_map (one Null db) (old.now.trees t)) = a.distinct ∙ ap (map (output (load_query t))) (a.grouped ∙ gone_over l Null old.now.trees) in
-    let perm : IsPermutation (map (output (load_query t)) (flat_map (one Null db) (rows_from 1 events))) a.ordered =
-    IsPermutation-trans _ _ _ (IsPermutation-map (output (load_query t)) _ _ (IsPermutation-flat_map (one Null db) _ _ box.rows)) (subst (λ k. IsPermutation k a.ordered) kept a.same) in
-    let ordered : a.ordered ≡ outputs 1 events =
-    sorted_unique (output_cmp (load_query t)) (output_cmp_total (load_query t)) (outputs 1 events) a.ordered (rises t 1 events) (subst (λ k. IsPermutation k a.ordered) (matched Null db t 1 events) perm) a.sorted in
-    a.shown ∙ ap (λ outs. page (load_query t) [] (map (λ (o : Output). o.1) outs)) ordered ∙ cut 1 events
+    let is = select_is v l box.has in
+    let read = reads_as (select_text v) [] old last (schema_in l) box.schema _ is.command is.plain is.listing rows h in
+    let a : IsAnswerAs Null q db [] rows = read.answer Null in
+    let kept : a.kept ≡ map (output q) (flat_map (one Null db) (old.now.trees t)) = a.distinct ∙ ap (map (output q)) (a.grouped ∙ gone_over v l box.has Null old.now.trees) in
+    let perm : IsPermutation (map (output q) (flat_map (one Null db) (rows_from v 1 events))) a.ordered =
+    IsPermutation-trans _ _ _ (IsPermutation-map (output q) _ _ (IsPermutation-flat_map (one Null db) _ _ box.rows)) (subst (λ k. IsPermutation k a.ordered) kept a.same) in
+    let ordered : a.ordered ≡ outputs v 1 events =
+    sorted_unique (output_cmp q) (output_cmp_total q) (outputs v 1 events) a.ordered (rises v t 1 events) (subst (λ k. IsPermutation k a.ordered) (matched v Null db t 1 events) perm) a.sorted in
+    a.shown ∙ ap (λ outs. page q [] (map (λ (o : Output). o.1) outs)) ordered ∙ cut v 1 events
 
 -- ---- the rows tell the events
 
-pub same_row : (p q : ℕ) (a b : EventValue) → shown_of p a ≡ shown_of q b → text a ≡ text b
-same_row p q a b h = cc
+same_row : (v : Version) (p q : ℕ) (a b : EventValue) → shown_of v p a ≡ shown_of v q b → text a ≡ text b
+same_row v p q a b h = cc
 
-pub tells : ((e f : EventValue) → Rattle.attributes.specs.Fault.IsEvent e → Rattle.attributes.specs.Fault.IsEvent f → text e ≡ text f → e ≡ f) → (p : ℕ) (A B : List EventValue)
-    → Rattle.inbox_table.specs.Rows.AreNumbered A → Rattle.inbox_table.specs.Rows.AreNumbered B → shown_from p A ≡ shown_from p B → A ≡ B
-tells law p [] [] a b h = refl
-tells law p [] (y ∷ B) a b h = absurd (cc)
-tells law p (x ∷ A) [] a b h = absurd (cc)
-tells law p (x ∷ A) (y ∷ B) a b h =
-    let first : shown_of p x ≡ shown_of p y = cc in
-    let rest : shown_from (suc p) A ≡ shown_from (suc p) B = cc in
-    Rattle.std.proofs.Common.ap₂ ◌∷◌ (law x y a.0.event b.0.event (same_row p p x y first)) (tells law (suc p) A B a.1 b.1 rest)
+pub tells : ((e f : EventValue) → IsEvent e → IsEvent f → text e ≡ text f → e ≡ f) → (v : Version) (p : ℕ) (A B : List EventValue) → AreNumbered A → AreNumbered B → shown_from v p A ≡ shown_from v p B → A ≡ B
+tells law v p [] [] a b h = refl
+tells law v p [] (y ∷ B) a b h = absurd (cc)
+tells law v p (x ∷ A) [] a b h = absurd (cc)
+tells law v p (x ∷ A) (y ∷ B) a b h =
+    let first : shown_of v p x ≡ shown_of v p y = cc in
+    let rest : shown_from v (suc p) A ≡ shown_from v (suc p) B = cc in
+    ap₂ ◌∷◌ (law x y a.0.event b.0.event (same_row v p p x y first)) (tells law v (suc p) A B a.1 b.1 rest)

@@ -20,10 +20,18 @@ use Rattle.sqlite.specs.State.{State, Shown}
 use Rattle.attributes.specs.Event.{EventValue, id_of, source_of, text}
 use Rattle.inbox.specs.KeyOrder.{key_cmp}
 use Rattle.inbox.specs.Ordered.{append_new, has}
-use Rattle.inbox_table.specs.Schema.{IsOurs, Layout, inbox, key_places, schema_of, tree_of}
-use Rattle.inbox_table.specs.Rows.{AreNumbered, IsInbox, row_of, rows_from, shown_from}
+use Rattle.database_layout.specs.Layout.{inbox_tree, schema_in}
+use Rattle.database_layout.specs.Tables.{key_places}
+use Rattle.database_layout.specs.declared.layout.Layout.{Layout}
+use Rattle.database_layout.specs.declared.layout.Layout.TheVariants.{Inbox, InboxService, ServiceInbox, Inbox2, Inbox2Service, ServiceInbox2, Upgraded, UpgradedService, ServiceUpgraded, ShiftedUpgraded}
+use Rattle.inbox_table.specs.Rows.{AreNumbered, IsListed, row_of, rows_from, shown_from}
 use Rattle.inbox_table.specs.Texts.{select_text}
-use Rattle.inbox_table.proofs.AdoptLemmas.{rule_of, stored}
+use Rattle.inbox_table.specs.Version.{HasTable, table_of}
+use Rattle.inbox_table.specs.declared.version.Version.{Version}
+use Rattle.inbox_table.specs.declared.version.Version.TheVariants.{One, Two}
+use Rattle.inbox_table.specs.steps.Reads.{HasVersion}
+use Rattle.inbox_table.proofs.AdoptLemmas.{stored}
+use Rattle.inbox_table.proofs.HomeLemmas.{rule_of}
 use Rattle.inbox_table.proofs.RowLemmas.{equal_text, has_permuted, key_columns, rows_snoc, same_tree}
 
 told : (b : Bool) → is_true (from_truth (Some b)) ≡ b
@@ -48,9 +56,9 @@ trim true true false = refl
 trim true false c = refl
 trim false b c = refl
 
-agree_is : (p q : ℕ) (x e : EventValue) → agree (record { digits = 0 }) key_places (row_of p x) key_places (row_of q e) ≡ is_eq (key_cmp e x)
+agree_is : (v : Version) (p q : ℕ) (x e : EventValue) → agree (record { digits = 0 }) key_places (row_of v p x) key_places (row_of v q e) ≡ is_eq (key_cmp e x)
 unfolding first_key
-agree_is p q x e =
+agree_is v p q x e =
     rw (equal_text (source_of x) (source_of e), equal_text (id_of x) (id_of e), equal_text (text x) (text e))
     (trim (Rattle.std.proofs.Common.bytes_eq (source_of x) (source_of e)) (Rattle.std.proofs.Common.bytes_eq (id_of x) (id_of e)) (Rattle.std.proofs.Common.bytes_eq (text x) (text e)))
     ∙ key_columns e x
@@ -83,29 +91,45 @@ left_of true true is h = absurd (cc)
 left_of true false is h = absurd (cc)
 left_of false b is h = refl
 
-module _ (l : Layout) (db : Trees) (unique : AllByRecursion (λ r. passes Unique (schema_of l) db (inbox (tree_of l)) r ≡ true) (db (tree_of l))) where
+-- the rule of the UNIQUE, where the layout is known
+rule_told : (v : Version) (l : Layout) → HasTable v l → (db : Trees) (r : Row) → passes Unique (schema_in l) db (table_of v (inbox_tree l)) r ≡ true
+    → (not ((true && eqb (inbox_tree l) (inbox_tree l)) && clashes (record { digits = 0 }) key_places (db (inbox_tree l)) r) && true) ≡ true
+rule_told One Inbox has db r h = h
+rule_told One InboxService has db r h = h
+rule_told One ServiceInbox has db r h = h
+rule_told Two Inbox2 has db r h = h
+rule_told Two Inbox2Service has db r h = h
+rule_told Two ServiceInbox2 has db r h = h
+rule_told Two Upgraded has db r h = h
+rule_told Two UpgradedService has db r h = h
+rule_told Two ServiceUpgraded has db r h = h
+rule_told Two ShiftedUpgraded has db r h = h
+rule_told One _ has db r h = absurd has
+rule_told Two _ has db r h = absurd has
+
+module _ (v : Version) (l : Layout) (has_table : HasTable v l) (db : Trees) (unique : AllByRecursion (λ r. passes Unique (schema_in l) db (table_of v (inbox_tree l)) r ≡ true) (db (inbox_tree l))) where
   abbrev rows : List Row
-  rows = db (tree_of l)
+  rows = db (inbox_tree l)
 
-  pair : (p q : ℕ) (x e : EventValue) → Has rows (row_of p x) → Has rows (row_of q e) → p < q → is_eq (key_cmp e x) ≡ false
+  pair : (p q : ℕ) (x e : EventValue) → Has rows (row_of v p x) → Has rows (row_of v q e) → p < q → is_eq (key_cmp e x) ≡ false
   pair p q x e first second low =
-      let rule = all_has (λ r. passes Unique (schema_of l) db (inbox (tree_of l)) r ≡ true) rows (row_of q e) unique second in
-      let none : clashes (record { digits = 0 }) key_places rows (row_of q e) ≡ false = no_clash (eqb (tree_of l) (tree_of l)) _ (same_tree (tree_of l)) rule in
-      let one = any_false (λ other. agree (record { digits = 0 }) key_places other key_places (row_of q e) && differ (Rattle.sqlite_trees.specs.Tree.rowid other) (Int (pos q))) rows (row_of p x) none first in
-      sym (agree_is p q x e) ∙ left_of _ _ (differ_int (pos p) (pos q) ∙ not_equal (int_cmp (pos p) (pos q)) (apart p q low)) one
+      let rule = all_has (λ r. passes Unique (schema_in l) db (table_of v (inbox_tree l)) r ≡ true) rows (row_of v q e) unique second in
+      let none : clashes (record { digits = 0 }) key_places rows (row_of v q e) ≡ false = no_clash (eqb (inbox_tree l) (inbox_tree l)) _ (same_tree (inbox_tree l)) (rule_told v l has_table db (row_of v q e) rule) in
+      let one = any_false (λ other. agree (record { digits = 0 }) key_places other key_places (row_of v q e) && differ (Rattle.sqlite_trees.specs.Tree.rowid other) (Int (pos q))) rows (row_of v p x) none first in
+      sym (agree_is v p q x e) ∙ left_of _ _ (differ_int (pos p) (pos q) ∙ not_equal (int_cmp (pos p) (pos q)) (apart p q low)) one
 
-  none_before : (p q : ℕ) (A : List EventValue) (e : EventValue) → ((r : Row) → Has (rows_from p A) r → Has rows r) → Has rows (row_of q e) → p + length A ≤ q → has key_cmp A e ≡ false
+  none_before : (p q : ℕ) (A : List EventValue) (e : EventValue) → ((r : Row) → Has (rows_from v p A) r → Has rows r) → Has rows (row_of v q e) → p + length A ≤ q → has key_cmp A e ≡ false
   none_before p q [] e all last low = refl
   none_before p q (x ∷ A) e all last low =
-      let one = pair p q x e (all (row_of p x) (inl refl)) last (omega arith) in
+      let one = pair p q x e (all (row_of v p x) (inl refl)) last (omega arith) in
       rw one (none_before (suc p) q A e (λ r h. all r (inr h)) last (omega arith))
 
-  pub once_from : (A B : List EventValue) → ((r : Row) → Has (rows_from 1 A) r → Has rows r) → ((r : Row) → Has (rows_from (1 + length A) B) r → Has rows r) → append_new key_cmp A B ≡ A ++ B
+  pub once_from : (A B : List EventValue) → ((r : Row) → Has (rows_from v 1 A) r → Has rows r) → ((r : Row) → Has (rows_from v (1 + length A) B) r → Has rows r) → append_new key_cmp A B ≡ A ++ B
   once_from A [] all more = sym (append-nil A)
   once_from A (e ∷ B) all more =
-      let none = none_before 1 (1 + length A) A e all (more (row_of (1 + length A) e) (inl refl)) (omega arith) in
-      let both : (r : Row) → Has (rows_from 1 (A ++ e ∷ [])) r → Has rows r = λ r h. either r (has_either (rows_from 1 A) (row_of (1 + length A) e) r (subst (λ xs. Has xs r) (rows_snoc 1 A e) h)) in
-      let rest : (r : Row) → Has (rows_from (1 + length (A ++ e ∷ [])) B) r → Has rows r = λ r h. more r (inr (subst (λ n. Has (rows_from n B) r) (let n : 1 + length (A ++ e ∷ []) ≡ suc (1 + length A) = omega (arith, length-append A (e ∷ [])) in n) h)) in
+      let none = none_before 1 (1 + length A) A e all (more (row_of v (1 + length A) e) (inl refl)) (omega arith) in
+      let both : (r : Row) → Has (rows_from v 1 (A ++ e ∷ [])) r → Has rows r = λ r h. either r (has_either (rows_from v 1 A) (row_of v (1 + length A) e) r (subst (λ xs. Has xs r) (rows_snoc v 1 A e) h)) in
+      let rest : (r : Row) → Has (rows_from v (1 + length (A ++ e ∷ [])) B) r → Has rows r = λ r h. more r (inr (subst (λ n. Has (rows_from v n B) r) (let n : 1 + length (A ++ e ∷ []) ≡ suc (1 + length A) = omega (arith, length-append A (e ∷ [])) in n) h)) in
       ap (λ b. append_new key_cmp (if b then A else A ++ e ∷ []) B) none ∙ once_from (A ++ e ∷ []) B both rest ∙ append_assoc A (e ∷ []) B
     where
       has_either : (xs : List Row) (y r : Row) → Has (xs ++ y ∷ []) r → Has xs r ⊎ (r ≡ y)
@@ -114,22 +138,24 @@ module _ (l : Layout) (db : Trees) (unique : AllByRecursion (λ r. passes Unique
       has_either (x ∷ xs) y r (inl is) = inl (inl is)
       has_either (x ∷ xs) y r (inr h) = elim (has_either xs y r h) [ inl k ↦ inl (inr k) | inr k ↦ inr k ]
 
-      either : (r : Row) → Has (rows_from 1 A) r ⊎ (r ≡ row_of (1 + length A) e) → Has rows r
+      either : (r : Row) → Has (rows_from v 1 A) r ⊎ (r ≡ row_of v (1 + length A) e) → Has rows r
       either r (inl h) = all r h
-      either r (inr is) = subst (Has rows) (sym is) (more (row_of (1 + length A) e) (inl refl))
+      either r (inr is) = subst (Has rows) (sym is) (more (row_of v (1 + length A) e) (inl refl))
 
 -- ---- a table that is adopted
 
-pub adopted : (old last : State) (events : List EventValue) (rows : List Row) → IsOurs old.now.schema → IsDatabase old.now → Shown select_text [] old last rows → rows ≡ shown_from 1 events → AreNumbered events → IsInbox old.now events
-adopted old last events found (l, is) sound shows read numbered =
-    let h = subst (Shown select_text [] old last) read shows in
-    let perm = stored old last l events is sound h in
+pub adopted : (v : Version) (old last : State) (events : List EventValue) (rows : List Row) → HasVersion v old.now.schema → IsDatabase old.now → Shown (select_text v) [] old last rows → rows ≡ shown_from v 1 events → AreNumbered events
+    → IsListed v old.now events
+adopted v old last events found (l, has, is) sound shows read numbered =
+    let h = subst (Shown (select_text v) [] old last) read shows in
+    let perm = stored v old last l events has is sound h in
     let db = old.now.trees in
-    let unique = rule_of l Unique db ((subst (λ s. Rattle.sqlite_schema.specs.Rules.Obeys s db) is sound.obeys).rules Unique) in
+    let unique = rule_of v l has Unique db ((subst (λ s. Rattle.sqlite_schema.specs.Rules.Obeys s db) is sound.obeys).rules Unique) in
     record {
       layout = l;
+      has = has;
       schema = is;
       rows = perm;
       numbered = numbered;
-      once = once_from l db unique [] events (λ r none. absurd none) (λ r have. has_permuted _ _ perm r have);
+      once = once_from v l has db unique [] events (λ r none. absurd none) (λ r have. has_permuted _ _ perm r have);
     }

@@ -16,7 +16,6 @@ use Rattle.sqlite_trees.specs.Tree.{rowid, put_row}
 use Rattle.sqlite_sql.specs.Ops.{unary, binary, is_true, from_truth}
 use Rattle.sqlite_schema.specs.Rules.{equal}
 use Rattle.sqlite_schema.specs.declared.schema.Kind.TheVariants.{Integer}
-use Rattle.sqlite_schema.specs.declared.schema.Schema.{Schema}
 use Rattle.sqlite_rules.specs.Cast.{cast, cast_row}
 use Rattle.sqlite_rules.specs.Edit.{is_taken}
 use Rattle.sqlite_rules.specs.Keys.{conflicts}
@@ -26,9 +25,17 @@ use Rattle.sqlite.specs.Effect.{Database}
 use Rattle.attributes.specs.Event.{EventValue, id_of, source_of, text}
 use Rattle.inbox.specs.KeyOrder.{key_cmp}
 use Rattle.inbox.specs.Ordered.{has}
-use Rattle.inbox_table.specs.Schema.{Layout, inbox, key_index, schema_of, tree_of}
-use Rattle.inbox_table.specs.Rows.{IsInbox, row_of, rows_from, number_in}
+use Rattle.database_layout.specs.Beside.{HasAnyInbox}
+use Rattle.database_layout.specs.Layout.{inbox_tree, schema_in}
+use Rattle.database_layout.specs.Tables.{inbox2, inbox2_index}
+use Rattle.database_layout.specs.declared.layout.Layout.{Layout}
+use Rattle.database_layout.proofs.LayoutLemmas.{same_inbox}
+use Rattle.inbox_table.specs.Version.{HasTable}
+use Rattle.inbox_table.specs.Rows.{IsListed, row_of, rows_from, number_in, block_in}
+use Rattle.inbox_table.specs.declared.version.Version.{Version}
+use Rattle.inbox_table.specs.declared.version.Version.TheVariants.{One, Two}
 use Rattle.inbox_table.proofs.EventLemmas.{key_is}
+use Rattle.inbox_table.proofs.HomeLemmas.{not_both_versions}
 
 either : {X : Type 0} (b : Bool) (x : X) → (Rattle.std.specs.Prelude.if◌then◌else◌ b x x) ≡ x
 either true x = refl
@@ -42,29 +49,29 @@ cast_whole : (n : ℤ) → cast Integer (Int n) ≡ Int n
 unfolding unary
 cast_whole n = either _ (Int n)
 
-pub cast_stored : (tree n : ℕ) (e : EventValue) → cast_row (inbox tree) (row_of n e) ≡ row_of n e
-cast_stored tree n e = rw (cast_whole (pos n), cast_null, cast_whole (pos (number_in e))) refl
+pub cast_stored : (tree n : ℕ) (e : EventValue) → cast_row (inbox2 tree) (row_of Two n e) ≡ row_of Two n e
+cast_stored tree n e = rw (cast_whole (pos n), cast_null, cast_whole (pos (number_in e)), cast_whole (pos (block_in e))) refl
 
 -- ---- places
 
 pub below : (m n : ℕ) → m < n → value_cmp (Int (pos m)) (Int (pos n)) ≡ Less
 below m n h = value_cmp-Int (pos m) (pos n) ∙ grind (arith, ints, nat_tests)
 
-pub rows_snoc : (p : ℕ) (events : List EventValue) (e : EventValue) → rows_from p (events ++ e ∷ []) ≡ rows_from p events ++ row_of (p + length events) e ∷ []
-rows_snoc p [] e = ap (λ k. row_of k e ∷ []) (let k : p ≡ p + 0 = omega arith in k)
-rows_snoc p (x ∷ events) e =
-    ap (λ rows. row_of p x ∷ rows) (rows_snoc (suc p) events e ∙ ap (λ k. rows_from (suc p) events ++ row_of k e ∷ []) (let k : suc p + length events ≡ p + suc (length events) = omega arith in k))
+pub rows_snoc : (v : Version) (p : ℕ) (events : List EventValue) (e : EventValue) → rows_from v p (events ++ e ∷ []) ≡ rows_from v p events ++ row_of v (p + length events) e ∷ []
+rows_snoc v p [] e = ap (λ k. row_of v k e ∷ []) (let k : p ≡ p + 0 = omega arith in k)
+rows_snoc v p (x ∷ events) e =
+    ap (λ rows. row_of v p x ∷ rows) (rows_snoc v (suc p) events e ∙ ap (λ k. rows_from v (suc p) events ++ row_of v k e ∷ []) (let k : suc p + length events ≡ p + suc (length events) = omega arith in k))
 
-pub length-rows : (p : ℕ) (events : List EventValue) → length (rows_from p events) ≡ length events
-length-rows p [] = refl
-length-rows p (e ∷ events) = ap suc (length-rows (suc p) events)
+pub length-rows : (v : Version) (p : ℕ) (events : List EventValue) → length (rows_from v p events) ≡ length events
+length-rows v p [] = refl
+length-rows v p (e ∷ events) = ap suc (length-rows v (suc p) events)
 
 -- a row behind the last, put before the others
-pub put_behind : (events : List EventValue) (e : EventValue) (rows : List Row) → IsPermutation (rows_from 1 events) rows → IsPermutation (rows_from 1 (events ++ e ∷ [])) (row_of (suc (length events)) e ∷ rows)
+pub put_behind : (events : List EventValue) (e : EventValue) (rows : List Row) → IsPermutation (rows_from Two 1 events) rows → IsPermutation (rows_from Two 1 (events ++ e ∷ [])) (row_of Two (suc (length events)) e ∷ rows)
 put_behind events e rows same =
-    let new = row_of (suc (length events)) e in
-    subst (λ xs. IsPermutation xs (new ∷ rows)) (sym (rows_snoc 1 events e ∙ ap (λ k. rows_from 1 events ++ row_of k e ∷ []) (let k : 1 + length events ≡ suc (length events) = omega arith in k)))
-    (IsPermutation-trans _ _ _ (IsPermutation-append_comm (rows_from 1 events) (new ∷ [])) (IsPermutation-cons new (rows_from 1 events) rows same))
+    let new = row_of Two (suc (length events)) e in
+    subst (λ xs. IsPermutation xs (new ∷ rows)) (sym (rows_snoc Two 1 events e ∙ ap (λ k. rows_from Two 1 events ++ row_of Two k e ∷ []) (let k : 1 + length events ≡ suc (length events) = omega arith in k)))
+    (IsPermutation-trans _ _ _ (IsPermutation-append_comm (rows_from Two 1 events) (new ∷ [])) (IsPermutation-cons new (rows_from Two 1 events) rows same))
 
 -- ---- membership under a permutation
 
@@ -135,7 +142,7 @@ clash p n x e = is_eq (int_cmp (pos p) (pos n)) || is_eq (key_cmp e x)
 pub same_tree : (t : ℕ) → eqb t t ≡ true
 same_tree t = grind (arith, nat_tests)
 
-pub conflict_is : (tree p n : ℕ) (x e : EventValue) → conflicts None (key_index tree ∷ []) (inbox tree) (row_of n e) (row_of p x) ≡ clash p n x e
+pub conflict_is : (tree p n : ℕ) (x e : EventValue) → conflicts None (inbox2_index tree ∷ []) (inbox2 tree) (row_of Two n e) (row_of Two p x) ≡ clash p n x e
 unfolding first_key
 conflict_is tree p n x e =
     rw (equal_int (pos p) (pos n), equal_text (source_of x) (source_of e), equal_text (id_of x) (id_of e), equal_text (text x) (text e))
@@ -146,17 +153,17 @@ apart : (p n : ℕ) → p < n → is_eq (int_cmp (pos p) (pos n)) ≡ false
 apart p n h = grind (arith, ints, nat_tests)
 
 -- no row has the key
-pub none_there : (tree p n : ℕ) (events : List EventValue) (e : EventValue) → ((r : Row) → Has (rows_from p events) r → conflicts None (key_index tree ∷ []) (inbox tree) (row_of n e) r ≡ true → ⊥) → has key_cmp events e ≡ false
+pub none_there : (tree p n : ℕ) (events : List EventValue) (e : EventValue) → ((r : Row) → Has (rows_from Two p events) r → conflicts None (inbox2_index tree ∷ []) (inbox2 tree) (row_of Two n e) r ≡ true → ⊥) → has key_cmp events e ≡ false
 none_there tree p n [] e none = refl
 none_there tree p n (x ∷ events) e none =
-    let first : is_eq (key_cmp e x) ≡ false = false_from_ne_true _ (λ h. none (row_of p x) (inl refl) (conflict_is tree p n x e ∙ rw h (elim (is_eq (int_cmp (pos p) (pos n))) as (λ b. (b || true) ≡ true) [ true ↦ refl | false ↦ refl ]))) in
+    let first : is_eq (key_cmp e x) ≡ false = false_from_ne_true _ (λ h. none (row_of Two p x) (inl refl) (conflict_is tree p n x e ∙ rw h (elim (is_eq (int_cmp (pos p) (pos n))) as (λ b. (b || true) ≡ true) [ true ↦ refl | false ↦ refl ]))) in
     rw first (none_there tree (suc p) n events e (λ r h. none r (inr h)))
 
 -- some row before this place has it
-pub some_there : (tree p n : ℕ) (events : List EventValue) (e : EventValue) → p + length events ≤ n → (r : Row) → Has (rows_from p events) r → conflicts None (key_index tree ∷ []) (inbox tree) (row_of n e) r ≡ true → has key_cmp events e ≡ true
+pub some_there : (tree p n : ℕ) (events : List EventValue) (e : EventValue) → p + length events ≤ n → (r : Row) → Has (rows_from Two p events) r → conflicts None (inbox2_index tree ∷ []) (inbox2 tree) (row_of Two n e) r ≡ true → has key_cmp events e ≡ true
 some_there tree p n [] e low r h hit = absurd h
 some_there tree p n (x ∷ events) e low r (inl is) hit =
-    let found : clash p n x e ≡ true = sym (conflict_is tree p n x e) ∙ subst (λ q. conflicts None (key_index tree ∷ []) (inbox tree) (row_of n e) q ≡ true) is hit in
+    let found : clash p n x e ≡ true = sym (conflict_is tree p n x e) ∙ subst (λ q. conflicts None (inbox2_index tree ∷ []) (inbox2 tree) (row_of Two n e) q ≡ true) is hit in
     let first : is_eq (key_cmp e x) ≡ true = rw (apart p n (omega arith)) at found in
     rw first refl
 some_there tree p n (x ∷ events) e low r (inr h) hit =
@@ -165,16 +172,25 @@ some_there tree p n (x ∷ events) e low r (inr h) hit =
 
 -- ---- one database has the table in one tree
 
-pub one_tree : (l m : Layout) (s : Schema) → s ≡ schema_of l → s ≡ schema_of m → tree_of l ≡ tree_of m
-one_tree l m s a b =
-    let both : key_index (tree_of l) ∷ [] ≡ key_index (tree_of m) ∷ [] = ap (λ (q : Schema). q.indexes) (sym a ∙ b) in
-    let one : key_index (tree_of l) ≡ key_index (tree_of m) = cc in
-    ap (λ (i : Rattle.sqlite_schema.specs.declared.schema.Index.Index). i.table) one
+any_of : (v : Version) (l : Layout) → HasTable v l → HasAnyInbox l
+any_of One l has = inl has
+any_of Two l has = inr has
 
-pub same_length : (db : Database) (A B : List EventValue) → IsInbox db A → IsInbox db B → length A ≡ length B
-same_length db A B a b =
-    let tree = one_tree a.layout b.layout db.schema a.schema b.schema in
+pub one_tree : (v w : Version) (l m : Layout) → HasTable v l → HasTable w m → schema_in l ≡ schema_in m → inbox_tree l ≡ inbox_tree m
+one_tree v w l m has had e = (same_inbox l m (any_of w m had) e).1
+
+-- a layout with the schema of one that has version 2 has it too, in the same tree
+pub two_of : (l m : Layout) → HasTable Two m → schema_in l ≡ schema_in m → HasTable Two l × (inbox_tree l ≡ inbox_tree m)
+two_of l m has e = let it = same_inbox l m (inr has) e in (go it.0, it.1)
+  where
+    go : HasAnyInbox l → HasTable Two l
+    go (inl old) = absurd (not_both_versions l m old has e)
+    go (inr new) = new
+
+pub same_length : (v : Version) (db : Database) (A B : List EventValue) → IsListed v db A → IsListed v db B → length A ≡ length B
+same_length v db A B a b =
+    let tree = one_tree v v a.layout b.layout a.has b.has (sym a.schema ∙ b.schema) in
     let one = length_permutation _ _ a.rows in
     let two = length_permutation _ _ b.rows in
-    let same : length (db.trees (tree_of a.layout)) ≡ length (db.trees (tree_of b.layout)) = ap (λ t. length (db.trees t)) tree in
-    omega (arith, one, two, same, length-rows 1 A, length-rows 1 B)
+    let same : length (db.trees (inbox_tree a.layout)) ≡ length (db.trees (inbox_tree b.layout)) = ap (λ t. length (db.trees t)) tree in
+    omega (arith, one, two, same, length-rows v 1 A, length-rows v 1 B)

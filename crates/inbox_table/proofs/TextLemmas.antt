@@ -1,5 +1,5 @@
 -- What the texts mean under the schema.
-use Rattle.std.proofs.Common.{◌≡◌, ℕ, pos, negsuc, List, [], ◌∷◌, codes, false, None, Ok, refl}
+use Rattle.std.proofs.Common.{◌≡◌, ℕ, pos, negsuc, List, [], ◌∷◌, codes, false, None, refl}
 use Rattle.sqlite_value.specs.declared.value.Value.TheVariants.{Null, Int}
 use Rattle.sqlite_value.specs.declared.keys.Collation.TheVariants.{Binary}
 use Rattle.sqlite_sql.specs.Term.{Term, lit, col}
@@ -7,61 +7,72 @@ use Rattle.sqlite_sql.specs.Query.{Query, inner, end}
 use Rattle.sqlite_schema.specs.declared.command.Upsert.{Upsert}
 use Rattle.sqlite_schema.specs.declared.command.Source.TheVariants.{Values}
 use Rattle.sqlite_schema.specs.declared.command.Conflict.TheVariants.{Abort}
-use Rattle.sqlite_schema.specs.declared.command.Command.TheVariants.{InsertOr, Select, CreateTable}
-use Rattle.sqlite_resolve.specs.Compile.{table_defined_by}
+use Rattle.sqlite_schema.specs.declared.command.Command.TheVariants.{InsertOr, Select}
 use Rattle.sqlite_tied.specs.Compute.{everything}
 use Rattle.sqlite.specs.Listing.{understood, reads_listing}
-use Rattle.sqlite.proofs.Callers.{IsPlain, command_of, statement_of}
-use Rattle.inbox_table.specs.Schema.{Layout, Alone, Before, Behind, Room, Empty, Outbox, inbox, schema_before, schema_of, tree_of}
-pub use Rattle.inbox_table.specs.Texts.{create_text, insert_text, select_text}
+use Rattle.sqlite.proofs.Callers.{IsPlain, command_of}
+use Rattle.database_layout.specs.Layout.{inbox_tree, schema_in}
+use Rattle.database_layout.specs.declared.layout.Layout.{Layout}
+use Rattle.database_layout.specs.declared.layout.Layout.TheVariants.{Inbox, InboxService, ServiceInbox, Inbox2, Inbox2Service, ServiceInbox2, Upgraded, UpgradedService, ServiceUpgraded, ShiftedUpgraded}
+use Rattle.inbox_table.specs.Version.{HasTable}
+use Rattle.inbox_table.specs.declared.version.Version.{Version}
+use Rattle.inbox_table.specs.declared.version.Version.TheVariants.{One, Two}
+use Rattle.inbox_table.specs.steps.Turns.{Home, At, Beside, IsHome, schema_at}
+pub use Rattle.inbox_table.specs.Texts.{insert_text, select_text}
 
 -- the values of a new row
 abbrev pub terms : List Term
-terms = col 0 0 ∷ lit Null ∷ col 0 1 ∷ col 0 2 ∷ col 0 3 ∷ col 0 4 ∷ []
+terms = col 0 0 ∷ lit Null ∷ col 0 1 ∷ col 0 2 ∷ col 0 3 ∷ col 0 4 ∷ col 0 5 ∷ []
 
 -- a row that is there is passed over
 abbrev pub clauses : List Upsert
 clauses = record { target = None; update = None } ∷ []
 
--- which of the tables is ours
-abbrev pub index_of : Layout → ℕ
-index_of Alone = 0
-index_of (Before a b c) = 0
-index_of (Behind a b c) = 3
+-- which of the tables is the one that is written
+abbrev pub index_of : Home → ℕ
+index_of (At ServiceInbox2) = 3
+index_of (At ServiceUpgraded) = 3
+index_of (At ShiftedUpgraded) = 3
+index_of (Beside Inbox) = 1
+index_of (Beside InboxService) = 4
+index_of (Beside ServiceInbox) = 4
+index_of _ = 0
 
-pub create_is : (r : Room) → (command_of (understood (schema_before r) create_text) ≡ CreateTable) × (statement_of create_text (understood (schema_before r) create_text) ≡ create_text)
-unfolding understood everything
-create_is Empty = (refl, refl)
-create_is (Outbox a b c) = (refl, refl)
+-- what INSERT means where the table is
+abbrev pub Inserts : Home → Type 0
+Inserts h = (command_of (understood (schema_at h) insert_text) ≡ InsertOr (index_of h) Abort (Values terms 7) clauses) × IsPlain (understood (schema_at h) insert_text)
 
-pub table_is : table_defined_by create_text ≡ Ok (inbox 0)
+pub insert_is : (h : Home) → IsHome h → Inserts h
 unfolding understood everything
-table_is = refl
+insert_is (At Inbox2) has = (refl, (refl, refl))
+insert_is (At Inbox2Service) has = (refl, (refl, refl))
+insert_is (At ServiceInbox2) has = (refl, (refl, refl))
+insert_is (At Upgraded) has = (refl, (refl, refl))
+insert_is (At UpgradedService) has = (refl, (refl, refl))
+insert_is (At ServiceUpgraded) has = (refl, (refl, refl))
+insert_is (At ShiftedUpgraded) has = (refl, (refl, refl))
+insert_is (Beside Inbox) has = (refl, (refl, refl))
+insert_is (Beside InboxService) has = (refl, (refl, refl))
+insert_is (Beside ServiceInbox) has = (refl, (refl, refl))
+insert_is (At _) has = absurd has
+insert_is (Beside _) has = absurd has
 
-pub create_plain : (r : Room) → IsPlain (understood (schema_before r) create_text)
-unfolding understood everything
-create_plain Empty = (refl, refl)
-create_plain (Outbox a b c) = (refl, refl)
+-- the columns that are shown, and their names
+abbrev pub projected : Version → List Term
+projected One = col 1 0 ∷ col 1 2 ∷ col 1 3 ∷ col 1 4 ∷ col 1 5 ∷ []
+projected Two = col 1 0 ∷ col 1 2 ∷ col 1 3 ∷ col 1 4 ∷ col 1 5 ∷ col 1 6 ∷ []
 
-pub insert_is : (l : Layout) → command_of (understood (schema_of l) insert_text) ≡ InsertOr (index_of l) Abort (Values terms 6) clauses
-unfolding understood everything
-insert_is Alone = refl
-insert_is (Before a b c) = refl
-insert_is (Behind a b c) = refl
-
-pub insert_plain : (l : Layout) → IsPlain (understood (schema_of l) insert_text)
-unfolding understood everything
-insert_plain Alone = (refl, refl)
-insert_plain (Before a b c) = (refl, refl)
-insert_plain (Behind a b c) = (refl, refl)
+abbrev pub names : Version → List (List ℕ)
+names One = codes "place" ∷ codes "source" ∷ codes "id" ∷ codes "number" ∷ codes "body" ∷ []
+names Two = codes "place" ∷ codes "source" ∷ codes "id" ∷ codes "number" ∷ codes "body" ∷ codes "block" ∷ []
 
 -- the rows of a tree, by place
-abbrev pub load_query : ℕ → Query
-load_query tree = record {
+abbrev pub load_query : Version → ℕ → Query
+load_query v tree = record {
   from = inner tree end;
   filter = [];
   group = None;
-  project = col 1 0 ∷ col 1 2 ∷ col 1 3 ∷ col 1 4 ∷ col 1 5 ∷ [];
+  project = projected v;
   distinct = false;
   collations = [];
   order = (col 1 0, record { collation = Binary; descending = false }) ∷ [];
@@ -69,17 +80,23 @@ load_query tree = record {
   offset = lit (Int (pos 0));
 }
 
-abbrev pub names : List (List ℕ)
-names = codes "place" ∷ codes "source" ∷ codes "id" ∷ codes "number" ∷ codes "body" ∷ []
+-- what SELECT means where the table is
+pub record Selects (v : Version) (l : Layout) : Type 0 where
+  pub command : command_of (understood (schema_in l) (select_text v)) ≡ Select (record { lets = []; body = load_query v (inbox_tree l) }) (names v)
+  pub listing : reads_listing (schema_in l) (select_text v) ≡ false
+  pub plain : IsPlain (understood (schema_in l) (select_text v))
 
-pub select_is : (l : Layout) → (command_of (understood (schema_of l) select_text) ≡ Select (record { lets = []; body = load_query (tree_of l) }) names) × (reads_listing (schema_of l) select_text ≡ false)
+pub select_is : (v : Version) (l : Layout) → HasTable v l → Selects v l
 unfolding understood everything
-select_is Alone = (refl, refl)
-select_is (Before a b c) = (refl, refl)
-select_is (Behind a b c) = (refl, refl)
-
-pub select_plain : (l : Layout) → IsPlain (understood (schema_of l) select_text)
-unfolding understood everything
-select_plain Alone = (refl, refl)
-select_plain (Before a b c) = (refl, refl)
-select_plain (Behind a b c) = (refl, refl)
+select_is One Inbox has = record { command = refl; listing = refl; plain = (refl, refl) }
+select_is One InboxService has = record { command = refl; listing = refl; plain = (refl, refl) }
+select_is One ServiceInbox has = record { command = refl; listing = refl; plain = (refl, refl) }
+select_is Two Inbox2 has = record { command = refl; listing = refl; plain = (refl, refl) }
+select_is Two Inbox2Service has = record { command = refl; listing = refl; plain = (refl, refl) }
+select_is Two ServiceInbox2 has = record { command = refl; listing = refl; plain = (refl, refl) }
+select_is Two Upgraded has = record { command = refl; listing = refl; plain = (refl, refl) }
+select_is Two UpgradedService has = record { command = refl; listing = refl; plain = (refl, refl) }
+select_is Two ServiceUpgraded has = record { command = refl; listing = refl; plain = (refl, refl) }
+select_is Two ShiftedUpgraded has = record { command = refl; listing = refl; plain = (refl, refl) }
+select_is One _ has = absurd has
+select_is Two _ has = absurd has

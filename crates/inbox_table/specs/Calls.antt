@@ -1,20 +1,26 @@
 -- What calls do to a table.
-use Rattle.std.specs.Prelude.{◌≡◌, ℕ, ◌+◌, List, [], length, IsTrue}
+use Rattle.std.specs.Prelude.{◌≡◌, ◌≢◌, ◌≤◌, ◌*◌, ℕ, ◌+◌, Bool, false, ◌&&◌, List, [], length, codes, Err, Result, IfErr, IfOk, IsTrue, OnErr, OnOk}
+use Rattle.sqlite_schema.specs.declared.schema.Schema.{Schema}
 use Rattle.sqlite_trees.specs.Tree.{Trees}
-use Rattle.sqlite.specs.Effect.{Database}
+use Rattle.sqlite.specs.Effect.{Database, IsDatabase}
 use Rattle.sqlite.specs.Held.{Held}
-use Rattle.sqlite.specs.State.{State, HasCleanDisk}
+use Rattle.sqlite.specs.State.{State, HasCleanDisk, Survives}
 use Rattle.attributes.specs.Event.{EventValue}
 use Rattle.inbox.specs.KeyOrder.{key_cmp}
 use Rattle.inbox.specs.Ordered.{append_new}
-use Rattle.inbox_table.specs.Rows.{IsInbox}
+use Rattle.database_layout.specs.Layout.{HasInboxForm, IsOurs, has_table}
+use Rattle.inbox_table.specs.Beside.{GainsInbox, KeepsService, UpgradesTables}
+use Rattle.inbox_table.specs.Fault.{IsOfStore}
+use Rattle.inbox_table.specs.Rows.{IsAnyInbox, IsInbox, IsOldInbox}
+use Rattle.inbox_table.specs.declared.fault.TableFault.{TableFault}
+use Rattle.inbox_table.specs.declared.fault.TableFault.TheVariants.{Foreign}
 
 -- what a `Table` shows: its connection, and how many rows it has
 pub record Kept (S : Type 0) : Type 0 where
   pub conn : Held S
   pub rows : ℕ
 
--- the database has the table, with so many rows
+-- the database has the table, with so many events
 pub record Stands (db : Database) (rows : ℕ) : Type 0 where
   pub events : List EventValue
   pub table : IsInbox db events
@@ -23,6 +29,80 @@ pub record Stands (db : Database) (rows : ℕ) : Type 0 where
 -- it does so while the disk gives back what was written and the database is open
 abbrev pub StandsFor : State → ℕ → Type 0
 StandsFor s rows = HasCleanDisk s → IsTrue s.is_open → Stands s.now rows
+
+-- while the disk is honest and the database open, it shows what it showed
+abbrev pub IsAsItWas : State → State → Type 0
+IsAsItWas old new = HasCleanDisk new → IsTrue new.is_open → new.now ≡ old.now
+
+-- after this a crash leaves the last commit alone
+abbrev pub IsSettled : State → Type 0
+IsSettled s = IsTrue s.is_open → (db : Trees) → s.may_leave db → db ≡ s.now.trees
+
+-- ---- a table is made
+
+-- a table without events was made beside what was there
+pub record IsMade (old new : Database) : Type 0 where
+  pub table : IsInbox new []
+  pub beside : GainsInbox old new
+
+-- these are the trees of a database in which it was made
+pub record MayMake (old : Database) (trees : Trees) : Type 0 where
+  pub db : Database
+  pub are : trees ≡ db.trees
+  pub sound : IsDatabase db
+  pub made : IsMade old db
+
+-- what `create` does, while the disk gives back what was written
+pub record Creates (old new : State) : Type 0 where
+  pub made : IsMade old.now new.now
+  pub stays_open : IsTrue new.is_open
+  -- a crash leaves the table
+  pub settled : IsSettled new
+
+-- ---- a table is taken over
+
+-- both versions are there, in whatever form
+abbrev pub has_both : Schema → Bool
+has_both schema = has_table schema (codes "inbox") && has_table schema (codes "inbox2")
+
+-- these are the trees of a database in which the events of a table of version 1 stand in one of
+-- version 2 in its place
+pub record MayUpgrade (old : Database) (trees : Trees) : Type 0 where
+  pub db : Database
+  pub are : trees ≡ db.trees
+  pub sound : IsDatabase db
+  pub events : List EventValue
+  pub was : IsOldInbox old events
+  pub is : IsInbox db events
+  pub beside : UpgradesTables old db
+
+-- what a taking over of these events does, while the disk gives back what was written
+pub record Adopts (old new : State) (events : List EventValue) : Type 0 where
+  -- they are those of the table that was there, and nothing else is
+  pub found : IsAnyInbox old.now events
+  pub only : (m : List EventValue) → IsAnyInbox old.now m → events ≡ m
+  -- they stand at the same places in a table of version 2 now
+  pub is : IsInbox new.now events
+  -- one that was there is as it was; one of version 1 has given way, and a service has its rows
+  pub same : IsInbox old.now events → new.now ≡ old.now
+  pub upgraded : IsOldInbox old.now events → UpgradesTables old.now new.now
+  pub stays_open : IsTrue new.is_open
+  -- a crash leaves just that
+  pub settled : IsSettled new
+
+-- a taking over is refused for this fault
+pub record Rejects (old new : State) (fault : TableFault) : Type 0 where
+  -- `Foreign` only where there is no such table, and then nothing was written
+  pub foreign : HasCleanDisk new → fault ≡ Foreign
+      → (events : List EventValue) → IsAnyInbox old.now events → ⊥
+  pub unwritten : fault ≡ Foreign → Survives old new (λ _. ⊥)
+  -- nor where a table of our form lies beside others than ours
+  pub strange : ¬ IsOurs old.now.schema → HasInboxForm old.now.schema.tables
+      → has_both old.now.schema ≡ false → fault ≢ Foreign
+  -- the database is as it was
+  pub same : IsAsItWas old new
+
+-- ---- events are kept
 
 -- whatever events the table had, it has them and behind them those of L that weren't there, each in
 -- its turn
@@ -35,14 +115,49 @@ abbrev pub AreFresh : List EventValue → Database → ℕ → Type 0
 AreFresh L old fresh = (events : List EventValue) → IsInbox old events
     → length events + fresh ≡ length (append_new key_cmp events L)
 
--- these are the trees of a database that has taken L
-abbrev pub MayTake : List EventValue → Database → Trees → Type 0
-MayTake L old trees = (db : Database) × Takes L old db × (trees ≡ db.trees)
+-- these are the trees of a database that has taken L, and what lies beside the table as it was
+pub record MayTake (L : List EventValue) (old : Database) (trees : Trees) : Type 0 where
+  pub db : Database
+  pub are : trees ≡ db.trees
+  pub sound : IsDatabase db
+  pub takes : Takes L old db
+  pub beside : KeepsService old db
 
--- these are the trees of a database that has the table, without events
-abbrev pub MayMake : Trees → Type 0
-MayMake trees = (db : Database) × IsInbox db [] × (trees ≡ db.trees)
+-- events were given to a table with so many: how many it has then
+pub record KeepCall (was is : ℕ) (result : Result ℕ TableFault) : Type 0 where
+  pub counted : IfOk result (λ fresh. is ≡ was + fresh)
+  -- refused, as many as before; for want of memory, or another refusal of the store
+  pub back : OnErr result (is ≡ was)
+  pub fault : IfErr result IsOfStore
 
--- after this a crash leaves the last commit alone
-abbrev pub IsSettled : State → Type 0
-IsSettled s = IsTrue s.is_open → (db : Trees) → s.may_leave db → db ≡ s.now.trees
+-- and what that does to the database, while the disk gives back what was written
+pub record KeepEffect (L : List EventValue) (old new : State) (result : Result ℕ TableFault)
+    : Type 0 where
+  -- the events are in, so many of them were not there, and a crash leaves them
+  pub takes : OnOk result (Takes L old.now new.now)
+  pub fresh : IfOk result (AreFresh L old.now)
+  pub beside : OnOk result (KeepsService old.now new.now)
+  pub stays_open : OnOk result (IsTrue new.is_open)
+  pub settled : OnOk result (IsSettled new)
+  -- refused, the database is as it was
+  pub same : IsTrue new.is_open → OnErr result (new.now ≡ old.now)
+  pub was_open : IsTrue new.is_open → IsTrue old.is_open
+
+-- a watch was told, after each thousand of so many events, how many of them were in
+abbrev pub IsTold : (ℕ → ℕ → Type 0) → ℕ → Type 0
+IsTold told all = (n : ℕ) → 1 ≤ n → n * 1000 ≤ all → told (n * 1000) all
+
+-- ---- events are read
+
+-- what a reading of a table with so many events does, while the disk gives back what was written;
+-- `shown` is what it shows of the list
+pub record ReadEffect (shown : List EventValue → List EventValue) (rows : ℕ) (old new : State)
+    (result : Result (List EventValue) TableFault) : Type 0 where
+  pub list : IfOk result (λ l.
+      (m : List EventValue) × IsInbox old.now m × (rows ≡ length m) × (l ≡ shown m))
+  pub only : IfOk result (λ l. (m : List EventValue) → IsInbox old.now m → l ≡ shown m)
+  pub stays_open : OnOk result (IsTrue new.is_open)
+  pub settled : OnOk result (IsSettled new)
+  -- never `Foreign` of a table that the calls leave
+  pub known : IsTrue new.is_open → result ≢ Err Foreign
+  pub same : IsTrue new.is_open → new.now ≡ old.now

@@ -1,7 +1,9 @@
-pub mod Schema
+pub mod Version
 pub mod Texts
 pub mod Rows
+pub mod Beside
 pub mod Calls
 pub mod Codes
 pub mod Fault
+pub mod Law
 pub mod steps

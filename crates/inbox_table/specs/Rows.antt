@@ -1,5 +1,5 @@
 -- The rows of the table, and the list of events that they stand for.
-use Rattle.std.specs.Prelude.{◌≡◌, ℕ, suc, pos, List, [], ◌∷◌, IsPermutation, IsSome, unwrap_or}
+use Rattle.std.specs.Prelude.{◌≡◌, ◌⊎◌, ◌/◌, ℕ, suc, pos, List, [], ◌∷◌, ◌&&◌, Bool, bytes_eq, eqb, filter, IsPermutation, IsSome, unwrap_or}
 use Rattle.std.specs.List.{AllByRecursion}
 use Rattle.sqlite_value.specs.declared.value.Value.TheVariants.{Null, Int, Text as Words}
 use Rattle.sqlite_value.specs.Order.{Row}
@@ -9,43 +9,64 @@ use Rattle.attributes.specs.Fault.{IsEvent}
 use Rattle.attributes.specs.Sequence.{number_of}
 use Rattle.inbox.specs.KeyOrder.{key_cmp}
 use Rattle.inbox.specs.Ordered.{append_new}
-use Rattle.inbox_table.specs.Schema.{Layout, schema_of, tree_of}
+use Rattle.database_layout.specs.Layout.{inbox_tree, schema_in}
+use Rattle.database_layout.specs.declared.layout.Layout.{Layout}
+use Rattle.inbox_table.specs.Version.{HasTable}
+use Rattle.inbox_table.specs.declared.version.Version.{Version}
+use Rattle.inbox_table.specs.declared.version.Version.TheVariants.{One, Two}
 
--- the number in an event's row
+-- the number in an event's row, and its block: block k has the numbers from 1024 k on, 1,024 of
+-- them
 abbrev pub number_in : EventValue → ℕ
 number_in e = unwrap_or (number_of e) 0
 
+abbrev pub block_in : EventValue → ℕ
+block_in e = number_in e / 1024
+
+-- the event is one of this source and block
+abbrev pub is_of_block : List ℕ → ℕ → EventValue → Bool
+is_of_block source k e = bytes_eq (source_of e) source && eqb (block_in e) k
+
+-- the events of a source and block, in the order in which they stand
+abbrev pub block_of : List ℕ → ℕ → List EventValue → List EventValue
+block_of source k events = filter (is_of_block source k) events
+
+-- the last values of a row, which version 1 doesn't have
+abbrev pub tail_of : Version → EventValue → Row
+tail_of One e = []
+tail_of Two e = Int (pos (block_in e)) ∷ []
+
 -- the row of an event at a place, as the table keeps it: the rowid, which is the place, then the
 -- columns, of which the place itself is kept as NULL
-abbrev pub row_of : ℕ → EventValue → Row
-row_of place e =
+abbrev pub row_of : Version → ℕ → EventValue → Row
+row_of v place e =
     Int (pos place)
     ∷ Null
     ∷ Words (source_of e)
     ∷ Words (id_of e)
     ∷ Int (pos (number_in e))
     ∷ Words (text e)
-    ∷ []
+    ∷ tail_of v e
 
 -- the rows of events whose places run from this one on
-abbrev pub rows_from : ℕ → List EventValue → List Row
-rows_from place [] = []
-rows_from place (e ∷ es) = row_of place e ∷ rows_from (suc place) es
+abbrev pub rows_from : Version → ℕ → List EventValue → List Row
+rows_from v place [] = []
+rows_from v place (e ∷ es) = row_of v place e ∷ rows_from v (suc place) es
 
 -- the row of an event at a place, as a question shows it
-abbrev pub shown_of : ℕ → EventValue → Row
-shown_of place e =
+abbrev pub shown_of : Version → ℕ → EventValue → Row
+shown_of v place e =
     Int (pos place)
     ∷ Words (source_of e)
     ∷ Words (id_of e)
     ∷ Int (pos (number_in e))
     ∷ Words (text e)
-    ∷ []
+    ∷ tail_of v e
 
 -- and those of events whose places run from this one on
-abbrev pub shown_from : ℕ → List EventValue → List Row
-shown_from place [] = []
-shown_from place (e ∷ es) = shown_of place e ∷ shown_from (suc place) es
+abbrev pub shown_from : Version → ℕ → List EventValue → List Row
+shown_from v place [] = []
+shown_from v place (e ∷ es) = shown_of v place e ∷ shown_from v (suc place) es
 
 -- an event that has a number
 pub record IsNumbered (e : EventValue) : Type 0 where
@@ -60,11 +81,24 @@ AreNumbered es = AllByRecursion IsNumbered es
 abbrev pub IsEachOnce : List EventValue → Type 0
 IsEachOnce es = append_new key_cmp [] es ≡ es
 
--- the database has the table, and its rows are those of these events at the places 1, 2 and so on,
--- each with a number and none of them twice
-pub record IsInbox (db : Database) (events : List EventValue) : Type 0 where
+-- the database has the table in this version, and its rows are those of these events at the places
+-- 1, 2 and so on, each with a number and none of them twice
+pub record IsListed (v : Version) (db : Database) (events : List EventValue) : Type 0 where
   pub layout : Layout
-  pub schema : db.schema ≡ schema_of layout
-  pub rows : IsPermutation (rows_from 1 events) (db.trees (tree_of layout))
+  pub has : HasTable v layout
+  pub schema : db.schema ≡ schema_in layout
+  pub rows : IsPermutation (rows_from v 1 events) (db.trees (inbox_tree layout))
   pub numbered : AreNumbered events
   pub once : IsEachOnce events
+
+-- it has it in version 2, which the calls make and keep
+abbrev pub IsInbox : Database → List EventValue → Type 0
+IsInbox = IsListed Two
+
+-- in version 1, which only a taking over meets
+abbrev pub IsOldInbox : Database → List EventValue → Type 0
+IsOldInbox = IsListed One
+
+-- or in either
+abbrev pub IsAnyInbox : Database → List EventValue → Type 0
+IsAnyInbox db events = IsInbox db events ⊎ IsOldInbox db events

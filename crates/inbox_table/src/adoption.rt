@@ -1,82 +1,124 @@
-//! What a database has to be to be made or taken as a table.
+//! What a database has to be to be taken as a table.
 
-ghost use Rattle.std.specs.Prelude.{◌≡◌, ◌≢◌, true, false, Err, List, [], IsTrue, IfOk, IfErr, OnOk, OnErr};
+ghost use Rattle.std.specs.Prelude.{◌≡◌, ◌⊎◌, true, false, Err, List, IsTrue, IfOk, IfErr, OnOk};
 ghost use Rattle.sqlite.specs.Held.{state};
 ghost use Rattle.sqlite.specs.State.{HasCleanDisk, Survives};
 ghost use Rattle.attributes.specs.Event.{EventValue};
-ghost use Rattle.inbox_table.specs.Calls.{MayMake, Stands};
+ghost use Rattle.database_layout.specs.Layout.{HasInbox2, HasInboxForm, has_inbox, schema_in};
+ghost use Rattle.inbox_table.specs.Calls.{MayUpgrade, Rejects, has_both};
 ghost use Rattle.inbox_table.specs.Rows.{IsInbox};
-ghost use Rattle.inbox_table.specs.Schema.{HasForm, IsOurs, has_inbox};
-ghost use Rattle.inbox_table.specs.declared.fault.TableFault.TheVariants.{Foreign};
+ghost use Rattle.inbox_table.specs.steps.Reads.{IsSame, Tells};
+ghost use Rattle.inbox_table.specs.steps.Upgrades.{HasAdopted};
+ghost use Rattle.inbox_table.specs.declared.fault.TableFault.TheVariants.{Foreign, Store};
+ghost use Rattle.inbox_table.specs.declared.version.Version.TheVariants.{Two};
 
 use crate::fault::TableFault;
 use crate::reading::{Found, read};
-use crate::schema::{has_form, has_inbox, has_room, is_ours};
-use crate::statement::make;
+use crate::upgrade::upgrade;
+use crate::version::Version;
+use crate::wanted::{Each, Wanted};
+use database_layout::{Layout, has_inbox, has_inbox_form};
 use sqlite::{Alter, Connection};
+use sqlite_schema::schema::Schema;
 use std::alloc::Global;
 
-/// Makes the table, where none of the name is there and nothing lies beside it but an outbox.
-pub(crate) fn create<S: Alter>(conn: &mut Connection<S>) -> Result<(), TableFault>
-    ensures made { HasCleanDisk (state S.Store conn.new)
-        → OnOk result (IsInbox (state S.Store conn.new).now []) }
-    ensures committed { HasCleanDisk (state S.Store conn.new)
-        → OnOk result ((state S.Store conn.new).committed ≡ (state S.Store conn.new).now) }
-    ensures there { has_inbox (state S.Store conn.old).now.schema ≡ true → result ≡ Err Foreign }
-    ensures foreign { IfErr result (λ f. f ≡ Foreign
-        → has_inbox (state S.Store conn.old).now.schema ≡ true) }
-    ensures untouched { IfErr result (λ f. f ≡ Foreign → conn.new ≡ conn.old) }
-    ensures same { HasCleanDisk (state S.Store conn.new) → IsTrue (state S.Store conn.new).is_open
-        → OnErr result ((state S.Store conn.new).now ≡ (state S.Store conn.old).now) }
-    ensures crash { Survives (state S.Store conn.old) (state S.Store conn.new) MayMake }
+/// How many rows a table of version 2 has, and the wanted of their events. `Store` where the
+/// database has none, or other tables than ours.
+#[tactic(auto, using(crate::proofs::SameLemmas::is_same))]
+pub(crate) fn listed_in<S: Alter, W: Wanted>(
+    alloc: Global,
+    conn: &mut Connection<S>,
+    wanted: &W,
+) -> Result<Found, TableFault>
+    ensures tells { HasCleanDisk (state S.Store conn.new) → IfOk result (λ f. Tells Two
+        (W.wanted wanted.now) (state S.Store conn.old).now f.rows f.events) }
+    ensures foreign { HasCleanDisk (state S.Store conn.new) → IfErr result (λ f. f ≡ Foreign
+        → (l : List EventValue) → IsInbox (state S.Store conn.old).now l → ⊥) }
+    ensures same { IsSame (state S.Store conn.old) (state S.Store conn.new) }
+    ensures open { HasCleanDisk (state S.Store conn.new)
+        → OnOk result (IsTrue (state S.Store conn.new).is_open) }
+    ensures settled { HasCleanDisk (state S.Store conn.new) → OnOk result (
+        (state S.Store conn.new).now ≡ (state S.Store conn.new).committed) }
+    ensures survives { Survives (state S.Store conn.old) (state S.Store conn.new) (λ _. ⊥) }
 {
-    if has_inbox(conn.schema()) {
-        return Err(TableFault::Foreign);
-    }
-    if !has_room(conn.schema()) || !conn.is_autocommit() {
+    let Some(layout) = Layout::of(conn.schema()) else {
+        return Err(TableFault::Store);
+    };
+    if !layout.has_inbox2() {
         return Err(TableFault::Store);
     }
-    match make(conn) {
-        Ok(_) => Ok(()),
-        Err(error) => Err(TableFault::from(error)),
+    read(alloc, conn, Version::Two, wanted)
+}
+
+/// Whether both versions are there, in whatever form.
+fn has_both(schema: &Schema) -> bool
+    ensures { result ≡ has_both schema.now }
+{
+    schema.table_named(b"inbox").is_some() && schema.table_named(b"inbox2").is_some()
+}
+
+/// Why a database that has other tables than ours is no table: `Store` where one of our form lies
+/// beside them.
+fn stranger(schema: &Schema) -> TableFault
+    ensures both { has_both schema.now ≡ true → result ≡ Foreign }
+    ensures foreign { result ≡ Foreign
+        → (has_both schema.now ≡ true) ⊎ (¬ HasInboxForm schema.now.tables) }
+{
+    if !has_both(schema) && has_inbox_form(schema) {
+        TableFault::Store
+    } else {
+        TableFault::Foreign
+    }
+}
+
+/// How many rows the table of version 2 has that is there, and their events where these are to be
+/// kept. Nothing is written.
+fn taken_in<S: Alter>(
+    alloc: Global,
+    conn: &mut Connection<S>,
+    layout: Layout,
+    keeps: bool,
+) -> Result<Found, TableFault>
+    requires has { HasInbox2 layout }
+    requires schema { (state S.Store conn.old).now.schema ≡ schema_in layout }
+    ensures adopts { HasCleanDisk (state S.Store conn.new) → IfOk result (λ f. HasAdopted keeps
+        (state S.Store conn.old) (state S.Store conn.new) f.rows f.events) }
+    ensures rejects { IfErr result (Rejects (state S.Store conn.old) (state S.Store conn.new)) }
+    ensures crash { Survives (state S.Store conn.old) (state S.Store conn.new) (λ _. ⊥) }
+{
+    match read(alloc, conn, Version::Two, &Each { keeps }) {
+        Ok(found) => Ok(found),
+        Err(fault) => Err(fault),
     }
 }
 
 /// How many rows the table has, and their events where these are to be kept, where there is one
-/// whose rows the calls can have left so.
+/// whose rows the calls can have left so. One of version 1 gives way to one of version 2.
 pub(crate) fn found_in<S: Alter>(
     alloc: Global,
     conn: &mut Connection<S>,
     keeps: bool,
 ) -> Result<Found, TableFault>
-    ensures rows { HasCleanDisk (state S.Store conn.new)
-        → IfOk result (λ f. Stands (state S.Store conn.old).now f.rows) }
-    ensures events { HasCleanDisk (state S.Store conn.new) → IsTrue keeps
-        → IfOk result (λ f. IsInbox (state S.Store conn.old).now f.events) }
-    ensures exact { HasCleanDisk (state S.Store conn.new) → IsTrue keeps → IfOk result (λ f.
-        (m : List EventValue) → IsInbox (state S.Store conn.old).now m → f.events ≡ m) }
+    ensures adopts { HasCleanDisk (state S.Store conn.new) → IfOk result (λ f. HasAdopted keeps
+        (state S.Store conn.old) (state S.Store conn.new) f.rows f.events) }
+    ensures rejects { IfErr result (Rejects (state S.Store conn.old) (state S.Store conn.new)) }
     ensures missing { has_inbox (state S.Store conn.old).now.schema ≡ false
         → result ≡ Err Foreign }
-    ensures foreign { HasCleanDisk (state S.Store conn.new) → IfErr result (λ f. f ≡ Foreign
-        → (l : List EventValue) → IsInbox (state S.Store conn.old).now l → ⊥) }
-    ensures strange { ¬ IsOurs (state S.Store conn.old).now.schema
-        → HasForm (state S.Store conn.old).now.schema.tables → result ≢ Err Foreign }
-    ensures same { HasCleanDisk (state S.Store conn.new) → IsTrue (state S.Store conn.new).is_open
-        → (state S.Store conn.new).now ≡ (state S.Store conn.old).now }
-    ensures was_open { HasCleanDisk (state S.Store conn.new)
-        → IsTrue (state S.Store conn.new).is_open → IsTrue (state S.Store conn.old).is_open }
-    ensures open { HasCleanDisk (state S.Store conn.new)
-        → OnOk result (IsTrue (state S.Store conn.new).is_open) }
-    ensures survives { Survives (state S.Store conn.old) (state S.Store conn.new) (λ _. ⊥) }
+    ensures both { has_both (state S.Store conn.old).now.schema ≡ true → result ≡ Err Foreign }
+    ensures crash { Survives (state S.Store conn.old) (state S.Store conn.new)
+        (MayUpgrade (state S.Store conn.old).now) }
 {
     if !has_inbox(conn.schema()) {
         return Err(TableFault::Foreign);
     }
-    if !is_ours(conn.schema()) {
-        if has_form(conn.schema()) {
-            return Err(TableFault::Store);
-        }
-        return Err(TableFault::Foreign);
+    let Some(layout) = Layout::of(conn.schema()) else {
+        return Err(stranger(conn.schema()));
+    };
+    if layout.has_inbox2() {
+        return taken_in(alloc, conn, layout, keeps);
     }
-    read(alloc, conn, keeps)
+    if layout.has_inbox() {
+        return upgrade(alloc, conn, layout);
+    }
+    Err(TableFault::Store)
 }

@@ -13,11 +13,11 @@ pub enum TableFault {
     #[error("out of memory")]
     OutOfMemory,
     /// Another refusal of the database: the disk failed, a transaction is open, there are other
-    /// tables beside ours and an outbox's, or no place is left.
+    /// tables beside ours and a service's, or no place is left.
     #[error("store")]
     Store,
-    /// At a making: a table of the name is there. Elsewhere: the table isn't there, or its rows
-    /// aren't those that the calls leave.
+    /// At a making: a table of the name is there, of either version. Elsewhere: there is none, or
+    /// one of each version, or its rows aren't those that the calls leave.
     #[error("foreign")]
     Foreign,
 }

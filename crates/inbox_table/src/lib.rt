@@ -2,13 +2,17 @@
 #![tactic(auto)]
 
 mod adoption;
+mod creation;
 mod fault;
+pub mod laws;
 mod listed;
 mod reading;
 mod row;
-mod schema;
 mod statement;
 mod table;
+mod upgrade;
+mod version;
+mod wanted;
 mod watch;
 
 pub use fault::TableFault;

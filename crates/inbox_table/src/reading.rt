@@ -1,25 +1,26 @@
 //! The rows of the table, read one at a time as events.
 
-ghost use Rattle.std.specs.Prelude.{◌≡◌, ◌≢◌, ◌⊎◌, ◌++◌, List, [], ◌∷◌, Some, None, IsTrue, IfOk, IfErr, IfSome, IfNone, OnOk};
+ghost use Rattle.std.specs.Prelude.{◌≡◌, ◌≢◌, ◌⊎◌, ◌++◌, List, [], ◌∷◌, Some, None, filter, IsTrue, IfOk, IfErr, IfSome, IfNone, OnOk};
 ghost use Rattle.sqlite_value.specs.Order.{Row};
 ghost use Rattle.sqlite.specs.Held.{state};
 ghost use Rattle.sqlite.specs.Given.{Advances};
 ghost use Rattle.sqlite.specs.State.{HasCleanDisk, IsRolledBack, IsUnchanged, Survives};
 ghost use Rattle.attributes.specs.Event.{EventValue};
-ghost use Rattle.inbox_table.specs.Calls.{Stands};
-ghost use Rattle.inbox_table.specs.Rows.{IsInbox, IsNumbered, shown_of};
-ghost use Rattle.inbox_table.specs.Schema.{IsOurs};
-ghost use Rattle.inbox_table.specs.steps.Reads.{IsAtStart, IsSame};
+ghost use Rattle.inbox_table.specs.Rows.{IsListed, IsNumbered, shown_of};
+ghost use Rattle.inbox_table.specs.Texts.{select_text};
+ghost use Rattle.inbox_table.specs.steps.Reads.{HasVersion, IsAtStart, IsSame, Tells};
 ghost use Rattle.inbox_table.specs.declared.fault.TableFault.TheVariants.{Foreign, OutOfMemory};
 
 use crate::fault::TableFault;
 use crate::row::event_of;
+use crate::version::Version;
+use crate::wanted::Wanted;
 use attributes::laws::text_tells_events;
 use attributes::{Batch, Sequenced};
 use sqlite::{Alter, Connection, Rows};
 use std::alloc::Global;
 
-/// How many rows there are, and their events where these were to be kept.
+/// How many rows there are, and those of their events that were wanted.
 #[derive(Drop)]
 pub(crate) struct Found {
     pub(crate) rows: u64,
@@ -31,17 +32,18 @@ pub(crate) struct Found {
 fn next_event<S: Alter>(
     alloc: Global,
     rows: &mut Rows<'_, S>,
+    version: Version,
     place: u64,
 ) -> Result<Option<Sequenced>, TableFault>
     ensures same_reference { rows.new.conn.ghost_name ≡ rows.old.conn.ghost_name }
-    ensures event { HasCleanDisk (state S.Store rows.new.conn.now) → IfOk result (λ o. IfSome o (λ e.
-        IsNumbered e
-        × Advances S.Store rows.old.conn.now rows.new.conn.now (Some (shown_of place e)))) }
+    ensures event { HasCleanDisk (state S.Store rows.new.conn.now) → IfOk result (λ o.
+        IfSome o (λ e. IsNumbered e
+        × Advances S.Store rows.old.conn.now rows.new.conn.now (Some (shown_of version place e)))) }
     ensures end { HasCleanDisk (state S.Store rows.new.conn.now) → IfOk result (λ o.
         IfNone o (Advances S.Store rows.old.conn.now rows.new.conn.now None)) }
     ensures foreign { HasCleanDisk (state S.Store rows.new.conn.now) → IfErr result (λ f.
         f ≡ Foreign → (row : Row) × Advances S.Store rows.old.conn.now rows.new.conn.now (Some row)
-        × ((e : EventValue) → IsNumbered e → row ≢ shown_of place e)) }
+        × ((e : EventValue) → IsNumbered e → row ≢ shown_of version place e)) }
     ensures unchanged { HasCleanDisk (state S.Store rows.new.conn.now)
         → OnOk result (IsUnchanged
         (state S.Store rows.old.conn.now) (state S.Store rows.new.conn.now)) }
@@ -58,44 +60,40 @@ fn next_event<S: Alter>(
     let Some(row) = rows.get() else {
         return Ok(None);
     };
-    match event_of(alloc, row, place) {
+    match event_of(alloc, row, version, place) {
         Ok(event) => Ok(Some(event)),
         Err(fault) => Err(fault),
     }
 }
 
-/// Puts the event behind the others, where events are kept.
-fn keep_if(events: &mut Batch, event: Sequenced, keeps: bool) -> Result<(), TableFault>
-    ensures kept { IsTrue keeps → OnOk result (events.new ≡ events.old ++ event ∷ []) }
+/// Puts the event behind the others, where it is wanted.
+fn keep_if<W: Wanted>(events: &mut Batch, event: Sequenced, wanted: &W) -> Result<(), TableFault>
+    ensures kept { OnOk result (events.new
+        ≡ events.old ++ filter (W.wanted wanted.now) (event ∷ [])) }
     ensures fault { IfErr result (λ f. f ≡ OutOfMemory) }
 {
-    if keeps {
+    if wanted.is_wanted(&event) {
         events.push(event)?;
     }
     Ok(())
 }
 
 /// Reads the rows to their end, each once, and lets each go before the next is read, and its event
-/// too where events aren't kept. `Foreign` at the first row that isn't that of an event at its
-/// place.
-fn read_rows<S: Alter>(
+/// too where it isn't wanted. `Foreign` at the first row that isn't that of an event at its place.
+fn read_rows<S: Alter, W: Wanted>(
     alloc: Global,
     rows: &mut Rows<'_, S>,
-    keeps: bool,
+    version: Version,
+    wanted: &W,
 ) -> Result<Found, TableFault>
     requires { HasCleanDisk (state S.Store rows.old.conn.now)
-        → IsAtStart S.Store rows.old.conn.now }
+        → IsAtStart version S.Store rows.old.conn.now }
     ensures same_reference { rows.new.conn.ghost_name ≡ rows.old.conn.ghost_name }
-    ensures rows { HasCleanDisk (state S.Store rows.new.conn.now)
-        → IfOk result (λ f. Stands (state S.Store rows.old.conn.now).now f.rows) }
-    ensures events { HasCleanDisk (state S.Store rows.new.conn.now) → IsTrue keeps
-        → IfOk result (λ f. IsInbox (state S.Store rows.old.conn.now).now f.events) }
-    ensures exact { HasCleanDisk (state S.Store rows.new.conn.now) → IsTrue keeps
-        → IfOk result (λ f. (m : List EventValue)
-        → IsInbox (state S.Store rows.old.conn.now).now m → f.events ≡ m) }
+    ensures tells { HasCleanDisk (state S.Store rows.new.conn.now) → IfOk result (λ f. Tells version
+        (W.wanted wanted.now) (state S.Store rows.old.conn.now).now f.rows f.events) }
     ensures foreign { HasCleanDisk (state S.Store rows.new.conn.now) → IfErr result (λ f.
         f ≡ Foreign → (l : List EventValue)
-        → IsInbox (state S.Store rows.old.conn.now).now l → ⊥) }
+        → IsListed version (state S.Store rows.old.conn.now).now l → ⊥) }
     ensures unchanged { HasCleanDisk (state S.Store rows.new.conn.now)
         → OnOk result (IsUnchanged
         (state S.Store rows.old.conn.now) (state S.Store rows.new.conn.now)) }
@@ -108,7 +106,7 @@ fn read_rows<S: Alter>(
     text_tells_events();
     let mut events = Batch::empty(alloc);
     for place in 1..u64::MAX {
-        let next = match next_event(alloc, rows, place) {
+        let next = match next_event(alloc, rows, version, place) {
             Ok(next) => next,
             Err(fault) => return Err(fault),
         };
@@ -118,39 +116,47 @@ fn read_rows<S: Alter>(
                 events,
             });
         };
-        keep_if(&mut events, event, keeps)?;
+        keep_if(&mut events, event, wanted)?;
     }
     Err(TableFault::Store)
 }
 
-/// How many rows there are, and their events in the order of their places where events are kept.
-/// Each row is read once. `Foreign` where a row isn't that of an event at its place.
-pub(crate) fn read<S: Alter>(
+/// The question for all rows, by place.
+fn select_of(version: Version) -> &'static str
+    ensures { result.now ≡ select_text version }
+{
+    match version {
+        Version::One => "SELECT place, source, id, number, body FROM inbox ORDER BY place",
+        Version::Two => {
+            "SELECT place, source, id, number, body, block FROM inbox2 ORDER BY place"
+        }
+    }
+}
+
+/// How many rows there are, and the wanted of their events in the order of their places. Each row
+/// is read once. `Foreign` where a row isn't that of an event at its place.
+pub(crate) fn read<S: Alter, W: Wanted>(
     alloc: Global,
     conn: &mut Connection<S>,
-    keeps: bool,
+    version: Version,
+    wanted: &W,
 ) -> Result<Found, TableFault>
-    requires { IsOurs (state S.Store conn.old).now.schema }
-    ensures rows { HasCleanDisk (state S.Store conn.new)
-        → IfOk result (λ f. Stands (state S.Store conn.old).now f.rows) }
-    ensures events { HasCleanDisk (state S.Store conn.new) → IsTrue keeps
-        → IfOk result (λ f. IsInbox (state S.Store conn.old).now f.events) }
-    ensures exact { HasCleanDisk (state S.Store conn.new) → IsTrue keeps → IfOk result (λ f.
-        (m : List EventValue) → IsInbox (state S.Store conn.old).now m → f.events ≡ m) }
+    requires { HasVersion version (state S.Store conn.old).now.schema }
+    ensures tells { HasCleanDisk (state S.Store conn.new) → IfOk result (λ f. Tells version
+        (W.wanted wanted.now) (state S.Store conn.old).now f.rows f.events) }
     ensures foreign { HasCleanDisk (state S.Store conn.new) → IfErr result (λ f. f ≡ Foreign
-        → (l : List EventValue) → IsInbox (state S.Store conn.old).now l → ⊥) }
+        → (l : List EventValue) → IsListed version (state S.Store conn.old).now l → ⊥) }
     ensures same { IsSame (state S.Store conn.old) (state S.Store conn.new) }
     ensures open { HasCleanDisk (state S.Store conn.new)
         → OnOk result (IsTrue (state S.Store conn.new).is_open) }
+    ensures settled { HasCleanDisk (state S.Store conn.new) → OnOk result (
+        (state S.Store conn.new).now ≡ (state S.Store conn.new).committed) }
     ensures survives { Survives (state S.Store conn.old) (state S.Store conn.new) (λ _. ⊥) }
 {
     let _schema = conn.schema();
     if !conn.is_autocommit() {
         return Err(TableFault::Store);
     }
-    let mut rows = conn.query(
-        "SELECT place, source, id, number, body FROM inbox ORDER BY place",
-        &[],
-    )?;
-    read_rows(alloc, &mut rows, keeps)
+    let mut rows = conn.query(select_of(version), &[])?;
+    read_rows(alloc, &mut rows, version, wanted)
 }

@@ -6,10 +6,13 @@ ghost use Rattle.sqlite_value.specs.Order.{column};
 ghost use Rattle.attributes.specs.Event.{EventValue, id_of, source_of, text};
 ghost use Rattle.attributes.specs.Fault.{IsEvent};
 ghost use Rattle.attributes.specs.Sequence.{number_of};
-ghost use Rattle.inbox_table.specs.Rows.{AreNumbered, IsNumbered, shown_from, shown_of};
+ghost use Rattle.inbox_table.specs.Rows.{IsNumbered, shown_of};
+ghost use Rattle.inbox_table.specs.steps.Reads.{HasTail};
 ghost use Rattle.inbox_table.specs.declared.fault.TableFault.TheVariants.{OutOfMemory, Store, Foreign};
 
 use crate::fault::TableFault;
+use crate::version::Version;
+use crate::wanted::block_of;
 use attributes::laws::text_tells_events;
 use attributes::{Batch, Event, Events, Sequenced};
 use event_json::{ReadFault, read_events, readings_are_one, texts_read_back};
@@ -37,13 +40,23 @@ fn is_text(row: &Row, at: usize, text: &str) -> bool
     }
 }
 
+/// Whether the row ends as the version has it, behind the first five values.
+fn has_tail(row: &Row, version: Version, number: u64) -> bool
+    ensures { IsTrue result ↔ HasTail version number row.now }
+{
+    match version {
+        Version::One => row.column_count() == 5,
+        Version::Two => row.column_count() == 6 && is_whole(row, 5, block_of(number)),
+    }
+}
+
 /// Whether the row is that of the event at the place.
-fn is_row(row: &Row, place: u64, event: &Sequenced) -> bool
-    ensures { IsTrue result ↔ (row.now ≡ shown_of place event.now) }
+fn is_row(row: &Row, version: Version, place: u64, event: &Sequenced) -> bool
+    ensures { IsTrue result ↔ (row.now ≡ shown_of version place event.now) }
 {
     let number = event.number().number();
     let event = event.event();
-    row.column_count() == 5
+    has_tail(row, version, number)
         && is_whole(row, 0, place)
         && is_text(row, 1, event.source())
         && is_text(row, 2, event.id())
@@ -51,7 +64,7 @@ fn is_row(row: &Row, place: u64, event: &Sequenced) -> bool
         && is_text(row, 4, event.text())
 }
 
-/// The last text of the row, where it has five values.
+/// The canonical text that the row has in its fifth value.
 fn body_of(row: &Row) -> Option<&[u8]>
     ensures some { IfSome result (λ body. column row.now 4 ≡ Words body.now) }
     ensures none { IfNone result ((t : List ℕ) → 4 < length row.now → column row.now 4 ≢ Words t) }
@@ -110,10 +123,15 @@ fn event_in(alloc: Global, body: &[u8]) -> Result<Sequenced, TableFault>
 }
 
 /// The event of the row, where it is that of one at this place; else `Foreign`.
-pub(crate) fn event_of(alloc: Global, row: &Row, place: u64) -> Result<Sequenced, TableFault>
-    ensures event { IfOk result (λ e. IsNumbered e × (row.now ≡ shown_of place e)) }
+pub(crate) fn event_of(
+    alloc: Global,
+    row: &Row,
+    version: Version,
+    place: u64,
+) -> Result<Sequenced, TableFault>
+    ensures event { IfOk result (λ e. IsNumbered e × (row.now ≡ shown_of version place e)) }
     ensures foreign { IfErr result (λ f. f ≡ Foreign
-        → (e : EventValue) → IsNumbered e → row.now ≢ shown_of place e) }
+        → (e : EventValue) → IsNumbered e → row.now ≢ shown_of version place e) }
     ensures fault { IfErr result (λ f. (f ≡ OutOfMemory) ⊎ (f ≡ Foreign)) }
 {
     text_tells_events();
@@ -121,7 +139,7 @@ pub(crate) fn event_of(alloc: Global, row: &Row, place: u64) -> Result<Sequenced
         return Err(TableFault::Foreign);
     };
     let event = event_in(alloc, body)?;
-    if is_row(row, place, &event) {
+    if is_row(row, version, place, &event) {
         Ok(event)
     } else {
         Err(TableFault::Foreign)

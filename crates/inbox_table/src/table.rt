@@ -1,20 +1,21 @@
 //! The table of a database, as a list of distinct events.
 
-ghost use Rattle.std.specs.Prelude.{◌≡◌, ◌≢◌, ◌+◌, ◌≤◌, true, false, Err, List, [], length, IsTrue, IfOk, IfErr, IsErrAnd, OnOk, OnErr};
+ghost use Rattle.std.specs.Prelude.{◌≡◌, true, false, List, length, IsTrue, IfOk, IfErr, IsErrAnd, OnOk};
 ghost use Rattle.sqlite.specs.Held.{state};
 ghost use Rattle.sqlite.specs.State.{HasCleanDisk, Survives};
 ghost use Rattle.attributes.specs.Event.{EventValue};
-ghost use Rattle.inbox_table.specs.Calls.{AreFresh, IsSettled, MayMake, MayTake, Stands, StandsFor, Takes};
-ghost use Rattle.inbox_table.specs.Fault.{IsOfStore};
-ghost use Rattle.inbox_table.specs.Rows.{IsInbox};
-ghost use Rattle.inbox_table.specs.Schema.{HasForm, IsOurs, has_inbox};
+ghost use Rattle.database_layout.specs.Layout.{has_inbox};
+ghost use Rattle.inbox_table.specs.Calls.{Adopts, Creates, IsAsItWas, IsTold, KeepCall, KeepEffect, MayMake, MayTake, MayUpgrade, ReadEffect, Rejects, StandsFor, has_both};
+ghost use Rattle.inbox_table.specs.Rows.{block_of};
 ghost use Rattle.inbox_table.specs.declared.fault.TableFault.TheVariants.{Foreign};
 
-use crate::adoption::{create, found_in};
+use crate::adoption::{found_in, listed_in};
+use crate::creation::create;
 use crate::fault::TableFault;
 use crate::listed::Listed;
 use crate::reading::Found;
 use crate::statement::keep;
+use crate::wanted::{Each, OfBlock};
 use crate::watch::{Unwatched, Watch};
 use attributes::Batch;
 use sqlite::{Alter, Connection};
@@ -22,7 +23,7 @@ use std::alloc::Global;
 use std::marker::Model;
 
 /// The greatest place of a row, 2^63 - 1.
-const MAX_PLACE: u64 = 9_223_372_036_854_775_807;
+pub(crate) const MAX_PLACE: u64 = 9_223_372_036_854_775_807;
 
 /// A list of distinct events, kept in a table of a database. Contracts see the connection and how
 /// many events there are; while the disk gives back what was written and the connection is open,
@@ -72,18 +73,17 @@ impl<S: Alter + Drop> Drop for Table<S> {
 }
 
 impl<S: Alter> Table<S> {
-    /// Makes the table in a database that has none of its name, and has nothing else but the
-    /// tables of an outbox. The table has no events.
+    /// Makes the table, of version 2, in a database that has none of either version, and has
+    /// nothing else but a service. The table has no events.
     ///
-    /// `Foreign` where a table of the name is there, which is tested first and needs no memory;
+    /// `Foreign` where a table of either name is there, which is tested first and needs no memory;
     /// `Store` where other tables, indexes or views are there, a transaction is open, or the
     /// database refuses. The connection comes back.
+    #[tactic(auto, using(crate::proofs::TableLemmas::made_stands))]
     pub fn create(alloc: Global, conn: Connection<S>) -> Result<Table<S>, NotMade<S>>
         ensures made { IfOk result (λ t. HasCleanDisk (state S.Store t.conn)
-            → IsInbox (state S.Store t.conn).now []) }
+            → Creates (state S.Store conn) (state S.Store t.conn)) }
         ensures rows { IfOk result (λ t. t.rows ≡ 0) }
-        ensures settled { IfOk result (λ t. HasCleanDisk (state S.Store t.conn)
-            → IsSettled (state S.Store t.conn)) }
         ensures there { has_inbox (state S.Store conn).now.schema ≡ true
             → IsErrAnd result (λ n. n.fault ≡ Foreign) }
         ensures foreign { IfErr result (λ n. n.fault ≡ Foreign
@@ -91,13 +91,11 @@ impl<S: Alter> Table<S> {
 
         // A table of the name is found before the database is asked for anything.
         ensures untouched { IfErr result (λ n. n.fault ≡ Foreign → n.conn ≡ conn) }
-        ensures same { IfErr result (λ n. HasCleanDisk (state S.Store n.conn)
-            → IsTrue (state S.Store n.conn).is_open
-            → (state S.Store n.conn).now ≡ (state S.Store conn).now) }
-        ensures crash { IfOk result (λ t.
-            Survives (state S.Store conn) (state S.Store t.conn) MayMake) }
-        ensures crash_refused { IfErr result (λ n.
-            Survives (state S.Store conn) (state S.Store n.conn) MayMake) }
+        ensures same { IfErr result (λ n. IsAsItWas (state S.Store conn) (state S.Store n.conn)) }
+        ensures crash { IfOk result (λ t. Survives (state S.Store conn) (state S.Store t.conn)
+            (MayMake (state S.Store conn).now)) }
+        ensures crash_refused { IfErr result (λ n. Survives
+            (state S.Store conn) (state S.Store n.conn) (MayMake (state S.Store conn).now)) }
     {
         let mut conn = conn;
         match create(&mut conn) {
@@ -111,39 +109,30 @@ impl<S: Alter> Table<S> {
     }
 
     /// Takes the table that is in a database, with its events in the order of their places. Each
-    /// row is read once.
+    /// row is read once. One of version 1 is tested first, and then, in one transaction, its events
+    /// go to a table of version 2 at the places that they had, and it is dropped: time and memory
+    /// in proportion to the events, as to keep them anew.
     ///
-    /// `Foreign` where there is no table of the name and form, where a place isn't the row's
-    /// position from 1, where a body isn't the canonical text of an event with a number, or where
-    /// the other columns differ from that event; `Store` where the table is there and beside it
-    /// others than those of an outbox, a transaction is open, or the database refuses. The
-    /// connection comes back, and nothing is changed.
+    /// `Foreign` where there is no table of the name and form, or one of each version, where a
+    /// place isn't the row's position from 1, where a body isn't the canonical text of an event
+    /// with a number, where the other columns differ from that event, or the block from its number;
+    /// `Store` where the table is there and beside it others than those of a service, a transaction
+    /// is open, or the database refuses. The connection comes back, and nothing is changed.
+    #[tactic(auto, using(crate::proofs::TableLemmas::loaded_stands))]
     pub fn adopt_and_load(alloc: Global, conn: Connection<S>) -> Result<Loaded<S>, NotMade<S>>
-        ensures adopted { IfOk result (λ l. HasCleanDisk (state S.Store l.table.conn)
-            → IsInbox (state S.Store conn).now l.events) }
-        ensures exact { IfOk result (λ l. HasCleanDisk (state S.Store l.table.conn)
-            → (m : List EventValue) → IsInbox (state S.Store conn).now m → l.events ≡ m) }
+        ensures adopts { IfOk result (λ l. HasCleanDisk (state S.Store l.table.conn)
+            → Adopts (state S.Store conn) (state S.Store l.table.conn) l.events) }
         ensures rows { IfOk result (λ l. l.table.rows ≡ length l.events) }
-        ensures open { IfOk result (λ l. HasCleanDisk (state S.Store l.table.conn)
-            → IsTrue (state S.Store l.table.conn).is_open) }
-        ensures unchanged { IfOk result (λ l. HasCleanDisk (state S.Store l.table.conn)
-            → IsTrue (state S.Store l.table.conn).is_open
-            → (state S.Store l.table.conn).now ≡ (state S.Store conn).now) }
+        ensures rejects { IfErr result (λ n.
+            Rejects (state S.Store conn) (state S.Store n.conn) n.fault) }
         ensures missing { has_inbox (state S.Store conn).now.schema ≡ false
             → IsErrAnd result (λ n. n.fault ≡ Foreign) }
-        ensures foreign { IfErr result (λ n. HasCleanDisk (state S.Store n.conn)
-            → n.fault ≡ Foreign
-            → (events : List EventValue) → IsInbox (state S.Store conn).now events → ⊥) }
-        ensures strange { ¬ IsOurs (state S.Store conn).now.schema
-            → HasForm (state S.Store conn).now.schema.tables
-            → IfErr result (λ n. n.fault ≢ Foreign) }
-        ensures same { IfErr result (λ n. HasCleanDisk (state S.Store n.conn)
-            → IsTrue (state S.Store n.conn).is_open
-            → (state S.Store n.conn).now ≡ (state S.Store conn).now) }
-        ensures crash { IfOk result (λ l.
-            Survives (state S.Store conn) (state S.Store l.table.conn) (λ _. ⊥)) }
-        ensures crash_refused { IfErr result (λ n.
-            Survives (state S.Store conn) (state S.Store n.conn) (λ _. ⊥)) }
+        ensures both { has_both (state S.Store conn).now.schema ≡ true
+            → IsErrAnd result (λ n. n.fault ≡ Foreign) }
+        ensures crash { IfOk result (λ l. Survives (state S.Store conn)
+            (state S.Store l.table.conn) (MayUpgrade (state S.Store conn).now)) }
+        ensures crash_refused { IfErr result (λ n. Survives
+            (state S.Store conn) (state S.Store n.conn) (MayUpgrade (state S.Store conn).now)) }
     {
         let mut conn = conn;
         match found_in(alloc, &mut conn, true) {
@@ -157,30 +146,23 @@ impl<S: Alter> Table<S> {
         }
     }
 
-    /// As [`Table::adopt_and_load`], without giving the events.
+    /// As [`Table::adopt_and_load`], without giving the events; those of a table of version 2
+    /// aren't kept in memory.
+    #[tactic(auto, using(crate::proofs::TableLemmas::adopted_stands))]
     pub fn adopt(alloc: Global, conn: Connection<S>) -> Result<Table<S>, NotMade<S>>
-        ensures adopted { IfOk result (λ t. HasCleanDisk (state S.Store t.conn)
-            → Stands (state S.Store conn).now t.rows) }
-        ensures open { IfOk result (λ t. HasCleanDisk (state S.Store t.conn)
-            → IsTrue (state S.Store t.conn).is_open) }
-        ensures unchanged { IfOk result (λ t. HasCleanDisk (state S.Store t.conn)
-            → IsTrue (state S.Store t.conn).is_open
-            → (state S.Store t.conn).now ≡ (state S.Store conn).now) }
+        ensures adopts { IfOk result (λ t. HasCleanDisk (state S.Store t.conn)
+            → (events : List EventValue) × (t.rows ≡ length events)
+            × Adopts (state S.Store conn) (state S.Store t.conn) events) }
+        ensures rejects { IfErr result (λ n.
+            Rejects (state S.Store conn) (state S.Store n.conn) n.fault) }
         ensures missing { has_inbox (state S.Store conn).now.schema ≡ false
             → IsErrAnd result (λ n. n.fault ≡ Foreign) }
-        ensures foreign { IfErr result (λ n. HasCleanDisk (state S.Store n.conn)
-            → n.fault ≡ Foreign
-            → (events : List EventValue) → IsInbox (state S.Store conn).now events → ⊥) }
-        ensures strange { ¬ IsOurs (state S.Store conn).now.schema
-            → HasForm (state S.Store conn).now.schema.tables
-            → IfErr result (λ n. n.fault ≢ Foreign) }
-        ensures same { IfErr result (λ n. HasCleanDisk (state S.Store n.conn)
-            → IsTrue (state S.Store n.conn).is_open
-            → (state S.Store n.conn).now ≡ (state S.Store conn).now) }
-        ensures crash { IfOk result (λ t.
-            Survives (state S.Store conn) (state S.Store t.conn) (λ _. ⊥)) }
-        ensures crash_refused { IfErr result (λ n.
-            Survives (state S.Store conn) (state S.Store n.conn) (λ _. ⊥)) }
+        ensures both { has_both (state S.Store conn).now.schema ≡ true
+            → IsErrAnd result (λ n. n.fault ≡ Foreign) }
+        ensures crash { IfOk result (λ t. Survives (state S.Store conn)
+            (state S.Store t.conn) (MayUpgrade (state S.Store conn).now)) }
+        ensures crash_refused { IfErr result (λ n. Survives
+            (state S.Store conn) (state S.Store n.conn) (MayUpgrade (state S.Store conn).now)) }
     {
         let mut conn = conn;
         match found_in(alloc, &mut conn, false) {
@@ -199,58 +181,30 @@ impl<S: Alter> Table<S> {
     /// `Store` where a transaction is open, where the places would go past 2^63 - 1, or where the
     /// database refuses. Then nothing is added.
     pub fn keep(&mut self, batch: &Batch) -> Result<u64, TableFault>
-        ensures takes { HasCleanDisk (state S.Store self.new.conn) → OnOk result (Takes batch.now
-            (state S.Store self.old.conn).now (state S.Store self.new.conn).now) }
-        ensures fresh { HasCleanDisk (state S.Store self.new.conn)
-            → IfOk result (AreFresh batch.now (state S.Store self.old.conn).now) }
-        ensures rows { IfOk result (λ fresh. self.new.rows ≡ self.old.rows + fresh) }
-        ensures settled { HasCleanDisk (state S.Store self.new.conn)
-            → OnOk result (IsSettled (state S.Store self.new.conn)) }
-        ensures same { HasCleanDisk (state S.Store self.new.conn)
-            → IsTrue (state S.Store self.new.conn).is_open
-            → OnErr result ((state S.Store self.new.conn).now
-            ≡ (state S.Store self.old.conn).now) }
-        ensures rows_same { OnErr result (self.new.rows ≡ self.old.rows) }
-        ensures was_open { HasCleanDisk (state S.Store self.new.conn)
-            → IsTrue (state S.Store self.new.conn).is_open
-            → IsTrue (state S.Store self.old.conn).is_open }
-        ensures open { HasCleanDisk (state S.Store self.new.conn)
-            → OnOk result (IsTrue (state S.Store self.new.conn).is_open) }
-        ensures fault { IfErr result IsOfStore }
+        ensures call { KeepCall self.old.rows self.new.rows result }
+        ensures effect { HasCleanDisk (state S.Store self.new.conn) → KeepEffect batch.now
+            (state S.Store self.old.conn) (state S.Store self.new.conn) result }
         ensures crash { Survives (state S.Store self.old.conn) (state S.Store self.new.conn)
-            (λ trees. Stands (state S.Store self.old.conn).now self.old.rows
+            (λ trees. IsTrue (state S.Store self.old.conn).is_open
             → MayTake batch.now (state S.Store self.old.conn).now trees) }
     {
         self.keep_watched(batch, &Unwatched)
     }
 
-    /// As [`Table::keep`]; the watch is told after each thousand events how many of them are in. The
-    /// events may be anyone's who lends them: a batch, or the last arrivals of a site.
+    /// As [`Table::keep`]; the watch is told after each thousand events how many of them are in.
+    /// The events may be anyone's who lends them: a batch, or the last arrivals of a site.
     pub fn keep_watched<E: Listed, W: Watch>(
         &mut self,
         events: &E,
         watch: &W,
     ) -> Result<u64, TableFault>
-        ensures takes { HasCleanDisk (state S.Store self.new.conn) → OnOk result (Takes (E.listed events.now)
-            (state S.Store self.old.conn).now (state S.Store self.new.conn).now) }
-        ensures fresh { HasCleanDisk (state S.Store self.new.conn)
-            → IfOk result (AreFresh (E.listed events.now) (state S.Store self.old.conn).now) }
-        ensures rows { IfOk result (λ fresh. self.new.rows ≡ self.old.rows + fresh) }
-        ensures settled { HasCleanDisk (state S.Store self.new.conn)
-            → OnOk result (IsSettled (state S.Store self.new.conn)) }
-        ensures same { HasCleanDisk (state S.Store self.new.conn)
-            → IsTrue (state S.Store self.new.conn).is_open
-            → OnErr result ((state S.Store self.new.conn).now
-            ≡ (state S.Store self.old.conn).now) }
-        ensures rows_same { OnErr result (self.new.rows ≡ self.old.rows) }
-        ensures was_open { HasCleanDisk (state S.Store self.new.conn)
-            → IsTrue (state S.Store self.new.conn).is_open
-            → IsTrue (state S.Store self.old.conn).is_open }
-        ensures open { HasCleanDisk (state S.Store self.new.conn)
-            → OnOk result (IsTrue (state S.Store self.new.conn).is_open) }
-        ensures fault { IfErr result IsOfStore }
+        ensures call { KeepCall self.old.rows self.new.rows result }
+        ensures effect { HasCleanDisk (state S.Store self.new.conn)
+            → KeepEffect (E.listed events.now)
+            (state S.Store self.old.conn) (state S.Store self.new.conn) result }
+        ensures told { OnOk result (IsTold (W.told watch.now) (length (E.listed events.now))) }
         ensures crash { Survives (state S.Store self.old.conn) (state S.Store self.new.conn)
-            (λ trees. Stands (state S.Store self.old.conn).now self.old.rows
+            (λ trees. IsTrue (state S.Store self.old.conn).is_open
             → MayTake (E.listed events.now) (state S.Store self.old.conn).now trees) }
     {
         if self.rows > MAX_PLACE || events.count() > MAX_PLACE - self.rows {
@@ -261,7 +215,7 @@ impl<S: Alter> Table<S> {
                 self.rows = self.rows + fresh;
                 Ok(fresh)
             }
-            Err(error) => Err(TableFault::from(error)),
+            Err(fault) => Err(fault),
         }
     }
 
@@ -270,22 +224,34 @@ impl<S: Alter> Table<S> {
     /// `Store` where a transaction is open or the database refuses. `Foreign`, where the rows
     /// aren't those that the calls leave, comes only if the disk gives back what was not written.
     pub fn load(&mut self) -> Result<Batch, TableFault>
-        ensures loaded { HasCleanDisk (state S.Store self.new.conn)
-            → IfOk result (IsInbox (state S.Store self.old.conn).now) }
-        ensures exact { HasCleanDisk (state S.Store self.new.conn) → IfOk result (λ l.
-            (m : List EventValue) → IsInbox (state S.Store self.old.conn).now m → l ≡ m) }
-        ensures count { HasCleanDisk (state S.Store self.new.conn)
-            → IsTrue (state S.Store self.new.conn).is_open
-            → IfOk result (λ l. self.old.rows ≡ length l) }
-        ensures known { HasCleanDisk (state S.Store self.new.conn)
-            → IsTrue (state S.Store self.new.conn).is_open → result ≢ Err Foreign }
-        ensures same { HasCleanDisk (state S.Store self.new.conn)
-            → IsTrue (state S.Store self.new.conn).is_open
-            → (state S.Store self.new.conn).now ≡ (state S.Store self.old.conn).now }
+        ensures effect { HasCleanDisk (state S.Store self.new.conn)
+            → ReadEffect (λ events. events) self.old.rows
+            (state S.Store self.old.conn) (state S.Store self.new.conn) result }
         ensures rows { self.new.rows ≡ self.old.rows }
-        ensures crash { Survives (state S.Store self.old.conn) (state S.Store self.new.conn) (λ _. ⊥) }
+        ensures crash { Survives
+            (state S.Store self.old.conn) (state S.Store self.new.conn) (λ _. ⊥) }
     {
-        let found = match found_in(self.alloc, &mut self.conn, true) {
+        let found = match listed_in(self.alloc, &mut self.conn, &Each { keeps: true }) {
+            Ok(found) => found,
+            Err(fault) => return Err(fault),
+        };
+        Ok(found.events)
+    }
+
+    /// The events of this source whose number, divided by 1,024 and rounded down, is k, in the
+    /// order of their places. Time in proportion to all events, memory to those that are answered.
+    ///
+    /// It is refused as [`Table::load`] is.
+    pub fn block(&mut self, source: &str, k: u64) -> Result<Batch, TableFault>
+        ensures effect { HasCleanDisk (state S.Store self.new.conn)
+            → ReadEffect (block_of source.now k) self.old.rows
+            (state S.Store self.old.conn) (state S.Store self.new.conn) result }
+        ensures rows { self.new.rows ≡ self.old.rows }
+        ensures crash { Survives
+            (state S.Store self.old.conn) (state S.Store self.new.conn) (λ _. ⊥) }
+    {
+        let wanted = OfBlock { source, block: k };
+        let found = match listed_in(self.alloc, &mut self.conn, &wanted) {
             Ok(found) => found,
             Err(fault) => return Err(fault),
         };

@@ -13,3 +13,4 @@ pub mod AdoptLemmas
 pub mod ReplayLemmas
 pub mod FoundLemmas
 pub mod CreateLemmas
+pub mod LawLemmas

@@ -5,4 +5,5 @@ pub mod Service
 pub mod Shown
 pub mod Call
 pub mod Fault
+pub mod Law
 pub mod steps

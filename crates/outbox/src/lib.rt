@@ -4,6 +4,7 @@
 mod adoption;
 mod creation;
 mod fault;
+pub mod laws;
 mod row;
 mod service;
 mod statement;

@@ -1,37 +1,63 @@
 -- A reading of the table.
-use Rattle.std.specs.Prelude.{◌≡◌, ◌≤◌, ℕ, suc, Bool, List, [], length, IsTrue}
+use Rattle.std.specs.Prelude.{◌≡◌, ◌≤◌, ◌/◌, ℕ, suc, pos, Bool, List, [], filter, length, IsTrue}
+use Rattle.sqlite_value.specs.declared.value.Value.TheVariants.{Int}
+use Rattle.sqlite_value.specs.Order.{Row, column}
+use Rattle.sqlite_schema.specs.declared.schema.Schema.{Schema}
 use Rattle.sqlite_trees.specs.View.{doubt}
 use Rattle.sqlite_trees.specs.declared.store.Store.{Ghosts}
-use Rattle.sqlite.specs.Effect.{IsDatabase}
+use Rattle.sqlite.specs.Effect.{Database, IsDatabase}
 use Rattle.sqlite.specs.Given.{HasGiven}
 use Rattle.sqlite.specs.Held.{Held, state}
 use Rattle.sqlite.specs.State.{State, HasCleanDisk, IsUnchanged}
 use Rattle.attributes.specs.Event.{EventValue}
-use Rattle.inbox_table.specs.Rows.{AreNumbered, shown_from}
-use Rattle.inbox_table.specs.Schema.{IsOurs}
+use Rattle.database_layout.specs.Layout.{schema_in}
+use Rattle.database_layout.specs.declared.layout.Layout.{Layout}
+use Rattle.inbox_table.specs.Rows.{AreNumbered, IsListed, shown_from}
 use Rattle.inbox_table.specs.Texts.{select_text}
+use Rattle.inbox_table.specs.Version.{HasTable}
+use Rattle.inbox_table.specs.declared.version.Version.{Version}
+use Rattle.inbox_table.specs.declared.version.Version.TheVariants.{One, Two}
+
+-- the schema has the table in this version
+abbrev pub HasVersion : Version → Schema → Type 0
+HasVersion v schema = (l : Layout) × HasTable v l × (schema ≡ schema_in l)
 
 -- while the disk is honest and the database open, nothing changed
 pub record IsSame (old new : State) : Type 0 where
   pub clean : doubt old.is_clean ≤ doubt new.is_clean
   pub was_open : HasCleanDisk new → IsTrue new.is_open → IsTrue old.is_open
-  pub same : HasCleanDisk new → IsTrue new.is_open → IsOurs old.now.schema
+  pub same : HasCleanDisk new → IsTrue new.is_open
       → (new.now ≡ old.now) × (new.committed ≡ old.committed)
 
+-- what was read of the table in this version: how many rows it has, and those of its events that
+-- were wanted
+pub record Tells (v : Version) (wanted : EventValue → Bool) (db : Database) (rows : ℕ)
+    (batch : List EventValue) : Type 0 where
+  pub events : List EventValue
+  pub table : IsListed v db events
+  pub only : (m : List EventValue) → IsListed v db m → events ≡ m
+  pub count : rows ≡ length events
+  pub kept : batch ≡ filter wanted events
+
 -- the question for all rows is asked of a database with the table, and has given none so far
-pub record IsAtStart {S : Type 0} (g : Ghosts S) (h : Held S) : Type 0 where
-  pub ours : IsOurs (state g h).now.schema
+pub record IsAtStart {S : Type 0} (v : Version) (g : Ghosts S) (h : Held S) : Type 0 where
+  pub ours : HasVersion v (state g h).now.schema
   pub live : IsDatabase (state g h).now
-  pub given : HasGiven g select_text [] h []
+  pub given : HasGiven g (select_text v) [] h []
   pub is_open : IsTrue (state g h).is_open
 
 -- since then nothing changed, and the rows so far are those of events at the places before this
--- one, which the batch has where it keeps them
-pub record HasRead {S : Type 0} (g : Ghosts S) (start now : Held S) (keeps : Bool) (place : ℕ)
-    (batch : List EventValue) : Type 0 where
+-- one, of which the batch has those that are wanted
+pub record HasRead {S : Type 0} (v : Version) (g : Ghosts S) (start now : Held S)
+    (wanted : EventValue → Bool) (place : ℕ) (batch : List EventValue) : Type 0 where
   pub events : List EventValue
-  pub given : HasGiven g select_text [] now (shown_from 1 events)
+  pub given : HasGiven g (select_text v) [] now (shown_from v 1 events)
   pub same : IsUnchanged (state g start) (state g now)
   pub numbered : AreNumbered events
   pub count : place ≡ suc (length events)
-  pub kept : IsTrue keeps → batch ≡ events
+  pub kept : batch ≡ filter wanted events
+
+-- behind its first five values a shown row has those that the version has more
+abbrev pub HasTail : Version → ℕ → Row → Type 0
+HasTail One number row = length row ≡ 5
+HasTail Two number row = (length row ≡ 6) × (column row 5 ≡ Int (pos (number / 1024)))

@@ -1,26 +1,80 @@
 -- The turns of a transaction that takes events.
-use Rattle.std.specs.Prelude.{◌≡◌, ℕ, suc, ◌+◌, Bool, not, List, [], ◌∷◌, length, IsTrue}
+use Rattle.std.specs.Prelude.{◌≡◌, ◌≢◌, ℕ, suc, ◌+◌, Bool, not, List, [], ◌∷◌, length, IsPermutation, IsTrue}
+use Rattle.std.specs.List.{AllByRecursion}
+use Rattle.sqlite_schema.specs.declared.schema.Schema.{Schema}
+use Rattle.sqlite_schema.specs.declared.schema.Table.{Table}
+use Rattle.sqlite_trees.specs.Tree.{Trees}
+use Rattle.sqlite.specs.Effect.{Database, IsDatabase}
 use Rattle.sqlite.specs.State.{State}
 use Rattle.attributes.specs.Event.{EventValue}
+use Rattle.database_layout.specs.Layout.{HasInbox, HasInbox2, inbox_tree, schema_in}
+use Rattle.database_layout.specs.Making.{both_in, upgraded}
+use Rattle.database_layout.specs.declared.layout.Layout.{Layout}
 use Rattle.inbox.specs.KeyOrder.{key_cmp}
 use Rattle.inbox.specs.Ordered.{append_new, has}
-use Rattle.inbox_table.specs.Rows.{IsInbox}
+use Rattle.inbox_table.specs.Rows.{AreNumbered, IsEachOnce, rows_from}
+use Rattle.inbox_table.specs.declared.version.Version.TheVariants.{Two}
+
+-- where events are put in: the table of a layout, or one that an upgrade made beside that of
+-- version 1
+pub data Home : Type 0 where
+  At : Layout → Home
+  Beside : Layout → Home
+
+-- there is such a table
+abbrev pub IsHome : Home → Type 0
+IsHome (At l) = HasInbox2 l
+IsHome (Beside l) = HasInbox l
+
+-- the schema with it, and its tree
+abbrev pub schema_at : Home → Schema
+schema_at (At l) = schema_in l
+schema_at (Beside l) = both_in l
+
+abbrev pub tree_at : Home → ℕ
+tree_at (At l) = inbox_tree l
+tree_at (Beside l) = inbox_tree (upgraded l)
+
+-- these events stand in it
+pub record IsFilled (h : Home) (db : Database) (events : List EventValue) : Type 0 where
+  pub home : IsHome h
+  pub schema : db.schema ≡ schema_at h
+  pub rows : IsPermutation (rows_from Two 1 events) (db.trees (tree_at h))
+  pub numbered : AreNumbered events
+  pub once : IsEachOnce events
+
+-- each of these tables but that in the tree has the rows that it had
+abbrev pub KeepsOthers : List Table → ℕ → Trees → Trees → Type 0
+KeepsOthers tables tree old new =
+    AllByRecursion (λ t. t.tree ≢ tree → new t.tree ≡ old t.tree) tables
 
 -- within a transaction the event is put in at the place behind the last, unless it is there
 pub record Puts (place : ℕ) (e : EventValue) (old new : State) (is_new : Bool) : Type 0 where
-  pub table : (events : List EventValue) → IsInbox old.now events → place ≡ suc (length events)
-      → IsInbox new.now (append_new key_cmp events (e ∷ []))
+  pub table : (h : Home) (events : List EventValue) → IsFilled h old.now events
+      → place ≡ suc (length events)
+      → IsFilled h new.now (append_new key_cmp events (e ∷ []))
       × (is_new ≡ not (has key_cmp events e))
+      × KeepsOthers (schema_at h).tables (tree_at h) old.now.trees new.now.trees
+  pub sound : (h : Home) (events : List EventValue) → IsFilled h old.now events → IsDatabase new.now
   pub was_open : IsTrue old.is_open
   pub committed : new.committed ≡ old.committed
   pub mode : IsTrue new.in_transaction
 
+-- what is there once events of `all` were put in behind so many rows, and these are left
+pub record IsTaking (h : Home) (rows : ℕ) (all left events : List EventValue) (old now : Database)
+    (fresh : ℕ) : Type 0 where
+  pub held : List EventValue
+  pub table : IsFilled h now held
+  pub rest : append_new key_cmp held left ≡ append_new key_cmp events all
+  pub count : length held ≡ rows + fresh
+  pub sound : IsDatabase old → IsDatabase now
+  pub others : KeepsOthers (schema_at h).tables (tree_at h) old.trees now.trees
+
 -- since the transaction began, events of `all` were put in, and these are left
-pub record IsKeeping (rows : ℕ) (all left : List EventValue) (old now : State) (fresh : ℕ) : Type 0 where
-  pub table : (events : List EventValue) → IsInbox old.now events → rows ≡ length events
-      → (held : List EventValue) × IsInbox now.now held
-      × (append_new key_cmp held left ≡ append_new key_cmp events all)
-      × (length held ≡ rows + fresh)
+pub record IsKeeping (rows : ℕ) (all left : List EventValue) (old now : State) (fresh : ℕ)
+    : Type 0 where
+  pub table : (h : Home) (events : List EventValue) → IsFilled h old.now events
+      → rows ≡ length events → IsTaking h rows all left events old.now now.now fresh
   pub was_open : IsTrue now.is_open → IsTrue old.is_open
   pub committed : now.committed ≡ old.committed
   pub mode : IsTrue now.in_transaction

@@ -1,16 +1,35 @@
-use Rattle.std.proofs.Common.{◌≡◌, ◌∙◌, ap, rules, true}
-use Rattle.inbox_table.specs.Schema.{has_inbox}
-use Rattle.inbox_table.proofs.SchemaLemmas.{form_named, named}
+use Rattle.std.proofs.Common.{◌≡◌, false, rules}
+use Rattle.std.proofs.lemmas.Result.{IfOk-weaker}
+use Rattle.sqlite.specs.Held.{state}
+use Rattle.database_layout.specs.Layout.{has_inbox, schema_in}
+use Rattle.inbox_table.proofs.TableLemmas.{adopted_any}
+use Rattle.inbox_table.proofs.UpgradeLemmas.{both_none, rejects_stranger, rejects_unnamed}
 use Rattle.inbox_table.proofs.adoption.found_in.Goals as goal
 
-pub returns-then-not-has_inbox-clause-foreign : goal.returns-then-not-has_inbox-clause-foreign
-returns-then-not-has_inbox-clause-foreign g c clean _ l box =
-    let there : has_inbox c.args.conn.now.schema ≡ true = ap has_inbox box.schema ∙ named box.layout in
-    let none : ⊥ = search rules in
-    none
+pub returns-then-not-has_inbox-clause-rejects : goal.returns-then-not-has_inbox-clause-rejects
+returns-then-not-has_inbox-clause-rejects g c =
+    let none : has_inbox c.args.conn.now.schema ≡ false = search rules in
+    rejects_unnamed (state g.S.Store c.args.conn.now) none
 
-pub returns-then-not-has_inbox-clause-strange : goal.returns-then-not-has_inbox-clause-strange
-returns-then-not-has_inbox-clause-strange g c strange form _ =
-    let there : has_inbox c.args.conn.now.schema ≡ true = form_named c.args.conn.now.schema.tables form in
-    let none : ⊥ = search rules in
-    none
+pub returns-in_default-clause-rejects : goal.returns-in_default-clause-rejects
+returns-in_default-clause-rejects g c =
+    rejects_stranger (state g.S.Store c.args.conn.now) c.stranger.result (rw c.schema-in_default.ensures.value at c.stranger.ensures.foreign)
+
+pub returns-then-has_inbox2-clause-both : goal.returns-then-has_inbox2-clause-both
+returns-then-has_inbox2-clause-both g c both =
+    let is : c.args.conn.now.schema ≡ schema_in c.in-Some.layout = search rules in
+    absurd (both_none c.args.conn.now.schema c.in-Some.layout is both)
+
+pub returns-then-has_inbox-clause-both : goal.returns-then-has_inbox-clause-both
+returns-then-has_inbox-clause-both g c both =
+    let is : c.args.conn.now.schema ≡ schema_in c.in-Some.layout = search rules in
+    absurd (both_none c.args.conn.now.schema c.in-Some.layout is both)
+
+pub returns-clause-both : goal.returns-clause-both
+returns-clause-both g c both =
+    let is : c.args.conn.now.schema ≡ schema_in c.in-Some.layout = search rules in
+    absurd (both_none c.args.conn.now.schema c.in-Some.layout is both)
+
+pub returns-then-has_inbox-clause-adopts : goal.returns-then-has_inbox-clause-adopts
+returns-then-has_inbox-clause-adopts g c clean =
+    IfOk-weaker c.upgrade.result _ _ (λ f it. adopted_any c.args.keeps (state g.S.Store c.args.conn.now) (state g.S.Store c.upgrade.new.conn) f.rows f.events it) (c.upgrade.ensures.adopts clean)

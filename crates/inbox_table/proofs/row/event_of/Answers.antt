@@ -12,6 +12,6 @@ returns-else-is_row-clause-foreign c _ e numbered is =
     let both : Words (text e) ≡ Words c.in-Some.body.now = sym (ap (λ row. column row 4) is) ∙ body in
     let one : text e ≡ c.in-Some.body.now = cc in
     let same : c.in_ok-event.event ≡ e = c.text_tells_events.ensures c.in_ok-event.event e known.0.event numbered.event (known.1 ∙ sym one) in
-    let yes = c.is_row.ensures.1 (is ∙ ap (shown_of c.args.place) (sym same)) in
+    let yes = c.is_row.ensures.1 (is ∙ ap (shown_of c.args.version c.args.place) (sym same)) in
     let none : ⊥ = search rules in
     none

@@ -1,26 +1,26 @@
-use Rattle.std.proofs.Common.{◌≡◌, ◌∙◌, ap, length, refl, arith, subst, sym}
+use Rattle.std.proofs.Common.{◌∙◌, ap, arith, subst, sym, Ok, Err}
+use Rattle.sqlite.specs.Effect.{Database}
 use Rattle.sqlite.specs.Held.{state}
 use Rattle.sqlite.specs.State.{HasCleanDisk}
-use Rattle.inbox_table.specs.Calls.{Kept}
-use Rattle.inbox_table.specs.Rows.{IsInbox}
-use Rattle.inbox_table.specs.declared.fault.TableFault.TheVariants.{Foreign}
+use Rattle.inbox_table.specs.Calls.{IsSettled, Kept, ReadEffect}
+use Rattle.inbox_table.proofs.TableLemmas.{read_done, read_refused}
+use Rattle.inbox_table.proofs.UpgradeLemmas.{all_wanted}
 use Rattle.inbox_table.proofs.table.Table.load.Goals as goal
 
-pub returns-in-Err-clause-known : goal.returns-in-Err-clause-known
-returns-in-Err-clause-known g c clean still is =
+pub returns-in-Err-clause-effect : goal.returns-in-Err-clause-effect
+returns-in-Err-clause-effect g c clean =
     let old = state g.S.Store c.self.inside.conn in
-    let was_clean : HasCleanDisk old = omega (arith, c.found_in.ensures.survives.clean, clean) in
-    let stands = c.self.invariant was_clean (c.found_in.ensures.was_open clean still) in
-    let foreign : c.in-Err.fault ≡ Foreign = cc in
-    c.in-Err.ensures.foreign clean foreign stands.events stands.table
+    let new = state g.S.Store c.listed_in.new.conn in
+    let was_clean : HasCleanDisk old = omega (arith, c.listed_in.ensures.survives.clean, clean) in
+    subst (λ (k : Kept _). ReadEffect (λ events. events) k.rows (state g.S.Store k.conn) new (Err c.in-Err.fault)) c.self.view_is
+    (read_refused _ old new c.self.inside.rows c.in-Err.fault (c.in-Err.ensures.foreign clean) (λ still. c.self.invariant was_clean (c.listed_in.ensures.same.was_open clean still)) (λ still. (c.listed_in.ensures.same.same clean still).0))
 
-pub returns-clause-count : goal.returns-clause-count
-returns-clause-count g c clean still =
+pub returns-clause-effect : goal.returns-clause-effect
+returns-clause-effect g c clean =
     let old = state g.S.Store c.self.inside.conn in
-    let was_clean : HasCleanDisk old = omega (arith, c.found_in.ensures.survives.clean, clean) in
-    let stands = c.self.invariant was_clean (c.found_in.ensures.was_open clean still) in
-    sym (ap (λ (k : Kept _). k.rows) c.self.view_is) ∙ stands.count ∙ ap length (sym (c.in-Ok.ensures.exact clean refl stands.events stands.table))
-
-pub returns-clause-exact : goal.returns-clause-exact
-returns-clause-exact g c clean m box =
-    c.in-Ok.ensures.exact clean refl m (subst (λ (k : Kept _). IsInbox (state g.S.Store k.conn).now m) (sym c.self.view_is) box)
+    let new = state g.S.Store c.listed_in.new.conn in
+    let was_clean : HasCleanDisk old = omega (arith, c.listed_in.ensures.survives.clean, clean) in
+    let still = c.in-Ok.ensures.open clean in
+    let settled : IsSettled new = λ still db leaves. g.met.S.Store.settled c.listed_in.new.conn.store db still leaves ∙ ap (λ (d : Database). d.trees) (sym (c.in-Ok.ensures.settled clean)) in
+    subst (λ (k : Kept _). ReadEffect (λ events. events) k.rows (state g.S.Store k.conn) new (Ok c.in-Ok.found.events)) c.self.view_is
+    (read_done (λ events. events) _ old new c.self.inside.rows _ _ all_wanted (c.in-Ok.ensures.tells clean) (c.self.invariant was_clean (c.listed_in.ensures.same.was_open clean still)) (c.listed_in.ensures.same.same clean still).0 still settled)

@@ -1,0 +1,16 @@
+//! Laws of services, each as the contract of a function that does nothing.
+
+ghost use Rattle.outbox.specs.Law.{StopsLeaveAService};
+
+use database_layout::laws::trees_tell_tables;
+
+/// A command may be stopped at any write: then the clause `crash` of [`crate::Service::place`],
+/// `ship` and `cancel` tells what is left. The file that is opened again has the service as it was
+/// before the command, or with the command accepted, and that is the service that
+/// [`crate::Service::adopt`] finds. Where the call had answered, the clause `settled` leaves the
+/// latter alone.
+pub fn stops_leave_a_service()
+    ensures { StopsLeaveAService }
+{
+    trees_tell_tables();
+}
