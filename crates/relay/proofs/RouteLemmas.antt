@@ -46,3 +46,6 @@ of_appended batch old new i h e k = elim (has_either old (take i batch) e (subst
 
 pub all_appended : (batch old new : List EventValue) (i : ℕ) → length batch ≤ i → Appended batch old i new → AreIn batch new
 all_appended batch old new i high h e k = subst (λ x. Has x e) (sym h) (has_right old (take i batch) e (subst (λ x. Has x e) (sym (take_all i batch high)) k))
+
+pub whole_appended : (batch old new : List EventValue) (i : ℕ) → length batch ≤ i → Appended batch old i new → new ≡ old ++ batch
+whole_appended batch old new i high h = h ∙ ap (λ x. old ++ x) (take_all i batch high)

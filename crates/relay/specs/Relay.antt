@@ -1,5 +1,5 @@
 -- What relays send.
-use Rattle.std.specs.Prelude.{◌≡◌, ◌≢◌, ℕ, List, [], ◌∷◌, length, Some, Option, MatchOption, refl}
+use Rattle.std.specs.Prelude.{◌≡◌, ◌≢◌, ◌⊎◌, ℕ, List, [], ◌∷◌, length, Some, Option, MatchOption, refl}
 use Rattle.std.specs.Coded.{Coded, code_by, coded×, coded_ℕ, coded_list}
 use Rattle.sqlite.specs.Effect.{Database}
 use Rattle.attributes.specs.Event.{EventValue}
@@ -30,6 +30,11 @@ ForNextRows source base mark db Holds = (commands : List Accepted)
 abbrev pub Sends : List EventValue → ℕ → ℕ → ℕ → List EventValue → Type 0
 Sends accepted mark count last rows =
     (count ≡ length rows) × AreIn rows accepted × IsLast mark rows last
+
+-- without rows the route was asked for nothing; else it was sent these rows once, and this is what the
+-- send of a route does
+abbrev pub HandsOn : {R : Type 0} → (R → List EventValue → R → Type 0) → R → R → List EventValue → Type 0
+HandsOn takes old new rows = ((rows ≡ []) × (new ≡ old)) ⊎ takes old rows new
 
 -- the job has the rows, and there is none exactly where there are no rows
 abbrev pub HasRows : Option Job → List EventValue → Type 0

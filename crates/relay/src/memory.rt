@@ -42,6 +42,7 @@ fn append(events: &mut Batch, event: &Sequenced) -> Result<(), RouteFailed>
 
 /// Appends copies of the events, up to the first that memory is refused for.
 fn append_all(events: &mut Batch, batch: &Batch) -> Result<(), RouteFailed>
+    ensures appended { OnOk result (events.new ≡ events.old ++ batch.now) }
     ensures accepted { OnOk result (AreIn batch.now events.new) }
     ensures kept { AreIn events.old events.new }
     ensures new { AreOf events.new events.old batch.now }
@@ -77,6 +78,9 @@ impl Route for MemoryRoute {
     ghost accepted = { λ r. r.events };
 
     ghost has_failed = { λ old new. CountRises old.failures new.failures };
+
+    // Exactly the batch is appended, each event once and in its order.
+    ghost takes = { λ old batch new. new ≡ record old { events = old.events ++ batch } };
 
     fn send(&mut self, batch: &Batch) -> Result<(), RouteFailed> {
         match append_all(&mut self.events, batch) {

@@ -5,7 +5,7 @@ ghost use Rattle.sqlite.specs.State.{HasCleanDisk};
 ghost use Rattle.sqlite.specs.Held.{state};
 ghost use Rattle.outbox.specs.Call.{IsSame};
 ghost use Rattle.relay.specs.Route.{AreIn, AreOf};
-ghost use Rattle.relay.specs.Relay.{ForNextRows, HasRows, IsLast, Sends};
+ghost use Rattle.relay.specs.Relay.{ForNextRows, HandsOn, HasRows, IsLast, Sends};
 ghost use Rattle.relay.specs.declared.fault.RelayFault.TheVariants.{OutOfMemory, RouteFailed, Stranger, Store};
 
 use crate::fault::{RelayFault, fault_of};
@@ -72,6 +72,7 @@ pub fn carry<R: Route>(job: Job, route: &mut R) -> Outcome
     ensures job { (result.site ≡ job.site) × (result.first ≡ job.first)
         × (result.last ≡ job.last) }
     ensures sent { IsTrue result.sent → AreIn job.rows (R.accepted route.new) }
+    ensures took { IsTrue result.sent → R.takes route.old job.rows route.new }
     ensures failed { result.sent ≡ false → R.has_failed route.old route.new }
     ensures kept { AreIn (R.accepted route.old) (R.accepted route.new) }
     ensures new { AreOf (R.accepted route.new) (R.accepted route.old) job.rows }
@@ -126,6 +127,9 @@ impl Relay {
             ForNextRows service.old.source service.old.base self.old.mark
             (state S.Store service.old.conn).now
             (Sends (R.accepted route.new) self.old.mark n self.new.mark)) }
+        ensures took { HasCleanDisk (state S.Store service.new.conn) → OnOk result (
+            ForNextRows service.old.source service.old.base self.old.mark
+            (state S.Store service.old.conn).now (HandsOn R.takes route.old route.new)) }
         ensures kept { AreIn (R.accepted route.old) (R.accepted route.new) }
         ensures new { HasCleanDisk (state S.Store service.new.conn)
             → ForNextRows service.old.source service.old.base self.old.mark

@@ -17,10 +17,14 @@ pub trait Route {
 
     ghost has_failed: { Self → Self → Type 0 };
 
+    // What a send of these events that was answered did, told by the route itself.
+    ghost takes: { Self → List EventValue → Self → Type 0 };
+
     /// Takes a batch. After `Ok` each of its events is accepted; after `Err` the failures rose.
     /// Nothing that was accepted is lost, and what is new is of the batch.
     fn send(&mut self, batch: &Batch) -> Result<(), RouteFailed>
         ensures accepted { OnOk result (AreIn batch.now (accepted self.new)) }
+        ensures took { OnOk result (takes self.old batch.now self.new) }
         ensures failed { OnErr result (has_failed self.old self.new) }
         ensures kept { AreIn (accepted self.old) (accepted self.new) }
         ensures new { AreOf (accepted self.new) (accepted self.old) batch.now };

@@ -1,5 +1,5 @@
 use Rattle.std.proofs.Common.{arith}
-use Rattle.relay.proofs.RouteLemmas.{append_one, in_appended, of_appended, all_appended}
+use Rattle.relay.proofs.RouteLemmas.{append_one, in_appended, of_appended, all_appended, whole_appended}
 use Rattle.relay.proofs.memory.append_all.Goals as goal
 
 pub loop-i-preserved : goal.loop-i-preserved
@@ -19,3 +19,6 @@ returns-clause-kept c = in_appended c.args.batch.now c.args.events.now c.loop-i.
 
 pub returns-clause-new : goal.returns-clause-new
 returns-clause-new c = of_appended c.args.batch.now c.args.events.now c.loop-i.events c.loop-i.i c.loop-i.invariant
+
+pub returns-clause-appended : goal.returns-clause-appended
+returns-clause-appended c = whole_appended c.args.batch.now c.args.events.now c.loop-i.events c.loop-i.i (omega arith) c.loop-i.invariant
