@@ -1,26 +1,39 @@
 -- What a database holds for a command, before and after.
-use Rattle.std.proofs.Common.{◌≡◌, List, [], Bool, true, false, Ok, Err, Result, sym, subst, refl}
+use Rattle.std.proofs.Common.{◌≡◌, ◌∙◌, List, [], Bool, true, false, Ok, Err, Result, inl, inr, sym, subst, refl}
 use Rattle.std.specs.Result.{IfOk, OnErr, OnOk}
-use Rattle.std.proofs.lemmas.Bool.{false_from_ne_true}
 use Rattle.sqlite.specs.Effect.{Database}
 use Rattle.attributes.specs.Event.{EventValue}
 use Rattle.inbox.specs.KeyOrder.{key_cmp}
 use Rattle.inbox.specs.Ordered.{append_new}
-use Rattle.inbox_table.specs.Rows.{IsInbox}
-use Rattle.inbox_table.specs.Schema.{has_inbox}
+use Rattle.database_layout.specs.Layout.{has_inbox}
+use Rattle.inbox_table.specs.Rows.{IsAnyInbox, IsInbox}
+use Rattle.inbox_table.proofs.UpgradeLemmas.{any_named}
 use Rattle.database_commands.specs.Held.{Holds}
 
 -- where there was no table, the one that was made has what the database held
-pub made_holds : (old new : Database) (held : List EventValue) → (has_inbox old.schema ≡ true → ⊥) → IsInbox new []
-    → Holds old held → IsInbox new held
-made_holds old new held absent made h = subst (λ l. IsInbox new l) (sym (h.none (false_from_ne_true _ absent))) made
+pub made_holds : (old new : Database) (held : List EventValue) → has_inbox old.schema ≡ false → IsInbox new [] → Holds old held → IsInbox new held
+made_holds old new held absent made h = subst (λ l. IsInbox new l) (sym (h.none absent)) made
+
+clash : (b : Bool) → b ≡ true → b ≡ false → ⊥
+clash b one other = let e : true ≡ false = sym one ∙ other in cc
+
+-- a database with the table holds its events
+pub inbox_holds : (db : Database) (held : List EventValue) → IsInbox db held → Holds db held
+inbox_holds db held box = record {
+  there = λ _. inl box;
+  none = λ no. absurd (clash (has_inbox db.schema) (any_named db held (inl box)) no);
+}
+
+once_in : (db : Database) (held : List EventValue) → IsAnyInbox db held → append_new key_cmp [] held ≡ held
+once_in db held (inl box) = box.once
+once_in db held (inr box) = box.once
 
 -- what a database holds stands there once each
 pub held_once : (db : Database) (held : List EventValue) → Holds db held → append_new key_cmp [] held ≡ held
 held_once db held h = go (has_inbox db.schema) refl
   where
     go : (b : Bool) → has_inbox db.schema ≡ b → append_new key_cmp [] held ≡ held
-    go true e = (h.there e).once
+    go true e = once_in db held (h.there e)
     go false e = subst (λ l. append_new key_cmp [] l ≡ l) (sym (h.none e)) refl
 
 pub both_ok : {T E : Type 0} (r : Result T E) (P Q : T → Type 0) → IfOk r P → IfOk r Q → IfOk r (λ x. P x × Q x)

@@ -5,6 +5,7 @@ use Rattle.sqlite.specs.State.{State, HasCleanDisk}
 use Rattle.attributes.specs.Event.{EventValue}
 use Rattle.outbox.specs.Call.{Accepts, IsSame, Refuses}
 use Rattle.outbox.specs.Order.{Accepted}
+use Rattle.outbox.specs.Row.{rows_after}
 use Rattle.database_layout.specs.Layout.{has_name}
 use Rattle.outbox.specs.Service.{IsService}
 use Rattle.outbox.specs.Shown.{HasNoOther}
@@ -12,8 +13,8 @@ use Rattle.outbox.specs.declared.fault.OutboxFault.{OutboxFault}
 use Rattle.outbox.specs.declared.status.Status.{Status}
 use Rattle.relay.specs.Relay.{ForNextRows}
 use Rattle.database_commands.specs.Fault.{of_outbox}
-use Rattle.database_commands.specs.Held.{IsOrdered, IsServed, KeepsService, Orders, PrintsRows, RefusesOrder, Serves, ShowsRows}
-use Rattle.database_commands.specs.Print.{event_line}
+use Rattle.database_commands.specs.Held.{IsOrdered, IsServed, KeepsService, Orders, RefusesOrder, Serves, ShowsRows}
+use Rattle.database_commands.specs.Print.{batch_line, event_line}
 use Rattle.database_commands.specs.declared.fault.CommandFault.{CommandFault}
 
 -- a service that is new
@@ -52,10 +53,10 @@ module _ (given : List ℕ) (old mid : Database) (source : List ℕ) (base : ℕ
   pub kept_served : (new : Database) → new ≡ mid → KeepsService given old new
   kept_served new is s b commands h = inl (subst (λ db. IsService db s b commands) (sym is) (served s b commands h).2)
 
-  pub shown_rows : (after : ℕ) (text : List ℕ) → ForNextRows source base after mid (PrintsRows text) → ShowsRows given after old text
+  pub shown_rows : (after : ℕ) (text : List ℕ) → ForNextRows source base after mid (λ rows. text ≡ batch_line rows) → ShowsRows given after old text
   shown_rows after text shows s b commands h =
       let it = served s b commands h in
-      subst (λ x. PrintsRows text (Rattle.outbox.specs.Row.rows_after x b commands after 100)) it.0 (subst (λ n. PrintsRows text (Rattle.outbox.specs.Row.rows_after source n commands after 100)) it.1 (shows commands (here s b commands h)))
+      subst (λ x. text ≡ batch_line (rows_after x b commands after 100)) it.0 (subst (λ n. text ≡ batch_line (rows_after source n commands after 100)) it.1 (shows commands (here s b commands h)))
 
 -- a service that was only read
 pub kept_read : (given : List ℕ) (old : Database) (mid new : State) (source : List ℕ) (base : ℕ) → IsServed given old source base mid.now → IsSame mid new → HasCleanDisk new → IsTrue new.is_open → KeepsService given old new.now

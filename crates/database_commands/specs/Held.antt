@@ -1,5 +1,5 @@
 -- What a database holds for a command.
-use Rattle.std.specs.Prelude.{◌≡◌, ◌≢◌, ◌⊎◌, ◌+◌, ◌++◌, ℕ, suc, List, [], ◌∷◌, Some, None, length, true, false}
+use Rattle.std.specs.Prelude.{◌≡◌, ◌≢◌, ◌⊎◌, ◌+◌, ◌++◌, ℕ, suc, Bool, List, [], ◌∷◌, Some, None, length, true, false, IsTrue}
 use Rattle.sqlite.specs.Effect.{Database}
 use Rattle.attributes.specs.Event.{EventValue}
 use Rattle.inbox.specs.KeyOrder.{key_cmp}
@@ -8,24 +8,26 @@ use Rattle.inbox.specs.Sets.{set_of}
 use Rattle.coverage.specs.Summary.{Sources}
 use Rattle.site.specs.Delta.{delta}
 use Rattle.site.specs.Page.{page}
-use Rattle.inbox_table.specs.Rows.{IsInbox}
-use Rattle.inbox_table.specs.Schema.{has_inbox}
+use Rattle.inbox_table.specs.Rows.{IsAnyInbox, IsInbox}
 use Rattle.outbox.specs.Order.{Accepted, refusal}
 use Rattle.outbox.specs.Row.{row_event, rows_after}
-use Rattle.database_layout.specs.Layout.{has_name}
+use Rattle.database_layout.specs.Layout.{has_inbox, has_name}
 use Rattle.outbox.specs.Service.{IsService}
 use Rattle.outbox.specs.declared.fault.OutboxFault.{OutboxFault}
 use Rattle.outbox.specs.declared.status.Status.{Status}
-use Rattle.relay.specs.Route.{AreIn}
 use Rattle.database_commands.specs.Fault.{of_outbox}
 use Rattle.database_commands.specs.Print.{batch_line, counts_line, event_line}
 use Rattle.database_commands.specs.declared.fault.CommandFault.{CommandFault}
 use Rattle.database_commands.specs.declared.fault.CommandFault.TheVariants as command
 
--- the database has an inbox with these events, or none, and then they are none
+-- the database has an inbox with these events, of either version, or none, and then they are none
 pub record Holds (db : Database) (events : List EventValue) : Type 0 where
-  pub there : has_inbox db.schema ≡ true → IsInbox db events
+  pub there : has_inbox db.schema ≡ true → IsAnyInbox db events
   pub none : has_inbox db.schema ≡ false → events ≡ []
+
+-- whatever events it held, it holds
+abbrev pub KeepsEvents : Database → Database → Type 0
+KeepsEvents old new = (held : List EventValue) → Holds old held → Holds new held
 
 -- the most events that are printed at once
 abbrev pub max_page : ℕ
@@ -43,6 +45,12 @@ pub record IsTaken (L held : List EventValue) (new : Database) (text : List ℕ)
 abbrev pub TakesInto : List EventValue → Database → Database → List ℕ → Type 0
 TakesInto L old new text = (held : List EventValue) → Holds old held → IsTaken L held new text
 
+-- whatever events it held, it holds them, or has taken L too and the fault is want of memory for the
+-- line that says so
+abbrev pub KeepsOrTakes : List EventValue → CommandFault → Database → Database → Type 0
+KeepsOrTakes L f old new = (held : List EventValue) → Holds old held
+    → Holds new held ⊎ ((f ≡ command.OutOfMemory) × Holds new (append_new key_cmp held L))
+
 -- the text is the batch of the page, from this place on, of what the summary lacks of all that the
 -- database held
 abbrev pub ShowsDelta : Sources → ℕ → Database → List ℕ → Type 0
@@ -54,6 +62,15 @@ ShowsDelta summary from db text = (held : List EventValue) → Holds db held
 abbrev pub ShowsPage : ℕ → Database → List ℕ → Type 0
 ShowsPage from db text = (held : List EventValue) → Holds db held
     → text ≡ batch_line (page (set_of held) from max_page)
+
+-- the text is the batch of such a page of some events
+abbrev pub SaysDelta : Sources → ℕ → List ℕ → Type 0
+SaysDelta summary from text = (events : List EventValue)
+    × (text ≡ batch_line (page (delta (set_of events) summary) from max_page))
+
+abbrev pub SaysPage : ℕ → List ℕ → Type 0
+SaysPage from text = (events : List EventValue)
+    × (text ≡ batch_line (page (set_of events) from max_page))
 
 -- a service that is new has the source that is given, the base 0, and no commands
 pub record IsNew (given source : List ℕ) (base : ℕ) (commands : List Accepted) : Type 0 where
@@ -98,6 +115,13 @@ pub record IsOrdered (source : List ℕ) (base : ℕ) (commands : List Accepted)
   pub kept : IsService new source base (commands ++ c ∷ [])
   pub line : text ≡ event_line (row_event source (suc (base + length commands)) c)
 
+-- the text is the event of a row with this command; where the source was named, it is that one
+pub record SaysOrder (is_named : Bool) (given : List ℕ) (c : Accepted) (text : List ℕ) : Type 0 where
+  pub source : List ℕ
+  pub number : ℕ
+  pub meant : IsTrue is_named → source ≡ given
+  pub line : text ≡ event_line (row_event source number c)
+
 -- so it is whatever the database held
 abbrev pub Orders : List ℕ → Accepted → Database → Database → List ℕ → Type 0
 Orders given c old new text = (source : List ℕ) (base : ℕ) (commands : List Accepted)
@@ -114,15 +138,9 @@ abbrev pub KeepsService : List ℕ → Database → Database → Type 0
 KeepsService given old new = (source : List ℕ) (base : ℕ) (commands : List Accepted)
     → Serves old given source base commands → Serves new given source base commands
 
--- the text is the batch of these events, in some order and with repeats
-pub record PrintsRows (text : List ℕ) (rows : List EventValue) : Type 0 where
-  pub events : List EventValue
-  pub line : text ≡ batch_line events
-  pub complete : AreIn rows events
-  pub sound : AreIn events rows
-
--- the text is the batch of the next rows after a number, at most a page of them
+-- the text is the batch of the next rows after a number, at most a page of them, each once and in
+-- their order
 abbrev pub ShowsRows : List ℕ → ℕ → Database → List ℕ → Type 0
 ShowsRows given after db text = (source : List ℕ) (base : ℕ) (commands : List Accepted)
     → Serves db given source base commands
-    → PrintsRows text (rows_after source base commands after max_page)
+    → text ≡ batch_line (rows_after source base commands after max_page)

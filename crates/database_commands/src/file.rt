@@ -3,7 +3,8 @@ ghost use Rattle.std.specs.Prelude.{◌≡◌, ◌≤◌, ℕ, List, length, tru
 ghost use Rattle.attributes.specs.Character.{is_filled};
 ghost use Rattle.attributes.specs.Event.{EventValue};
 ghost use Rattle.attributes.specs.Sequence.{max_sequence};
-ghost use Rattle.database_commands.specs.Print.{batch_line, counts_line, event_line};
+ghost use Rattle.database_commands.specs.Held.{SaysDelta, SaysOrder, SaysPage};
+ghost use Rattle.database_commands.specs.Print.{batch_line, counts_line};
 
 use crate::Ended;
 use crate::fault::{CommandFault, of_kind, of_store};
@@ -34,7 +35,9 @@ const MOST_PAGES: u64 = 65_536;
 
 /// The commands over databases, by the names of their files. Each opens the database, makes its
 /// file where there is none, and closes it in the end; what was committed stays, also where the
-/// closing fails. What a file holds no clause can say: those of the commands over a connection do.
+/// closing fails. What a file of the operating system holds no clause can say: those of the commands
+/// over a connection do. The clauses here say of which form an answer is, for some events or some
+/// service: the page from that place, what the summary lacks, the command that was given.
 pub trait Databases {
     /// As [`crate::take`].
     fn take<W: Watch>(
@@ -54,11 +57,11 @@ pub trait Databases {
         summary: &Summary,
         from: u64,
     ) -> Result<Text, CommandFault>
-        ensures { IfOk result (λ text. (events : List EventValue) × (text ≡ batch_line events)) };
+        ensures { IfOk result (SaysDelta summary.now from) };
 
     /// As [`crate::scrub`].
     fn scrub(&self, alloc: Global, name: &str, from: u64) -> Result<Text, CommandFault>
-        ensures { IfOk result (λ text. (events : List EventValue) × (text ≡ batch_line events)) };
+        ensures { IfOk result (SaysPage from) };
 
     /// As [`crate::order`].
     fn order(
@@ -74,7 +77,8 @@ pub trait Databases {
         requires source { (is_filled source.now ≡ true) × (length source.now ≤ 1024) }
         requires order { (1 ≤ order) × (order ≤ max_sequence) }
         requires short { length at.now ≤ 64 }
-        ensures { IfOk result (λ text. (e : EventValue) × (text ≡ event_line e)) };
+        ensures { IfOk result (SaysOrder is_source_named source.now
+            (record { status = status; order = order; at = at.now })) };
 
     /// As [`crate::relay`].
     fn relay(

@@ -1,47 +1,50 @@
 //! The inbox of a database: its table, and taking events into it.
-ghost use Rattle.std.specs.Prelude.{◌≡◌, ◌≤◌, ℕ, List, [], true, false, length, IfErr, IfOk};
+ghost use Rattle.std.specs.Prelude.{◌≡◌, ◌⊎◌, ℕ, List, length, IfErr, IfOk, IsTrue};
 ghost use Rattle.sqlite.specs.Held.{state};
 ghost use Rattle.sqlite.specs.State.{HasCleanDisk};
 ghost use Rattle.attributes.specs.Event.{EventValue};
+ghost use Rattle.inbox_table.specs.Calls.{IsAsItWas, Takes};
 ghost use Rattle.inbox_table.specs.Rows.{IsInbox};
-ghost use Rattle.database_commands.specs.Held.{Holds, IsTaken, TakesInto};
+ghost use Rattle.database_commands.specs.declared.fault.CommandFault.TheVariants.{OutOfMemory};
+ghost use Rattle.database_commands.specs.Held.{Holds, IsTaken, KeepsOrTakes, TakesInto};
 ghost use Rattle.database_commands.specs.Print.{counts_line};
 
 use crate::Ended;
 use crate::fault::{CommandFault, of_table};
 use crate::text::counts_line;
 use attributes::{Batch, Text};
-use inbox_table::{Loaded, NotMade, Table, TableFault, Watch};
+use database_layout::has_inbox;
+use inbox_table::{Loaded, NotMade, Table, Watch};
 use sqlite::{Alter, Connection};
 use std::alloc::Global;
 
-/// The table of a database with its events, made where there is none.
+/// The table of a database with its events, made where there is none; one of version 1 gives way to
+/// one of version 2.
 pub fn loaded<S: Alter + Drop>(alloc: Global, conn: Connection<S>) -> Result<Loaded<S>, NotMade<S>>
     ensures events { IfOk result (λ l. HasCleanDisk (state S.Store l.table.conn)
         → (held : List EventValue) → Holds (state S.Store conn).now held → l.events ≡ held) }
     ensures found { IfOk result (λ l. HasCleanDisk (state S.Store l.table.conn)
         → IsInbox (state S.Store l.table.conn).now l.events) }
     ensures rows { IfOk result (λ l. l.table.rows ≡ length l.events) }
+    ensures back { IfErr result (λ n. IsAsItWas (state S.Store conn) (state S.Store n.conn)) }
 {
+    if has_inbox(conn.schema()) {
+        return Table::adopt_and_load(alloc, conn);
+    }
     match Table::create(alloc, conn) {
         Ok(table) => {
             let events = Batch::empty(alloc);
             Ok(Loaded { table, events })
         }
-        Err(refused) => {
-            let NotMade { conn, fault } = refused;
-            match fault {
-                TableFault::Foreign => Table::adopt_and_load(alloc, conn),
-                _ => Err(NotMade { conn, fault }),
-            }
-        }
+        Err(refused) => Err(refused),
     }
 }
 
 /// Adds the events that a database doesn't have, each in its turn, and answers the line that says
 /// how many of them were new. The table is made where there is none. One transaction; the events
 /// that are there already are read once and not kept. The watch is told from time to time how many
-/// of the batch are in.
+/// of the batch are in. A refusal leaves what the database held; only where the memory for the line
+/// is wanted may the events be in.
 pub fn take<S: Alter + Drop, W: Watch>(
     alloc: Global,
     conn: Connection<S>,
@@ -50,6 +53,9 @@ pub fn take<S: Alter + Drop, W: Watch>(
 ) -> Ended<S>
     ensures taken { HasCleanDisk (state S.Store result.conn) → IfOk result.outcome
         (TakesInto events.now (state S.Store conn).now (state S.Store result.conn).now) }
+    ensures left { HasCleanDisk (state S.Store result.conn)
+        → IsTrue (state S.Store result.conn).is_open → IfErr result.outcome (λ f. KeepsOrTakes
+        events.now f (state S.Store conn).now (state S.Store result.conn).now) }
     ensures line { IfOk result.outcome (λ text.
         (fresh : ℕ) × (text ≡ counts_line (length events.now) fresh)) }
 {
@@ -69,20 +75,15 @@ pub fn take<S: Alter + Drop, W: Watch>(
 
 /// The table of a database, made where there is none. Its events are read once and not kept.
 fn adopted<S: Alter + Drop>(alloc: Global, conn: Connection<S>) -> Result<Table<S>, NotMade<S>>
-    ensures { IfOk result (λ t. HasCleanDisk (state S.Store t.conn)
+    ensures held { IfOk result (λ t. HasCleanDisk (state S.Store t.conn)
         → (held : List EventValue) → Holds (state S.Store conn).now held
         → IsInbox (state S.Store t.conn).now held) }
+    ensures back { IfErr result (λ n. IsAsItWas (state S.Store conn) (state S.Store n.conn)) }
 {
-    match Table::create(alloc, conn) {
-        Ok(table) => Ok(table),
-        Err(refused) => {
-            let NotMade { conn, fault } = refused;
-            match fault {
-                TableFault::Foreign => Table::adopt(alloc, conn),
-                _ => Err(NotMade { conn, fault }),
-            }
-        }
+    if has_inbox(conn.schema()) {
+        return Table::adopt(alloc, conn);
     }
+    Table::create(alloc, conn)
 }
 
 /// Keeps the events in a table, and answers the line that says how many were new.
@@ -99,6 +100,11 @@ fn kept<S: Alter + Drop, W: Watch>(
         (fresh : ℕ) × (text ≡ counts_line (length events.now) fresh)) }
     ensures clean { HasCleanDisk (state S.Store table.new.conn)
         → HasCleanDisk (state S.Store table.old.conn) }
+    ensures left { HasCleanDisk (state S.Store table.new.conn)
+        → IsTrue (state S.Store table.new.conn).is_open → IfErr result (λ f.
+        ((state S.Store table.new.conn).now ≡ (state S.Store table.old.conn).now)
+        ⊎ ((f ≡ OutOfMemory) × Takes events.now
+        (state S.Store table.old.conn).now (state S.Store table.new.conn).now)) }
 {
     match table.keep_watched(events, watch) {
         Ok(fresh) => said(alloc, events.len(), fresh),
@@ -108,7 +114,8 @@ fn kept<S: Alter + Drop, W: Watch>(
 
 /// The line of so many events, of which so many were new.
 fn said(alloc: Global, read: u64, fresh: u64) -> Result<Text, CommandFault>
-    ensures { IfOk result (λ text. text ≡ counts_line read fresh) }
+    ensures line { IfOk result (λ text. text ≡ counts_line read fresh) }
+    ensures fault { IfErr result (λ f. f ≡ OutOfMemory) }
 {
     match counts_line(alloc, read, fresh) {
         Ok(text) => Ok(text),

@@ -1,5 +1,5 @@
 //! Pages of the events that a database holds.
-ghost use Rattle.std.specs.Prelude.{◌≡◌, ℕ, List, [], IfOk};
+ghost use Rattle.std.specs.Prelude.{◌≡◌, ℕ, List, [], IfOk, IsTrue};
 ghost use Rattle.sqlite.specs.Held.{state};
 ghost use Rattle.sqlite.specs.State.{HasCleanDisk};
 ghost use Rattle.attributes.specs.Event.{EventValue};
@@ -8,7 +8,7 @@ ghost use Rattle.inbox.specs.Ordered.{append_new};
 ghost use Rattle.inbox.specs.Sets.{set_of};
 ghost use Rattle.site.specs.Delta.{delta};
 ghost use Rattle.site.specs.Page.{page};
-ghost use Rattle.database_commands.specs.Held.{Holds, ShowsDelta, ShowsPage};
+ghost use Rattle.database_commands.specs.Held.{Holds, KeepsEvents, SaysDelta, SaysPage, ShowsDelta, ShowsPage};
 ghost use Rattle.database_commands.specs.Print.{batch_line};
 
 use crate::Ended;
@@ -34,8 +34,11 @@ struct Contents<S: Alter + Drop> {
 
 /// What a database holds; the table is made where there is none.
 fn contents_of<S: Alter + Drop>(alloc: Global, conn: Connection<S>) -> Contents<S>
-    ensures { HasCleanDisk (state S.Store result.conn) → IfOk result.events (λ events.
+    ensures events { HasCleanDisk (state S.Store result.conn) → IfOk result.events (λ events.
         (held : List EventValue) → Holds (state S.Store conn).now held → events ≡ held) }
+    ensures list { HasCleanDisk (state S.Store result.conn)
+        → IsTrue (state S.Store result.conn).is_open
+        → KeepsEvents (state S.Store conn).now (state S.Store result.conn).now }
 {
     match loaded(alloc, conn) {
         Ok(loaded) => {
@@ -57,7 +60,8 @@ fn contents_of<S: Alter + Drop>(alloc: Global, conn: Connection<S>) -> Contents<
 }
 
 /// The page of what a summary lacks of all events of a database, at most 100 from a place on. The
-/// table is made where there is none. Time in proportion to all events.
+/// table is made where there is none, and the events stay, also where it is refused. Time in
+/// proportion to all events.
 pub fn delta<S: Alter + Drop>(
     alloc: Global,
     conn: Connection<S>,
@@ -66,8 +70,10 @@ pub fn delta<S: Alter + Drop>(
 ) -> Ended<S>
     ensures shown { HasCleanDisk (state S.Store result.conn) → IfOk result.outcome
         (ShowsDelta summary.now from (state S.Store conn).now) }
-    ensures line { IfOk result.outcome (λ text.
-        (events : List EventValue) × (text ≡ batch_line events)) }
+    ensures list { HasCleanDisk (state S.Store result.conn)
+        → IsTrue (state S.Store result.conn).is_open
+        → KeepsEvents (state S.Store conn).now (state S.Store result.conn).now }
+    ensures line { IfOk result.outcome (SaysDelta summary.now from) }
 {
     let Contents { conn, events } = contents_of(alloc, conn);
     match events {
@@ -83,12 +89,15 @@ pub fn delta<S: Alter + Drop>(
 }
 
 /// The page of all events of a database in key order, at most 100 from a place on. The table is
-/// made where there is none. Time in proportion to all events.
+/// made where there is none, and the events stay, also where it is refused. Time in proportion to
+/// all events.
 pub fn scrub<S: Alter + Drop>(alloc: Global, conn: Connection<S>, from: u64) -> Ended<S>
     ensures shown { HasCleanDisk (state S.Store result.conn) → IfOk result.outcome
         (ShowsPage from (state S.Store conn).now) }
-    ensures line { IfOk result.outcome (λ text.
-        (events : List EventValue) × (text ≡ batch_line events)) }
+    ensures list { HasCleanDisk (state S.Store result.conn)
+        → IsTrue (state S.Store result.conn).is_open
+        → KeepsEvents (state S.Store conn).now (state S.Store result.conn).now }
+    ensures line { IfOk result.outcome (SaysPage from) }
 {
     let Contents { conn, events } = contents_of(alloc, conn);
     match events {

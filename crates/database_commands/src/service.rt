@@ -13,7 +13,7 @@ ghost use Rattle.outbox.specs.declared.fault.OutboxFault.TheVariants.{OutOfMemor
 ghost use Rattle.relay.specs.Relay.{ForNextRows};
 ghost use Rattle.database_commands.specs.declared.fault.CommandFault.TheVariants as command;
 ghost use Rattle.database_commands.specs.Fault.{of_outbox};
-ghost use Rattle.database_commands.specs.Held.{HasAnother, IsMeant, IsNoOrders, IsServed, KeepsService, Orders, PrintsRows, RefusesOrder, ShowsRows};
+ghost use Rattle.database_commands.specs.Held.{HasAnother, IsMeant, IsNoOrders, IsServed, KeepsService, Orders, RefusesOrder, SaysOrder, ShowsRows};
 ghost use Rattle.database_commands.specs.Print.{batch_line, event_line};
 
 use crate::Ended;
@@ -176,7 +176,8 @@ pub fn order<S: Alter + Drop>(
     ensures another { IfErr result.outcome (λ f. f ≡ command.AnotherSource
         → IsTrue is_source_named × (HasCleanDisk (state S.Store result.conn)
         → HasAnother source.now (state S.Store conn).now)) }
-    ensures line { IfOk result.outcome (λ text. (e : EventValue) × (text ≡ event_line e)) }
+    ensures line { IfOk result.outcome (SaysOrder is_source_named source.now
+        (record { status = status; order = order; at = at.now })) }
 {
     match service_of(alloc, conn, source, is_source_named) {
         Ok(mut service) => {
@@ -219,7 +220,9 @@ fn command_line<S: Alter>(
     ensures clean { HasCleanDisk (state S.Store service.new.conn)
         → HasCleanDisk (state S.Store service.old.conn) }
     ensures fault { IfErr result (λ f. f ≢ command.AnotherSource) }
-    ensures line { IfOk result (λ text. (e : EventValue) × (text ≡ event_line e)) }
+    ensures line { IfOk result (λ text. text ≡ event_line
+        (row_event service.old.source (suc service.old.last)
+        (record { status = status; order = order; at = at.now }))) }
 {
     // The line is made first, so that no memory is wanted once the command is written.
     match next_line(alloc, service, status, order, at) {
@@ -242,7 +245,6 @@ fn next_line<S: Alter>(
     ensures next { service.now.last < max_sequence → IfOk result (λ text.
         text ≡ event_line (row_event service.now.source (suc service.now.last)
         (record { status = status; order = order; at = at.now }))) }
-    ensures line { IfOk result (λ text. (e : EventValue) × (text ≡ event_line e)) }
     ensures fault { IfErr result (λ f. (f ≡ command.OutOfMemory) ⊎ (f ≡ command.Store)) }
 {
     match service.next_event(status, order, at) {
@@ -276,6 +278,7 @@ pub fn relay<S: Alter + Drop>(
     ensures kept { HasCleanDisk (state S.Store result.conn)
         → IsTrue (state S.Store result.conn).is_open
         → KeepsService source.now (state S.Store conn).now (state S.Store result.conn).now }
+    ensures fault { IfErr result.outcome (λ f. f ≢ command.AnotherSource) }
     ensures line { IfOk result.outcome (λ text.
         (events : List EventValue) × (text ≡ batch_line events)) }
 {
@@ -303,8 +306,9 @@ fn rows_line<S: Alter>(
 ) -> Result<Text, CommandFault>
     ensures rows { HasCleanDisk (state S.Store service.new.conn) → IfOk result (λ text.
         ForNextRows service.old.source service.old.base after
-        (state S.Store service.old.conn).now (PrintsRows text)) }
+        (state S.Store service.old.conn).now (λ rows. text ≡ batch_line rows)) }
     ensures same { IsSame (state S.Store service.old.conn) (state S.Store service.new.conn) }
+    ensures fault { IfErr result (λ f. f ≢ command.AnotherSource) }
     ensures line { IfOk result (λ text.
         (events : List EventValue) × (text ≡ batch_line events)) }
 {

@@ -9,7 +9,7 @@ use Rattle.sqlite.specs.State.{State, HasCleanDisk, Survives}
 use Rattle.attributes.specs.Event.{EventValue}
 use Rattle.inbox.specs.KeyOrder.{key_cmp}
 use Rattle.inbox.specs.Ordered.{append_new}
-use Rattle.inbox_table.specs.Calls.{AreFresh, MayTake, Stands, Takes}
+use Rattle.inbox_table.specs.Calls.{AreFresh, MayTake, Takes}
 use Rattle.inbox_table.specs.Rows.{IsInbox}
 use Rattle.site.specs.Arrival.{AreDistinct}
 use Rattle.site.specs.Machine.{Follows, call}
@@ -18,7 +18,7 @@ use Rattle.site.specs.declared.call.Command.TheVariants as command
 use Rattle.site.specs.declared.call.Reply.{Reply}
 use Rattle.site.specs.declared.call.Reply.TheVariants.{Paged}
 use Rattle.keeper.proofs.NewLemmas.{all_new, grows}
-use Rattle.keeper.specs.Keep.{Grows, HasAll, HasFirst, KeepsUp, MayKeep, max_page}
+use Rattle.keeper.specs.Keep.{Grows, HasAll, HasFirst, KeepsUp, MayKeep, MayKeepAll, max_page}
 
 -- the page behind the first arrivals is new to them, and they are the first ones with it
 record IsNext (A : List EventValue) (rows : ℕ) (b : List EventValue) : Type 0 where
@@ -139,25 +139,45 @@ module _ (old new : State) (rows rows' fresh : ℕ) (A B b : List EventValue) (f
 pub survives_same : (s : State) (P : Trees → Type 0) → Survives s s P
 survives_same s P = record { clean = omega arith; shield = λ h. h; counts = omega arith; limit = refl; closes = λ clean h. inl h; crash = λ clean db h. inl h }
 
--- what a crash may leave of a page that is being kept
-pub page_crash : (old new : State) (rows : ℕ) (A B b : List EventValue) → Follows A (call (command.Fresh rows max_page) (Paged b)) B → AreDistinct B
-    → Survives old new (λ trees. Stands old.now rows → MayTake b old.now trees) → Survives old new (λ trees. HasFirst old.now rows A → MayKeep rows B trees)
-page_crash old new rows A B b f once s = record {
+-- what may be left, said in other words
+survives_as : (old new : State) (P Q : Trees → Type 0) → Survives old new P → (HasCleanDisk old → (trees : Trees) → P trees → Q trees) → Survives old new Q
+survives_as old new P Q s weaker = record {
   clean = s.clean;
   shield = s.shield;
   counts = s.counts;
   limit = s.limit;
   closes = s.closes;
-  crash = λ clean trees may. either trees (s.crash clean trees may);
+  crash = λ clean trees may. either (omega (arith, s.clean, clean)) trees (s.crash clean trees may);
 }
   where
-    kept : (trees : Trees) → (Stands old.now rows → MayTake b old.now trees) → HasFirst old.now rows A → MayKeep rows B trees
-    kept trees takes first =
-        let w : HasFirst old.now rows B = first_in old.now rows A B f.0 f.2 first in
-        let n : IsNext B rows b = is_next B rows b w.some (f.1 ∙ ap (λ (z : List EventValue). page z rows max_page) (sym f.2)) once in
-        let m = takes record { events = take rows B; table = w.table; count = sym (length-take-le rows B w.some) } in
-        (m.0, subst (λ k. HasFirst m.0 (rows + k) B) n.count record { some = n.some; table = subst (IsInbox m.0) n.added (m.1 (take rows B) w.table) }, m.2)
+    either : HasCleanDisk old → (trees : Trees) → old.may_leave trees ⊎ P trees → old.may_leave trees ⊎ Q trees
+    either clean trees (inl before) = inl before
+    either clean trees (inr may) = inr (weaker clean trees may)
 
-    either : (trees : Trees) → old.may_leave trees ⊎ (Stands old.now rows → MayTake b old.now trees) → old.may_leave trees ⊎ (HasFirst old.now rows A → MayKeep rows B trees)
-    either trees (inl before) = inl before
-    either trees (inr takes) = inr (kept trees takes)
+-- what a crash may leave of a page that is being kept
+pub page_crash : (old new : State) (rows : ℕ) (A B b : List EventValue) → Follows A (call (command.Fresh rows max_page) (Paged b)) B → AreDistinct B → KeepsUp old rows A
+    → Survives old new (λ trees. IsTrue old.is_open → MayTake b old.now trees) → Survives old new (λ trees. IsTrue old.is_open → MayKeep rows B old.now trees)
+page_crash old new rows A B b f once first s = survives_as old new _ _ s (λ clean trees takes is_open.
+    let w : HasFirst old.now rows B = first_in old.now rows A B f.0 f.2 (first clean is_open) in
+    let n : IsNext B rows b = is_next B rows b w.some (f.1 ∙ ap (λ (z : List EventValue). page z rows max_page) (sym f.2)) once in
+    let m = takes is_open in
+    record {
+      db = m.db;
+      are = m.are;
+      sound = m.sound;
+      first = subst (λ k. HasFirst m.db (rows + k) B) n.count record { some = n.some; table = subst (IsInbox m.db) n.added (m.takes (take rows B) w.table) };
+      beside = m.beside;
+    })
+
+-- and of all that comes behind the first arrivals
+pub rest_crash : (old new : State) (rows : ℕ) (A b : List EventValue) → b ≡ drop rows A → AreDistinct A → KeepsUp old rows A
+    → Survives old new (λ trees. IsTrue old.is_open → MayTake b old.now trees) → Survives old new (λ trees. IsTrue old.is_open → MayKeepAll A old.now trees)
+rest_crash old new rows A b is once first s = survives_as old new _ _ s (λ clean trees takes is_open.
+    let m = takes is_open in
+    record {
+      db = m.db;
+      are = m.are;
+      sound = m.sound;
+      table = subst (IsInbox m.db) (rest_added A rows b is once) (m.takes (take rows A) (first clean is_open).table);
+      beside = m.beside;
+    })

@@ -1,9 +1,10 @@
 -- What a table has of the arrivals of a site.
 use Rattle.std.specs.Prelude.{◌≡◌, ◌+◌, ◌-◌, ◌≤◌, ℕ, List, ◌++◌, length, min, take, IsTrue}
 use Rattle.sqlite_trees.specs.Tree.{Trees}
-use Rattle.sqlite.specs.Effect.{Database}
+use Rattle.sqlite.specs.Effect.{Database, IsDatabase}
 use Rattle.sqlite.specs.State.{State, HasCleanDisk}
 use Rattle.attributes.specs.Event.{EventValue}
+use Rattle.inbox_table.specs.Beside.{KeepsService}
 use Rattle.inbox_table.specs.Rows.{IsInbox}
 use Rattle.site.specs.Machine.{call}
 use Rattle.site.specs.declared.call.Command.TheVariants as command
@@ -43,7 +44,19 @@ pub record Grows (old new : State) : Type 0 where
       → IsInbox old.now held → (more : List EventValue) × IsInbox new.now (held ++ more)
 
 -- these are the trees of a database that has the first so many of the arrivals, and the page behind
--- them
-abbrev pub MayKeep : ℕ → List EventValue → Trees → Type 0
-MayKeep rows arrivals trees = (db : Database)
-    × HasFirst db (rows + min max_page (length arrivals - rows)) arrivals × (trees ≡ db.trees)
+-- them; what lies beside the table is as it was
+pub record MayKeep (rows : ℕ) (arrivals : List EventValue) (old : Database) (trees : Trees)
+    : Type 0 where
+  pub db : Database
+  pub are : trees ≡ db.trees
+  pub sound : IsDatabase db
+  pub first : HasFirst db (rows + min max_page (length arrivals - rows)) arrivals
+  pub beside : KeepsService old db
+
+-- and these those of one that has them all
+pub record MayKeepAll (arrivals : List EventValue) (old : Database) (trees : Trees) : Type 0 where
+  pub db : Database
+  pub are : trees ≡ db.trees
+  pub sound : IsDatabase db
+  pub table : IsInbox db arrivals
+  pub beside : KeepsService old db

@@ -1,16 +1,17 @@
 //! A table that keeps up with a shared site.
 
-ghost use Rattle.std.specs.Prelude.{◌≡◌, ◌≢◌, ◌+◌, ◌-◌, ◌≤◌, [], true, drop, length, min, List, IsTrue, IfErr, IfOk, OnErr, OnOk};
+ghost use Rattle.std.specs.Prelude.{◌≡◌, ◌≢◌, ◌+◌, ◌-◌, ◌^◌, ◌≤◌, [], true, drop, length, min, List, IsTrue, IfErr, IfOk, OnErr, OnOk};
 ghost use Rattle.sqlite.specs.Held.{state};
 ghost use Rattle.sqlite.specs.State.{HasCleanDisk, Survives};
 ghost use Rattle.attributes.specs.Event.{EventValue};
 ghost use Rattle.inbox.specs.KeyOrder.{key_cmp};
 ghost use Rattle.inbox.specs.Ordered.{append_new};
 ghost use Rattle.site.specs.Arrival.{AreDistinct};
-ghost use Rattle.inbox_table.specs.Calls.{IsSettled, StandsFor};
+ghost use Rattle.inbox_table.specs.Beside.{KeepsService};
+ghost use Rattle.inbox_table.specs.Calls.{IsSettled, IsTold, StandsFor};
 ghost use Rattle.inbox_table.specs.Rows.{IsInbox};
 ghost use Rattle.site_lock.specs.Pass.{leaves};
-ghost use Rattle.keeper.specs.Keep.{Asks, Grows, HasAll, HasFirst, KeepsUp, MayKeep, max_page};
+ghost use Rattle.keeper.specs.Keep.{Asks, Grows, HasAll, KeepsUp, MayKeep, MayKeepAll, max_page};
 ghost use Rattle.keeper.specs.declared.fault.KeepFault.TheVariants.{Foreign, OutOfMemory};
 
 use crate::fault::KeepFault;
@@ -73,6 +74,10 @@ struct Behind<'a, W> {
 }
 
 impl<'a, W: Watch> Watch for Behind<'a, W> {
+    // What it is told, the other is told of so many more, up to 2^64 - 1.
+    ghost told = { λ behind count all. W.told behind.watch.now
+        (min (behind.before + count) (2 ^ 64 - 1)) (min (behind.before + all) (2 ^ 64 - 1)) };
+
     fn kept(&self, count: u64, all: u64) {
         self.watch.kept(
             self.before.saturating_add(count),
@@ -131,6 +136,8 @@ impl<S: Alter + Drop> Keeper<S> {
         ensures same { IfErr result (λ n. HasCleanDisk (state S.Store n.table.conn)
             → IsTrue (state S.Store n.table.conn).is_open
             → (state S.Store n.table.conn).now ≡ (state S.Store table.conn).now) }
+        ensures settled { IfOk result (λ k. HasCleanDisk (state S.Store k.keeper.conn)
+            → IsSettled (state S.Store k.keeper.conn)) }
         ensures crash { IfOk result (λ k.
             Survives (state S.Store table.conn) (state S.Store k.keeper.conn) (λ _. ⊥)) }
         ensures crash_refused { IfErr result (λ n.
@@ -198,9 +205,11 @@ impl<S: Alter + Drop> Keeper<S> {
             ≡ (state S.Store self.old.conn).now) }
         ensures known { IfErr result (λ fault. fault ≢ Foreign) }
         ensures list { Grows (state S.Store self.old.conn) (state S.Store self.new.conn) }
+        ensures beside { HasCleanDisk (state S.Store self.new.conn) → OnOk result
+            (KeepsService (state S.Store self.old.conn).now (state S.Store self.new.conn).now) }
         ensures crash { Survives (state S.Store self.old.conn) (state S.Store self.new.conn)
-            (λ trees. HasFirst (state S.Store self.old.conn).now self.old.rows (leaves pass.old)
-            → MayKeep self.old.rows (leaves pass.new) trees) }
+            (λ trees. IsTrue (state S.Store self.old.conn).is_open → MayKeep self.old.rows
+            (leaves pass.new) (state S.Store self.old.conn).now trees) }
     {
         calls_follow();
         let mark = self.table.rows();
@@ -235,6 +244,14 @@ impl<S: Alter + Drop> Keeper<S> {
             ≡ (state S.Store self.old.conn).now) }
         ensures known { IfErr result (λ fault. fault ≢ Foreign) }
         ensures list { Grows (state S.Store self.old.conn) (state S.Store self.new.conn) }
+        ensures beside { HasCleanDisk (state S.Store self.new.conn) → OnOk result
+            (KeepsService (state S.Store self.old.conn).now (state S.Store self.new.conn).now) }
+        ensures crash { Survives (state S.Store self.old.conn) (state S.Store self.new.conn)
+            (λ trees. IsTrue (state S.Store self.old.conn).is_open
+            → MayKeepAll site.now (state S.Store self.old.conn).now trees) }
+        ensures told { OnOk result (IsTold (λ count all. W.told watch.now
+            (min (self.old.rows + count) (2 ^ 64 - 1)) (min (self.old.rows + all) (2 ^ 64 - 1)))
+            (length site.now - self.old.rows)) }
     {
         let before = self.table.rows();
         let rest = rest_of(site, before);

@@ -43,6 +43,9 @@ impl<E: Print> StatusLine<E> {
 }
 
 impl<E: Print> Watch for StatusLine<E> {
+    // What it shows on a terminal no clause says.
+    ghost told = { λ _ _ _. Unit {0} };
+
     fn kept(&self, count: u64, all: u64) {
         let (last_count, last_all) = self.told.get();
         let is_near = count.abs_diff(last_count) < STEP && all.abs_diff(last_all) < STEP;

@@ -14,7 +14,8 @@ use Rattle.outbox.specs.declared.status.Status.{Status}
 use Rattle.outbox.specs.declared.status.Status.TheVariants as status
 use Rattle.command_words.specs.declared.request.Action.{Action}
 use Rattle.command_words.specs.declared.request.Action.TheVariants as action
-use Rattle.database_commands.specs.Print.{WithoutLineEnd, batch_line, counts_line, event_line}
+use Rattle.database_commands.specs.Held.{SaysDelta, SaysOrder, SaysPage}
+use Rattle.database_commands.specs.Print.{WithoutLineEnd, batch_line, counts_line}
 use Rattle.command_words.specs.declared.request.Request.{Request}
 use Rattle.command_words.specs.declared.request.Plan.{Plan}
 use Rattle.command_words.specs.declared.request.Plan.TheVariants as plan
@@ -49,9 +50,16 @@ RefusesQuery C U files refusal.NoThread = ⊥
 abbrev pub PrintsBatch : List ℕ → Type 0
 PrintsBatch text = (events : List EventValue) × (text ≡ batch_line events)
 
--- the text is an event, as one line
-abbrev pub PrintsEvent : List ℕ → Type 0
-PrintsEvent text = (e : EventValue) × (text ≡ event_line e)
+-- the status that an order gets by what is done with it
+abbrev pub status_of : Action → Status
+status_of action.Place = status.Placed
+status_of action.Ship = status.Shipped
+status_of action.Cancel = status.Cancelled
+
+-- the text is the event of the command that was asked for, of the source that was named, if one was
+abbrev pub AnswersOrder : Request → List ℕ → Type 0
+AnswersOrder r text = SaysOrder r.is_source_named r.source
+    (record { status = status_of r.action; order = r.order; at = r.at }) text
 
 -- what is asked of an order is within what a service allows: its source, the order's number, and the
 -- length of the time
@@ -86,9 +94,10 @@ abbrev pub HasSummary : (List ℕ → List ℕ → Type 0) → List ℕ → Sour
 HasSummary C file s = (bytes : List ℕ) × C file bytes
     × (words : List ℕ) × WithoutLineEnd bytes words × (words ≡ summary_text s)
 
--- the file has a summary, and the text is a batch
-abbrev pub AnswersDelta : (List ℕ → List ℕ → Type 0) → List ℕ → List ℕ → Type 0
-AnswersDelta C file text = (s : Sources) × HasSummary C file s × PrintsBatch text
+-- the file has a summary, and the text is the batch of the page, from this place on, of what it lacks
+-- of some events
+abbrev pub AnswersDelta : (List ℕ → List ℕ → Type 0) → ℕ → List ℕ → List ℕ → Type 0
+AnswersDelta C from file text = (s : Sources) × HasSummary C file s × SaysDelta s from text
 
 -- the file wasn't read, or, where it was, has no summary, or, where it has one, the database
 abbrev pub RefusesDelta : (List ℕ → List ℕ → Type 0) → (List ℕ → Unread → Type 0)
@@ -164,10 +173,10 @@ RefusesRun C U peer files refusal = (contents : List (List ℕ))
 abbrev pub AnswersPlan : (List ℕ → List ℕ → Type 0) → Plan → List ℕ → Type 0
 AnswersPlan C (plan.Ask query files) text = AnswersQuery C query files text
 AnswersPlan C (plan.Take db files) text = AnswersTake C files text
-AnswersPlan C (plan.Delta db from summary) text = AnswersDelta C summary text
-AnswersPlan C (plan.Scrub db from) text = PrintsBatch text
+AnswersPlan C (plan.Delta db from summary) text = AnswersDelta C from summary text
+AnswersPlan C (plan.Scrub db from) text = SaysPage from text
 AnswersPlan C (plan.Run db peer files) text = AnswersRun C peer files text
-AnswersPlan C (plan.Order request) text = PrintsEvent text
+AnswersPlan C (plan.Order request) text = AnswersOrder request text
 AnswersPlan C (plan.Relay db after) text = PrintsBatch text
 
 -- this is why the plan has no answer
@@ -200,9 +209,3 @@ IsAllowed (plan.Scrub db from) = Unit {0}
 IsAllowed (plan.Run db peer files) = AreFew (is_some peer) (length files)
 IsAllowed (plan.Order request) = IsAllowedRequest request
 IsAllowed (plan.Relay db after) = Unit {0}
-
--- the status that an order gets by what is done with it
-abbrev pub status_of : Action → Status
-status_of action.Place = status.Placed
-status_of action.Ship = status.Shipped
-status_of action.Cancel = status.Cancelled

@@ -1,6 +1,7 @@
 //! The commands over a database.
 ghost use Rattle.std.specs.Prelude.{◌≡◌, IfErr, IfOk};
-ghost use Rattle.site_commands.specs.Answers.{AnswersDelta, AnswersTake, HasSummary, IsAllowedRequest, IsOfDatabase, PrintsBatch, PrintsEvent, RefusesDelta, RefusesTake, status_of};
+ghost use Rattle.database_commands.specs.Held.{SaysPage};
+ghost use Rattle.site_commands.specs.Answers.{AnswersDelta, AnswersOrder, AnswersTake, HasSummary, IsAllowedRequest, IsOfDatabase, PrintsBatch, RefusesDelta, RefusesTake, status_of};
 
 use crate::line::Refusal;
 use attributes::Text;
@@ -68,7 +69,7 @@ pub fn delta<S: Shelf, D: Databases>(
     from: u64,
     file: &str,
 ) -> Result<Text, Refusal>
-    ensures ok { IfOk result (AnswersDelta (S.is_content shelf.now) file.now) }
+    ensures ok { IfOk result (AnswersDelta (S.is_content shelf.now) from file.now) }
     ensures err { IfErr result
         (RefusesDelta (S.is_content shelf.now) (S.is_unread shelf.now) file.now) }
 {
@@ -88,7 +89,7 @@ pub fn scrub<D: Databases>(
     db: &str,
     from: u64,
 ) -> Result<Text, Refusal>
-    ensures ok { IfOk result PrintsBatch }
+    ensures ok { IfOk result (SaysPage from) }
     ensures err { IfErr result IsOfDatabase }
 {
     match databases.scrub(alloc, db, from) {
@@ -111,7 +112,7 @@ fn status_of(action: Action) -> Status
 /// Places, ships or cancels an order, and answers its event.
 pub fn order<D: Databases>(alloc: Global, databases: &D, request: &Request) -> Result<Text, Refusal>
     requires { IsAllowedRequest request.now }
-    ensures ok { IfOk result PrintsEvent }
+    ensures ok { IfOk result (AnswersOrder request.now) }
     ensures err { IfErr result IsOfDatabase }
 {
     let status = status_of(request.action);

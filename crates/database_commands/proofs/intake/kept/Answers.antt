@@ -7,9 +7,9 @@ pub returns-in-Ok-clause-taken : goal.returns-in-Ok-clause-taken
 returns-in-Ok-clause-taken g c clean =
     IfOk-weaker c.said.result _ _
     (λ text line held box. record {
-      kept = c.in-Ok.ensures.takes clean held box;
+      kept = (c.in-Ok.ensures.effect clean).takes held box;
       fresh = c.in-Ok.fresh;
-      count = c.in-Ok.ensures.fresh clean held box;
+      count = (c.in-Ok.ensures.effect clean).fresh held box;
       line = line ∙ ap (λ n. counts_line n c.in-Ok.fresh) c.len.ensures;
     })
-    c.said.ensures
+    c.said.ensures.line

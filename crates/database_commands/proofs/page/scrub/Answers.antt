@@ -14,6 +14,9 @@ pub returns-in-Ok-clause-shown : goal.returns-in-Ok-clause-shown
 returns-in-Ok-clause-shown g c clean =
     IfOk-weaker c.page_line-outcome.result _ _
     (λ text line held holds.
-    let same : c.in-Ok.events ≡ held = IfOk-at_ok _ c.in-Ok.is (c.contents_of-conn.ensures clean) held holds in
+    let same : c.in-Ok.events ≡ held = IfOk-at_ok _ c.in-Ok.is (c.contents_of-conn.ensures.events clean) held holds in
     line ∙ ap (λ (l : List EventValue). batch_line (page (set_of l) c.args.from 100)) (ap (append_new key_cmp []) same ∙ held_once (state g.S.Store c.args.conn).now held holds))
     c.page_line-outcome.ensures
+
+pub returns-in-Ok-clause-line : goal.returns-in-Ok-clause-line
+returns-in-Ok-clause-line g c = IfOk-weaker c.page_line-outcome.result _ _ (λ text line. (append_new key_cmp [] c.in-Ok.events, line)) c.page_line-outcome.ensures

@@ -1,4 +1,4 @@
-use Rattle.std.proofs.Common.{◌∙◌, inl, inr, IsTrue, subst, sym}
+use Rattle.std.proofs.Common.{◌∙◌, inl, inr, suc, IsTrue, subst, sym}
 use Rattle.std.proofs.lemmas.Result.{IfErr-weaker, IfOk-weaker}
 use Rattle.sqlite.specs.Held.{state}
 use Rattle.sqlite.specs.State.{HasCleanDisk}
@@ -63,3 +63,10 @@ returns-in-Ok-clause-meant g c named clean =
     let late : HasCleanDisk (state g.S.Store last.conn) = subst (λ h. HasCleanDisk (state g.S.Store h)) c.into_connection-conn.ensures clean in
     let early = c.command_line-outcome.ensures.clean late in
     on_ok c.command_line-outcome.result _ (λ s b commands h. sym (c.in-Ok.ensures.served early s b commands h).0 ∙ c.in-Ok.ensures.named named)
+
+pub returns-in-Ok-clause-line : goal.returns-in-Ok-clause-line
+returns-in-Ok-clause-line g c =
+    let mid = c.in-Ok.service in
+    IfOk-weaker c.command_line-outcome.result _ _
+    (λ text line. record { source = mid.source; number = suc mid.last; meant = c.in-Ok.ensures.named; line = line })
+    c.command_line-outcome.ensures.line

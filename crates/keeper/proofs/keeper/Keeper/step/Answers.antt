@@ -1,14 +1,14 @@
-use Rattle.std.proofs.Common.{◌≡◌, ◌+◌, ◌-◌, arith, length, refl, sym, ap, ◌∙◌, subst}
+use Rattle.std.proofs.Common.{◌≡◌, ◌+◌, ◌-◌, arith, length, IsTrue, refl, sym, ap, ◌∙◌, subst}
 use Rattle.std.specs.Prelude.{min}
 use Rattle.sqlite.specs.Held.{state}
 use Rattle.sqlite.specs.State.{HasCleanDisk, Survives}
-use Rattle.inbox_table.specs.Calls.{Kept, MayTake, Stands}
+use Rattle.inbox_table.specs.Calls.{Kept}
 use Rattle.site.specs.Desk.{paged}
 use Rattle.site.specs.declared.call.Reply.TheVariants.{Paged}
 use Rattle.site_lock.specs.Pass.{leaves}
 use Rattle.keeper.proofs.PageLemmas.{page_count, page_crash, page_first, page_grows, still_first, still_grows, survives_same}
 use Rattle.keeper.proofs.keeper.Keeper.step.Goals as goal
-use Rattle.keeper.specs.Keep.{Grows, HasFirst, KeepsUp, MayKeep, max_page}
+use Rattle.keeper.specs.Keep.{Grows, KeepsUp, MayKeep, max_page}
 
 pub returns-in-Ok-keep-clause-first : goal.returns-in-Ok-keep-clause-first
 returns-in-Ok-keep-clause-first g c =
@@ -20,7 +20,7 @@ returns-in-Ok-keep-clause-first g c =
     let first : KeepsUp old c.rows-mark.result A = subst (λ n. KeepsUp old n A) (sym mark) (subst (λ (k : Kept _). KeepsUp (state g.S.Store k.conn) k.rows A) (sym c.self.view_is) c.requires.first) in
     let was_clean : (HasCleanDisk new → HasCleanDisk old) = λ clean. omega (arith, c.in-Ok-keep.ensures.crash.clean, clean) in
     page_first old new c.rows-mark.result c.keep.new.self.rows c.in-Ok-keep.fresh A (leaves c.fresh.new.pass) c.in-Ok.page (c.calls_follow.ensures _ _ _ c.in-Ok.ensures.made) c.stands.ensures.distinct first was_clean
-    c.in-Ok-keep.ensures.was_open c.in-Ok-keep.ensures.open c.in-Ok-keep.ensures.takes c.in-Ok-keep.ensures.fresh (c.in-Ok-keep.ensures.rows ∙ ap (λ n. n + c.in-Ok-keep.fresh) (sym mark))
+    (λ clean. (c.in-Ok-keep.ensures.effect clean).was_open) (λ clean. (c.in-Ok-keep.ensures.effect clean).stays_open) (λ clean. (c.in-Ok-keep.ensures.effect clean).takes) (λ clean. (c.in-Ok-keep.ensures.effect clean).fresh) (c.in-Ok-keep.ensures.call.counted ∙ ap (λ n. n + c.in-Ok-keep.fresh) (sym mark))
 
 pub returns-in-Ok-keep-clause-page : goal.returns-in-Ok-keep-clause-page
 returns-in-Ok-keep-clause-page g c clean =
@@ -32,7 +32,7 @@ returns-in-Ok-keep-clause-page g c clean =
     let first : KeepsUp old c.rows-mark.result A = subst (λ n. KeepsUp old n A) (sym mark) (subst (λ (k : Kept _). KeepsUp (state g.S.Store k.conn) k.rows A) (sym c.self.view_is) c.requires.first) in
     let was_clean : (HasCleanDisk new → HasCleanDisk old) = λ clean. omega (arith, c.in-Ok-keep.ensures.crash.clean, clean) in
     page_count old new c.rows-mark.result c.keep.new.self.rows c.in-Ok-keep.fresh A (leaves c.fresh.new.pass) c.in-Ok.page (c.calls_follow.ensures _ _ _ c.in-Ok.ensures.made) c.stands.ensures.distinct first was_clean
-    c.in-Ok-keep.ensures.was_open c.in-Ok-keep.ensures.open c.in-Ok-keep.ensures.takes c.in-Ok-keep.ensures.fresh (c.in-Ok-keep.ensures.rows ∙ ap (λ n. n + c.in-Ok-keep.fresh) (sym mark)) clean
+    (λ clean. (c.in-Ok-keep.ensures.effect clean).was_open) (λ clean. (c.in-Ok-keep.ensures.effect clean).stays_open) (λ clean. (c.in-Ok-keep.ensures.effect clean).takes) (λ clean. (c.in-Ok-keep.ensures.effect clean).fresh) (c.in-Ok-keep.ensures.call.counted ∙ ap (λ n. n + c.in-Ok-keep.fresh) (sym mark)) clean
     ∙ ap (λ n. min max_page (length (leaves c.fresh.new.pass) - n)) (mark ∙ ap (λ (k : Kept _). k.rows) c.self.view_is)
 
 pub returns-in-Ok-keep-clause-list : goal.returns-in-Ok-keep-clause-list
@@ -46,7 +46,7 @@ returns-in-Ok-keep-clause-list g c =
     let was_clean : (HasCleanDisk new → HasCleanDisk old) = λ clean. omega (arith, c.in-Ok-keep.ensures.crash.clean, clean) in
     subst (λ (k : Kept _). Grows (state g.S.Store k.conn) new) c.self.view_is
     (page_grows old new c.rows-mark.result c.keep.new.self.rows c.in-Ok-keep.fresh A (leaves c.fresh.new.pass) c.in-Ok.page (c.calls_follow.ensures _ _ _ c.in-Ok.ensures.made) c.stands.ensures.distinct first was_clean
-    c.in-Ok-keep.ensures.was_open c.in-Ok-keep.ensures.open c.in-Ok-keep.ensures.takes c.in-Ok-keep.ensures.fresh (c.in-Ok-keep.ensures.rows ∙ ap (λ n. n + c.in-Ok-keep.fresh) (sym mark)))
+    (λ clean. (c.in-Ok-keep.ensures.effect clean).was_open) (λ clean. (c.in-Ok-keep.ensures.effect clean).stays_open) (λ clean. (c.in-Ok-keep.ensures.effect clean).takes) (λ clean. (c.in-Ok-keep.ensures.effect clean).fresh) (c.in-Ok-keep.ensures.call.counted ∙ ap (λ n. n + c.in-Ok-keep.fresh) (sym mark)))
 
 pub returns-in-Ok-clause-first : goal.returns-in-Ok-clause-first
 returns-in-Ok-clause-first g c =
@@ -57,8 +57,8 @@ returns-in-Ok-clause-first g c =
     let mark : c.rows-mark.result ≡ table.rows = c.rows-mark.ensures.rows in
     let first : KeepsUp old c.rows-mark.result A = subst (λ n. KeepsUp old n A) (sym mark) (subst (λ (k : Kept _). KeepsUp (state g.S.Store k.conn) k.rows A) (sym c.self.view_is) c.requires.first) in
     let was_clean : (HasCleanDisk new → HasCleanDisk old) = λ clean. omega (arith, c.in-Err-keep.ensures.crash.clean, clean) in
-    still_first old new c.rows-mark.result c.keep.new.self.rows A (leaves c.fresh.new.pass) (Paged c.in-Ok.page) (c.calls_follow.ensures _ _ _ c.in-Ok.ensures.made) first was_clean c.in-Err-keep.ensures.was_open c.in-Err-keep.ensures.same
-    (c.in-Err-keep.ensures.rows_same ∙ sym mark)
+    still_first old new c.rows-mark.result c.keep.new.self.rows A (leaves c.fresh.new.pass) (Paged c.in-Ok.page) (c.calls_follow.ensures _ _ _ c.in-Ok.ensures.made) first was_clean (λ clean. (c.in-Err-keep.ensures.effect clean).was_open) (λ clean. (c.in-Err-keep.ensures.effect clean).same)
+    (c.in-Err-keep.ensures.call.back ∙ sym mark)
 
 pub returns-in-Ok-clause-list : goal.returns-in-Ok-clause-list
 returns-in-Ok-clause-list g c =
@@ -66,7 +66,7 @@ returns-in-Ok-clause-list g c =
     let old = state g.S.Store table.conn in
     let new = state g.S.Store c.keep.new.self.conn in
     let was_clean : (HasCleanDisk new → HasCleanDisk old) = λ clean. omega (arith, c.in-Err-keep.ensures.crash.clean, clean) in
-    subst (λ (k : Kept _). Grows (state g.S.Store k.conn) new) c.self.view_is (still_grows old new was_clean c.in-Err-keep.ensures.was_open c.in-Err-keep.ensures.same)
+    subst (λ (k : Kept _). Grows (state g.S.Store k.conn) new) c.self.view_is (still_grows old new was_clean (λ clean. (c.in-Err-keep.ensures.effect clean).was_open) (λ clean. (c.in-Err-keep.ensures.effect clean).same))
 
 pub returns-clause-first : goal.returns-clause-first
 returns-clause-first g c =
@@ -84,10 +84,10 @@ returns-in-Ok-keep-clause-crash g c =
     let old = state g.S.Store table.conn in
     let new = state g.S.Store c.keep.new.self.conn in
     let mark : c.rows-mark.result ≡ table.rows = c.rows-mark.ensures.rows in
-    subst (λ (k : Kept _). Survives (state g.S.Store k.conn) new (λ trees. HasFirst (state g.S.Store k.conn).now k.rows A → MayKeep k.rows B trees)) c.self.view_is
-    (subst (λ n. Survives old new (λ trees. HasFirst old.now n A → MayKeep n B trees)) mark
-    (page_crash old new c.rows-mark.result A B c.in-Ok.page (c.calls_follow.ensures _ _ _ c.in-Ok.ensures.made) c.stands.ensures.distinct
-    (subst (λ n. Survives old new (λ trees. Stands old.now n → MayTake c.in-Ok.page old.now trees)) (sym mark) c.in-Ok-keep.ensures.crash)))
+    let first : KeepsUp old c.rows-mark.result A = subst (λ n. KeepsUp old n A) (sym mark) (subst (λ (k : Kept _). KeepsUp (state g.S.Store k.conn) k.rows A) (sym c.self.view_is) c.requires.first) in
+    subst (λ (k : Kept _). Survives (state g.S.Store k.conn) new (λ trees. IsTrue (state g.S.Store k.conn).is_open → MayKeep k.rows B (state g.S.Store k.conn).now trees)) c.self.view_is
+    (subst (λ n. Survives old new (λ trees. IsTrue old.is_open → MayKeep n B old.now trees)) mark
+    (page_crash old new c.rows-mark.result A B c.in-Ok.page (c.calls_follow.ensures _ _ _ c.in-Ok.ensures.made) c.stands.ensures.distinct first c.in-Ok-keep.ensures.crash))
 
 pub returns-in-Ok-clause-crash : goal.returns-in-Ok-clause-crash
 returns-in-Ok-clause-crash g c =
@@ -97,10 +97,10 @@ returns-in-Ok-clause-crash g c =
     let old = state g.S.Store table.conn in
     let new = state g.S.Store c.keep.new.self.conn in
     let mark : c.rows-mark.result ≡ table.rows = c.rows-mark.ensures.rows in
-    subst (λ (k : Kept _). Survives (state g.S.Store k.conn) new (λ trees. HasFirst (state g.S.Store k.conn).now k.rows A → MayKeep k.rows B trees)) c.self.view_is
-    (subst (λ n. Survives old new (λ trees. HasFirst old.now n A → MayKeep n B trees)) mark
-    (page_crash old new c.rows-mark.result A B c.in-Ok.page (c.calls_follow.ensures _ _ _ c.in-Ok.ensures.made) c.stands.ensures.distinct
-    (subst (λ n. Survives old new (λ trees. Stands old.now n → MayTake c.in-Ok.page old.now trees)) (sym mark) c.in-Err-keep.ensures.crash)))
+    let first : KeepsUp old c.rows-mark.result A = subst (λ n. KeepsUp old n A) (sym mark) (subst (λ (k : Kept _). KeepsUp (state g.S.Store k.conn) k.rows A) (sym c.self.view_is) c.requires.first) in
+    subst (λ (k : Kept _). Survives (state g.S.Store k.conn) new (λ trees. IsTrue (state g.S.Store k.conn).is_open → MayKeep k.rows B (state g.S.Store k.conn).now trees)) c.self.view_is
+    (subst (λ n. Survives old new (λ trees. IsTrue old.is_open → MayKeep n B old.now trees)) mark
+    (page_crash old new c.rows-mark.result A B c.in-Ok.page (c.calls_follow.ensures _ _ _ c.in-Ok.ensures.made) c.stands.ensures.distinct first c.in-Err-keep.ensures.crash))
 
 pub returns-clause-crash : goal.returns-clause-crash
 returns-clause-crash g c = survives_same (state g.S.Store c.args.self.now.conn) _

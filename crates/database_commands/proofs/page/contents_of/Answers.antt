@@ -1,0 +1,16 @@
+use Rattle.std.proofs.Common.{subst, sym}
+use Rattle.sqlite.specs.Held.{state}
+use Rattle.sqlite.specs.State.{HasCleanDisk}
+use Rattle.inbox_table.specs.Rows.{IsInbox}
+use Rattle.database_commands.specs.Held.{Holds}
+use Rattle.database_commands.proofs.HeldLemmas.{inbox_holds}
+use Rattle.database_commands.proofs.page.contents_of.Goals as goal
+
+pub returns-in-Ok-clause-list : goal.returns-in-Ok-clause-list
+returns-in-Ok-clause-list g c clean still held holds =
+    let was = subst (λ h. HasCleanDisk (state g.S.Store h)) c.into_connection-conn.ensures clean in
+    subst (λ h. Holds (state g.S.Store h).now held) (sym c.into_connection-conn.ensures)
+    (inbox_holds _ held (subst (IsInbox _) (c.in-Ok.ensures.events was held holds) (c.in-Ok.ensures.found was)))
+
+pub returns-in-Err-clause-list : goal.returns-in-Err-clause-list
+returns-in-Err-clause-list g c clean still held holds = subst (λ d. Holds d held) (sym (c.in-Err.ensures.back clean still)) holds
