@@ -58,8 +58,8 @@ def main():
                 wrong.append(f"round {number}: {answer.stderr or answer.stdout}")
             base = sqlite3.connect("s.db")
             tested = base.execute("PRAGMA integrity_check").fetchone()[0]
-            total = base.execute("SELECT count(*) FROM inbox").fetchone()[0]
-            distinct = base.execute("SELECT count(DISTINCT source || ' ' || id) FROM inbox").fetchone()[0]
+            total = base.execute("SELECT count(*) FROM inbox2").fetchone()[0]
+            distinct = base.execute("SELECT count(DISTINCT source || ' ' || id) FROM inbox2").fetchone()[0]
             base.close()
             if tested != "ok" or total != distinct or total < held:
                 wrong.append(f"round {number}: {tested}, {total} rows, {distinct} events, {held} before")

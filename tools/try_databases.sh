@@ -39,8 +39,8 @@ run delta --db new.db nothing.json
 is 'a new file' 0 "[]$lf" ''
 run take --db s.db three.json missing.json
 is 'files are read before the database is opened' 1 '' "site: missing.json: cannot read$lf"
-ask s.db 'SELECT place, source, id, number FROM inbox ORDER BY place'
-is 'the rows as SQLite has them' 0 "1|/orders|a1|1$lf""2|/orders|a2|2$lf""3|/orders|a3|3$lf" ''
+ask s.db 'SELECT place, source, id, number, block FROM inbox2 ORDER BY place'
+is 'the rows as SQLite has them' 0 "1|/orders|a1|1|0$lf""2|/orders|a2|2|0$lf""3|/orders|a3|3|0$lf" ''
 ask s.db 'PRAGMA integrity_check'
 is 'the file as SQLite tests it' 0 "ok$lf" ''
 
@@ -156,7 +156,7 @@ cp s.db wrong.db
 python3 -c 'import sqlite3
 base = sqlite3.connect("wrong.db")
 base.execute("PRAGMA journal_mode = DELETE")
-base.execute("UPDATE inbox SET number = 5 WHERE place = 2")
+base.execute("UPDATE inbox2 SET number = 5 WHERE place = 2")
 base.commit()'
 run_over wrong.db delta --db wrong.db nothing.json
 is 'a row that breaks a rule' 1 '' "site: wrong.db: Foreign$lf"
@@ -168,6 +168,113 @@ base.execute("DELETE FROM outbox WHERE number = 2")
 base.commit()'
 run_over gap.db relay --db gap.db --after 0
 is 'an outbox with a gap' 1 '' "site: gap.db: Foreign$lf"
+
+# Files of before, whose inbox has no blocks: the first command that needs the events makes the table
+# of now in its place. Made of a file of now, with whatever stands beside the inbox.
+before() {
+    python3 -c 'import os, sqlite3, sys
+old, new = sys.argv[1:3]
+if os.path.exists(new): os.remove(new)
+base = sqlite3.connect(new)
+base.execute("ATTACH ? AS now", (old,))
+base.execute("PRAGMA foreign_keys = OFF")
+tables = base.execute("SELECT name, sql FROM now.sqlite_schema WHERE sql IS NOT NULL ORDER BY rowid").fetchall()
+for name, sql in tables:
+    if name == "inbox2":
+        base.execute("CREATE TABLE inbox (place INTEGER PRIMARY KEY, source TEXT NOT NULL, id TEXT NOT NULL, "
+                     "number INTEGER NOT NULL, body TEXT NOT NULL, UNIQUE (source, id, body)) STRICT")
+        base.execute("INSERT INTO inbox SELECT place, source, id, number, body FROM now.inbox2 ORDER BY place")
+    else:
+        base.execute(sql)
+        base.execute("INSERT INTO %s SELECT * FROM now.%s" % (name, name))
+base.commit()
+for statement in sys.argv[3:]: base.execute(statement)
+base.commit()' "$@"
+}
+tables() { ask "$1" "SELECT name FROM sqlite_schema WHERE type = 'table' ORDER BY name"; }
+run take --db high.db three.json
+printf '[%s]' "$(printf '%s' "$e1" | sed 's/"a1"/"b1"/; s/00000000000000000001/00000000000000001024/')" >high.json
+run take --db high.db high.json
+for words in 'scrub --db old.db' 'delta --db old.db nothing.json'; do
+    before high.db old.db
+    # shellcheck disable=SC2086
+    run $words
+    is "a file of before: $words" 0 "[$e1,$e2,$e3,$(sed 's/^\[//; s/\]$//' high.json)]$lf" ''
+    tables old.db
+    is 'it has the table of now' 0 "inbox2$lf" ''
+    ask old.db 'SELECT place, id, number, block FROM inbox2 ORDER BY place'
+    is 'its rows have their places, and their blocks' 0 "1|a1|1|0$lf""2|a2|2|0$lf""3|a3|3|0$lf""4|b1|1024|1$lf" ''
+    ask old.db 'PRAGMA integrity_check'
+    is 'as SQLite tests it' 0 "ok$lf" ''
+done
+printf '[%s]' "$e1" >first.json
+run take --db one.db first.json
+before one.db old.db
+printf '[%s,%s]' "$e1" "$e2" >first_two.json
+run take --db old.db first_two.json
+is 'taking into a file of before' 0 "read 2 new 1 repeated 1$lf" ''
+before one.db old.db
+run run --db old.db first_two.json
+is 'a run over a file of before' 0 "read 2 refused 0 held 2$lf"'{"sources":{"/orders":[[1,2]]},"version":1}'"$lf" ''
+for file in o.db mixed.db; do
+    [ -e "$file" ] || {
+        run take --db mixed.db three.json
+        run order --db mixed.db --at 2024-02-29T10:00:00Z place 7
+    }
+    before "$file" old.db
+    run order --db old.db --at 2024-02-29T10:00:00Z place 70
+    cut -d, -f3 got.out >source
+    cp source got.out
+    is "an order beside an inbox of before, $file" 0 "\"source\":\"/orders\"$lf" ''
+    tables old.db
+    is 'the inbox stays as it was' 0 "inbox$lf""orders$lf""outbox$lf""service$lf" ''
+    ask old.db 'SELECT * FROM outbox UNION ALL SELECT number, state, 0, 0 FROM orders ORDER BY 1, 2, 3'
+    cp got.out rows
+    run scrub --db old.db
+    is 'the events beside a service' 0 "[$e1,$e2,$e3]$lf" ''
+    tables old.db
+    is 'the table of now beside a service' 0 "inbox2$lf""orders$lf""outbox$lf""service$lf" ''
+    ask old.db 'SELECT * FROM outbox UNION ALL SELECT number, state, 0, 0 FROM orders ORDER BY 1, 2, 3'
+    is 'the service has its rows' 0 "$(cat rows)$lf" ''
+    run order --db old.db --at 2024-02-29T10:00:00Z ship 70
+    cut -d, -f3 got.out >source
+    cp source got.out
+    is 'and goes on' 0 "\"source\":\"/orders\"$lf" ''
+    # What the old table took is given back by SQLite, which numbers the tables anew.
+    ask old.db VACUUM
+    is 'VACUUM of such a file' 0 '' ''
+    run scrub --db old.db
+    is 'the events after it' 0 "[$e1,$e2,$e3]$lf" ''
+    run order --db old.db --at 2024-02-29T10:00:00Z ship 70
+    is 'the service after it' 1 '' "site: order 70: WrongState$lf"
+done
+before one.db old.db
+run scrub --db old.db
+run order --db old.db --at 2024-02-29T10:00:00Z place 1
+is 'a service beside an inbox that was of before' 0 "$(row 1 1 placed)$lf" ''
+run take --db old.db three.json
+is 'and events beside both' 0 "read 3 new 2 repeated 1$lf" ''
+# Files of before that are refused, and stay as they were.
+for statement in "UPDATE inbox SET body = '{}'" 'UPDATE inbox SET place = 2' 'UPDATE inbox SET number = 2' \
+    "UPDATE inbox SET id = 'a9'" "UPDATE inbox SET source = '/other'" \
+    'CREATE TABLE inbox2 (place INTEGER PRIMARY KEY, source TEXT NOT NULL, id TEXT NOT NULL, number INTEGER NOT NULL, body TEXT NOT NULL, block INTEGER NOT NULL, UNIQUE (source, id, body)) STRICT'; do
+    before one.db bad.db "$statement"
+    run_over bad.db scrub --db bad.db
+    is "refused: $statement" 1 '' "site: bad.db: Foreign$lf"
+    run_over bad.db take --db bad.db three.json
+    is "refused, taking: $statement" 1 '' "site: bad.db: Foreign$lf"
+done
+cp high.db block.db
+python3 -c 'import sqlite3
+base = sqlite3.connect("block.db")
+base.execute("PRAGMA journal_mode = DELETE")
+base.execute("UPDATE inbox2 SET block = 0 WHERE place = 4")
+base.commit()'
+run_over block.db scrub --db block.db
+is 'a block of another number' 1 '' "site: block.db: Foreign$lf"
+before one.db beside.db 'CREATE TABLE strange (a INTEGER)'
+run_over beside.db scrub --db beside.db
+is 'a table of another program beside an inbox of before' 1 '' "site: beside.db: Store$lf"
 
 # Faulty words: status 2, and no file is made.
 for words in 'take three.json' 'take --db w.db' 'delta --db w.db' 'delta --db w.db --from x held.json' \

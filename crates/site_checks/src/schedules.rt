@@ -12,7 +12,7 @@ pub fn then(steps: &mut Steps, step: Step) -> bool {
 }
 
 /// Adds that a site takes the events of rows, and answers whether it did.
-fn then_deliver(alloc: Global, steps: &mut Steps, site: u32, rows: &[Row<'_>]) -> bool {
+pub fn then_deliver(alloc: Global, steps: &mut Steps, site: u32, rows: &[Row<'_>]) -> bool {
     let mut batch = Batch::empty(alloc);
     if fill(alloc, &mut batch, rows) {
         then(steps, Step::Deliver { site, batch })
@@ -31,12 +31,12 @@ pub fn world_of(alloc: Global, sites: u32, steps: &Steps) -> Option<World> {
 }
 
 /// Whether the summary of a site of a world has this text.
-fn covers_at(world: &World, i: u64, wanted: &str) -> bool {
+pub fn covers_at(world: &World, i: u64, wanted: &str) -> bool {
     i < world.sites() && covers(world.site(i), wanted)
 }
 
 /// How many arrivals of a site of a world outlast a restart.
-fn kept_at(world: &World, i: u64) -> Option<u64> {
+pub fn kept_at(world: &World, i: u64) -> Option<u64> {
     if i < world.sites() {
         Some(world.kept(i))
     } else {

@@ -23,13 +23,16 @@ struct FailsAt {
 }
 
 impl Route for FailsAt {
-    ghost use Rattle.std.specs.Prelude.{◌≡◌, ◌⊎◌};
+    ghost use Rattle.std.specs.Prelude.{◌≡◌, ◌⊎◌, ◌++◌};
     ghost use Rattle.relay.specs.Route.{CountRises};
 
     ghost accepted = { λ r. r.route.events };
 
     ghost has_failed = { λ old new. ((old.send ≡ 1) × (new.send ≡ 0))
         ⊎ CountRises old.route.failures new.route.failures };
+
+    ghost takes = { λ old batch new.
+        new.route ≡ record old.route { events = old.route.events ++ batch } };
 
     fn send(&mut self, batch: &Batch) -> Result<(), RouteFailed> {
         if self.send == 1 {
@@ -85,7 +88,7 @@ impl Gate for ShutsAtSecond {
 }
 
 /// A service with so many placed orders.
-fn placed<R: AllocGlobal + Abort>(rt: &R, count: u64) -> Service<MemStore> {
+pub(crate) fn placed<R: AllocGlobal + Abort>(rt: &R, count: u64) -> Service<MemStore> {
     let at = time(rt);
     let mut service = create(rt, 0);
     for order in 1..=count {

@@ -14,16 +14,29 @@ pub(crate) const E2: &str =
 
 pub(crate) const E3: &str =
     r#"{"id":"a3","sequence":"00000000000000000003","source":"/orders","specversion":"1.0","subject":"y","type":"t.a"}"#;
+
+/// An event of the second block of numbers, where E1 is of the first.
+pub(crate) const C1: &str =
+    r#"{"id":"c","sequence":"00000000000000001024","source":"/orders","specversion":"1.0","subject":"x","type":"t.a"}"#;
+
 /// The source, id and number of the first, with another type.
 pub(crate) const F1: &str =
     r#"{"id":"a1","sequence":"00000000000000000001","source":"/orders","specversion":"1.0","subject":"y","type":"t.b"}"#;
 
-/// The table of the inbox.
+/// The table of the inbox, of version 1.
 pub(crate) const INBOX: &str =
     "CREATE TABLE inbox (place INTEGER PRIMARY KEY, source TEXT NOT NULL, id TEXT NOT NULL, number INTEGER NOT NULL, body TEXT NOT NULL, UNIQUE (source, id, body)) STRICT";
 
+/// The table of the inbox, of version 2.
+pub(crate) const INBOX2: &str =
+    "CREATE TABLE inbox2 (place INTEGER PRIMARY KEY, source TEXT NOT NULL, id TEXT NOT NULL, number INTEGER NOT NULL, body TEXT NOT NULL, block INTEGER NOT NULL, UNIQUE (source, id, body)) STRICT";
+
+/// The tables of a service.
+pub(crate) const OUTBOX: &str =
+    "CREATE TABLE service (one INTEGER PRIMARY KEY CHECK (one = 1), source TEXT NOT NULL, base INTEGER NOT NULL CHECK (base >= 0)) STRICT; CREATE TABLE orders (number INTEGER PRIMARY KEY, state INTEGER NOT NULL CHECK (state >= 1 AND state <= 3)) STRICT; CREATE TABLE outbox (number INTEGER PRIMARY KEY, kind INTEGER NOT NULL CHECK (kind >= 1 AND kind <= 3), order_number INTEGER NOT NULL, at TEXT NOT NULL) STRICT;";
+
 /// The event of a text.
-fn event<R: AllocGlobal + Abort>(rt: &R, text: &str) -> Sequenced {
+pub(crate) fn event<R: AllocGlobal + Abort>(rt: &R, text: &str) -> Sequenced {
     let Ok(events) = read_events(rt.alloc(), text.as_bytes()) else {
         panic!(rt; "no event");
     };
@@ -63,6 +76,28 @@ pub(crate) fn database<R: AllocGlobal + Abort>(rt: &R, texts: &[&str]) -> Connec
     let mut conn = Connection::open_in_memory(rt.alloc()).expect(rt, "a database");
     for text in texts {
         assert!(rt; conn.execute_batch(text).is_ok());
+    }
+    conn
+}
+
+/// Adds the table of version 1 with these events of the source `/orders`, each given by its id, its
+/// number and its text, at the places 1, 2 and so on.
+pub(crate) fn with_old_inbox<R: AllocGlobal + Abort, S: Alter + Drop>(
+    rt: &R,
+    conn: Connection<S>,
+    events: &[(&str, u64, &str)],
+) -> Connection<S> {
+    let mut conn = conn;
+    assert!(rt; conn.execute_batch(INBOX).is_ok());
+    let insert = "INSERT INTO inbox (place, source, id, number, body) VALUES";
+    for (place, (id, number, text)) in (1u64..).zip(events) {
+        let row = format!(in rt.alloc();
+            "{insert} ({place}, '/orders', '{id}', {number}, '{text}')"
+        );
+        assert!(rt;
+            conn.execute_batch(row.expect(rt, "memory").as_str())
+                .is_ok()
+        );
     }
     conn
 }

@@ -31,7 +31,7 @@ fn begun<R: AllocGlobal + Abort, S: Alter + Drop>(rt: &R, table: Table<S>) -> (K
 }
 
 /// Takes the event of a text, and tells how many were new.
-fn take<R: AllocGlobal + Wait + Abort>(
+pub(crate) fn take<R: AllocGlobal + Wait + Abort>(
     rt: &R,
     shared: &SharedSite,
     pass: &mut Pass,

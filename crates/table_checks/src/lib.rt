@@ -16,6 +16,12 @@ mod orders;
 #[cfg(test)]
 mod relays;
 #[cfg(test)]
+mod stops;
+#[cfg(test)]
 mod tables;
+#[cfg(test)]
+mod upgrades;
+#[cfg(test)]
+mod watches;
 #[cfg(test)]
 mod writes;

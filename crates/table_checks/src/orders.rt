@@ -1,7 +1,7 @@
 //! What no contract says of an outbox: that calls succeed with ample memory, what the events look
 //! like, and which tables are taken for those of a service.
 
-use crate::fixture::{INBOX, database, executes, has};
+use crate::fixture::{INBOX, INBOX2, database, executes, has};
 use attributes::{Moment, Sequenced, Text};
 use outbox::{OutboxFault, Service};
 use relay::RelayFault;
@@ -12,10 +12,10 @@ const MAX: u64 = 9_223_372_036_854_775_807;
 
 const TIME: &str = "2024-02-29T10:00:00Z";
 
-const PLACED: &str =
+pub(crate) const PLACED: &str =
     r#"{"id":"00000000000000000001","sequence":"00000000000000000001","source":"/orders","specversion":"1.0","subject":"7","time":"2024-02-29T10:00:00Z","type":"order.placed"}"#;
 
-const SHIPPED: &str =
+pub(crate) const SHIPPED: &str =
     r#"{"id":"00000000000000000002","sequence":"00000000000000000002","source":"/orders","specversion":"1.0","subject":"7","time":"2024-02-29T10:00:00Z","type":"order.shipped"}"#;
 
 const CANCELLED: &str =
@@ -61,7 +61,7 @@ fn create_in<R: AllocGlobal + Abort, S: Alter + Drop>(
 }
 
 /// A new service over a database that has none.
-fn created<R: AllocGlobal + Abort, S: Alter + Drop>(
+pub(crate) fn created<R: AllocGlobal + Abort, S: Alter + Drop>(
     rt: &R,
     conn: Connection<S>,
     base: u64,
@@ -78,7 +78,10 @@ pub(crate) fn create<R: AllocGlobal + Abort>(rt: &R, base: u64) -> Service<MemSt
 }
 
 /// The service that a database has.
-fn adopted<R: AllocGlobal + Abort, S: Alter + Drop>(rt: &R, conn: Connection<S>) -> Service<S> {
+pub(crate) fn adopted<R: AllocGlobal + Abort, S: Alter + Drop>(
+    rt: &R,
+    conn: Connection<S>,
+) -> Service<S> {
     match Service::adopt(rt.alloc(), conn) {
         Ok(service) => service,
         Err(_) => panic!(rt; "no service"),
@@ -149,7 +152,7 @@ fn refuses<R: AllocGlobal + Abort>(
 }
 
 /// Whether these are the rows after a number.
-fn has_after(service: &mut Service<MemStore>, after: u64, texts: &[&str]) -> bool {
+pub(crate) fn has_after(service: &mut Service<MemStore>, after: u64, texts: &[&str]) -> bool {
     match service.rows_after(after, 100) {
         Ok(rows) => has(&rows, texts),
         Err(_) => false,
@@ -234,6 +237,7 @@ fn other_rows_are_foreign(rt: HostRuntime) {
         );
     }
     assert_eq!(rt; fault_after(&rt, INBOX), None);
+    assert_eq!(rt; fault_after(&rt, INBOX2), None);
     let other = "CREATE TABLE other (a INTEGER)";
     assert_eq!(rt; fault_after(&rt, other), Some(OutboxFault::Store));
     assert_eq!(rt;
@@ -244,13 +248,15 @@ fn other_rows_are_foreign(rt: HostRuntime) {
 
 #[test]
 fn an_inbox_stands_beside_it(rt: HostRuntime) {
-    let mut conn = database(&rt, &[]);
-    assert!(rt; executes(&mut conn, INBOX));
-    let mut service = created(&rt, conn, 0);
-    assert!(rt; gives(&rt, &mut service, "place", 7, PLACED));
-    assert!(rt; gives(&rt, &mut service, "ship", 7, SHIPPED));
-    let mut again = adopted(&rt, service.into_connection());
-    assert!(rt; has_after(&mut again, 1, &[SHIPPED]));
+    for inbox in [INBOX, INBOX2] {
+        let mut conn = database(&rt, &[]);
+        assert!(rt; executes(&mut conn, inbox));
+        let mut service = created(&rt, conn, 0);
+        assert!(rt; gives(&rt, &mut service, "place", 7, PLACED));
+        assert!(rt; gives(&rt, &mut service, "ship", 7, SHIPPED));
+        let mut again = adopted(&rt, service.into_connection());
+        assert!(rt; has_after(&mut again, 1, &[SHIPPED]));
+    }
 }
 
 /// A database whose new service has placed order 7.

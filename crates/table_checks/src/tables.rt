@@ -1,13 +1,10 @@
 //! What no contract says of the table of events: that its calls succeed with ample memory, and that
 //! its schema and its rows are those of the format.
 
-use crate::fixture::{E1, E2, E3, F1, INBOX, batch, database, executes, has};
+use crate::fixture::{C1, E1, E2, E3, F1, INBOX, INBOX2, OUTBOX, batch, database, executes, has};
 use inbox_table::{Loaded, Table, TableFault};
 use sqlite::{Alter, Connection, MemStore};
 use std::process::Abort;
-
-const OUTBOX: &str =
-    "CREATE TABLE service (one INTEGER PRIMARY KEY CHECK (one = 1), source TEXT NOT NULL, base INTEGER NOT NULL CHECK (base >= 0)) STRICT; CREATE TABLE orders (number INTEGER PRIMARY KEY, state INTEGER NOT NULL CHECK (state >= 1 AND state <= 3)) STRICT; CREATE TABLE outbox (number INTEGER PRIMARY KEY, kind INTEGER NOT NULL CHECK (kind >= 1 AND kind <= 3), order_number INTEGER NOT NULL, at TEXT NOT NULL) STRICT;";
 
 /// A new table of a database.
 pub(crate) fn created<R: AllocGlobal + Abort, S: Alter + Drop>(
@@ -21,7 +18,10 @@ pub(crate) fn created<R: AllocGlobal + Abort, S: Alter + Drop>(
 }
 
 /// The table of a database, and what it has.
-fn adopted<R: AllocGlobal + Abort, S: Alter + Drop>(rt: &R, conn: Connection<S>) -> Loaded<S> {
+pub(crate) fn adopted<R: AllocGlobal + Abort, S: Alter + Drop>(
+    rt: &R,
+    conn: Connection<S>,
+) -> Loaded<S> {
     match Table::adopt_and_load(rt.alloc(), conn) {
         Ok(loaded) => loaded,
         Err(_) => panic!(rt; "no table"),
@@ -37,7 +37,7 @@ fn create_fault<R: AllocGlobal + Abort>(rt: &R, texts: &[&str]) -> u8 {
 }
 
 /// The number of the fault with which the adoption is refused, or 0.
-fn adopt_fault<R: AllocGlobal>(rt: &R, conn: Connection<MemStore>) -> u8 {
+pub(crate) fn adopt_fault<R: AllocGlobal>(rt: &R, conn: Connection<MemStore>) -> u8 {
     match Table::adopt(rt.alloc(), conn) {
         Ok(_) => 0,
         Err(refused) => refused.fault.number(),
@@ -45,7 +45,7 @@ fn adopt_fault<R: AllocGlobal>(rt: &R, conn: Connection<MemStore>) -> u8 {
 }
 
 /// Keeps the events of the texts, and answers how many were new.
-fn keep<R: AllocGlobal + Abort, S: Alter>(
+pub(crate) fn keep<R: AllocGlobal + Abort, S: Alter>(
     rt: &R,
     table: &mut Table<S>,
     texts: &[&str],
@@ -54,7 +54,7 @@ fn keep<R: AllocGlobal + Abort, S: Alter>(
 }
 
 /// Whether the table has the events of these texts, in this order.
-fn holds<S: Alter>(table: &mut Table<S>, texts: &[&str]) -> bool {
+pub(crate) fn holds<S: Alter>(table: &mut Table<S>, texts: &[&str]) -> bool {
     match table.load() {
         Ok(events) => has(&events, texts),
         Err(_) => false,
@@ -111,41 +111,49 @@ fn a_table_is_taken_as_it_was_left(rt: HostRuntime) {
 }
 
 // The columns before the text of a row, the text, and the fault of a table of the format with it.
-const ROWS: [(&str, &str, u8); 11] = [
+const ROWS: [(&str, &str, u8); 18] = [
     // The columns of an event and its text are taken.
-    ("1, '/orders', 'a1', 1", E1, 0),
-    ("1, '/orders', 'a1', 1", "{}", 3),
-    ("1, '/orders', 'a1', 1", "x", 3),
+    ("1, '/orders', 'a1', 1, 0", E1, 0),
+    ("1, '/orders', 'a1', 1, 0", "{}", 3),
+    ("1, '/orders', 'a1', 1, 0", "x", 3),
     // Places from 0, and from 2.
-    ("0, '/orders', 'a1', 1", E1, 3),
-    ("2, '/orders', 'a1', 1", E1, 3),
+    ("0, '/orders', 'a1', 1, 0", E1, 3),
+    ("2, '/orders', 'a1', 1, 0", E1, 3),
     // Another source, id or number than the event has.
-    ("1, '/other', 'a1', 1", E1, 3),
-    ("1, '/orders', 'a2', 1", E1, 3),
-    ("1, '/orders', 'a1', 2", E1, 3),
+    ("1, '/other', 'a1', 1, 0", E1, 3),
+    ("1, '/orders', 'a2', 1, 0", E1, 3),
+    ("1, '/orders', 'a1', 2, 0", E1, 3),
     // The event, but not its canonical text; an event without a number; a batch of one event.
     (
-        "1, '/orders', 'a1', 1",
+        "1, '/orders', 'a1', 1, 0",
         r#"{"type":"t.a","id":"a1","sequence":"00000000000000000001","source":"/orders","specversion":"1.0","subject":"x"}"#,
         3,
     ),
     (
-        "1, '/orders', 'a1', 1",
+        "1, '/orders', 'a1', 1, 0",
         r#"{"id":"a1","source":"/orders","specversion":"1.0","subject":"x","type":"t.a"}"#,
         3,
     ),
     (
-        "1, '/orders', 'a1', 1",
+        "1, '/orders', 'a1', 1, 0",
         r#"[{"id":"a1","sequence":"00000000000000000001","source":"/orders","specversion":"1.0","subject":"x","type":"t.a"}]"#,
         3,
     ),
+    // The block is the number divided by 1,024, and not another, and not the number itself.
+    ("1, '/orders', 'a1', 1, 1", E1, 3),
+    ("1, '/orders', 'a1', 1, -1", E1, 3),
+    ("1, '/orders', 'c', 1024, 1", C1, 0),
+    ("1, '/orders', 'c', 1024, 0", C1, 3),
+    ("1, '/orders', 'c', 1024, 2", C1, 3),
+    ("1, '/orders', 'c', 1024, 1024", C1, 3),
+    ("1, '/orders', 'a1', 1, 9007199254740991", E1, 3),
 ];
 
 /// The fault of a table of the format with a row of these values.
 fn row_fault<R: AllocGlobal + Abort>(rt: &R, columns: &str, body: &str) -> u8 {
-    let insert = "INSERT INTO inbox (place, source, id, number, body) VALUES";
+    let insert = "INSERT INTO inbox2 (place, source, id, number, block, body) VALUES";
     let row = format!(in rt.alloc(); "{insert} ({columns}, '{body}')").expect(rt, "memory");
-    adopt_fault(rt, database(rt, &[INBOX, row.as_str()]))
+    adopt_fault(rt, database(rt, &[INBOX2, row.as_str()]))
 }
 
 #[test]
@@ -158,32 +166,38 @@ fn rows_that_no_call_leaves_are_foreign(rt: HostRuntime) {
 #[test]
 fn a_gap_in_the_places_is_foreign(rt: HostRuntime) {
     let mut conn = filled(&rt, database(&rt, &[]));
-    assert!(rt; executes(&mut conn, "DELETE FROM inbox WHERE place = 2"));
+    assert!(rt; executes(&mut conn, "DELETE FROM inbox2 WHERE place = 2"));
     assert_eq!(rt; adopt_fault(&rt, conn), 3);
 }
 
 // Texts that ran on a database, and the fault with which a table is then made.
-const MADE: [(&[&str], u8); 7] = [
+const MADE: [(&[&str], u8); 12] = [
     (&[], 0),
     (&[OUTBOX], 0),
+    (&[INBOX2], 3),
+    (&["CREATE TABLE Inbox2 (a)"], 3),
+    (&["CREATE TABLE other (a)"], 2),
+    (&["CREATE TABLE other (a)", INBOX2], 3),
+    (&["BEGIN"], 2),
+    // So where the table is of version 1, in whatever form.
     (&[INBOX], 3),
     (&["CREATE TABLE Inbox (a)"], 3),
-    (&["CREATE TABLE other (a)"], 2),
     (&["CREATE TABLE other (a)", INBOX], 3),
-    (&["BEGIN"], 2),
+    (&[INBOX, OUTBOX], 3),
+    (&[INBOX, INBOX2], 3),
 ];
 
 // Texts that ran on a database, and the fault with which its table is then adopted.
 const ADOPTED: [(&[&str], u8); 9] = [
     (&[], 3),
     (&[OUTBOX], 3),
-    (&[INBOX], 0),
-    (&[INBOX, OUTBOX], 0),
-    (&[OUTBOX, INBOX], 0),
-    (&["CREATE TABLE inbox (a)"], 3),
-    (&[INBOX, "CREATE TABLE other (a)"], 2),
-    (&[INBOX, "CREATE INDEX more ON inbox (id)"], 2),
-    (&[INBOX, "BEGIN"], 2),
+    (&[INBOX2], 0),
+    (&[INBOX2, OUTBOX], 0),
+    (&[OUTBOX, INBOX2], 0),
+    (&["CREATE TABLE inbox2 (a)"], 3),
+    (&[INBOX2, "CREATE TABLE other (a)"], 2),
+    (&[INBOX2, "CREATE INDEX more ON inbox2 (id)"], 2),
+    (&[INBOX2, "BEGIN"], 2),
 ];
 
 #[test]
@@ -198,7 +212,7 @@ fn schemas_that_are_taken_and_refused(rt: HostRuntime) {
 
 #[test]
 fn a_table_beside_an_outbox(rt: HostRuntime) {
-    let mut before = adopted(&rt, database(&rt, &[INBOX, OUTBOX]));
+    let mut before = adopted(&rt, database(&rt, &[INBOX2, OUTBOX]));
     fill(&rt, &mut before.table);
     assert!(rt; holds(&mut before.table, &[E1, E2, E3]));
     let mut behind = created(&rt, database(&rt, &[OUTBOX]));
