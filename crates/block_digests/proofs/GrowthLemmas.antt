@@ -1,5 +1,5 @@
 -- Blocks change as an event comes.
-use Rattle.std.proofs.Common.{◌≡◌, ℕ, List, [], ◌∷◌, ◌++◌, Bool, true, false, ◌||◌, ◌&&◌, filter, if◌then◌else◌, refl, sym, ap, ap₂, ◌∙◌}
+use Rattle.std.proofs.Common.{◌≡◌, ℕ, List, [], ◌∷◌, ◌++◌, Bool, true, false, ◌||◌, ◌&&◌, filter, Some, None, if◌then◌else◌, refl, sym, ap, ap₂, ◌∙◌}
 use Rattle.std.specs.List.{AllByRecursion, list_any}
 use Rattle.std.specs.List.Sorted.{IsStrictlySortedBy}
 use Rattle.std.specs.Ordering.{is_eq, ordering_reverse}
@@ -15,7 +15,8 @@ use Rattle.inbox.specs.Ordered.{append_new, has}
 use Rattle.inbox.specs.Sets.{AreEvents, set_of}
 use Rattle.inbox.proofs.SetLemmas.{all-in_order, has-in_order, same_sets, sets_are_members, sorted-in_order}
 use Rattle.block_digests.specs.Block.{block, is_in_block, line_cmp, lines}
-use Rattle.block_digests.specs.Laws.{BlockIsOneList, GreaterAppends, OthersStay}
+use Rattle.sha2.specs.Sha256.{sha256}
+use Rattle.block_digests.specs.Laws.{BlockIsOneList, DigestsOfArrivals, GreaterAppends, OthersStay}
 use Rattle.block_digests.proofs.DigestLemmas.{lines-append}
 use Rattle.block_digests.proofs.LineLemmas.{line_cmp_total}
 use Rattle.block_digests.proofs.ListLemmas.{all_append, all_kept, and_both, any_filter, found, item_is, passes, same_tests}
@@ -72,6 +73,14 @@ module _ (sets : SetLaws) (exact : (x y : EventValue) → IsEvent x → IsEvent 
     | true ↦ refl
     | false ↦ list_any-append q A (e ∷ []) ∙ ap (λ b. list_any q A || (b || false)) f ∙ or-false (list_any q A)
   ]
+
+  pub digests_of_arrivals : DigestsOfArrivals
+  unfolding in_block
+  digests_of_arrivals A source k a =
+      ap₂ (λ b t. if b then Some (sha256 t) else None) (any_set (is_in_block source k) A a)
+      (ap lines (sets_are_members line_cmp_total IsEvent exact _ _
+      (all_kept IsEvent (is_in_block source k) (set_of A) (sets.are_events A a)) (all_kept IsEvent (is_in_block source k) A a)
+      (λ x. has_set A source k x a ∙ sym (any_filter (λ y. is_eq (line_cmp x y)) (is_in_block source k) A))))
 
   pub others_stay : OthersStay
   unfolding in_block

@@ -4,3 +4,9 @@ pub mod UniteLemmas
 pub mod DigestLemmas
 pub mod GrowthLemmas
 pub mod RowLemmas
+pub mod PlaceLemmas
+pub mod GatherLemmas
+pub mod IndexLemmas
+pub mod KeptLemmas
+pub mod NoteLemmas
+pub mod DigestsLemmas

@@ -10,6 +10,7 @@ use Rattle.inbox.specs.KeyOrder.{key_cmp}
 use Rattle.inbox.specs.Ordered.{append_new, has}
 use Rattle.inbox.specs.Sets.{AreEvents, set_of}
 use Rattle.block_digests.specs.Block.{block, block_text, is_in_block, line_cmp}
+use Rattle.block_digests.specs.Digest.{digest_in}
 
 -- two lists of events whose texts of a block are equal have the same events in it
 abbrev pub BlockTextsTell : Type 0
@@ -39,3 +40,8 @@ GreaterAppends = (A : List EventValue) (e : EventValue) (source : List ℕ) (k :
     → AllByRecursion (λ f. line_cmp f e ≡ Less) (block (set_of A) source k)
     → block_text (set_of (append_new key_cmp A (e ∷ []))) source k
     ≡ block_text (set_of A) source k ++ (text e ++ 10 ∷ [])
+
+-- the digests of arrivals' blocks are those of their set's
+abbrev pub DigestsOfArrivals : Type 0
+DigestsOfArrivals = (A : List EventValue) (source : List ℕ) (k : ℕ) → AreEvents A
+    → digest_in (set_of A) source k ≡ digest_in A source k

@@ -59,7 +59,7 @@ fn rows<'a>(
 }
 
 /// The SHA-256 of the texts of rows, each followed by a line feed. Takes no memory.
-fn digest_of_rows(rows: &BTreeSet<(u64, &str)>) -> [u8; 32]
+pub(crate) fn digest_of_rows(rows: &BTreeSet<(u64, &str)>) -> [u8; 32]
     ensures { result ≡ sha256 (joined (map (λ r. (r.0, r.1.now)) rows.now.keys)) }
 {
     let mut hasher = Sha256::new();

@@ -1,6 +1,6 @@
 //! Laws of blocks and digests, each as the contract of a function that does nothing.
 
-ghost use Rattle.block_digests.specs.Laws.{BlockIsOneList, BlockTextsTell, GreaterAppends, OthersStay};
+ghost use Rattle.block_digests.specs.Laws.{BlockIsOneList, BlockTextsTell, DigestsOfArrivals, GreaterAppends, OthersStay};
 ghost use Rattle.block_digests.specs.Unite.{GossipsUnite};
 
 use attributes::laws::{text_is_one_line, text_tells_events};
@@ -16,11 +16,13 @@ pub fn block_texts_tell_blocks()
 
 /// An event that comes leaves the texts of the blocks in which it doesn't stand, and one that is
 /// greater by number and text than each of its block comes to the end of that block's text. What
-/// rises by number and text, and has a block's events, is the block.
+/// rises by number and text, and has a block's events, is the block. The digests of arrivals are
+/// those of their set.
 pub fn blocks_change_by_events()
     ensures list { BlockIsOneList }
     ensures others { OthersStay }
     ensures greater { GreaterAppends }
+    ensures arrivals { DigestsOfArrivals }
 {
     text_tells_events();
     sets_are_members();

@@ -18,6 +18,8 @@ mod json;
 #[cfg(test)]
 mod reports;
 #[cfg(test)]
+mod second;
+#[cfg(test)]
 mod summaries;
 #[cfg(test)]
 mod words;

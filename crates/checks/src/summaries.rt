@@ -446,7 +446,7 @@ fn texts_are_refused(rt: HostRuntime) {
     }
     for (text, wanted) in [
         (r#"{"sources":{},"version":3}"#, SummaryFault::Version),
-        (r#"{"version":2,"x":0}"#, SummaryFault::Version),
+        (r#"{"version":3,"x":0}"#, SummaryFault::Version),
         ("{", SummaryFault::NotJson),
         ("", SummaryFault::NotJson),
     ] {

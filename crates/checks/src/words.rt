@@ -1,7 +1,7 @@
 //! What no contract says of the words of a command line: that a plan of them is made.
 
 use attributes::Text;
-use command_words::{Command, Plan, plan};
+use command_words::{Command, Faulty, Pages, Plan, plan};
 use file_reports::Query;
 use std::alloc::Global;
 
@@ -32,22 +32,54 @@ fn are(texts: &[Text], want: &[&str]) -> bool {
     true
 }
 
-/// Whether the plan asks the question about these files.
-fn asks(plan: &Plan, want: Query, names: &[&str]) -> bool {
+/// Whether that name is given; none where it is empty.
+fn is_given(name: &Option<Text>, want: &str) -> bool {
+    match name {
+        Some(name) => name.as_str() == want,
+        None => want.is_empty(),
+    }
+}
+
+/// Whether the plan asks the question about that database, if one is named, and these files.
+fn asks(plan: &Plan, want: Query, name: &str, names: &[&str]) -> bool {
     match plan {
-        Plan::Ask { query, files } => *query == want && are(files.as_slice(), names),
+        Plan::Ask { query, db, files } => {
+            *query == want && is_given(db, name) && are(files.as_slice(), names)
+        }
         _ => false,
     }
 }
 
-/// Whether the words are a plan that asks a question about these files.
-fn plans(alloc: Global, words: &[&str], want: Query, names: &[&str]) -> bool {
+/// Whether the words are a plan that asks a question about that database and these files.
+fn plans(alloc: Global, words: &[&str], want: Query, name: &str, names: &[&str]) -> bool {
     let Some(words) = words_of(alloc, words) else {
         return false;
     };
     match plan(alloc, words.as_slice()) {
-        Ok(plan) => asks(&plan, want, names),
+        Ok(plan) => asks(&plan, want, name, names),
         Err(_) => false,
+    }
+}
+
+/// Whether the words are a plan that prints these pages of all events.
+fn scrubs(alloc: Global, words: &[&str], want: Pages) -> bool {
+    let Some(words) = words_of(alloc, words) else {
+        return false;
+    };
+    match plan(alloc, words.as_slice()) {
+        Ok(Plan::Scrub { db, pages }) => db.as_str() == "d" && pages == want,
+        _ => false,
+    }
+}
+
+/// Whether the words are no plan.
+fn is_faulty(alloc: Global, words: &[&str]) -> bool {
+    let Some(words) = words_of(alloc, words) else {
+        return false;
+    };
+    match plan(alloc, words.as_slice()) {
+        Err(Faulty::Words { text: _, is_help }) => !is_help,
+        _ => false,
     }
 }
 
@@ -55,5 +87,31 @@ fn plans(alloc: Global, words: &[&str], want: Query, names: &[&str]) -> bool {
 fn a_plan_holds_the_question_and_the_files(rt: HostRuntime) {
     assert_eq!(rt; Command::of_word("shown"), Some(Command::Ask(Query::Shown)));
     let words = ["shown", "f", "-", "--", "-g"];
-    assert!(rt; plans(rt.alloc(), &words, Query::Shown, &["f", "-", "-g"]));
+    assert!(rt; plans(rt.alloc(), &words, Query::Shown, "", &["f", "-", "-g"]));
+    assert!(rt; plans(rt.alloc(), &["days", "--db", "d"], Query::Days, "d", &[]));
+    assert!(rt;
+        plans(
+            rt.alloc(),
+            &["gaps", "f", "--db", "d"],
+            Query::Gaps,
+            "d",
+            &["f"]
+        )
+    );
+    assert!(rt; is_faulty(rt.alloc(), &["kinds"]));
+}
+
+#[test]
+fn a_plan_holds_one_page_or_all(rt: HostRuntime) {
+    let alloc = rt.alloc();
+    assert!(rt; scrubs(alloc, &["scrub", "--db", "d"], Pages::Behind(0)));
+    assert!(rt;
+        scrubs(
+            alloc,
+            &["scrub", "--from", "0200", "--db", "d"],
+            Pages::Behind(200)
+        )
+    );
+    assert!(rt; scrubs(alloc, &["scrub", "--db", "d", "--all"], Pages::All));
+    assert!(rt; is_faulty(alloc, &["scrub", "--db", "d", "--all", "--from", "0"]));
 }

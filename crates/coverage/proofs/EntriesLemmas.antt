@@ -1,5 +1,5 @@
 -- Entries in byte order of their sources: look-ups, and what one more entry changes.
-use Rattle.std.proofs.Common.{◌≡◌, ℕ, zero, suc, ◌+◌, ◌<◌, ◌==◌, Bool, true, false, cond, ◌||◌, ◌&&◌, ◌⊎◌, List, [], ◌∷◌, length, length-append, get_or, ◌++◌, append_assoc, append-nil, Option, Some, None, Result, Ok, Err, Bor, MutBor, rules, refl, sym, ap, ap₂, subst, ◌∙◌, arith, inl, inr, le_of_suc-le-suc, not-suc-le-zero, eq-eqb}
+use Rattle.std.proofs.Common.{is_eq, ◌≡◌, ℕ, zero, suc, ◌+◌, ◌<◌, ◌==◌, Bool, true, false, cond, ◌||◌, ◌&&◌, ◌⊎◌, List, [], ◌∷◌, length, length-append, get_or, ◌++◌, append_assoc, append-nil, Option, Some, None, Result, Ok, Err, Bor, MutBor, rules, refl, sym, ap, ap₂, subst, ◌∙◌, arith, inl, inr, le_of_suc-le-suc, not-suc-le-zero, eq-eqb}
 use Rattle.std.proofs.lemmas.Bool.{cases_Bool, both_ways}
 use Rattle.std.proofs.lemmas.Slice.Eq.{bytes_eq-Decides}
 use Rattle.std.proofs.lemmas.Cmp.{nat_list_cmp_total}
@@ -24,7 +24,7 @@ use Rattle.std.specs.List.Sorted.{IsStrictlySortedBy}
 use Rattle.std.specs.Map.{keys_of, lookup, set_value}
 use Rattle.std.proofs.lemmas.Map.Keys.{sorted_head, sorted_tail}
 use Rattle.coverage.specs.Intervals.{Interval, holds, IsCanonical}
-use Rattle.coverage.specs.Summary.{byte_cmp, Entry, Sources, IsEntry, AreEntries, InOrder, IsSummary, numbers_of, holds_at, sources_of}
+use Rattle.coverage.specs.Numbers.{byte_cmp, Entry, Entries, IsEntry, AreEntries, InOrder, AreListed, numbers_in, holds_in, names_in}
 use Rattle.coverage.specs.steps.Places.{entry_at, EndsBefore}
 use Rattle.coverage.specs.steps.Entries.{entry_in, sources_in}
 use Rattle.coverage.proofs.HoldsLemmas.{holds-nil}
@@ -44,6 +44,9 @@ bytes_eq-apart s k f e = both_ways _ f ((bytes_eq-Decides s k).1 e)
 
 pub byte_cmp-same : (s k : List ℕ) → s ≡ k → byte_cmp s k ≡ Equal
 byte_cmp-same s k e = (Equal-is _).0 (is_eq-slice_cmp s k ∙ (bytes_eq-Decides s k).1 e)
+
+pub is_one_source : (s k : List ℕ) → is_eq (byte_cmp s k) ≡ bytes_eq s k
+is_one_source s k = is_eq-slice_cmp s k
 
 pub byte_cmp-flip : (x y : List ℕ) → byte_cmp x y ≡ ordering_reverse (byte_cmp y x)
 byte_cmp-flip x y = nat_list_cmp_total.antisymm x y
@@ -75,54 +78,54 @@ cases_order Equal = inr (inl refl)
 cases_order Greater = inr (inr refl)
 
 -- ---- the numbers of a source
-pub numbers_of-head : (e : Entry) (es : Sources) (s : List ℕ) → s ≡ e.0 → numbers_of (e ∷ es) s ≡ e.1
-numbers_of-head e es s h = ap (λ b. cond b e.1 (numbers_of es s)) ((bytes_eq-Decides s e.0).1 h)
+pub numbers_in-head : (e : Entry) (es : Entries) (s : List ℕ) → s ≡ e.0 → numbers_in (e ∷ es) s ≡ e.1
+numbers_in-head e es s h = ap (λ b. cond b e.1 (numbers_in es s)) ((bytes_eq-Decides s e.0).1 h)
 
-pub numbers_of-tail : (e : Entry) (es : Sources) (s : List ℕ) → (s ≡ e.0 → ⊥) → numbers_of (e ∷ es) s ≡ numbers_of es s
-numbers_of-tail e es s h = ap (λ b. cond b e.1 (numbers_of es s)) (bytes_eq-other s e.0 h)
+pub numbers_in-tail : (e : Entry) (es : Entries) (s : List ℕ) → (s ≡ e.0 → ⊥) → numbers_in (e ∷ es) s ≡ numbers_in es s
+numbers_in-tail e es s h = ap (λ b. cond b e.1 (numbers_in es s)) (bytes_eq-other s e.0 h)
 
-pub numbers_of-nowhere : (es : Sources) (s : List ℕ) → ((k : ℕ) → k < length es → s ≡ (entry_at es k).0 → ⊥) → numbers_of es s ≡ []
-numbers_of-nowhere [] s h = refl
-numbers_of-nowhere (e ∷ es) s h =
-    numbers_of-tail e es s (h zero (omega arith)) ∙ numbers_of-nowhere es s (λ k hk. h (suc k) (omega arith))
+pub numbers_in-nowhere : (es : Entries) (s : List ℕ) → ((k : ℕ) → k < length es → s ≡ (entry_at es k).0 → ⊥) → numbers_in es s ≡ []
+numbers_in-nowhere [] s h = refl
+numbers_in-nowhere (e ∷ es) s h =
+    numbers_in-tail e es s (h zero (omega arith)) ∙ numbers_in-nowhere es s (λ k hk. h (suc k) (omega arith))
 
 -- ---- by places
 -- what is below each source of a list is below the one at a place
-below_at : (q : List ℕ) (es : Sources) (i : ℕ) → AllByRecursion (λ y. byte_cmp q y ≡ Less) (keys_of es) → i < length es → byte_cmp q (entry_at es i).0 ≡ Less
+below_at : (q : List ℕ) (es : Entries) (i : ℕ) → AllByRecursion (λ y. byte_cmp q y ≡ Less) (keys_of es) → i < length es → byte_cmp q (entry_at es i).0 ≡ Less
 below_at q [] i h hi = absurd (not-suc-le-zero hi)
 below_at q (e ∷ es) zero h hi = h.0
 below_at q (e ∷ es) (suc i) h hi = below_at q es i h.1 (le_of_suc-le-suc hi)
 
-pub InOrder-at : (es : Sources) (i j : ℕ) → InOrder es → i < j → j < length es → byte_cmp (entry_at es i).0 (entry_at es j).0 ≡ Less
+pub InOrder-at : (es : Entries) (i j : ℕ) → InOrder es → i < j → j < length es → byte_cmp (entry_at es i).0 (entry_at es j).0 ≡ Less
 InOrder-at [] i j h lt hj = absurd (not-suc-le-zero hj)
 InOrder-at (e ∷ es) i zero h lt hj = absurd (not-suc-le-zero lt)
 InOrder-at (e ∷ es) zero (suc j) h lt hj = below_at e.0 es j (sorted_head _ e.0 (keys_of es) h) (le_of_suc-le-suc hj)
 InOrder-at (e ∷ es) (suc i) (suc j) h lt hj = InOrder-at es i j (sorted_tail _ e.0 (keys_of es) h) (le_of_suc-le-suc lt) (le_of_suc-le-suc hj)
 
 -- ---- one more entry
-entry_less : (e : Entry) (es : Sources) (k : List ℕ) (v : List Interval) → byte_cmp k e.0 ≡ Less → insert_entry byte_cmp (e ∷ es) k v ≡ (k, v) ∷ e ∷ es
+entry_less : (e : Entry) (es : Entries) (k : List ℕ) (v : List Interval) → byte_cmp k e.0 ≡ Less → insert_entry byte_cmp (e ∷ es) k v ≡ (k, v) ∷ e ∷ es
 entry_less e es k v h = ap (λ o. match_ordering o ((k, v) ∷ e ∷ es) ((e.0, v) ∷ es) (e ∷ insert_entry byte_cmp es k v)) h
 
-entry_equal : (e : Entry) (es : Sources) (k : List ℕ) (v : List Interval) → byte_cmp k e.0 ≡ Equal → insert_entry byte_cmp (e ∷ es) k v ≡ (e.0, v) ∷ es
+entry_equal : (e : Entry) (es : Entries) (k : List ℕ) (v : List Interval) → byte_cmp k e.0 ≡ Equal → insert_entry byte_cmp (e ∷ es) k v ≡ (e.0, v) ∷ es
 entry_equal e es k v h = ap (λ o. match_ordering o ((k, v) ∷ e ∷ es) ((e.0, v) ∷ es) (e ∷ insert_entry byte_cmp es k v)) h
 
-entry_greater : (e : Entry) (es : Sources) (k : List ℕ) (v : List Interval) → byte_cmp k e.0 ≡ Greater → insert_entry byte_cmp (e ∷ es) k v ≡ e ∷ insert_entry byte_cmp es k v
+entry_greater : (e : Entry) (es : Entries) (k : List ℕ) (v : List Interval) → byte_cmp k e.0 ≡ Greater → insert_entry byte_cmp (e ∷ es) k v ≡ e ∷ insert_entry byte_cmp es k v
 entry_greater e es k v h = ap (λ o. match_ordering o ((k, v) ∷ e ∷ es) ((e.0, v) ∷ es) (e ∷ insert_entry byte_cmp es k v)) h
 
-pub numbers_of-insert_entry : (es : Sources) (k : List ℕ) (v : List Interval) (s : List ℕ) → numbers_of (insert_entry byte_cmp es k v) s ≡ cond (bytes_eq s k) v (numbers_of es s)
-numbers_of-insert_entry [] k v s = refl
-numbers_of-insert_entry (e ∷ es) k v s = elim (cases_order (byte_cmp k e.0)) [
-  | inl less ↦ ap (λ l. numbers_of l s) (entry_less e es k v less)
+pub numbers_in-insert_entry : (es : Entries) (k : List ℕ) (v : List Interval) (s : List ℕ) → numbers_in (insert_entry byte_cmp es k v) s ≡ cond (bytes_eq s k) v (numbers_in es s)
+numbers_in-insert_entry [] k v s = refl
+numbers_in-insert_entry (e ∷ es) k v s = elim (cases_order (byte_cmp k e.0)) [
+  | inl less ↦ ap (λ l. numbers_in l s) (entry_less e es k v less)
   | inr (inl equal) ↦
-      ap (λ l. numbers_of l s) (entry_equal e es k v equal)
-      ∙ ap (λ b. cond b v (numbers_of es s)) (ap (bytes_eq s) (sym (exact_bytes k e.0 equal)))
+      ap (λ l. numbers_in l s) (entry_equal e es k v equal)
+      ∙ ap (λ b. cond b v (numbers_in es s)) (ap (bytes_eq s) (sym (exact_bytes k e.0 equal)))
       ∙ elim (cases_Bool (bytes_eq s k)) [
         | inl t ↦ rw t refl
-        | inr f ↦ rw f (sym (numbers_of-tail e es s (λ same. bytes_eq-apart s k f (same ∙ sym (exact_bytes k e.0 equal)))))
+        | inr f ↦ rw f (sym (numbers_in-tail e es s (λ same. bytes_eq-apart s k f (same ∙ sym (exact_bytes k e.0 equal)))))
       ]
   | inr (inr greater) ↦
-      ap (λ l. numbers_of l s) (entry_greater e es k v greater)
-      ∙ ap (λ l. cond (bytes_eq s e.0) e.1 l) (numbers_of-insert_entry es k v s)
+      ap (λ l. numbers_in l s) (entry_greater e es k v greater)
+      ∙ ap (λ l. cond (bytes_eq s e.0) e.1 l) (numbers_in-insert_entry es k v s)
       ∙ elim (cases_Bool (bytes_eq s k)) [
         | inl t ↦
             let other : bytes_eq s e.0 ≡ false = bytes_eq-other s e.0 (λ same. apart_from_greater k e.0 greater (sym (bytes_eq-equal s k t) ∙ same)) in
@@ -131,7 +134,7 @@ numbers_of-insert_entry (e ∷ es) k v s = elim (cases_order (byte_cmp k e.0)) [
       ]
 ]
 
-pub AreEntries-insert_entry : (es : Sources) (k : List ℕ) (v : List Interval) → AreEntries es → IsEntry (k, v) → AreEntries (insert_entry byte_cmp es k v)
+pub AreEntries-insert_entry : (es : Entries) (k : List ℕ) (v : List Interval) → AreEntries es → IsEntry (k, v) → AreEntries (insert_entry byte_cmp es k v)
 AreEntries-insert_entry [] k v h new = (new, tt)
 AreEntries-insert_entry (e ∷ es) k v h new = elim (cases_order (byte_cmp k e.0)) [
   | inl less ↦ subst AreEntries (sym (entry_less e es k v less)) (new, h)
@@ -143,18 +146,18 @@ above_chain : (q k : List ℕ) (ks : List (List ℕ)) → byte_cmp q k ≡ Less 
 above_chain q k [] h a = tt
 above_chain q k (x ∷ xs) h a = (byte_cmp-chain q k x h a.0, above_chain q k xs h a.1)
 
-above_entry : (q : List ℕ) (es : Sources) (k : List ℕ) (v : List Interval) → AllByRecursion (λ y. byte_cmp q y ≡ Less) (keys_of es) → byte_cmp q k ≡ Less →
+above_entry : (q : List ℕ) (es : Entries) (k : List ℕ) (v : List Interval) → AllByRecursion (λ y. byte_cmp q y ≡ Less) (keys_of es) → byte_cmp q k ≡ Less →
     AllByRecursion (λ y. byte_cmp q y ≡ Less) (keys_of (insert_entry byte_cmp es k v))
 above_entry q [] k v h new = (new, tt)
 above_entry q (e ∷ es) k v h new =
-    let Above : Sources → Type 0 = λ l. AllByRecursion (λ y. byte_cmp q y ≡ Less) (keys_of l) in
+    let Above : Entries → Type 0 = λ l. AllByRecursion (λ y. byte_cmp q y ≡ Less) (keys_of l) in
     elim (cases_order (byte_cmp k e.0)) [
       | inl less ↦ subst Above (sym (entry_less e es k v less)) (new, h)
       | inr (inl equal) ↦ subst Above (sym (entry_equal e es k v equal)) h
       | inr (inr greater) ↦ subst Above (sym (entry_greater e es k v greater)) (h.0, above_entry q es k v h.1 new)
     ]
 
-pub InOrder-cons : (e : Entry) (es : Sources) → AllByRecursion (λ y. byte_cmp e.0 y ≡ Less) (keys_of es) → InOrder es → InOrder (e ∷ es)
+pub InOrder-cons : (e : Entry) (es : Entries) → AllByRecursion (λ y. byte_cmp e.0 y ≡ Less) (keys_of es) → InOrder es → InOrder (e ∷ es)
 unfolding IsStrictlySortedBy
 InOrder-cons e es h t = (h, t)
 
@@ -162,7 +165,7 @@ pub InOrder-nil : InOrder []
 unfolding IsStrictlySortedBy
 InOrder-nil = tt
 
-pub InOrder-insert_entry : (es : Sources) (k : List ℕ) (v : List Interval) → InOrder es → InOrder (insert_entry byte_cmp es k v)
+pub InOrder-insert_entry : (es : Entries) (k : List ℕ) (v : List Interval) → InOrder es → InOrder (insert_entry byte_cmp es k v)
 InOrder-insert_entry [] k v h = InOrder-cons (k, v) [] tt InOrder-nil
 InOrder-insert_entry (e ∷ es) k v h =
     let head = sorted_head byte_cmp e.0 (keys_of es) h in
@@ -173,15 +176,15 @@ InOrder-insert_entry (e ∷ es) k v h =
       | inr (inr greater) ↦ subst InOrder (sym (entry_greater e es k v greater)) (InOrder-cons e (insert_entry byte_cmp es k v) (above_entry e.0 es k v head (less_from_greater k e.0 greater)) (InOrder-insert_entry es k v tail))
     ]
 
-pub IsSummary-insert_entry : (es : Sources) (k : List ℕ) (v : List Interval) → IsSummary es → IsEntry (k, v) → IsSummary (insert_entry byte_cmp es k v)
-IsSummary-insert_entry es k v h new = (AreEntries-insert_entry es k v h.0 new, InOrder-insert_entry es k v h.1)
+pub AreListed-insert_entry : (es : Entries) (k : List ℕ) (v : List Interval) → AreListed es → IsEntry (k, v) → AreListed (insert_entry byte_cmp es k v)
+AreListed-insert_entry es k v h new = (AreEntries-insert_entry es k v h.0 new, InOrder-insert_entry es k v h.1)
 
 -- more numbers for the source
-pub holds_at-insert_entry : (es : Sources) (k : List ℕ) (v : List Interval) (f : ℕ → Bool) → ((m : ℕ) → holds v m ≡ (holds (numbers_of es k) m || f m))
-    → (s : List ℕ) (m : ℕ) → holds_at (insert_entry byte_cmp es k v) s m ≡ (holds_at es s m || (bytes_eq s k && f m))
-holds_at-insert_entry es k v f h s m =
-    ap (λ l. holds l m) (numbers_of-insert_entry es k v s) ∙ elim (cases_Bool (bytes_eq s k)) [
-      | inl t ↦ rw t (h m ∙ ap (λ x. holds_at es x m || f m) (sym (bytes_eq-equal s k t)))
+pub holds_in-insert_entry : (es : Entries) (k : List ℕ) (v : List Interval) (f : ℕ → Bool) → ((m : ℕ) → holds v m ≡ (holds (numbers_in es k) m || f m))
+    → (s : List ℕ) (m : ℕ) → holds_in (insert_entry byte_cmp es k v) s m ≡ (holds_in es s m || (bytes_eq s k && f m))
+holds_in-insert_entry es k v f h s m =
+    ap (λ l. holds l m) (numbers_in-insert_entry es k v s) ∙ elim (cases_Bool (bytes_eq s k)) [
+      | inl t ↦ rw t (h m ∙ ap (λ x. holds_in es x m || f m) (sym (bytes_eq-equal s k t)))
       | inr no_match ↦ rw no_match (sym (or-false _))
     ]
 
@@ -209,7 +212,7 @@ OnErr-along (Ok b) P Q f h = h
 OnErr-along (Err e) P Q f h = f h
 
 -- an entry of the list
-pub AreEntries-at : (es : Sources) (i : ℕ) → AreEntries es → i < length es → IsEntry (entry_at es i)
+pub AreEntries-at : (es : Entries) (i : ℕ) → AreEntries es → i < length es → IsEntry (entry_at es i)
 AreEntries-at [] i h hi = absurd (not-suc-le-zero hi)
 AreEntries-at (e ∷ es) zero h hi = h.0
 AreEntries-at (e ∷ es) (suc i) h hi = AreEntries-at es i h.1 (le_of_suc-le-suc hi)
@@ -228,18 +231,18 @@ found_above {Y} q bs (e ∷ es) v h f = elim (cases_Bool (bytes_eq bs (string_by
 ]
 
 -- the numbers of a source are those that the map has at it
-pub numbers_of-lookup : {Y : Type 0} (es : List (String Y × List Interval)) (bs : List ℕ) → numbers_of (sources_in es) bs ≡ unwrap_or (lookup (is_at (text_cmp bs)) es) []
-numbers_of-lookup [] bs = refl
-numbers_of-lookup (e ∷ es) bs =
+pub numbers_in-lookup : {Y : Type 0} (es : List (String Y × List Interval)) (bs : List ℕ) → numbers_in (sources_in es) bs ≡ unwrap_or (lookup (is_at (text_cmp bs)) es) []
+numbers_in-lookup [] bs = refl
+numbers_in-lookup (e ∷ es) bs =
     rw (is_eq-slice_cmp bs (string_bytes e.0)) (elim (cases_Bool (bytes_eq bs (string_bytes e.0))) [
       | inl t ↦ rw t refl
-      | inr f ↦ rw f (numbers_of-lookup es bs)
+      | inr f ↦ rw f (numbers_in-lookup es bs)
     ])
 
-pub numbers_at : {Y : Type 0} (es : List (String Y × List Interval)) (now : Sources) (bs source : List ℕ) (o : Option (List Interval)) → sources_in es ≡ now → bs ≡ source
-    → o ≡ lookup (is_at (text_cmp bs)) es → numbers_of now source ≡ unwrap_or o []
+pub numbers_at : {Y : Type 0} (es : List (String Y × List Interval)) (now : Entries) (bs source : List ℕ) (o : Option (List Interval)) → sources_in es ≡ now → bs ≡ source
+    → o ≡ lookup (is_at (text_cmp bs)) es → numbers_in now source ≡ unwrap_or o []
 numbers_at es now bs source o seen same found =
-    ap₂ numbers_of (sym seen) (sym same) ∙ numbers_of-lookup es bs ∙ ap (λ p. unwrap_or p []) (sym found)
+    ap₂ numbers_in (sym seen) (sym same) ∙ numbers_in-lookup es bs ∙ ap (λ p. unwrap_or p []) (sym found)
 
 pub entry_found : {Y : Type 0} (es : List (String Y × List Interval)) (bs : List ℕ) (v : List Interval) → AreEntries (sources_in es) → Some v ≡ lookup (is_at (text_cmp bs)) es → (v ≢ []) × IsCanonical v
 entry_found [] bs v h f = absurd (some_is_not_none v f)
@@ -257,17 +260,17 @@ entry_found (e ∷ es) bs v h f = elim (cases_Bool (is_at (text_cmp bs) e.0)) [
     same_some a b p = cc
 
 -- what a look-up in the map answers
-pub numbers_found : {Y : Type 0} (r : Option (Bor (List Interval))) (es : List (String Y × List Interval)) (now : Sources) (bs : List ℕ) → sources_in es ≡ now → option_copied r ≡ lookup (is_at (text_cmp bs)) es
-    → MatchOption r (numbers_of now bs ≡ []) (λ i. i.now ≡ numbers_of now bs)
+pub numbers_found : {Y : Type 0} (r : Option (Bor (List Interval))) (es : List (String Y × List Interval)) (now : Entries) (bs : List ℕ) → sources_in es ≡ now → option_copied r ≡ lookup (is_at (text_cmp bs)) es
+    → MatchOption r (numbers_in now bs ≡ []) (λ i. i.now ≡ numbers_in now bs)
 numbers_found None es now bs seen found = numbers_at es now bs bs None seen refl found
 numbers_found (Some i) es now bs seen found = sym (numbers_at es now bs bs (Some i.now) seen refl found)
 
-pub some_found : {Y : Type 0} (r : Option (Bor (List Interval))) (es : List (String Y × List Interval)) (bs : List ℕ) → IsSummary (sources_in es) → option_copied r ≡ lookup (is_at (text_cmp bs)) es
+pub some_found : {Y : Type 0} (r : Option (Bor (List Interval))) (es : List (String Y × List Interval)) (bs : List ℕ) → AreListed (sources_in es) → option_copied r ≡ lookup (is_at (text_cmp bs)) es
     → IfSome r (λ i. i.now ≢ [])
 some_found None es bs h found = search rules
 some_found (Some i) es bs h found = (entry_found es bs i.now h.0 found).0
 
-pub canonical_found : {Y : Type 0} (r : Option (Bor (List Interval))) (es : List (String Y × List Interval)) (bs : List ℕ) → IsSummary (sources_in es) → option_copied r ≡ lookup (is_at (text_cmp bs)) es
+pub canonical_found : {Y : Type 0} (r : Option (Bor (List Interval))) (es : List (String Y × List Interval)) (bs : List ℕ) → AreListed (sources_in es) → option_copied r ≡ lookup (is_at (text_cmp bs)) es
     → IfSome r (λ i. IsCanonical i.now)
 canonical_found None es bs h found = search rules
 canonical_found (Some i) es bs h found = (entry_found es bs i.now h.0 found).1
@@ -301,56 +304,56 @@ sources_in-set_value (e ∷ es) bs v w f h = elim (cases_order (byte_cmp bs (str
     less_not_greater o p q = cc
 
 -- a summary after a change at a source
-pub put_found : {Y : Type 0} (m n : List (String Y × List Interval)) (now : Sources) (bs source : List ℕ) (v w : List Interval) → sources_in m ≡ now → bs ≡ source → Some v ≡ lookup (is_at (text_cmp bs)) m
-    → IsSummary now → n ≡ set_value (is_at (text_cmp bs)) m w → sources_in n ≡ insert_entry byte_cmp now source w
+pub put_found : {Y : Type 0} (m n : List (String Y × List Interval)) (now : Entries) (bs source : List ℕ) (v w : List Interval) → sources_in m ≡ now → bs ≡ source → Some v ≡ lookup (is_at (text_cmp bs)) m
+    → AreListed now → n ≡ set_value (is_at (text_cmp bs)) m w → sources_in n ≡ insert_entry byte_cmp now source w
 put_found m n now bs source v w seen same found h is =
     ap sources_in is
     ∙ sources_in-set_value m bs v w (sym found) (subst InOrder (sym seen) h.1)
-    ∙ ap₂ (λ (l : Sources) (k : List ℕ). insert_entry byte_cmp l k w) seen same
+    ∙ ap₂ (λ (l : Entries) (k : List ℕ). insert_entry byte_cmp l k w) seen same
 
-pub put_new : {Y : Type 0} (m n : List (String Y × List Interval)) (now : Sources) (k : String Y) (source : List ℕ) (w : List Interval) → sources_in m ≡ now → string_bytes k ≡ source → n ≡ insert_entry string_cmp m k w
+pub put_new : {Y : Type 0} (m n : List (String Y × List Interval)) (now : Entries) (k : String Y) (source : List ℕ) (w : List Interval) → sources_in m ≡ now → string_bytes k ≡ source → n ≡ insert_entry string_cmp m k w
     → sources_in n ≡ insert_entry byte_cmp now source w
 put_new m n now k source w seen same is =
     ap sources_in is
     ∙ sources_in-insert_entry m k w
-    ∙ ap₂ (λ (l : Sources) (s : List ℕ). insert_entry byte_cmp l s w) seen same
+    ∙ ap₂ (λ (l : Entries) (s : List ℕ). insert_entry byte_cmp l s w) seen same
 
 -- where the map has nothing at the source
-pub absent_at : {Y : Type 0} (r : Option (MutBor (List Interval))) (m n : BTreeMap (String Y) (List Interval)) (now : Sources) (bs source : List ℕ) → sources_in m.entries ≡ now → bs ≡ source → r ≡ None
-    → option_copied_mut r ≡ lookup (is_at (text_cmp bs)) m.entries → n ≡ m → (numbers_of now source ≡ []) × (sources_in n.entries ≡ now)
+pub absent_at : {Y : Type 0} (r : Option (MutBor (List Interval))) (m n : BTreeMap (String Y) (List Interval)) (now : Entries) (bs source : List ℕ) → sources_in m.entries ≡ now → bs ≡ source → r ≡ None
+    → option_copied_mut r ≡ lookup (is_at (text_cmp bs)) m.entries → n ≡ m → (numbers_in now source ≡ []) × (sources_in n.entries ≡ now)
 absent_at r m n now bs source seen same none found kept =
     (numbers_at m.entries now bs source None seen same (sym (ap option_copied_mut none) ∙ found), ap (λ l. sources_in l.entries) kept ∙ seen)
 
 -- what was read, put back
-pub put_back : {Y : Type 0} (m n : List (String Y × List Interval)) (now : Sources) (bs : List ℕ) (v w : List Interval) → sources_in m ≡ now → Some v ≡ lookup (is_at (text_cmp bs)) m
+pub put_back : {Y : Type 0} (m n : List (String Y × List Interval)) (now : Entries) (bs : List ℕ) (v w : List Interval) → sources_in m ≡ now → Some v ≡ lookup (is_at (text_cmp bs)) m
     → n ≡ set_value (is_at (text_cmp bs)) m w → w ≡ v → sources_in n ≡ now
 put_back m n now bs v w seen found is same =
     ap sources_in (is ∙ ap (set_value (is_at (text_cmp bs)) m) same ∙ set_value_same (is_at (text_cmp bs)) m v (sym found)) ∙ seen
 
-pub IsSummary-put : (now new : Sources) (source : List ℕ) (w : List Interval) → IsSummary now → new ≡ insert_entry byte_cmp now source w → IsEntry (source, w) → IsSummary new
-IsSummary-put now new source w h put entry = subst IsSummary (sym put) (IsSummary-insert_entry now source w h entry)
+pub AreListed-put : (now new : Entries) (source : List ℕ) (w : List Interval) → AreListed now → new ≡ insert_entry byte_cmp now source w → IsEntry (source, w) → AreListed new
+AreListed-put now new source w h put entry = subst AreListed (sym put) (AreListed-insert_entry now source w h entry)
 
-pub holds_at-put : (now new : Sources) (source : List ℕ) (w : List Interval) (f : ℕ → Bool) → new ≡ insert_entry byte_cmp now source w → ((m : ℕ) → holds w m ≡ (holds (numbers_of now source) m || f m))
-    → (s : List ℕ) (m : ℕ) → holds_at new s m ≡ (holds_at now s m || (bytes_eq s source && f m))
-holds_at-put now new source w f put members s m =
-    ap (λ l. holds_at l s m) put ∙ holds_at-insert_entry now source w f members s m
+pub holds_in-put : (now new : Entries) (source : List ℕ) (w : List Interval) (f : ℕ → Bool) → new ≡ insert_entry byte_cmp now source w → ((m : ℕ) → holds w m ≡ (holds (numbers_in now source) m || f m))
+    → (s : List ℕ) (m : ℕ) → holds_in new s m ≡ (holds_in now s m || (bytes_eq s source && f m))
+holds_in-put now new source w f put members s m =
+    ap (λ l. holds_in l s m) put ∙ holds_in-insert_entry now source w f members s m
 
 -- an entry behind all others
-pub insert_entry-last : (es : Sources) (k : List ℕ) (v : List Interval) → EndsBefore es k → insert_entry byte_cmp es k v ≡ es ++ (k, v) ∷ []
+pub insert_entry-last : (es : Entries) (k : List ℕ) (v : List Interval) → EndsBefore es k → insert_entry byte_cmp es k v ≡ es ++ (k, v) ∷ []
 insert_entry-last [] k v h = refl
 insert_entry-last (e ∷ es) k v h =
     entry_greater e es k v (greater_from_less e.0 k (h zero (omega arith)))
     ∙ ap (λ l. e ∷ l) (insert_entry-last es k v (λ i hi. h (suc i) (omega arith)))
 
 -- ---- an entry behind all others
-ends_before_tail : (e : Entry) (es : Sources) (key : List ℕ) → EndsBefore (e ∷ es) key → EndsBefore es key
+ends_before_tail : (e : Entry) (es : Entries) (key : List ℕ) → EndsBefore (e ∷ es) key → EndsBefore es key
 ends_before_tail e es key h k hk = h (suc k) (omega arith)
 
 -- an entry at the end, above all others
-pub numbers_of-push : (es : Sources) (p : Entry) (s : List ℕ) → EndsBefore es p.0 → numbers_of (es ++ p ∷ []) s ≡ cond (bytes_eq s p.0) p.1 (numbers_of es s)
-numbers_of-push [] p s h = refl
-numbers_of-push (e ∷ es) p s h =
-    ap (λ l. cond (bytes_eq s e.0) e.1 l) (numbers_of-push es p s (ends_before_tail e es p.0 h)) ∙ elim (cases_Bool (bytes_eq s e.0)) [
+pub numbers_in-push : (es : Entries) (p : Entry) (s : List ℕ) → EndsBefore es p.0 → numbers_in (es ++ p ∷ []) s ≡ cond (bytes_eq s p.0) p.1 (numbers_in es s)
+numbers_in-push [] p s h = refl
+numbers_in-push (e ∷ es) p s h =
+    ap (λ l. cond (bytes_eq s e.0) e.1 l) (numbers_in-push es p s (ends_before_tail e es p.0 h)) ∙ elim (cases_Bool (bytes_eq s e.0)) [
       | inl t ↦
           let below : byte_cmp e.0 p.0 ≡ Less = h zero (omega arith) in
           let other : bytes_eq s p.0 ≡ false = elim (cases_Bool (bytes_eq s p.0)) [
@@ -362,101 +365,101 @@ numbers_of-push (e ∷ es) p s h =
     ]
 
 -- a source that is below none is absent
-numbers_of-before : (es : Sources) (s : List ℕ) → EndsBefore es s → numbers_of es s ≡ []
-numbers_of-before [] s h = refl
-numbers_of-before (e ∷ es) s h =
-    numbers_of-tail e es s (λ same. apart_from_less e.0 s (h zero (omega arith)) (sym same)) ∙ numbers_of-before es s (ends_before_tail e es s h)
+numbers_in-before : (es : Entries) (s : List ℕ) → EndsBefore es s → numbers_in es s ≡ []
+numbers_in-before [] s h = refl
+numbers_in-before (e ∷ es) s h =
+    numbers_in-tail e es s (λ same. apart_from_less e.0 s (h zero (omega arith)) (sym same)) ∙ numbers_in-before es s (ends_before_tail e es s h)
 
-pub holds_at-push : (es : Sources) (p : Entry) (s : List ℕ) (n : ℕ) → EndsBefore es p.0 → holds_at (es ++ p ∷ []) s n ≡ (holds_at es s n || (bytes_eq s p.0 && holds p.1 n))
-holds_at-push es p s n h =
-    ap (λ l. holds l n) (numbers_of-push es p s h) ∙ elim (cases_Bool (bytes_eq s p.0)) [
+pub holds_in-push : (es : Entries) (p : Entry) (s : List ℕ) (n : ℕ) → EndsBefore es p.0 → holds_in (es ++ p ∷ []) s n ≡ (holds_in es s n || (bytes_eq s p.0 && holds p.1 n))
+holds_in-push es p s n h =
+    ap (λ l. holds l n) (numbers_in-push es p s h) ∙ elim (cases_Bool (bytes_eq s p.0)) [
       | inl t ↦
-          let absent : holds_at es s n ≡ false = ap (holds_at es s) refl ∙ ap (λ x. holds_at es x n) (bytes_eq-equal s p.0 t) ∙ ap (λ l. holds l n) (numbers_of-before es p.0 h) ∙ holds-nil n in
+          let absent : holds_in es s n ≡ false = ap (holds_in es s) refl ∙ ap (λ x. holds_in es x n) (bytes_eq-equal s p.0 t) ∙ ap (λ l. holds l n) (numbers_in-before es p.0 h) ∙ holds-nil n in
           rw (t, absent) refl
       | inr f ↦ rw f (sym (or-false _))
     ]
 
-pub AreEntries-push : (es : Sources) (p : Entry) → AreEntries es → IsEntry p → AreEntries (es ++ p ∷ [])
+pub AreEntries-push : (es : Entries) (p : Entry) → AreEntries es → IsEntry p → AreEntries (es ++ p ∷ [])
 AreEntries-push [] p h new = (new, tt)
 AreEntries-push (e ∷ es) p h new = (h.0, AreEntries-push es p h.1 new)
 
-above_push : (q : List ℕ) (es : Sources) (p : Entry) → AllByRecursion (λ y. byte_cmp q y ≡ Less) (keys_of es) → byte_cmp q p.0 ≡ Less → AllByRecursion (λ y. byte_cmp q y ≡ Less) (keys_of (es ++ p ∷ []))
+above_push : (q : List ℕ) (es : Entries) (p : Entry) → AllByRecursion (λ y. byte_cmp q y ≡ Less) (keys_of es) → byte_cmp q p.0 ≡ Less → AllByRecursion (λ y. byte_cmp q y ≡ Less) (keys_of (es ++ p ∷ []))
 above_push q [] p h new = (new, tt)
 above_push q (e ∷ es) p h new = (h.0, above_push q es p h.1 new)
 
-pub InOrder-push : (es : Sources) (p : Entry) → InOrder es → EndsBefore es p.0 → InOrder (es ++ p ∷ [])
+pub InOrder-push : (es : Entries) (p : Entry) → InOrder es → EndsBefore es p.0 → InOrder (es ++ p ∷ [])
 InOrder-push [] p h new = InOrder-cons p [] tt InOrder-nil
 InOrder-push (e ∷ es) p h new =
     let head = sorted_head byte_cmp e.0 (keys_of es) h in
     let tail = sorted_tail byte_cmp e.0 (keys_of es) h in
     InOrder-cons e (es ++ p ∷ []) (above_push e.0 es p head (new zero (omega arith))) (InOrder-push es p tail (ends_before_tail e es p.0 new))
 
-pub IsSummary-push : (es : Sources) (p : Entry) → IsSummary es → IsEntry p → EndsBefore es p.0 → IsSummary (es ++ p ∷ [])
-IsSummary-push es p h new before = (AreEntries-push es p h.0 new, InOrder-push es p h.1 before)
+pub AreListed-push : (es : Entries) (p : Entry) → AreListed es → IsEntry p → EndsBefore es p.0 → AreListed (es ++ p ∷ [])
+AreListed-push es p h new before = (AreEntries-push es p h.0 new, InOrder-push es p h.1 before)
 
 -- ---- a pass over a summary
 -- an entry between a front and a rest
-pub entry_between : (es : Sources) (e : Entry) (rest : Sources) → AreEntries (es ++ e ∷ rest) → IsEntry e
+pub entry_between : (es : Entries) (e : Entry) (rest : Entries) → AreEntries (es ++ e ∷ rest) → IsEntry e
 entry_between [] e rest h = h.0
 entry_between (x ∷ es) e rest h = entry_between es e rest h.1
 
-pub before_between : (es : Sources) (e : Entry) (rest : Sources) → InOrder (es ++ e ∷ rest) → EndsBefore es e.0
+pub before_between : (es : Entries) (e : Entry) (rest : Entries) → InOrder (es ++ e ∷ rest) → EndsBefore es e.0
 before_between es e rest h k hk =
-    let whole : Sources = es ++ e ∷ rest in
+    let whole : Entries = es ++ e ∷ rest in
     let length_is : length whole ≡ length es + suc (length rest) = length-append es (e ∷ rest) in
     let at : byte_cmp (entry_at whole k).0 (entry_at whole (length es)).0 ≡ Less = InOrder-at whole k (length es) h hk (omega arith) in
     subst (λ (x : Entry). byte_cmp x.0 e.0 ≡ Less) (get_or-append-left es (e ∷ rest) k ([], []) hk)
     (subst (λ (x : Entry). byte_cmp (entry_at whole k).0 x.0 ≡ Less) (get_or-append-mid es (e ∷ rest)) at)
   where
-    get_or-append-left : (xs ys : Sources) (k : ℕ) (d : Entry) → k < length xs → get_or (xs ++ ys) k d ≡ get_or xs k d
+    get_or-append-left : (xs ys : Entries) (k : ℕ) (d : Entry) → k < length xs → get_or (xs ++ ys) k d ≡ get_or xs k d
     get_or-append-left [] ys k d h = absurd (not-suc-le-zero h)
     get_or-append-left (x ∷ xs) ys zero d h = refl
     get_or-append-left (x ∷ xs) ys (suc k) d h = get_or-append-left xs ys k d (le_of_suc-le-suc h)
 
-    get_or-append-mid : (xs ys : Sources) → get_or (xs ++ ys) (length xs) ([], []) ≡ get_or ys 0 ([], [])
+    get_or-append-mid : (xs ys : Entries) → get_or (xs ++ ys) (length xs) ([], []) ≡ get_or ys 0 ([], [])
     get_or-append-mid [] ys = refl
     get_or-append-mid (x ∷ xs) ys = get_or-append-mid xs ys
 
-numbers_of-between : (done : Sources) (e : Entry) (rest : Sources) → EndsBefore done e.0 → numbers_of (done ++ e ∷ rest) e.0 ≡ e.1
-numbers_of-between [] e rest h = numbers_of-head e rest e.0 refl
-numbers_of-between (d ∷ done) e rest h =
-    numbers_of-tail d (done ++ e ∷ rest) e.0 (λ same. apart_from_less d.0 e.0 (h zero (omega arith)) (sym same))
-    ∙ numbers_of-between done e rest (ends_before_tail d done e.0 h)
+numbers_in-between : (done : Entries) (e : Entry) (rest : Entries) → EndsBefore done e.0 → numbers_in (done ++ e ∷ rest) e.0 ≡ e.1
+numbers_in-between [] e rest h = numbers_in-head e rest e.0 refl
+numbers_in-between (d ∷ done) e rest h =
+    numbers_in-tail d (done ++ e ∷ rest) e.0 (λ same. apart_from_less d.0 e.0 (h zero (omega arith)) (sym same))
+    ∙ numbers_in-between done e rest (ends_before_tail d done e.0 h)
 
 -- the next entry of a pass that has done some entries and has others left
-pub record IsNext (all done : Sources) (e : Entry) : Type 0 where
+pub record IsNext (all done : Entries) (e : Entry) : Type 0 where
   pub is_entry : IsEntry e
   pub before : EndsBefore done e.0
-  pub numbers : numbers_of all e.0 ≡ e.1
+  pub numbers : numbers_in all e.0 ≡ e.1
 
-pub is_next : (all done left : Sources) (e : Entry) (rest : Sources) → IsSummary all → done ++ left ≡ all → left ≡ e ∷ rest → IsNext all done e
+pub is_next : (all done left : Entries) (e : Entry) (rest : Entries) → AreListed all → done ++ left ≡ all → left ≡ e ∷ rest → IsNext all done e
 is_next all done left e rest h split is =
     let whole : done ++ e ∷ rest ≡ all = ap (λ l. done ++ l) (sym is) ∙ split in
-    let summary : IsSummary (done ++ e ∷ rest) = subst IsSummary (sym whole) h in
+    let summary : AreListed (done ++ e ∷ rest) = subst AreListed (sym whole) h in
     let before : EndsBefore done e.0 = before_between done e rest summary.1 in record {
       is_entry = entry_between done e rest summary.0;
       before = before;
-      numbers = ap (λ l. numbers_of l e.0) (sym whole) ∙ numbers_of-between done e rest before;
+      numbers = ap (λ l. numbers_in l e.0) (sym whole) ∙ numbers_in-between done e rest before;
     }
 
 -- one entry more is done
-pub split_more : (all done left : Sources) (e : Entry) (rest : Sources) → done ++ left ≡ all → left ≡ e ∷ rest → (done ++ e ∷ []) ++ rest ≡ all
+pub split_more : (all done left : Entries) (e : Entry) (rest : Entries) → done ++ left ≡ all → left ≡ e ∷ rest → (done ++ e ∷ []) ++ rest ≡ all
 split_more all done left e rest split is = append_assoc done (e ∷ []) rest ∙ ap (λ l. done ++ l) (sym is) ∙ split
 
 -- all entries are done
-pub split_all : (all done left : Sources) → done ++ left ≡ all → left ≡ [] → done ≡ all
+pub split_all : (all done left : Entries) → done ++ left ≡ all → left ≡ [] → done ≡ all
 split_all all done left split none = sym (append-nil done) ∙ ap (λ l. done ++ l) (sym none) ∙ split
 
 pub IsEntry-along : (s t : List ℕ) (v w : List Interval) → s ≡ t → v ≡ w → IsEntry (t, w) → IsEntry (s, v)
 IsEntry-along s t v w p q h = subst IsEntry (sym (ap₂ (λ (a : List ℕ) (b : List Interval). (a, b)) p q)) h
 
 -- an entry more in a copy
-pub copied_more : (all own new left : Sources) (s t : List ℕ) (v w : List Interval) (rest : Sources) → own ++ left ≡ all → left ≡ (t, w) ∷ rest → s ≡ t → v ≡ w → new ≡ own ++ (s, v) ∷ [] → new ++ rest ≡ all
+pub copied_more : (all own new left : Entries) (s t : List ℕ) (v w : List Interval) (rest : Entries) → own ++ left ≡ all → left ≡ (t, w) ∷ rest → s ≡ t → v ≡ w → new ≡ own ++ (s, v) ∷ [] → new ++ rest ≡ all
 copied_more all own new left s t v w rest split is p q made =
     ap (λ l. l ++ rest) (made ∙ ap₂ (λ (a : List ℕ) (b : List Interval). own ++ (a, b) ∷ []) p q) ∙ split_more all own left (t, w) rest split is
 
 -- an entry more in a list of references
-pub listed_more : {Y : Type 0} (all : Sources) (items new : List (Bor (List ℕ) × Bor (List Interval))) (left : Sources) (x : Bor (List ℕ) × Bor (List Interval)) (k : String Y) (rest : Sources)
+pub listed_more : {Y : Type 0} (all : Entries) (items new : List (Bor (List ℕ) × Bor (List Interval))) (left : Entries) (x : Bor (List ℕ) × Bor (List Interval)) (k : String Y) (rest : Entries)
     → map deref_pair items ++ left ≡ all → left ≡ (string_bytes k, x.1.now) ∷ rest → x.0.now ≡ string_bytes k → new ≡ items ++ x ∷ [] → map deref_pair new ++ rest ≡ all
 listed_more all items new left x k rest split is same made =
     ap (λ l. map deref_pair l ++ rest) made
@@ -468,10 +471,10 @@ listed_more all items new left x k rest split is same made =
     map-push (y ∷ ys) = ap (λ l. deref_pair y ∷ l) (map-push ys)
 
 -- the key at a place is the source there
-pub source_at_key : {Y : Type 0} (es : List (String Y × List Interval)) (now : Sources) (i : ℕ) (key : Bor (String Y)) (text : List ℕ) → sources_in es ≡ now → Some key.now ≡ slice_get (keys_of es) i → text ≡ string_bytes key.now
-    → slice_get (sources_of now) i ≡ Some text
+pub source_at_key : {Y : Type 0} (es : List (String Y × List Interval)) (now : Entries) (i : ℕ) (key : Bor (String Y)) (text : List ℕ) → sources_in es ≡ now → Some key.now ≡ slice_get (keys_of es) i → text ≡ string_bytes key.now
+    → slice_get (names_in now) i ≡ Some text
 source_at_key es now i key text seen at same =
-    ap (λ l. slice_get (sources_of l) i) (sym seen) ∙ go es i key.now (sym at) ∙ ap (λ t. Some t) (sym same)
+    ap (λ l. slice_get (names_in l) i) (sym seen) ∙ go es i key.now (sym at) ∙ ap (λ t. Some t) (sym same)
   where
     same_key : {Z : Type 0} (x y : String Z) → Some x ≡ Some y → x ≡ y
     same_key x y p = cc
@@ -479,7 +482,7 @@ source_at_key es now i key text seen at same =
     none_is_some : {Z : Type 0} (x : String Z) → None ≡ Some x → ⊥
     none_is_some x p = cc
 
-    go : {Z : Type 0} (ds : List (String Z × List Interval)) (k : ℕ) (x : String Z) → slice_get (keys_of ds) k ≡ Some x → slice_get (sources_of (sources_in ds)) k ≡ Some (string_bytes x)
+    go : {Z : Type 0} (ds : List (String Z × List Interval)) (k : ℕ) (x : String Z) → slice_get (keys_of ds) k ≡ Some x → slice_get (names_in (sources_in ds)) k ≡ Some (string_bytes x)
     go [] k x h = absurd (none_is_some x h)
     go (d ∷ ds) zero x h = ap (λ y. Some (string_bytes y)) (same_key d.0 x h)
     go (d ∷ ds) (suc k) x h = go ds k x h

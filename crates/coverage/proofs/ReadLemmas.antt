@@ -5,7 +5,7 @@ use Rattle.std.proofs.lemmas.Bool.{and_parts, and_from, both_ways, cases_lt}
 use Rattle.std.specs.declared.cmp.Ordering.TheVariants.{Less}
 use Rattle.coverage.specs.steps.Places.{entry_at, EndsBefore}
 use Rattle.coverage.specs.steps.Entries.{entry_in, sources_in}
-use Rattle.coverage.proofs.EntriesLemmas.{byte_cmp-chain, InOrder-at, InOrder-nil, IsSummary-push, entry_between, before_between}
+use Rattle.coverage.proofs.EntriesLemmas.{byte_cmp-chain, InOrder-at, InOrder-nil, AreListed-push, entry_between, before_between}
 use Rattle.std.specs.List.{slice_get}
 use Rattle.std.specs.String.{string_bytes}
 use Rattle.std.specs.declared.string.String.{String}
@@ -15,13 +15,13 @@ use Rattle.std.specs.Map.{lookup}
 use Rattle.std.specs.BTreeMap.{is_at}
 use Rattle.attributes.specs.Character.{is_filled}
 use Rattle.serde_json.specs.Data.{Data, array, object, Items, no_items, item, Members, no_members, member}
-use Rattle.serde_json.specs.Find.{get, as_object}
+use Rattle.serde_json.specs.Find.{get, get_member, as_object}
 use Rattle.serde_json.specs.View.{view, members_view}
 use Rattle.serde_json.specs.declared.value.Value.{Value}
 use Rattle.serde_json.proofs.Views.{view-lookup}
 use Rattle.coverage.specs.Intervals.{Interval, max_sequence, fits_from, rises_from, IsCanonical}
-use Rattle.coverage.specs.Summary.{byte_cmp, Entry, Sources, IsEntry, IsSummary}
-use Rattle.coverage.specs.SummaryText.{interval_data, intervals_items, sources_members, summary_data}
+use Rattle.coverage.specs.Numbers.{byte_cmp, Entry, Entries, IsEntry, AreListed}
+use Rattle.coverage.specs.NumbersText.{interval_data, intervals_items, sources_members, numbers_data}
 use Rattle.coverage.specs.SummaryShape.{interval_in}
 use Rattle.coverage.proofs.ShapeLemmas.{object_of}
 use Rattle.coverage.proofs.HoldsLemmas.{next_free, next_free-push, next_free-nil, rises_from-nil, rises_from-cons, rises_from-push, fits_from-true}
@@ -134,7 +134,7 @@ length-sources_in : {Y : Type 0} (es : List (String Y × List Interval)) → len
 length-sources_in [] = refl
 length-sources_in (e ∷ es) = ap suc (length-sources_in es)
 
-pub ends_before_last : {Y : Type 0} (es : List (String Y × List Interval)) (now : Sources) (e : String Y × List Interval) (key : List ℕ) → sources_in es ≡ now → IsSummary now → slice_get es (length es - 1) ≡ Some e
+pub ends_before_last : {Y : Type 0} (es : List (String Y × List Interval)) (now : Entries) (e : String Y × List Interval) (key : List ℕ) → sources_in es ≡ now → AreListed now → slice_get es (length es - 1) ≡ Some e
     → byte_cmp (string_bytes e.0) key ≡ Less → EndsBefore now key
 ends_before_last es now e key seen h last less k hk =
     let at = at_place es (length es - 1) e last in
@@ -147,39 +147,42 @@ ends_before_last es now e key seen h last less k hk =
       | inr ge ↦ let same : length es - 1 ≡ k = omega arith in subst (λ j. byte_cmp (entry_at now j).0 key ≡ Less) same here
     ]
 
-pub last_before : {Y : Type 0} (es : List (String Y × List Interval)) (now : Sources) (e : String Y × List Interval) (key : List ℕ) → sources_in es ≡ now → slice_get es (length es - 1) ≡ Some e → EndsBefore now key
+pub last_before : {Y : Type 0} (es : List (String Y × List Interval)) (now : Entries) (e : String Y × List Interval) (key : List ℕ) → sources_in es ≡ now → slice_get es (length es - 1) ≡ Some e → EndsBefore now key
     → byte_cmp (string_bytes e.0) key ≡ Less
 last_before es now e key seen last before =
     let at = at_place es (length es - 1) e last in
     let inside : length es - 1 < length now = subst (λ n. length es - 1 < n) (ap length seen) at.0 in
     subst (λ (x : Entry). byte_cmp x.0 key ≡ Less) (ap (λ l. entry_at l (length es - 1)) (sym seen) ∙ at.1) (before (length es - 1) inside)
 
-pub ends_before_none : {Y : Type 0} (es : List (String Y × List Interval)) (now : Sources) (key : List ℕ) → sources_in es ≡ now → (0 < length es → ⊥) → EndsBefore now key
+pub ends_before_none : {Y : Type 0} (es : List (String Y × List Interval)) (now : Entries) (key : List ℕ) → sources_in es ≡ now → (0 < length es → ⊥) → EndsBefore now key
 ends_before_none es now key seen none k hk =
     let n : length now ≡ length es = ap length (sym seen) ∙ length-sources_in es in
     absurd (none (omega arith))
 
 -- ---- the member `sources`
 -- a summary is an object
-pub summary_data-object : (d : Data) (s : Sources) → None ≡ as_object d → d ≡ summary_data s → ⊥
-summary_data-object d s none is = let clash : None ≡ as_object (summary_data s) = none ∙ ap as_object is in cc clash
+pub numbers_data-object : (d : Data) (s : Entries) → None ≡ as_object d → d ≡ numbers_data s → ⊥
+numbers_data-object d s none is = let clash : None ≡ as_object (numbers_data s) = none ∙ ap as_object is in cc clash
 
--- the one that is taken out of it has its sources
-pub sources_taken : (d : Data) (s : Sources) (ms : List (String Global × Value)) (o : Option Value) → Some (members_view ms) ≡ as_object d
-    → o ≡ lookup (is_at (λ (k : String Global). byte_cmp (codes "sources") (string_bytes k))) ms → d ≡ summary_data s → option_map view o ≡ Some (object (sources_members s))
-sources_taken d s ms o members taken is =
-    ap (option_map view) taken ∙ view-lookup (codes "sources") ms ∙ ap (get (codes "sources")) (sym (object_of d (members_view ms) members) ∙ is)
+-- its members have its sources
+pub numbers_member : (d : Data) (s : Entries) (ms : Members) → Some ms ≡ as_object d → d ≡ numbers_data s → get_member (codes "sources") ms ≡ Some (object (sources_members s))
+numbers_member d s ms members is = ap (get (codes "sources")) (sym (object_of d ms members) ∙ is)
 
-pub some_taken : (s : Sources) (o : Option Value) → None ≡ o → option_map view o ≡ Some (object (sources_members s)) → ⊥
+-- and so has the one that is taken out of them
+pub sources_taken : (s : Entries) (ms : List (String Global × Value)) (o : Option Value) → o ≡ lookup (is_at (λ (k : String Global). byte_cmp (codes "sources") (string_bytes k))) ms
+    → get_member (codes "sources") (members_view ms) ≡ Some (object (sources_members s)) → option_map view o ≡ Some (object (sources_members s))
+sources_taken s ms o taken there = ap (option_map view) taken ∙ view-lookup (codes "sources") ms ∙ there
+
+pub some_taken : (s : Entries) (o : Option Value) → None ≡ o → option_map view o ≡ Some (object (sources_members s)) → ⊥
 some_taken s o none taken = let clash : None ≡ Some (object (sources_members s)) = ap (option_map view) none ∙ taken in cc clash
 
-pub object_taken : (s : Sources) (v : Value) → None ≡ as_object (view v) → option_map view (Some v) ≡ Some (object (sources_members s)) → ⊥
+pub object_taken : (s : Entries) (v : Value) → None ≡ as_object (view v) → option_map view (Some v) ≡ Some (object (sources_members s)) → ⊥
 object_taken s v none taken =
     let is : view v ≡ object (sources_members s) = cc taken in
     let clash : None ≡ Some (sources_members s) = none ∙ ap as_object is in
     cc clash
 
-pub members_taken : (s : Sources) (v : Value) (ms : Members) → Some ms ≡ as_object (view v) → option_map view (Some v) ≡ Some (object (sources_members s)) → ms ≡ sources_members s
+pub members_taken : (s : Entries) (v : Value) (ms : Members) → Some ms ≡ as_object (view v) → option_map view (Some v) ≡ Some (object (sources_members s)) → ms ≡ sources_members s
 members_taken s v ms some taken =
     let is : view v ≡ object (sources_members s) = cc taken in
     let same : Some ms ≡ Some (sources_members s) = some ∙ ap as_object is in
@@ -188,39 +191,39 @@ members_taken s v ms some taken =
 -- ---- entries
 -- the entries that were read, and that they are the front of every summary of which the members
 -- are the JSON
-pub record ReadsEntriesUpTo (all_members : Members) (entries : Sources) (left : Members) : Type 0 where
-  pub summary : IsSummary entries
-  pub rest : (s : Sources) → IsSummary s → all_members ≡ sources_members s → (t : Sources) × ((s ≡ entries ++ t) × (left ≡ sources_members t))
+pub record ReadsEntriesUpTo (all_members : Members) (entries : Entries) (left : Members) : Type 0 where
+  pub summary : AreListed entries
+  pub rest : (s : Entries) → AreListed s → all_members ≡ sources_members s → (t : Entries) × ((s ≡ entries ++ t) × (left ≡ sources_members t))
 
-pub entries_none : (all_members : Members) (entries : Sources) (left : Members) → entries ≡ [] → left ≡ all_members → ReadsEntriesUpTo all_members entries left
+pub entries_none : (all_members : Members) (entries : Entries) (left : Members) → entries ≡ [] → left ≡ all_members → ReadsEntriesUpTo all_members entries left
 entries_none all_members entries left e same = subst (λ l. ReadsEntriesUpTo all_members l left) (sym e) (record {
   summary = (tt, InOrder-nil);
   rest = λ s h is. (s, (refl, same ∙ is));
 })
 
-next_member : (k : List ℕ) (d : Data) (ms : Members) (t : Sources) → member k d ms ≡ sources_members t → (e : Entry) × ((rest : Sources) × ((t ≡ e ∷ rest) × (k ≡ e.0) × (d ≡ array (intervals_items e.1)) × (ms ≡ sources_members rest)))
+next_member : (k : List ℕ) (d : Data) (ms : Members) (t : Entries) → member k d ms ≡ sources_members t → (e : Entry) × ((rest : Entries) × ((t ≡ e ∷ rest) × (k ≡ e.0) × (d ≡ array (intervals_items e.1)) × (ms ≡ sources_members rest)))
 next_member k d ms [] h = absurd (cc)
 next_member k d ms (e ∷ t) h = (e, (t, (refl, cc, cc, cc)))
 
 -- what is known of the next entry of each such summary
-pub next_entry : (all_members : Members) (entries : Sources) (left : Members) (k : List ℕ) (d : Data) (ms : Members) → ReadsEntriesUpTo all_members entries left → left ≡ member k d ms
-    → (s : Sources) → IsSummary s → all_members ≡ sources_members s
-    → (e : Entry) × ((rest : Sources) × ((s ≡ entries ++ e ∷ rest) × (k ≡ e.0) × (d ≡ array (intervals_items e.1)) × (ms ≡ sources_members rest) × IsEntry e × EndsBefore entries e.0))
+pub next_entry : (all_members : Members) (entries : Entries) (left : Members) (k : List ℕ) (d : Data) (ms : Members) → ReadsEntriesUpTo all_members entries left → left ≡ member k d ms
+    → (s : Entries) → AreListed s → all_members ≡ sources_members s
+    → (e : Entry) × ((rest : Entries) × ((s ≡ entries ++ e ∷ rest) × (k ≡ e.0) × (d ≡ array (intervals_items e.1)) × (ms ≡ sources_members rest) × IsEntry e × EndsBefore entries e.0))
 next_entry all_members entries left k d ms r is s h e =
     let w = r.rest s h e in
     let n = next_member k d ms w.0 (sym is ∙ w.1.1) in
     let split : s ≡ entries ++ n.0 ∷ n.1.0 = w.1.0 ∙ ap (λ l. entries ++ l) n.1.1.0 in
-    let whole : IsSummary (entries ++ n.0 ∷ n.1.0) = subst IsSummary split h in
+    let whole : AreListed (entries ++ n.0 ∷ n.1.0) = subst AreListed split h in
     (n.0, (n.1.0, (split, n.1.1.1, n.1.1.2, n.1.1.3, entry_between entries n.0 n.1.0 whole.0, before_between entries n.0 n.1.0 whole.1)))
 
 -- an answer about the intervals of which the data is the JSON
 abbrev pub IsCompleteFor : Data → Option (List Interval) → Type 0
 IsCompleteFor d o = (ps : List Interval) → IsCanonical ps → d ≡ array (intervals_items ps) → IsSomeAnd o (λ i. i ≡ ps)
 
-pub entries_more : (all_members : Members) (entries new : Sources) (left : Members) (k : List ℕ) (d : Data) (ms : Members) (p : Entry) → ReadsEntriesUpTo all_members entries left → left ≡ member k d ms
+pub entries_more : (all_members : Members) (entries new : Entries) (left : Members) (k : List ℕ) (d : Data) (ms : Members) (p : Entry) → ReadsEntriesUpTo all_members entries left → left ≡ member k d ms
     → IsCompleteFor d (Some p.1) → p.0 ≡ k → IsEntry p → EndsBefore entries p.0 → new ≡ entries ++ p ∷ [] → ReadsEntriesUpTo all_members new ms
 entries_more all_members entries new left k d ms p r is complete key entry before made = subst (λ l. ReadsEntriesUpTo all_members l ms) (sym made) (record {
-  summary = IsSummary-push entries p r.summary entry before;
+  summary = AreListed-push entries p r.summary entry before;
   rest = λ s h e.
       let w = next_entry all_members entries left k d ms r is s h e in
       let found = w.1.1 in
@@ -230,13 +233,13 @@ entries_more all_members entries new left k d ms p r is complete key entry befor
 })
 
 -- no summary has these members
-pub entries_no_numbers : (all_members : Members) (entries : Sources) (left : Members) (k : List ℕ) (d : Data) (ms : Members) → ReadsEntriesUpTo all_members entries left → left ≡ member k d ms → IsCompleteFor d None
-    → (s : Sources) → IsSummary s → all_members ≡ sources_members s → ⊥
+pub entries_no_numbers : (all_members : Members) (entries : Entries) (left : Members) (k : List ℕ) (d : Data) (ms : Members) → ReadsEntriesUpTo all_members entries left → left ≡ member k d ms → IsCompleteFor d None
+    → (s : Entries) → AreListed s → all_members ≡ sources_members s → ⊥
 entries_no_numbers all_members entries left k d ms r is complete s h e =
     let w = next_entry all_members entries left k d ms r is s h e in complete w.0.1 w.1.1.4.3 w.1.1.2
 
-pub entries_no_next : (all_members : Members) (entries : Sources) (left : Members) (k : List ℕ) (d : Data) (ms : Members) (p : Entry) → ReadsEntriesUpTo all_members entries left → left ≡ member k d ms → IsCompleteFor d (Some p.1) → p.0 ≡ k
-    → ((is_filled p.0 ≡ true) × (p.1 ≢ []) × EndsBefore entries p.0 → ⊥) → (s : Sources) → IsSummary s → all_members ≡ sources_members s → ⊥
+pub entries_no_next : (all_members : Members) (entries : Entries) (left : Members) (k : List ℕ) (d : Data) (ms : Members) (p : Entry) → ReadsEntriesUpTo all_members entries left → left ≡ member k d ms → IsCompleteFor d (Some p.1) → p.0 ≡ k
+    → ((is_filled p.0 ≡ true) × (p.1 ≢ []) × EndsBefore entries p.0 → ⊥) → (s : Entries) → AreListed s → all_members ≡ sources_members s → ⊥
 entries_no_next all_members entries left k d ms p r is complete key wrong s h e =
     let w = next_entry all_members entries left k d ms r is s h e in
     let found = w.1.1 in
@@ -244,11 +247,11 @@ entries_no_next all_members entries left k d ms p r is complete key wrong s h e 
     let entry : IsEntry p = subst IsEntry same found.4 in
     wrong (entry.1, entry.2, subst (λ (q : Entry). EndsBefore entries q.0) same found.5)
 
-pub entries_all : (all_members : Members) (entries : Sources) (left : Members) → ReadsEntriesUpTo all_members entries left → left ≡ no_members → (s : Sources) → IsSummary s → all_members ≡ sources_members s → entries ≡ s
+pub entries_all : (all_members : Members) (entries : Entries) (left : Members) → ReadsEntriesUpTo all_members entries left → left ≡ no_members → (s : Entries) → AreListed s → all_members ≡ sources_members s → entries ≡ s
 entries_all all_members entries left r is s h e =
     let w = r.rest s h e in
     sym (w.1.0 ∙ ap (λ l. entries ++ l) (no_more w.0 (sym is ∙ w.1.1)) ∙ append-nil entries)
   where
-    no_more : (t : Sources) → no_members ≡ sources_members t → t ≡ []
+    no_more : (t : Entries) → no_members ≡ sources_members t → t ≡ []
     no_more [] g = refl
     no_more (q ∷ t) g = absurd (cc)

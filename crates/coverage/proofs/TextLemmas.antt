@@ -1,67 +1,75 @@
 -- What a text's value says of the bytes.
-use Rattle.std.proofs.Common.{◌≡◌, ℕ, ◌&&◌, true, List, [], ◌∷◌, Option, Some, None, refl, sym, ap, subst, ◌∙◌}
-use Rattle.std.specs.Str.{IsUtf8}
+use Rattle.std.proofs.Common.{◌≡◌, ◌&&◌, true, List, [], ◌∷◌, ℕ, Some, None, refl, sym, ap, ap₂, ◌∙◌}
 use Rattle.serde_json.specs.Data.{Data}
 use Rattle.serde_json.specs.Read.{read}
 use Rattle.attributes.specs.JsonText.{IsJsonText}
+use Rattle.coverage.specs.BlockDigests.{AreDigests, Blocks, SourceBlocks}
+use Rattle.coverage.specs.DigestsText.{blocks_items, blocks_members, digests_data, digests_text}
 use Rattle.coverage.specs.Intervals.{Interval}
-use Rattle.coverage.specs.Summary.{Sources, IsSummary}
-use Rattle.coverage.specs.SummaryText.{intervals_items, sources_members, summary_data, summary_text}
-use Rattle.coverage.specs.SummaryShape.{version_of, are_pairs, are_lists, is_shaped}
-use Rattle.coverage.specs.Refusals.{IsSummaryText}
-use Rattle.coverage.proofs.RoundLemmas.{read-summary_text, IsUtf8-summary_text, read_is_data}
-
--- a summary's text is JSON
-pub is_json : (bytes : List ℕ) → IsSummaryText bytes → (IsUtf8 bytes → read bytes ≡ None) → ⊥
-is_json bytes is none =
-    let utf8 : IsUtf8 bytes = subst IsUtf8 (sym is.1.1) (IsUtf8-summary_text is.0 is.1.0) in
-    none_is_not_some (read bytes) _ (none utf8) (ap read is.1.1 ∙ read-summary_text is.0 is.1.0)
-  where
-    none_is_not_some : (o : Option Data) (d : Data) → o ≡ None → o ≡ Some d → ⊥
-    none_is_not_some o d p q = cc
+use Rattle.coverage.specs.Numbers.{Entries, AreListed}
+use Rattle.coverage.specs.NumbersText.{intervals_items, sources_members, numbers_data, numbers_text}
+use Rattle.coverage.specs.Refusals.{IsNoSummaryText}
+use Rattle.coverage.specs.SummaryShape.{version_of, are_block_lists, are_blocks, are_pairs, are_lists, is_shaped, is_shaped_with_blocks}
+use Rattle.coverage.proofs.DigestsRoundLemmas.{read-digests_text}
+use Rattle.coverage.proofs.FitLemmas.{fit_from_digests}
+use Rattle.coverage.proofs.RoundLemmas.{read_is_data, same_data}
+use Rattle.coverage.proofs.SummaryTextLemmas.{first_of, second_of}
 
 pairs_of_intervals : (ps : List Interval) → are_pairs (intervals_items ps) ≡ true
 pairs_of_intervals [] = refl
 pairs_of_intervals (p ∷ ps) = pairs_of_intervals ps
 
-lists_of_sources : (es : Sources) → are_lists (sources_members es) ≡ true
+lists_of_sources : (es : Entries) → are_lists (sources_members es) ≡ true
 lists_of_sources [] = refl
 lists_of_sources (e ∷ es) = ap (λ b. b && are_lists (sources_members es)) (pairs_of_intervals e.1) ∙ lists_of_sources es
 
-pub version_of-summary_data : (s : Sources) → version_of (summary_data s) ≡ Some 1
-version_of-summary_data s = refl
+shapes_of_blocks : (bs : Blocks) → are_blocks (blocks_items bs) ≡ true
+shapes_of_blocks [] = refl
+shapes_of_blocks (b ∷ bs) = shapes_of_blocks bs
 
-pub is_shaped-summary_data : (s : Sources) → is_shaped (summary_data s) ≡ true
-is_shaped-summary_data s = lists_of_sources s
+lists_of_blocks : (ds : SourceBlocks) → are_block_lists (blocks_members ds) ≡ true
+lists_of_blocks [] = refl
+lists_of_blocks (d ∷ ds) = ap (λ b. b && are_block_lists (blocks_members ds)) (shapes_of_blocks d.1) ∙ lists_of_blocks ds
 
--- the value of a summary's text
-pub data_of_text : (bytes : List ℕ) (d : Data) (is : IsSummaryText bytes) → IsJsonText bytes d → d ≡ summary_data is.0
-data_of_text bytes d is parses = read_is_data bytes d is.0 is.1.0 parses.1 is.1.1
+-- ---- version 1
+-- where no numbers have the value, no summary has the text
+pub no_first : (bytes : List ℕ) (d : Data) → IsJsonText bytes d → version_of d ≡ Some 1 → ((s : Entries) → AreListed s → d ≡ numbers_data s → ⊥) → IsNoSummaryText bytes
+no_first bytes d parses v none s h e = let w = first_of bytes d s h e parses v in none s.entries h.listed w.1.1
 
-pub has_version : (bytes : List ℕ) (d : Data) → IsSummaryText bytes → IsJsonText bytes d → version_of d ≡ Some 1
-has_version bytes d is parses = ap version_of (data_of_text bytes d is parses) ∙ version_of-summary_data is.0
+-- where the only numbers that have the value have another text, no summary has the text
+pub other_first : (bytes text : List ℕ) (d : Data) (found : Entries) → IsJsonText bytes d → version_of d ≡ Some 1 → ((s : Entries) → AreListed s → d ≡ numbers_data s → found ≡ s) → text ≡ numbers_text found → (text ≡ bytes → ⊥)
+    → IsNoSummaryText bytes
+other_first bytes text d found parses v only is differs s h e =
+    let w = first_of bytes d s h e parses v in
+    differs (is ∙ ap numbers_text (only s.entries h.listed w.1.1) ∙ sym w.1.0)
 
-pub has_summary_shape : (bytes : List ℕ) (d : Data) → IsSummaryText bytes → IsJsonText bytes d → is_shaped d ≡ true
-has_summary_shape bytes d is parses = ap is_shaped (data_of_text bytes d is parses) ∙ is_shaped-summary_data is.0
+pub as_first : (bytes : List ℕ) → IsNoSummaryText bytes → (s : Entries) → AreListed s → bytes ≡ numbers_text s → ⊥
+as_first bytes none s h e = none (record { entries = s; digests = None }) (record { listed = h; digests = tt }) e
 
-pub no_version : (bytes : List ℕ) (d : Data) → IsSummaryText bytes → IsJsonText bytes d → None ≡ version_of d → ⊥
-no_version bytes d is parses none = differ (version_of d) (sym none) (has_version bytes d is parses)
-  where
-    differ : (o : Option ℕ) → o ≡ None → o ≡ Some 1 → ⊥
-    differ o p q = cc
+pub shape_of_first : (bytes : List ℕ) (d : Data) (s : Entries) → IsJsonText bytes d → AreListed s → bytes ≡ numbers_text s → is_shaped d ≡ true
+shape_of_first bytes d s parses h e = ap is_shaped (read_is_data bytes d s h parses.1 e) ∙ lists_of_sources s
 
-pub other_version : (bytes : List ℕ) (d : Data) (v : ℕ) → IsSummaryText bytes → IsJsonText bytes d → Some v ≡ version_of d → (v ≡ 1 → ⊥) → ⊥
-other_version bytes d v is parses found other = other (same v 1 (found ∙ has_version bytes d is parses))
-  where
-    same : (a b : ℕ) → Some a ≡ Some b → a ≡ b
-    same a b h = cc
+-- ---- version 2
+pub no_second : (bytes : List ℕ) (d : Data) → IsJsonText bytes d → version_of d ≡ Some 2 → ((es : Entries) (ds : SourceBlocks) → AreListed es → AreDigests es ds → d ≡ digests_data es ds → ⊥) → IsNoSummaryText bytes
+no_second bytes d parses v none s h e = let w = second_of bytes d s h e parses v in none s.entries w.0 h.listed w.1.1 w.1.3
 
--- where no summary has the value, no summary has the text
-pub no_summary_text : (bytes : List ℕ) (d : Data) → IsJsonText bytes d → ((s : Sources) → IsSummary s → d ≡ summary_data s → ⊥) → (s : Sources) → IsSummary s → bytes ≡ summary_text s → ⊥
-no_summary_text bytes d parses none s h e = none s h (read_is_data bytes d s h parses.1 e)
+pub other_second : (bytes text : List ℕ) (d : Data) (found : Entries) (digests : SourceBlocks) → IsJsonText bytes d → version_of d ≡ Some 2
+    → ((es : Entries) (ds : SourceBlocks) → AreListed es → AreDigests es ds → d ≡ digests_data es ds → (found ≡ es) × (digests ≡ ds)) → text ≡ digests_text found digests → (text ≡ bytes → ⊥) → IsNoSummaryText bytes
+other_second bytes text d found digests parses v only is differs s h e =
+    let w = second_of bytes d s h e parses v in
+    let one = only s.entries w.0 h.listed w.1.1 w.1.3 in
+    differs (is ∙ ap₂ digests_text one.0 one.1 ∙ sym w.1.2)
 
--- where the only summary that has the value has another text, no summary has the text
-pub no_other_text : (bytes text : List ℕ) (d : Data) (found : Sources) → IsJsonText bytes d → ((s : Sources) → IsSummary s → d ≡ summary_data s → found ≡ s) → text ≡ summary_text found → (text ≡ bytes → ⊥)
-    → (s : Sources) → IsSummary s → bytes ≡ summary_text s → ⊥
-no_other_text bytes text d found parses only is differs s h e =
-    differs (is ∙ ap summary_text (only s h (read_is_data bytes d s h parses.1 e)) ∙ sym e)
+pub as_second : (bytes : List ℕ) → IsNoSummaryText bytes → (es : Entries) (ds : SourceBlocks) → AreListed es → AreDigests es ds → bytes ≡ digests_text es ds → ⊥
+as_second bytes none es ds h a e = none (record { entries = es; digests = Some ds }) (record { listed = h; digests = a }) e
+
+value_of_second : (bytes : List ℕ) (d : Data) (es : Entries) (ds : SourceBlocks) → IsJsonText bytes d → AreListed es → AreDigests es ds → bytes ≡ digests_text es ds → d ≡ digests_data es ds
+value_of_second bytes d es ds parses h a e = same_data d (digests_data es ds) (sym parses.1 ∙ ap read e ∙ read-digests_text es ds h (fit_from_digests es ds h a))
+
+pub shape_of_second : (bytes : List ℕ) (d : Data) (es : Entries) (ds : SourceBlocks) → IsJsonText bytes d → AreListed es → AreDigests es ds → bytes ≡ digests_text es ds → is_shaped_with_blocks d ≡ true
+shape_of_second bytes d es ds parses h a e =
+    ap is_shaped_with_blocks (value_of_second bytes d es ds parses h a e) ∙ ap₂ ◌&&◌ (lists_of_blocks ds) (lists_of_sources es)
+
+-- the value tells the numbers and the digests
+pub only_second : (bytes : List ℕ) (d : Data) (es : Entries) (ds : SourceBlocks) → IsJsonText bytes d → AreListed es → AreDigests es ds → bytes ≡ digests_text es ds → d ≡ digests_data es ds
+only_second bytes d es ds parses h a e = value_of_second bytes d es ds parses h a e

@@ -1,6 +1,11 @@
 pub mod Intervals
+pub mod Numbers
+pub mod NumbersText
+pub mod BlockDigests
 pub mod Summary
+pub mod DigestsText
 pub mod SummaryText
+pub mod Digests
 pub mod CoverText
 pub mod SummaryShape
 pub mod Refusals

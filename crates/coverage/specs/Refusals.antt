@@ -2,9 +2,9 @@
 use Rattle.std.specs.Prelude.{◌≡◌, ◌≢◌, ◌⊎◌, ℕ, List, Some, None, true, false}
 use Rattle.serde_json.specs.Data.{Data}
 use Rattle.attributes.specs.JsonText.{IsJsonText}
-use Rattle.coverage.specs.Summary.{Sources, IsSummary}
+use Rattle.coverage.specs.Summary.{IsSummary, Sources}
 use Rattle.coverage.specs.SummaryText.{summary_text}
-use Rattle.coverage.specs.SummaryShape.{version_of, is_shaped}
+use Rattle.coverage.specs.SummaryShape.{version_of, is_shaped, is_shaped_with_blocks}
 use Rattle.coverage.specs.declared.fault.SummaryFault.{SummaryFault}
 use Rattle.coverage.specs.declared.fault.SummaryFault.TheVariants.{OutOfMemory, NotJson, Shape}
 use Rattle.coverage.specs.declared.fault.SummaryFault.TheVariants.{Version, NotCanonical}
@@ -13,22 +13,34 @@ use Rattle.coverage.specs.declared.fault.SummaryFault.TheVariants.{Version, NotC
 abbrev pub IsNoJson : List ℕ → Type 0
 IsNoJson bytes = (d : Data) → IsJsonText bytes d → ⊥
 
--- a value that has no version, or version 1 and another shape than a summary's
-abbrev pub IsMisshapen : List ℕ → Type 0
-IsMisshapen bytes =
-    (d : Data) × (IsJsonText bytes d
-    × ((version_of d ≡ None) ⊎ ((version_of d ≡ Some 1) × (is_shaped d ≡ false))))
+-- the value is of version 1 or 2, and has another shape than a summary of its version
+abbrev pub IsOtherShape : Data → Type 0
+IsOtherShape d =
+    ((version_of d ≡ Some 1) × (is_shaped d ≡ false))
+    ⊎ ((version_of d ≡ Some 2) × (is_shaped_with_blocks d ≡ false))
 
--- a value that has another version
+-- the value is of version 1 or 2, and has the shape of a summary of its version
+abbrev pub IsOfShape : Data → Type 0
+IsOfShape d =
+    ((version_of d ≡ Some 1) × (is_shaped d ≡ true))
+    ⊎ ((version_of d ≡ Some 2) × (is_shaped_with_blocks d ≡ true))
+
+-- a value that has no version, or a known one and another shape than its summaries
+abbrev pub IsMisshapen : List ℕ → Type 0
+IsMisshapen bytes = (d : Data) × (IsJsonText bytes d × ((version_of d ≡ None) ⊎ IsOtherShape d))
+
+-- a value whose version is neither 1 nor 2
 abbrev pub IsOtherVersion : List ℕ → Type 0
 IsOtherVersion bytes =
-    (d : Data) × (IsJsonText bytes d × ((v : ℕ) × ((version_of d ≡ Some v) × (v ≢ 1))))
+    (d : Data) × (IsJsonText bytes d × ((v : ℕ) × ((version_of d ≡ Some v) × (v ≢ 1) × (v ≢ 2))))
 
--- a value of version 1 and a summary's shape, in bytes that are no summary's text
+-- the bytes are the text of no summary
+abbrev pub IsNoSummaryText : List ℕ → Type 0
+IsNoSummaryText bytes = (s : Sources) → IsSummary s → bytes ≢ summary_text s
+
+-- a value of a known version and of its shape, in bytes that are no summary's text
 abbrev pub IsNotCanonical : List ℕ → Type 0
-IsNotCanonical bytes =
-    (d : Data) × (IsJsonText bytes d × (version_of d ≡ Some 1) × (is_shaped d ≡ true)
-    × ((s : Sources) → IsSummary s → bytes ≢ summary_text s))
+IsNotCanonical bytes = (d : Data) × (IsJsonText bytes d × IsOfShape d × IsNoSummaryText bytes)
 
 -- what is true of bytes that are refused with the fault
 abbrev pub Refuses : List ℕ → SummaryFault → Type 0

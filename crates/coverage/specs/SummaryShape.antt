@@ -1,10 +1,10 @@
--- What a JSON value must be so that it may stand for a summary.
+-- What a JSON value must be so that it may stand for a summary of a version.
 use Rattle.std.specs.Option.{option_zip}
-use Rattle.std.specs.Prelude.{ℕ, Bool, true, false, ◌&&◌, ◌==◌, Option, Some, None, option_and_then}
+use Rattle.std.specs.Prelude.{ℕ, List, Bool, true, false, ◌&&◌, ◌==◌, Option, Some, None, option_and_then}
 use Rattle.std.specs.Prelude.{is_some, codes}
 use Rattle.serde_json.specs.Data.{Data, array, object, Items, no_items, item, Members, no_members}
 use Rattle.serde_json.specs.Data.{member}
-use Rattle.serde_json.specs.Find.{get, as_number, as_u64}
+use Rattle.serde_json.specs.Find.{get, as_number, as_str, as_u64}
 use Rattle.serde_json.specs.Events.{members_len}
 use Rattle.coverage.specs.Intervals.{Interval}
 
@@ -56,6 +56,48 @@ abbrev pub member_count : Data → ℕ
 member_count (object ms) = members_len ms
 member_count _ = 0
 
--- beside the version there is just one member, `sources`, and it is such an object
+-- version 1: beside the version there is just one member, `sources`, and it is such an object
 abbrev pub is_shaped : Data → Bool
 is_shaped d = (member_count d == 2) && is_sources (get (codes "sources") d)
+
+-- the number and the text, where there are just two items, a whole number and a text
+abbrev pub block_pair : Items → Option (ℕ × List ℕ)
+block_pair (item a (item b no_items)) = option_zip (whole_of a) (as_str b)
+block_pair _ = None
+
+-- an array of a whole number and a text
+abbrev pub block_in : Data → Option (ℕ × List ℕ)
+block_in (array ds) = block_pair ds
+block_in _ = None
+
+-- each item is such an array
+abbrev pub are_blocks : Items → Bool
+are_blocks no_items = true
+are_blocks (item d ds) = is_some (block_in d) && are_blocks ds
+
+-- an array of such arrays
+abbrev pub is_list_of_blocks : Data → Bool
+is_list_of_blocks (array ds) = are_blocks ds
+is_list_of_blocks _ = false
+
+-- the value of each member is such a list
+abbrev pub are_block_lists : Members → Bool
+are_block_lists no_members = true
+are_block_lists (member k d ms) = is_list_of_blocks d && are_block_lists ms
+
+-- an object whose members are such lists
+abbrev pub is_object_of_blocks : Data → Bool
+is_object_of_blocks (object ms) = are_block_lists ms
+is_object_of_blocks _ = false
+
+-- there is a value, and it is such an object
+abbrev pub is_blocks : Option Data → Bool
+is_blocks (Some d) = is_object_of_blocks d
+is_blocks None = false
+
+-- version 2: beside the version there are just the members `blocks` and `sources`, each such an
+-- object
+abbrev pub is_shaped_with_blocks : Data → Bool
+is_shaped_with_blocks d =
+    (member_count d == 3)
+    && (is_blocks (get (codes "blocks") d) && is_sources (get (codes "sources") d))

@@ -1,38 +1,17 @@
--- The text of a summary, version 1: our own, a JSON object without white space (RFC 8259).
-use Rattle.std.specs.Prelude.{ℕ, List, [], ◌∷◌, codes, decimal}
-use Rattle.json.specs.Token as token
-use Rattle.serde_json.specs.Data.{unsigned, Data, number, array, object, Items, no_items, item}
-use Rattle.serde_json.specs.Data.{Members, no_members, member}
-use Rattle.serde_json.specs.Written.{compact_text}
-use Rattle.coverage.specs.Intervals.{Interval}
+-- The text of a summary of either version.
+pub use Rattle.coverage.specs.NumbersText.{intervals_items, intervals_tokens, sources_members}
+use Rattle.std.specs.Prelude.{ℕ, List, Option, Some, None}
+use Rattle.coverage.specs.BlockDigests.{SourceBlocks}
+use Rattle.coverage.specs.DigestsText.{digests_text}
+use Rattle.coverage.specs.Numbers.{Entries}
+use Rattle.coverage.specs.NumbersText.{numbers_text}
 use Rattle.coverage.specs.Summary.{Sources}
 
--- an interval as the array of its first and its last number
-abbrev pub interval_data : Interval → Data
-interval_data p = array (item (number (unsigned p.0)) (item (number (unsigned p.1)) no_items))
+-- the text of numbers, and of digests where there are any
+abbrev pub text_of : Entries → Option SourceBlocks → List ℕ
+text_of es None = numbers_text es
+text_of es (Some ds) = digests_text es ds
 
--- each interval as such an array
-abbrev pub intervals_items : List Interval → Items
-intervals_items [] = no_items
-intervals_items (p ∷ ps) = item (interval_data p) (intervals_items ps)
-
--- the JSON tokens of such arrays
-abbrev pub intervals_tokens : List Interval → List token.Token
-intervals_tokens [] = []
-intervals_tokens (p ∷ ps) =
-    token.begin_array ∷ token.number (decimal p.0) ∷ token.number (decimal p.1) ∷ token.end_array
-    ∷ intervals_tokens ps
-
--- a member for each source, with its intervals
-abbrev pub sources_members : Sources → Members
-sources_members [] = no_members
-sources_members (e ∷ es) = member e.0 (array (intervals_items e.1)) (sources_members es)
-
--- the summary as JSON: its sources and the version
-abbrev pub summary_data : Sources → Data
-summary_data s = object (member (codes "sources") (object (sources_members s))
-    (member (codes "version") (number (unsigned 1)) no_members))
-
--- the text of a summary
-unfoldable pub summary_text : Sources → List ℕ
-summary_text s = compact_text (summary_data s)
+-- the text of a summary, by its version
+abbrev pub summary_text : Sources → List ℕ
+summary_text s = text_of s.entries s.digests

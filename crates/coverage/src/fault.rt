@@ -14,10 +14,10 @@ pub enum SummaryFault {
     /// The bytes are no JSON text.
     #[error("NotJson")]
     NotJson,
-    /// The value is no object with a version, or isn't shaped as a summary of version 1.
+    /// The value is no object with a version, or isn't shaped as a summary of its version.
     #[error("Shape")]
     Shape,
-    /// The version isn't 1.
+    /// The version is neither 1 nor 2.
     #[error("Version")]
     Version,
     /// The bytes aren't the text that a summary is written as.

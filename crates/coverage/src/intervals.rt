@@ -1,5 +1,6 @@
 //! Sets of sequence numbers.
 
+mod blocks;
 mod look;
 mod map;
 mod merge;

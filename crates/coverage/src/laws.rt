@@ -2,8 +2,10 @@
 ghost use Rattle.std.specs.Prelude.{◌≡◌, ◌<◌, ℕ, Bool, true, List};
 ghost use Rattle.std.specs.List.{count_by, range_with_len};
 ghost use Rattle.coverage.specs.Intervals.{Interval, IsCanonical, holds, size_of};
-ghost use Rattle.coverage.specs.Summary.{IsSummary, Sources, holds_at};
+ghost use Rattle.coverage.specs.Summary.{IsSummary, Sources, holds_at, version_of};
 ghost use Rattle.coverage.specs.CoverText.{IsCoverText};
+ghost use Rattle.coverage.specs.SummaryText.{summary_text};
+ghost use Rattle.coverage.specs.Digests.{DeltaIsLacking, OneSummary, WantedIsDelta};
 
 /// Each set of numbers has one canonical list of intervals.
 pub fn numbers_tell_intervals()
@@ -18,9 +20,10 @@ pub fn size_counts_numbers()
         → size_of s ≡ count_by (holds s) (range_with_len 0 limit) }
 {}
 
-/// Summaries that hold the same numbers of the same sources are the same.
+/// Summaries of version 1 that hold the same numbers of the same sources are the same.
 pub fn numbers_tell_summaries()
     ensures { (s t : Sources) → IsSummary s → IsSummary t
+        → version_of s ≡ 1 → version_of t ≡ 1
         → ((source : List ℕ) (n : ℕ) → holds_at s source n ≡ holds_at t source n) → s ≡ t }
 {}
 
@@ -32,4 +35,22 @@ pub fn numbers_tell_cover_texts()
     ensures alike { (has had : List ℕ → ℕ → Bool) (t : List ℕ)
         → ((source : List ℕ) (n : ℕ) → has source n ≡ had source n)
         → IsCoverText has t → IsCoverText had t }
+{}
+
+/// A summary that digests a set stands for the set: for a peer's in what it lacks, and for the own
+/// in what is to be sent.
+pub fn summaries_stand_for_sets()
+    ensures lacking { DeltaIsLacking }
+    ensures wanted { WantedIsDelta }
+{}
+
+/// A set has one summary of version 2.
+pub fn sets_have_one_summary()
+    ensures { OneSummary }
+{}
+
+/// Different summaries have different texts, of whichever versions they are.
+pub fn texts_tell_summaries()
+    ensures { (s t : Sources) → IsSummary s → IsSummary t
+        → summary_text s ≡ summary_text t → s ≡ t }
 {}

@@ -1,4 +1,3 @@
 pub mod TransferLemmas
-pub mod UniteLemmas
 pub mod StandingLemmas
 pub mod SelfLemmas

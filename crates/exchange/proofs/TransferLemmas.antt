@@ -1,29 +1,10 @@
 -- Events that go a page at a time.
-use Rattle.std.proofs.Common.{◌≡◌, ℕ, suc, ◌+◌, ◌≤◌, List, [], ◌∷◌, ◌++◌, Bool, true, false, not, cond, filter, length, take, drop, if◌then◌else◌, Option, Some, None, slice_get, refl, sym, ap, ap₂, ◌∙◌, arith, length-append}
-use Rattle.std.specs.Option.{option_map_or}
+use Rattle.std.proofs.Common.{◌≡◌, ℕ, suc, ◌+◌, ◌≤◌, List, [], ◌∷◌, ◌++◌, Bool, true, false, cond, filter, length, take, drop, if◌then◌else◌, Some, slice_get, refl, sym, ap, ap₂, ◌∙◌, arith, length-append}
 use Rattle.std.specs.declared.cmp.Ordering.{Ordering}
 use Rattle.std.specs.BTreeSet.{insert_key}
 use Rattle.std.proofs.lemmas.List.{drop-take, length-take, take-append-drop, take-take, take_min, take_more}
 use Rattle.std.proofs.lemmas.Option.{get_or_from_slice_get, slice_get_within}
-use Rattle.attributes.specs.Event.{EventValue, source_of}
-use Rattle.attributes.specs.Sequence.{number_of}
-use Rattle.coverage.specs.Summary.{Sources, holds_at}
 use Rattle.inbox.specs.Ordered.{add_all, append_new, has}
-use Rattle.site.specs.Delta.{delta, is_lacking}
-use Rattle.views.specs.Number.{HasNumbers, has_number}
-use Rattle.exchange.specs.Lacking.{is_missing, lacking}
-
-filter_alike : {X : Type 0} (p q : X → Bool) → ((x : X) → p x ≡ q x) → (xs : List X) → filter p xs ≡ filter q xs
-filter_alike p q f [] = refl
-filter_alike p q f (x ∷ xs) = ap₂ (λ b l. cond b (x ∷ l) l) (f x) (filter_alike p q f xs)
-
--- what a summary lacks is what its set lacks
-pub delta_is : (E F : List EventValue) (peer : Sources) → HasNumbers F peer → delta E peer ≡ lacking E F
-delta_is E F peer has = filter_alike (is_lacking peer) (is_missing F) (λ e. by_number e (number_of e)) E
-  where
-    by_number : (e : EventValue) (o : Option ℕ) → option_map_or (λ n. not (holds_at peer (source_of e) n)) o false ≡ option_map_or (λ n. not (has_number F (source_of e) n)) o false
-    by_number e None = refl
-    by_number e (Some n) = ap not (has (source_of e) n)
 
 pub length-filter : {X : Type 0} (p : X → Bool) (xs : List X) → length (filter p xs) ≤ length xs
 length-filter p [] = omega arith

@@ -4,10 +4,11 @@ ghost use Rattle.std.specs.Prelude.{◌≡◌, ◌+◌, ◌<◌, ◌≤◌, [], 
 ghost use Rattle.inbox.specs.KeyOrder.{key_cmp};
 ghost use Rattle.inbox.specs.Ordered.{append_new};
 ghost use Rattle.inbox.specs.Sets.{set_of, union};
-ghost use Rattle.site.specs.Delta.{delta};
+ghost use Rattle.site.specs.Delta.{Tells, delta, lacking_of};
 ghost use Rattle.exchange.specs.Lacking.{lacking};
 
 use coverage::Summary;
+use coverage::laws::summaries_stand_for_sets;
 use inbox::{Counts, Short};
 use site::Site;
 
@@ -21,30 +22,38 @@ struct Moved {
     next: u64,
 }
 
-/// Moves the next events that the peer's summary lacks from a place of key order on, as many as go
-/// at a time. After want of memory the answer is how many of them were taken.
-fn move_part(from: &Site, to: &mut Site, peer: &Summary, place: u64) -> Result<Moved, u64>
-    requires { place ≤ length (set_of from.now) }
+/// Moves the next events that the peer lacks from a place of key order on, as many as go at a time.
+/// After want of memory the answer is how many of them were taken.
+fn move_part(
+    from: &Site,
+    to: &mut Site,
+    peer: &Summary,
+    own: &Summary,
+    place: u64,
+) -> Result<Moved, u64>
+    requires place { place ≤ length (set_of from.now) }
+    requires tells { Tells (set_of from.now) peer.now own.now }
     ensures arrivals { IfOk result (λ m. to.new ≡ append_new key_cmp to.old
-        (take m.count (delta (drop place (set_of from.now)) peer.now))) }
+        (take m.count (lacking_of (set_of from.now) peer.now (drop place (set_of from.now))))) }
     ensures set { IfOk result (λ m. set_of to.new ≡ union (set_of to.old)
-        (take m.count (delta (drop place (set_of from.now)) peer.now))) }
+        (take m.count (lacking_of (set_of from.now) peer.now (drop place (set_of from.now))))) }
     ensures all { IfOk result (λ m. m.count ≡ 0
-        → delta (drop place (set_of from.now)) peer.now ≡ []) }
-    ensures rest { IfOk result (λ m. delta (drop m.next (set_of from.now)) peer.now
-        ≡ drop m.count (delta (drop place (set_of from.now)) peer.now)) }
+        → lacking_of (set_of from.now) peer.now (drop place (set_of from.now)) ≡ []) }
+    ensures rest { IfOk result (λ m.
+        lacking_of (set_of from.now) peer.now (drop m.next (set_of from.now))
+        ≡ drop m.count (lacking_of (set_of from.now) peer.now (drop place (set_of from.now)))) }
     ensures within { IfOk result (λ m. m.next ≤ length (set_of from.now)) }
     ensures behind { IfOk result (λ m. place + m.count ≤ m.next) }
     ensures counted { IfOk result (λ m. m.count
-        ≤ length (delta (drop place (set_of from.now)) peer.now)) }
+        ≤ length (lacking_of (set_of from.now) peer.now (drop place (set_of from.now)))) }
     ensures short { IfErr result (λ part. to.new ≡ append_new key_cmp to.old
-        (take part (delta (drop place (set_of from.now)) peer.now))) }
+        (take part (lacking_of (set_of from.now) peer.now (drop place (set_of from.now))))) }
     ensures short_set { IfErr result (λ part. set_of to.new ≡ union (set_of to.old)
-        (take part (delta (drop place (set_of from.now)) peer.now))) }
+        (take part (lacking_of (set_of from.now) peer.now (drop place (set_of from.now))))) }
     ensures short_taken { IfErr result (λ part. part
-        < length (delta (drop place (set_of from.now)) peer.now)) }
+        < length (lacking_of (set_of from.now) peer.now (drop place (set_of from.now)))) }
 {
-    let Ok(mut part) = from.delta_from(peer, place, PAGE) else {
+    let Ok(mut part) = from.delta_from(peer, own, place, PAGE) else {
         return Err(0);
     };
     let count = part.events.len();
@@ -57,8 +66,9 @@ fn move_part(from: &Site, to: &mut Site, peer: &Summary, place: u64) -> Result<M
     }
 }
 
-/// Moves all events of the first site that the peer's summary lacks.
-fn move_all(from: &Site, to: &mut Site, peer: &Summary) -> Result<Counts, Short>
+/// Moves all events of the first site that the peer lacks.
+fn move_all(from: &Site, to: &mut Site, peer: &Summary, own: &Summary) -> Result<Counts, Short>
+    requires { Tells (set_of from.now) peer.now own.now }
     ensures arrivals { OnOk result (to.new
         ≡ append_new key_cmp to.old (delta (set_of from.now) peer.now)) }
     ensures set { OnOk result (set_of to.new
@@ -80,7 +90,7 @@ fn move_all(from: &Site, to: &mut Site, peer: &Summary) -> Result<Counts, Short>
     let mut place = 0;
     let mut taken = 0;
     while place < len {
-        match move_part(from, to, peer, place) {
+        match move_part(from, to, peer, own, place) {
             Ok(moved) => {
                 taken += moved.count;
                 place = if moved.count == 0 { len } else { moved.next };
@@ -97,10 +107,11 @@ fn move_all(from: &Site, to: &mut Site, peer: &Summary) -> Result<Counts, Short>
     Ok(Counts { fresh, repeated })
 }
 
-/// Brings the second site the events of the first whose numbers it lacks, in key order. The summary
-/// of the second is taken once; then at most 100 events go at a time. After want of memory those
-/// that went before stay, and the refusal says how many. Costs a look-up in the summary for each
-/// event of the first, and for those that go a copy and a take.
+/// Brings the second site what it lacks of the first, in key order: the events whose number it
+/// hasn't for their source, and all events of each block of which the digests differ, also those
+/// that it has. The summaries of both are taken once; then at most 100 events go at a time. After
+/// want of memory those that went before stay, and the refusal says how many. Costs the summaries,
+/// a look-up in both for each event of the first, and for those that go a copy and a take.
 pub fn gossip(from: &Site, to: &mut Site) -> Result<Counts, Short>
     ensures arrivals { OnOk result (to.new
         ≡ append_new key_cmp to.old (lacking (set_of from.now) (set_of to.old))) }
@@ -120,7 +131,12 @@ pub fn gossip(from: &Site, to: &mut Site) -> Result<Counts, Short>
     let Ok(peer) = to.summary() else {
         return Err(Short { taken: 0, fresh: 0 });
     };
-    move_all(from, to, &peer)
+    let Ok(own) = from.summary_for(&peer) else {
+        return Err(Short { taken: 0, fresh: 0 });
+    };
+    // A law that the clauses rest on; the call does nothing.
+    summaries_stand_for_sets();
+    move_all(from, to, &peer, &own)
 }
 
 /// Brings the second site all events of the first, in key order; those that are there are not

@@ -2,3 +2,4 @@ pub mod TakeLemmas
 pub mod SumLemmas
 pub mod PageLemmas
 pub mod DeltaLemmas
+pub mod MarkLemmas

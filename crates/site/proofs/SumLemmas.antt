@@ -1,10 +1,8 @@
 -- Which numbers arrivals have, one event more, and as a set.
-use Rattle.std.proofs.Common.{◌≡◌, ℕ, zero, suc, List, [], ◌∷◌, ◌++◌, Bool, true, false, ◌||◌, ◌&&◌, if◌then◌else◌, refl, sym, subst, ap, ap₂, ◌∙◌, arith}
+use Rattle.std.proofs.Common.{◌≡◌, ℕ, zero, suc, List, [], ◌∷◌, ◌++◌, Bool, true, false, ◌||◌, ◌&&◌, if◌then◌else◌, refl, sym, subst, ap, ◌∙◌, arith}
 use Rattle.std.specs.Prelude.{bytes_eq, ◌==◌, Some, Contains}
 use Rattle.std.specs.List.{AllByRecursion, list_any}
 use Rattle.std.proofs.lemmas.List.Folds.{list_any-append, list_any_at}
-use Rattle.std.proofs.Common.{eq-eqb}
-use Rattle.std.proofs.lemmas.Slice.Eq.{bytes_eq-Decides}
 use mathlib.Core.Bool.{true≢false}
 use Rattle.attributes.specs.Event.{EventValue, source_of}
 use Rattle.attributes.specs.Fault.{IsEvent}
@@ -81,18 +79,3 @@ module _ (laws : SetLaws) where
           let x = found (λ e. is_numbered e s n) A h in
           let event = item_is IsEvent A x.0 are x.1.0 in
           passes (λ e. is_numbered e s n) (set_of A) x.0 (laws.is_there (set_of A) x.0 (laws.are_events A are) event (laws.members A x.0 ∙ laws.is_found A x.0 x.1.0)) x.1.1
-
-  -- an event whose number is new is new
-  pub new_number : (A : List EventValue) (e : EventValue) (summary : Sources) (m : ℕ) → AreEvents A → IsEvent e → HasNumbers A summary → number_of e ≡ Some m
-      → holds_at summary (source_of e) m ≡ false → has key_cmp A e ≡ false
-  new_number A e summary m are is was numbered lacks = not_true (has key_cmp A e) there
-    where
-      not_true : (b : Bool) → (b ≡ true → ⊥) → b ≡ false
-      not_true true f = absurd (f refl)
-      not_true false f = refl
-
-      own : is_numbered e (source_of e) m ≡ true
-      own = sym (is_numbered-is e (source_of e) (source_of e) m m refl numbered) ∙ ap₂ (λ a b. a && b) ((bytes_eq-Decides (source_of e) (source_of e)).1 refl) (eq-eqb m m refl)
-
-      there : has key_cmp A e ≡ true → ⊥
-      there t = true≢false (sym (passes (λ x. is_numbered x (source_of e) m) A e (laws.is_there A e are is t) own) ∙ sym (was (source_of e) m) ∙ lacks)

@@ -1,14 +1,9 @@
 -- What comes to a site.
+pub use Rattle.block_digests.specs.Number.{AreNumbered}
 use Rattle.std.specs.Prelude.{◌≡◌, ℕ, List, [], false, Some, slice_get}
-use Rattle.std.specs.List.{AllByRecursion}
 use Rattle.attributes.specs.Event.{EventValue}
-use Rattle.attributes.specs.Sequence.{number_of}
 use Rattle.inbox.specs.KeyOrder.{key_cmp}
 use Rattle.inbox.specs.Ordered.{append_new, has}
-
--- each of the events has a number
-abbrev pub AreNumbered : List EventValue → Type 0
-AreNumbered A = AllByRecursion (λ e. (n : ℕ) × (number_of e ≡ Some n)) A
 
 -- the event at a place of the list L, where there is one, is not among the arrivals A
 abbrev pub LacksAt : List EventValue → List EventValue → ℕ → Type 0

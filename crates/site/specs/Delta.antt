@@ -1,17 +1,18 @@
 -- What a peer lacks of a set E of events, a list in key order, by the peer's summary: events whose
--- source and number it doesn't hold. That a number stands for its event is this project's own rule;
--- where two events of a source have one number, the summary can't tell them apart.
-use Rattle.std.specs.Prelude.{List, Bool, false, filter, not}
+-- source and number it doesn't hold, and those of the blocks of which it has another digest. One of
+-- version 1 has no digests: where two events of a source have one number, it can't tell them apart.
+pub use Rattle.coverage.specs.Digests.{delta, is_lacking, lacking_of}
+use Rattle.std.specs.Prelude.{◌≡◌, List, Bool, false}
 use Rattle.std.specs.Option.{option_map_or}
 use Rattle.attributes.specs.Event.{EventValue, source_of}
 use Rattle.attributes.specs.Sequence.{number_of}
-use Rattle.coverage.specs.Summary.{Sources, holds_at}
+use Rattle.coverage.specs.Digests.{is_wanted}
+use Rattle.coverage.specs.Summary.{Sources}
 
--- whether the event has a number that the summary doesn't hold for its source
-abbrev pub is_lacking : Sources → EventValue → Bool
-is_lacking summary e =
-    option_map_or (λ n. not (holds_at summary (source_of e) n)) (number_of e) false
+-- whether the event has a number for which the first summary wants what the second tells of
+abbrev pub is_wanting : Sources → Sources → EventValue → Bool
+is_wanting peer own e = option_map_or (is_wanted peer own (source_of e)) (number_of e) false
 
--- the events of E whose number the summary doesn't hold for their source
-abbrev pub delta : List EventValue → Sources → List EventValue
-delta E summary = filter (is_lacking summary) E
+-- the second summary tells of each event whether the peer lacks it, going by the digests of E
+abbrev pub Tells : List EventValue → Sources → Sources → Type 0
+Tells E peer own = (e : EventValue) → is_lacking E peer e ≡ is_wanting peer own e

@@ -1,8 +1,9 @@
 -- What holds of sites, whatever they took.
 use Rattle.std.specs.Prelude.{◌≡◌, ℕ, List, ◌||◌}
 use Rattle.attributes.specs.Event.{EventValue}
-use Rattle.coverage.specs.CoverText.{IsCoverText}
-use Rattle.coverage.specs.Summary.{Sources, holds_at}
+use Rattle.coverage.specs.Digests.{Digests}
+use Rattle.coverage.specs.Summary.{Sources}
+use Rattle.coverage.specs.SummaryText.{summary_text}
 use Rattle.inbox.specs.KeyOrder.{key_cmp}
 use Rattle.inbox.specs.Ordered.{append_new, has}
 use Rattle.inbox.specs.Sets.{AreEvents, set_of, union}
@@ -10,16 +11,14 @@ use Rattle.views.specs.Question.{IsAnswer}
 use Rattle.views.specs.declared.query.Query.{Query}
 use Rattle.site.specs.Delta.{delta}
 use Rattle.site.specs.Page.{page}
-use Rattle.site.specs.Sum.{Sums}
 
 -- two sets are answered about alike: a question has the same text over both, both have one summary
--- and one summary text, and any delta, page of a delta and page is the same of both
+-- that digests them and one text of it, and any delta, page of a delta and page is the same of both
 pub record AreAlike (E F : List EventValue) : Type 0 where
   pub questions : (query : Query) (text other : List ℕ) → IsAnswer query E text
       → IsAnswer query F other → text ≡ other
-  pub summaries : (s t : Sources) → Sums E s → Sums F t → s ≡ t
-  pub texts : (s t : Sources) (text other : List ℕ) → Sums E s → Sums F t
-      → IsCoverText (holds_at s) text → IsCoverText (holds_at t) other → text ≡ other
+  pub summaries : (s t : Sources) → Digests E s → Digests F t → s ≡ t
+  pub texts : (s t : Sources) → Digests E s → Digests F t → summary_text s ≡ summary_text t
   pub deltas : (peer : Sources) → delta E peer ≡ delta F peer
   pub delta_pages : (peer : Sources) (from limit : ℕ)
       → page (delta E peer) from limit ≡ page (delta F peer) from limit

@@ -1,7 +1,6 @@
 pub mod Arrival
 pub mod Page
 pub mod Delta
-pub mod Sum
 pub mod Law
 pub mod Machine
 pub mod Desk

@@ -2,13 +2,13 @@
 -- which they came. A call is a command with the reply that it got.
 use Rattle.std.specs.Prelude.{◌≡◌, ◌+◌, ◌<◌, List, [], ◌∷◌, ◌++◌, length, take}
 use Rattle.attributes.specs.Event.{EventValue}
+use Rattle.coverage.specs.Digests.{Digests}
 use Rattle.inbox.specs.KeyOrder.{key_cmp}
 use Rattle.inbox.specs.Ordered.{append_new}
 use Rattle.inbox.specs.Sets.{set_of}
 use Rattle.views.specs.Question.{IsTrueOf, query_of}
 use Rattle.site.specs.Delta.{delta}
 use Rattle.site.specs.Page.{page}
-use Rattle.site.specs.Sum.{Sums}
 use Rattle.site.specs.declared.call.Call.{Call}
 use Rattle.site.specs.declared.call.Command.{Command}
 use Rattle.site.specs.declared.call.Command.TheVariants as command
@@ -35,7 +35,7 @@ IsReply A (command.Take L) (Took fresh repeated) =
     (length A + fresh ≡ length (append_new key_cmp A L)) × (fresh + repeated ≡ length L)
 IsReply A (command.Take L) (Refused taken fresh) =
     (length A + fresh ≡ length (append_new key_cmp A (take taken L))) × (taken < length L)
-IsReply A command.Summary (Summed summary) = Sums (set_of A) summary
+IsReply A command.Summary (Summed summary) = Digests (set_of A) summary
 IsReply A (command.DeltaPage peer from limit) (Paged events) =
     events ≡ page (delta (set_of A) peer) from limit
 IsReply A (command.Page from limit) (Paged events) = events ≡ page (set_of A) from limit

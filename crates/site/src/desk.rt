@@ -134,7 +134,7 @@ impl Desk for Site {
     }
 
     fn delta_page(&mut self, peer: &Summary, from: u64, limit: u64) -> Result<Batch, DeskFault> {
-        Ok(Site::delta_page(self, peer, from, limit)?)
+        Ok(self.next_delta_page(peer, from, limit)?)
     }
 
     fn page(&mut self, from: u64, limit: u64) -> Result<Batch, DeskFault> {

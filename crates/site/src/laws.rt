@@ -2,7 +2,7 @@
 
 ghost use Rattle.site.specs.Law.{SitesAnswerAlike, TakingUnites};
 
-use coverage::laws::{numbers_tell_cover_texts, numbers_tell_summaries};
+use coverage::laws::sets_have_one_summary;
 use inbox::laws::{arrivals_unite, sets_are_members, unions_are_sets};
 use views::laws::answers_are_alike;
 
@@ -14,8 +14,7 @@ pub fn sites_answer_alike()
 {
     sets_are_members();
     answers_are_alike();
-    numbers_tell_summaries();
-    numbers_tell_cover_texts();
+    sets_have_one_summary();
 }
 
 /// A site that takes a list has what it had and what is in the list, and nothing else.

@@ -5,15 +5,18 @@ ghost use Rattle.inbox.specs.Sets.{AreEvents, set_of};
 ghost use Rattle.site.specs.Arrival.{AreDistinct, AreNumbered};
 
 mod delta;
+mod mark;
 mod merge;
 mod page;
 mod question;
 mod take;
 
 use attributes::Sequenced;
+use block_digests::Blocks;
 use coverage::Summary;
 pub use delta::DeltaPart;
 use inbox::Inbox;
+use mark::Mark;
 use std::alloc::Global;
 use std::marker::Model;
 
@@ -23,17 +26,25 @@ use std::marker::Model;
 #[derive(Drop)]
 pub struct Site {
     inbox: Inbox,
+    // The numbers of what came, version 1.
     summary: Summary,
+    // The blocks of what came, with the digests that were made.
+    blocks: Blocks,
+    // Where the pages of the peer that asked last go on, where nothing came since.
+    mark: Option<Mark>,
     alloc: Global,
 }
 
 impl Model for Site {
-    ghost use Rattle.std.specs.Prelude.{List};
+    ghost use Rattle.std.specs.Prelude.{◌≡◌, List, IfSome};
     ghost use Rattle.std.specs.Coded.{coded_list};
     ghost use Rattle.attributes.specs.EventCode.{event_code};
     ghost use Rattle.attributes.specs.Event.{EventValue};
+    ghost use Rattle.block_digests.specs.Kept.{IsKeptOf};
+    ghost use Rattle.coverage.specs.Summary.{version_of};
     ghost use Rattle.views.specs.Number.{HasNumbers};
     ghost use Rattle.site.specs.Arrival.{AreDistinct, AreNumbered};
+    ghost use Rattle.site.specs.steps.Mark.{IsMark};
 
     ghost Value = { List EventValue };
 
@@ -42,7 +53,9 @@ impl Model for Site {
     ghost view = { λ s. s.inbox.arrivals };
 
     ghost invariant = { λ s. HasNumbers s.inbox.arrivals s.summary
-        × AreNumbered s.inbox.arrivals × AreDistinct s.inbox.arrivals };
+        × AreNumbered s.inbox.arrivals × AreDistinct s.inbox.arrivals
+        × (version_of s.summary ≡ 1) × IsKeptOf s.inbox.arrivals s.blocks
+        × IfSome s.mark (λ m. IsMark s.inbox.arrivals m.peer m.own m.from m.place) };
 }
 
 impl Site {
@@ -53,6 +66,8 @@ impl Site {
         Site {
             inbox: Inbox::empty(alloc),
             summary: Summary::empty(alloc),
+            blocks: Blocks::empty(alloc),
+            mark: None,
             alloc,
         }
     }

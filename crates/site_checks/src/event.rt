@@ -18,6 +18,9 @@ pub const A3: Row<'static> = ("a3", 3, "t.a", "y");
 
 pub const A4: Row<'static> = ("a4", 4, "t.a", "y");
 
+/// The first number of the second block.
+pub const B1: Row<'static> = ("b1", 1024, "t.a", "x");
+
 pub const OTHER_A1: Row<'static> = ("a1", 1, "t.b", "y");
 
 pub const P: Row<'static> = ("p", 1, "t.a", "x");

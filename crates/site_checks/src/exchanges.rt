@@ -49,12 +49,30 @@ fn has_both(alloc: Global, site: &Site) -> bool {
         && is_text(site.lines(Query::Latest), LATEST)
 }
 
-/// Exchanges between two sites that have two events of one number.
-fn exchange_one_number(rt: &impl Abort, alloc: Global, p: &mut Site, q: &mut Site) {
+/// Gossip between two sites that have two events of one number: P comes back with its block.
+fn gossip_one_number(rt: &impl Abort, alloc: Global, p: &mut Site, q: &mut Site) {
     assert!(rt; take(alloc, p, &[P]).is_some());
     assert!(rt; take(alloc, q, &[Q]).is_some());
+    assert!(rt; gossip(p, q) == Ok(counts(1, 0)));
+    assert!(rt; gossip(q, p) == Ok(counts(1, 1)));
     assert!(rt; gossip(p, q) == Ok(counts(0, 0)));
     assert!(rt; gossip(q, p) == Ok(counts(0, 0)));
+    assert!(rt; has_both(alloc, p));
+    assert!(rt; has_both(alloc, q));
+}
+
+#[test]
+fn gossip_finds_two_events_of_one_number(rt: HostRuntime) {
+    exchanges_unite();
+    let mut p = Site::empty(rt.alloc());
+    let mut q = Site::empty(rt.alloc());
+    gossip_one_number(&rt, rt.alloc(), &mut p, &mut q);
+}
+
+/// Scrubs two sites that have two events of one number.
+fn scrub_one_number(rt: &impl Abort, alloc: Global, p: &mut Site, q: &mut Site) {
+    assert!(rt; take(alloc, p, &[P]).is_some());
+    assert!(rt; take(alloc, q, &[Q]).is_some());
     assert!(rt; scrub(p, q) == Ok(counts(1, 0)));
     assert!(rt; scrub(q, p) == Ok(counts(1, 1)));
     assert!(rt; has_both(alloc, p));
@@ -62,21 +80,21 @@ fn exchange_one_number(rt: &impl Abort, alloc: Global, p: &mut Site, q: &mut Sit
 }
 
 #[test]
-fn gossip_goes_by_numbers_and_scrub_by_events(rt: HostRuntime) {
-    exchanges_unite();
+fn a_scrub_finds_two_events_of_one_number(rt: HostRuntime) {
     let mut p = Site::empty(rt.alloc());
     let mut q = Site::empty(rt.alloc());
-    exchange_one_number(&rt, rt.alloc(), &mut p, &mut q);
+    scrub_one_number(&rt, rt.alloc(), &mut p, &mut q);
 }
 
-/// Brings a thousand events to a site that has one of them.
+/// Brings a thousand events of one block to a site that has another event of one of their numbers.
 fn gossip_a_thousand(rt: &impl Abort, alloc: Global, from: &mut Site, to: &mut Site) {
     assert!(rt; take_scattered(alloc, from));
     assert!(rt; take(alloc, to, &[A2]).is_some());
-    assert!(rt; gossip(from, to) == Ok(counts(999, 0)));
+    assert!(rt; gossip(from, to) == Ok(counts(1000, 0)));
+    assert!(rt; gossip(from, to) == Ok(counts(0, 1000)));
+    assert!(rt; gossip(to, from) == Ok(counts(1, 1000)));
     assert!(rt; gossip(from, to) == Ok(counts(0, 0)));
-    assert!(rt; gossip(to, from) == Ok(counts(0, 0)));
-    assert_eq!(rt; to.len(), 1000);
+    assert_eq!(rt; to.len(), 1001);
 }
 
 #[test]

@@ -2,7 +2,8 @@
 //! mean what they are to mean.
 
 use crate::event::{
-    A1, A2, A3, A4, OTHER_A1, Row, add, add_numbers, counts, has, is_of, is_text, take, take_all,
+    A1, A2, A3, A4, B1, OTHER_A1, Row, add, add_numbers, counts, has, is_of, is_text, take,
+    take_all,
 };
 use attributes::{Batch, Text};
 use coverage::Summary;
@@ -11,7 +12,7 @@ use site::laws::{sites_answer_alike, taking_unites};
 use site::{DeltaPart, Site};
 use std::alloc::{AllocError, Global};
 use std::process::Abort;
-use views::{Query, print};
+use views::{Answer, Query, print};
 
 /// The lines of the answer to a question.
 fn lines(alloc: Global, site: &Site, query: Query) -> Result<Text, AllocError> {
@@ -44,12 +45,29 @@ fn answer_all_alike(alloc: Global, one: &Site, other: &Site, queries: &[Query]) 
     true
 }
 
-/// Whether the summary of a site has this text.
+/// Whether a site tells that it has these numbers.
 pub fn covers(site: &Site, wanted: &str) -> bool {
+    match site.query(Query::Cover) {
+        Ok(Answer::Cover(summary)) => is_text(summary.to_text(), wanted),
+        _ => false,
+    }
+}
+
+/// Whether the summary of a site has this text.
+fn sums_up(site: &mut Site, wanted: &str) -> bool {
     match site.summary() {
-        Ok(summary) => is_text(summary.to_text(), wanted),
+        Ok(summary) => summary.version() == 2 && is_text(summary.to_text(), wanted),
         Err(_) => false,
     }
+}
+
+/// A part of what a peer lacks, from a place on.
+fn part_of(site: &Site, peer: &Summary, place: u64, limit: u64) -> Result<DeltaPart, AllocError> {
+    if place > site.len() {
+        return Err(AllocError);
+    }
+    let own = site.summary_for(peer)?;
+    site.delta_from(peer, &own, place, limit)
 }
 
 /// Whether the part of a delta is of the rows, and the next one begins there.
@@ -70,7 +88,7 @@ fn tell_peer(rt: &impl Abort, alloc: Global, site: &mut Site, peer: &mut Summary
     assert!(rt; is_of(site.delta_page(peer, 0, 1), &[A1]));
     assert!(rt; is_of(site.delta_page(peer, 2, 1), &[]));
     assert_eq!(rt; site.len(), 3);
-    assert!(rt; is_part(site.delta_from(peer, 1, 1), &[A3], 3));
+    assert!(rt; is_part(part_of(site, peer, 1, 1), &[A3], 3));
 }
 
 #[test]
@@ -78,6 +96,62 @@ fn a_peer_gets_what_it_lacks(rt: HostRuntime) {
     let mut site = Site::empty(rt.alloc());
     let mut peer = Summary::empty(rt.alloc());
     tell_peer(&rt, rt.alloc(), &mut site, &mut peer);
+}
+
+/// The summary of a site without events.
+const NOTHING: &str = "{\"blocks\":{},\"sources\":{},\"version\":2}";
+
+/// The summary of a site with the first two events.
+const FIRST_TWO: &str = concat!(
+    "{\"blocks\":{\"/orders\":[[0,",
+    "\"38d09235cdbb4f5c897ea959921990c1d3fed92ab4ebd52e552d8e91a9c9e917\"]]}",
+    ",\"sources\":{\"/orders\":[[1,2]]},\"version\":2}",
+);
+
+/// Asks a site for its summary before and after events come, one of them twice.
+fn sum_up_twice(rt: &impl Abort, alloc: Global, site: &mut Site) {
+    assert!(rt; sums_up(site, NOTHING));
+    assert!(rt; take(alloc, site, &[A2]).is_some());
+    assert!(rt; site.summary().is_ok());
+    assert!(rt; take(alloc, site, &[A1, A2]).is_some());
+    assert!(rt; sums_up(site, FIRST_TWO));
+    assert!(rt; sums_up(site, FIRST_TWO));
+}
+
+#[test]
+fn a_summary_digests_what_came_by_then(rt: HostRuntime) {
+    let mut site = Site::empty(rt.alloc());
+    sum_up_twice(&rt, rt.alloc(), &mut site);
+}
+
+/// Whether a peer that tells its summary lacks these rows of what a site has.
+fn lacks(site: &Site, peer: &mut Site, rows: &[Row<'_>]) -> bool {
+    match peer.summary() {
+        Ok(summary) => is_of(site.delta(&summary), rows),
+        Err(_) => false,
+    }
+}
+
+/// Tells a peer by its digests what it lacks of four events in two blocks.
+fn tell_by_digests(rt: &impl Abort, alloc: Global, site: &mut Site, peer: &mut Site) {
+    assert!(rt; lacks(site, peer, &[]));
+    assert!(rt; take(alloc, site, &[A1, A2, A3, B1]).is_some());
+    assert!(rt; take(alloc, peer, &[B1]).is_some());
+    assert!(rt; lacks(site, peer, &[A1, A2, A3]));
+    assert!(rt; take(alloc, peer, &[A3, A2]).is_some());
+    assert!(rt; lacks(site, peer, &[A1, A2, A3]));
+    assert!(rt; take(alloc, peer, &[OTHER_A1]).is_some());
+    assert!(rt; lacks(site, peer, &[A1, A2, A3]));
+    assert!(rt; take(alloc, site, &[OTHER_A1]).is_some());
+    assert!(rt; take(alloc, peer, &[A1]).is_some());
+    assert!(rt; lacks(site, peer, &[]));
+}
+
+#[test]
+fn a_peer_gets_each_block_that_differs(rt: HostRuntime) {
+    let mut site = Site::empty(rt.alloc());
+    let mut peer = Site::empty(rt.alloc());
+    tell_by_digests(&rt, rt.alloc(), &mut site, &mut peer);
 }
 
 /// Pages three events, one of which came twice.
@@ -248,4 +322,45 @@ fn a_thousand_events_are_paged(rt: HostRuntime) {
     let mut site = Site::empty(rt.alloc());
     let mut peer = Summary::empty(rt.alloc());
     page_a_thousand(&rt, rt.alloc(), &mut site, &mut peer);
+}
+
+/// How many events come in pages of 100, one after the other, up to an empty one.
+fn count_pages(site: &mut Site, peer: &Summary) -> Option<u64> {
+    let mut from = 0u64;
+    for _page in 0..12u8 {
+        match site.next_delta_page(peer, from, 100) {
+            Ok(page) => {
+                if page.is_empty() {
+                    return Some(from);
+                }
+                from = from.saturating_add(page.len());
+            }
+            Err(_) => return None,
+        }
+    }
+    None
+}
+
+/// The first row in key order of the thousand and it.
+const BEFORE_ALL: Row<'static> = ("0", 5000, "t.a", "");
+
+/// Asks for pages one after another, and again after an event came before them.
+fn go_on(rt: &impl Abort, alloc: Global, site: &mut Site, peer: &mut Summary) {
+    assert!(rt; take_scattered(alloc, site));
+    assert!(rt; add_numbers(alloc, peer, &[1, 2, 3, 1000]));
+    assert!(rt; count_pages(site, peer) == Some(996));
+    assert!(rt; begins_with(site.next_delta_page(peer, 0, 1), 4));
+    assert!(rt; begins_with(site.next_delta_page(peer, 1, 1), 5));
+    assert!(rt; take(alloc, site, &[BEFORE_ALL]).is_some());
+    assert!(rt; begins_with(site.next_delta_page(peer, 2, 1), 5));
+    assert!(rt; begins_with(site.next_delta_page(peer, 0, 1), 5000));
+    assert!(rt; add_numbers(alloc, peer, &[4]));
+    assert!(rt; begins_with(site.next_delta_page(peer, 1, 1), 5));
+}
+
+#[test]
+fn pages_go_on_where_the_last_one_ended(rt: HostRuntime) {
+    let mut site = Site::empty(rt.alloc());
+    let mut peer = Summary::empty(rt.alloc());
+    go_on(&rt, rt.alloc(), &mut site, &mut peer);
 }

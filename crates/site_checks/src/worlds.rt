@@ -12,7 +12,8 @@ use views::Query;
 /// How many worlds are run.
 const WORLDS: u64 = 1_000;
 
-/// The events that come. The first two have one source and id, the first three one number.
+/// The events that come. The first two have one source and id, the first three one number. The last
+/// two stand in a block of their own.
 const ROWS: [Row<'static>; 8] = [
     ("a1", 1, "t.a", "x"),
     ("a1", 1, "t.b", "y"),
@@ -20,12 +21,12 @@ const ROWS: [Row<'static>; 8] = [
     ("a2", 2, "t.b", "x"),
     ("a3", 3, "t.a", "y"),
     ("a4", 4, "t.a", "y"),
-    ("a5", 5, "t.c", "z"),
-    ("a9", 9, "t.a", "z"),
+    ("b1", 1024, "t.c", "z"),
+    ("b2", 1029, "t.a", "z"),
 ];
 
-/// The bits of the events with the number 1.
-const ONES: u8 = 0b111;
+/// The bits of the events of each block.
+const BLOCKS: [u8; 2] = [0b0011_1111, 0b1100_0000];
 
 /// Numbers that look random, the same for the same start.
 #[derive(Drop)]
@@ -73,10 +74,15 @@ fn add(plain: &mut [Plain], site: u32, more: u8) {
     set(plain, site, Plain { taken, ..before });
 }
 
-/// The events of a set that another lacks by their numbers.
+/// The events of a set in those blocks in which another has not the same ones.
 fn lacking(from: u8, to: u8) -> u8 {
-    let of_one = if to & ONES == 0 { from & ONES } else { 0 };
-    of_one | (from & !ONES & !to)
+    let mut lacking = 0;
+    for block in BLOCKS {
+        if from & block != to & block {
+            lacking |= from & block;
+        }
+    }
+    lacking
 }
 
 /// Adds a copy of an event, and answers whether it did.

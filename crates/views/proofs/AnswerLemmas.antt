@@ -1,8 +1,11 @@
 -- Lines answer questions, and a question has one answer in lines.
-use Rattle.std.proofs.Common.{◌≡◌, ℕ, Bool, List, refl, sym, subst, ap, ◌∙◌}
+use Rattle.std.proofs.Common.{◌≡◌, ℕ, Bool, List, Option, Some, None, refl, sym, subst, ap, ◌∙◌, arith}
 use Rattle.attributes.specs.Event.{EventValue}
 use Rattle.coverage.specs.CoverText.{IsCoverText}
-use Rattle.coverage.specs.Summary.{Sources, IsSummary, holds_at}
+use Rattle.coverage.specs.BlockDigests.{SourceBlocks}
+use Rattle.coverage.specs.NumbersText.{numbers_text}
+use Rattle.coverage.specs.Summary.{Sources, IsSummary, holds_at, version_of}
+use Rattle.coverage.specs.SummaryText.{summary_text}
 use Rattle.views.specs.Line.{AreDayLines, conflict_lines, event_lines, gap_lines, kind_lines, line}
 use Rattle.views.specs.Law.{AnswersAreOne, LinesAreAnswers}
 use Rattle.views.specs.Number.{has_number}
@@ -27,10 +30,19 @@ CoverTextsOne =
 
 abbrev pub SummariesOne : Type 0
 SummariesOne =
-    (s t : Sources) → IsSummary s → IsSummary t → ((source : List ℕ) (n : ℕ) → holds_at s source n ≡ holds_at t source n) → s ≡ t
+    (s t : Sources) → IsSummary s → IsSummary t → version_of s ≡ 1 → version_of t ≡ 1 → ((source : List ℕ) (n : ℕ) → holds_at s source n ≡ holds_at t source n) → s ≡ t
+
+-- a summary of version 1 has the text of its numbers
+cover_text : (s : Sources) → version_of s ≡ 1 → IsSummary s → IsCoverText (holds_at s) (summary_text s)
+cover_text s one is = record { summary = s.entries; is_summary = is.listed; exact = λ source n. refl; written = by_version s.digests one }
+  where
+    by_version : (o : Option SourceBlocks) → version_of (record { entries = s.entries; digests = o }) ≡ 1 → summary_text (record { entries = s.entries; digests = o }) ≡ numbers_text s.entries
+    by_version None one = refl
+    by_version (Some ds) one = absurd (omega (arith, one))
 
 own_lines : CoverTextsAlike → (E : List EventValue) (a : Answer) (text : List ℕ) → IsTrueOf E a → AreLines a text → IsAnswer (query_of a) E text
-own_lines alike E (answer.Cover summary) text true lines = (lines.0, alike (holds_at summary) (has_number E) lines.0 true lines.1, lines.2)
+own_lines alike E (answer.Cover summary) text true lines =
+    (summary_text summary, alike (holds_at summary) (has_number E) (summary_text summary) true.exact (cover_text summary true.version true.in_form), lines)
 own_lines alike E (answer.Shown events) text true lines = lines ∙ ap event_lines true
 own_lines alike E (answer.Conflicts rows) text true lines = lines ∙ ap conflict_lines true
 own_lines alike E (answer.Latest events) text true lines = lines ∙ ap event_lines true

@@ -9,7 +9,8 @@ use Rattle.std.specs.List.{AllByRecursion, list_any}
 use Rattle.std.proofs.lemmas.Cmp.{tied_itself, alike_right, nat_list_cmp_total, nat_cmp_total, then_total, on_total}
 use mathlib.Core.Bool.{true≢false}
 use Rattle.attributes.specs.Event.{id_of}
-use Rattle.views.specs.Latest.{greater, greatest, is_of, number_cmp, number_or_0}
+use Rattle.views.specs.Latest.{greater, greatest, is_of, number_cmp}
+use Rattle.views.specs.Number.{number_or_0}
 use Rattle.views.specs.Law.{LatestAreGreatest}
 use Rattle.views.proofs.GapLemmas.{all_kept, all_pass}
 

@@ -6,9 +6,9 @@ use Rattle.std.specs.List.{filter_map}
 use Rattle.std.specs.Option.{option_map, option_map_or}
 use Rattle.attributes.specs.Bytes.{byte_cmp}
 use Rattle.attributes.specs.Event.{EventValue, id_of, source_of, subject_of}
-use Rattle.attributes.specs.Sequence.{number_of}
 use Rattle.inbox.specs.Ordered.{in_order}
 use Rattle.inbox.specs.Shown.{shown}
+use Rattle.views.specs.Number.{number_or_0}
 
 -- the greater of what there is and x; what there is, where they tie
 abbrev pub greater : {K : Type 0} → (K → K → Ordering) → Option K → K → K
@@ -30,10 +30,6 @@ thread_cmp x y = ordering_then (byte_cmp x.0 y.0) (byte_cmp x.1 y.1)
 -- whether the event is of the thread
 abbrev pub is_of : List ℕ × List ℕ → EventValue → Bool
 is_of thread e = option_map_or (λ own. is_eq (thread_cmp thread own)) (thread_of e) false
-
--- the number of an event, and 0 where it has none
-abbrev pub number_or_0 : EventValue → ℕ
-number_or_0 e = option_map_or (λ n. n) (number_of e) 0
 
 -- by number, then id
 abbrev pub number_cmp : EventValue → EventValue → Ordering

@@ -1,6 +1,6 @@
 pub mod Tally
-pub mod Latest
 pub mod Number
+pub mod Latest
 pub mod Day
 pub mod Line
 pub mod Question

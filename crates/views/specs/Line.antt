@@ -5,9 +5,8 @@ use Rattle.std.specs.List.{join_with_byte}
 use Rattle.serde_json.specs.Data.{unsigned, Data, number, string, array, no_items, item}
 use Rattle.serde_json.specs.Written.{compact_text}
 use Rattle.attributes.specs.Event.{EventValue, text}
-use Rattle.coverage.specs.CoverText.{IsCoverText}
-use Rattle.coverage.specs.Summary.{Entry, Sources, holds_at}
-use Rattle.coverage.specs.SummaryText.{intervals_items}
+use Rattle.coverage.specs.Summary.{Entries, Entry, Sources}
+use Rattle.coverage.specs.SummaryText.{intervals_items, summary_text}
 use Rattle.inbox.specs.declared.conflict.Conflict.{Conflict}
 use Rattle.views.specs.Day.{IsDayText}
 
@@ -15,10 +14,9 @@ use Rattle.views.specs.Day.{IsDayText}
 abbrev pub line : List ℕ → List ℕ
 line text = text ++ 10 ∷ []
 
--- the line of the text that says which numbers the summary holds
-abbrev pub IsCoverLine : Sources → List ℕ → Type 0
-IsCoverLine summary lines =
-    (text : List ℕ) × IsCoverText (holds_at summary) text × (lines ≡ line text)
+-- the text of the summary, in a line
+abbrev pub cover_line : Sources → List ℕ
+cover_line summary = line (summary_text summary)
 
 -- the canonical texts of events, one a line
 abbrev pub event_lines : List EventValue → List ℕ
@@ -77,5 +75,5 @@ abbrev pub gap_line : Entry → List ℕ
 gap_line row = line (compact_text (gap_data row))
 
 -- a line for each source
-abbrev pub gap_lines : Sources → List ℕ
+abbrev pub gap_lines : Entries → List ℕ
 gap_lines rows = flat_map gap_line rows

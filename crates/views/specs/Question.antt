@@ -2,13 +2,13 @@
 use Rattle.std.specs.Prelude.{◌≡◌, ℕ, List}
 use Rattle.attributes.specs.Event.{EventValue}
 use Rattle.coverage.specs.CoverText.{IsCoverText}
-use Rattle.coverage.specs.Summary.{Sources}
+use Rattle.coverage.specs.Summary.{Entries}
 use Rattle.inbox.specs.Conflicts.{conflicts}
 use Rattle.inbox.specs.Shown.{shown}
 use Rattle.views.specs.Latest.{latest}
-use Rattle.views.specs.Line.{AreDayLines, IsCoverLine, conflict_lines, event_lines, gap_lines}
+use Rattle.views.specs.Line.{AreDayLines, conflict_lines, cover_line, event_lines, gap_lines}
 use Rattle.views.specs.Line.{kind_lines, line}
-use Rattle.views.specs.Number.{AreGaps, HasNumbers, has_number}
+use Rattle.views.specs.Number.{AreGaps, Sums, has_number}
 use Rattle.views.specs.Tally.{days, kinds}
 use Rattle.views.specs.declared.query.Query.{Query}
 use Rattle.views.specs.declared.query.Query.TheVariants as query
@@ -27,7 +27,7 @@ query_of (answer.Gaps rows) = query.Gaps
 
 -- it is the answer over the set E
 abbrev pub IsTrueOf : List EventValue → Answer → Type 0
-IsTrueOf E (answer.Cover summary) = HasNumbers E summary
+IsTrueOf E (answer.Cover summary) = Sums E summary
 IsTrueOf E (answer.Shown events) = events ≡ shown E
 IsTrueOf E (answer.Conflicts rows) = rows ≡ conflicts E
 IsTrueOf E (answer.Latest events) = events ≡ latest E
@@ -37,7 +37,7 @@ IsTrueOf E (answer.Gaps rows) = AreGaps E rows
 
 -- the text has the lines of the answer
 abbrev pub AreLines : Answer → List ℕ → Type 0
-AreLines (answer.Cover summary) text = IsCoverLine summary text
+AreLines (answer.Cover summary) text = text ≡ cover_line summary
 AreLines (answer.Shown events) text = text ≡ event_lines events
 AreLines (answer.Conflicts rows) text = text ≡ conflict_lines rows
 AreLines (answer.Latest events) text = text ≡ event_lines events
@@ -54,4 +54,4 @@ IsAnswer query.Conflicts E text = text ≡ conflict_lines (conflicts E)
 IsAnswer query.Latest E text = text ≡ event_lines (latest E)
 IsAnswer query.Kinds E text = text ≡ kind_lines (kinds E)
 IsAnswer query.Days E text = AreDayLines (days E) text
-IsAnswer query.Gaps E text = (rows : Sources) × AreGaps E rows × (text ≡ gap_lines rows)
+IsAnswer query.Gaps E text = (rows : Entries) × AreGaps E rows × (text ≡ gap_lines rows)

@@ -8,7 +8,7 @@ ghost use Rattle.inbox.specs.Kept.{events};
 ghost use Rattle.jiff_core.specs.Date.{epoch_day};
 ghost use Rattle.serde_json.specs.Written.{compact_text};
 ghost use Rattle.views.specs.Day.{IsDayText};
-ghost use Rattle.views.specs.Line.{AreDayLines, IsCoverLine, IsDayLine, conflict_line, conflict_lines, day_data, event_lines, gap_data, gap_line, gap_lines, kind_data, kind_line, kind_lines, line, string_text};
+ghost use Rattle.views.specs.Line.{AreDayLines, IsDayLine, conflict_line, conflict_lines, cover_line, day_data, event_lines, gap_data, gap_line, gap_lines, kind_data, kind_line, kind_lines, line, string_text};
 ghost use Rattle.views.specs.steps.Joined.{separated};
 
 use crate::day::Day;
@@ -32,7 +32,7 @@ fn end_line(out: &mut String, text: &str) -> Result<(), AllocError>
 
 /// The text of a summary, in a line.
 pub(crate) fn print_cover(alloc: Global, summary: &Summary) -> Result<Text, AllocError>
-    ensures { IfOk result (IsCoverLine summary.now) }
+    ensures { IfOk result (λ t. t ≡ cover_line summary.now) }
 {
     let mut out = String::new(alloc);
     end_line(&mut out, summary.to_text()?.as_str())?;

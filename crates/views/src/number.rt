@@ -4,7 +4,7 @@ ghost use Rattle.std.specs.Prelude.{◌≡◌, ◌++◌, ◌∷◌, [], List, fi
 ghost use Rattle.std.specs.Map.Iter.{deref_pair};
 ghost use Rattle.coverage.specs.Intervals.{Forms, Interval, IsMissing};
 ghost use Rattle.inbox.specs.Kept.{events};
-ghost use Rattle.views.specs.Number.{AreGaps, HasNumbers};
+ghost use Rattle.views.specs.Number.{AreGaps, Sums};
 ghost use Rattle.views.specs.steps.Gaps.{AreGapsOf, has_gap};
 
 use crate::row::Gaps;
@@ -13,10 +13,11 @@ use coverage::{Intervals, Summary};
 use inbox::Inbox;
 use std::alloc::{AllocError, Global};
 
-/// The numbers of all events, for each source. Time in proportion to the events, times the
-/// logarithm of the sources and of the intervals of a source; in key order a source is copied once.
+/// The numbers of all events, for each source, as a summary of version 1. Time in proportion to the
+/// events, times the logarithm of the sources and of the intervals of a source; in key order a
+/// source is copied once.
 pub(crate) fn sum_numbers(alloc: Global, inbox: &Inbox) -> Result<Summary, AllocError>
-    ensures { IfOk result (HasNumbers (events inbox.now)) }
+    ensures { IfOk result (Sums (events inbox.now)) }
 {
     let mut summary = Summary::empty(alloc);
     let mut source = Text::from_string(String::new(alloc));

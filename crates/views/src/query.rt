@@ -29,6 +29,7 @@ pub enum Query {
 /// The answer to a question.
 #[derive(Drop)]
 pub enum Answer {
+    /// A summary of version 1, whatever version the site tells its peers.
     Cover(Summary),
     Shown(Batch),
     Conflicts(Conflicts),

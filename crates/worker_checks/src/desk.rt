@@ -75,17 +75,19 @@ fn are_kinds(alloc: Global, site: &mut Site, lines: &str) -> bool {
     }
 }
 
+/// The summary of a site that has the first event.
+const FIRST: &str = concat!(
+    "{\"blocks\":{\"/orders\":[[0,",
+    "\"d5ccb1e0f3a200bd493d6e0860d52cc34f3bb0c1257febcb051820bc46cdfd4e\"]]}",
+    ",\"sources\":{\"/orders\":[[1,1]]},\"version\":2}",
+);
+
 /// Asks a desk that takes three events, for a peer that has the first.
 fn ask_desk(rt: &impl Abort, alloc: Global, site: &mut Site, peer: &Summary) {
     assert!(rt; takes_three(alloc, site));
-    assert!(rt;
-        is_text(
-            peer.to_text(),
-            "{\"sources\":{\"/orders\":[[1,1]]},\"version\":1}",
-        )
-    );
-    assert_eq!(rt; delta_digits(site, peer, 0), Some(23));
-    assert_eq!(rt; delta_digits(site, peer, 1), Some(3));
+    assert!(rt; is_text(peer.to_text(), FIRST));
+    assert_eq!(rt; delta_digits(site, peer, 0), Some(123));
+    assert_eq!(rt; delta_digits(site, peer, 1), Some(23));
     assert_eq!(rt; page_digits(site, 0), Some(12));
     assert_eq!(rt; page_digits(site, 2), Some(3));
     assert!(rt; are_kinds(alloc, site, "[\"t.a\",3]\n"));

@@ -107,11 +107,8 @@ fn take_and_meet<R: Wait + Abort>(
 
 /// Whether a site has one event, the first.
 fn has_first(site: &Site) -> bool {
-    let wanted = "{\"sources\":{\"/orders\":[[1,1]]},\"version\":1}";
-    match site.summary() {
-        Ok(summary) => site.arrived() == 1 && is_text(summary.to_text(), wanted),
-        Err(_) => false,
-    }
+    let wanted = "{\"sources\":{\"/orders\":[[1,1]]},\"version\":1}\n";
+    site.arrived() == 1 && is_text(site.lines(Query::Cover), wanted)
 }
 
 #[test]
@@ -155,8 +152,15 @@ fn pages<D: Desk>(alloc: Global, desk: &mut D) -> bool {
         && is_of(desk.page(1, 1), &["a2"])
 }
 
+/// The summary of a desk that has a1 to a3.
+const THREE: &str = concat!(
+    "{\"blocks\":{\"/orders\":[[0,",
+    "\"92a499e5ce1837c2fc65b41ad105efae295d9a4b160f814ad5807a8c2fbb35ef\"]]}",
+    ",\"sources\":{\"/orders\":[[1,3]]},\"version\":2}",
+);
+
 /// Whether the summary of a desk has this text.
-fn covers<D: Desk>(desk: &mut D, wanted: &str) -> bool {
+fn sums_up<D: Desk>(desk: &mut D, wanted: &str) -> bool {
     match desk.summary() {
         Ok(summary) => is_text(summary.to_text(), wanted),
         Err(_) => false,
@@ -183,12 +187,7 @@ fn a_caller_is_a_desk(rt: HostRuntime) {
     let rows = [("a2", 2), ("a1", 1), ("a3", 3), ("a2", 2)];
     assert!(rt; take_at(alloc, &mut caller, &rows) == Some((3, 1)));
     assert!(rt; pages(alloc, &mut caller));
-    assert!(rt;
-        covers(
-            &mut caller,
-            "{\"sources\":{\"/orders\":[[1,3]]},\"version\":1}"
-        )
-    );
+    assert!(rt; sums_up(&mut caller, THREE));
     assert!(rt; are_kinds(alloc, &mut caller, "[\"t.a\",3]\n"));
     drop(caller.into_pass());
     assert!(rt; is_of(shared.fresh(&rt, &mut first, 1, 10), &["a1", "a3"]));

@@ -3,12 +3,12 @@ use Rattle.std.specs.Prelude.{List, map}
 use Rattle.std.specs.String.{string_bytes}
 use Rattle.std.specs.declared.string.String.{String}
 use Rattle.coverage.specs.Intervals.{Interval}
-use Rattle.coverage.specs.Summary.{Entry, Sources}
+use Rattle.coverage.specs.Numbers.{Entry, Entries}
 
 -- an entry with the bytes of its source
 abbrev pub entry_in : {Y : Type 0} → String Y × List Interval → Entry
 entry_in e = (string_bytes e.0, e.1)
 
 -- the entries with the bytes of their sources
-abbrev pub sources_in : {Y : Type 0} → List (String Y × List Interval) → Sources
+abbrev pub sources_in : {Y : Type 0} → List (String Y × List Interval) → Entries
 sources_in es = map entry_in es

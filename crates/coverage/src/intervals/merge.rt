@@ -9,7 +9,10 @@ use super::{Interval, Intervals};
 use std::alloc::{AllocError, Global};
 
 /// Adds an interval that starts no earlier than those already there.
-fn append_interval(pairs: &mut Vec<Interval>, interval: Interval) -> Result<(), AllocError>
+pub(super) fn append_interval(
+    pairs: &mut Vec<Interval>,
+    interval: Interval,
+) -> Result<(), AllocError>
     requires canonical { IsCanonical pairs.old.items }
     requires from { 1 ≤ interval.0 }
     requires ordered { interval.0 ≤ interval.1 }

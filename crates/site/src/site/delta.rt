@@ -2,12 +2,14 @@
 
 ghost use Rattle.std.specs.Prelude.{◌≡◌, ◌≢◌, ◌+◌, ◌≤◌, [], drop, length, take, IfOk, OnErr};
 ghost use Rattle.inbox.specs.Sets.{set_of};
-ghost use Rattle.site.specs.Delta.{delta, is_lacking};
+ghost use Rattle.coverage.specs.Summary.{version_of};
+ghost use Rattle.site.specs.Delta.{Tells, delta, is_wanting, lacking_of};
 ghost use Rattle.site.specs.Page.{page};
 
 use super::Site;
 use attributes::{Batch, Sequenced};
 use coverage::Summary;
+use coverage::laws::summaries_stand_for_sets;
 use std::alloc::AllocError;
 
 /// Events that a peer lacks, and the place of key order to go on from.
@@ -17,25 +19,41 @@ pub struct DeltaPart {
     pub next: u64,
 }
 
-/// Whether a summary doesn't hold the number of an event for its source.
-fn is_lacking(peer: &Summary, event: &Sequenced) -> bool
-    ensures { result ≡ is_lacking peer.now event.now }
+/// Whether a summary wants an event of which the own summary tells.
+fn is_wanting(peer: &Summary, own: &Summary, event: &Sequenced) -> bool
+    ensures { result ≡ is_wanting peer.now own.now event.now }
 {
-    !peer.contains(event.event().source(), event.number())
+    peer.wants(own, event.event().source(), event.number())
 }
 
 impl Site {
+    /// The summary that tells `delta_from` what a peer lacks: the own one of version 2, but for a
+    /// peer of version 1 the empty one, which takes no memory, since numbers alone tell then. Costs
+    /// what `summary` does, and keeps nothing.
+    pub fn summary_for(&self, peer: &Summary) -> Result<Summary, AllocError>
+        ensures tells { IfOk result (Tells (set_of self.now) peer.now) }
+        ensures err { OnErr result (version_of peer.now ≡ 2) }
+    {
+        // A law that the clause rests on; the call does nothing.
+        summaries_stand_for_sets();
+        if peer.version() == 1 {
+            return Ok(Summary::empty(self.alloc));
+        }
+        self.digested()
+    }
+
     /// The place in key order behind which the events that the peer lacks are all but the first
     /// `from`.
-    fn place_behind(&self, peer: &Summary, from: u64) -> u64
+    pub(super) fn place_behind(&self, peer: &Summary, own: &Summary, from: u64) -> u64
+        requires tells { Tells (set_of self.now) peer.now own.now }
         ensures within { result ≤ length (set_of self.now) }
-        ensures rest { delta (drop result (set_of self.now)) peer.now
+        ensures rest { lacking_of (set_of self.now) peer.now (drop result (set_of self.now))
             ≡ drop from (delta (set_of self.now) peer.now) }
     {
         let mut left = from;
         let len = self.len();
         for i in 0..len {
-            if is_lacking(peer, self.at(i)) {
+            if is_wanting(peer, own, self.at(i)) {
                 if left == 0 {
                     return i;
                 }
@@ -47,25 +65,29 @@ impl Site {
 
     /// Of the events from a place of key order on, those that the peer lacks, `limit` of them at
     /// most, and the place to go on from. Whoever goes on from there until no event comes has the
-    /// whole rest of the delta, and goes over each event once. Costs a look-up in the summary for
-    /// each event that is passed, and a copy of each that is answered.
+    /// whole rest of the delta, and goes over each event once. The own summary is the one of
+    /// `summary_for`, or that of `summary`. Costs a look-up in both summaries for each event that
+    /// is passed, and a copy of each that is answered.
     pub fn delta_from(
         &self,
         peer: &Summary,
+        own: &Summary,
         place: u64,
         limit: u64,
     ) -> Result<DeltaPart, AllocError>
-        requires { place ≤ length (set_of self.now) }
-        ensures events { IfOk result (λ part. part.events
-            ≡ take limit (delta (drop place (set_of self.now)) peer.now)) }
-        ensures rest { IfOk result (λ part. delta (drop part.next (set_of self.now)) peer.now
-            ≡ drop limit (delta (drop place (set_of self.now)) peer.now)) }
+        requires place { place ≤ length (set_of self.now) }
+        requires tells { Tells (set_of self.now) peer.now own.now }
+        ensures events { IfOk result (λ part. part.events ≡ take limit
+            (lacking_of (set_of self.now) peer.now (drop place (set_of self.now)))) }
+        ensures rest { IfOk result (λ part.
+            lacking_of (set_of self.now) peer.now (drop part.next (set_of self.now))
+            ≡ drop limit (lacking_of (set_of self.now) peer.now (drop place (set_of self.now)))) }
         ensures within { IfOk result (λ part. part.next ≤ length (set_of self.now)) }
         ensures behind { IfOk result (λ part. place + length part.events ≤ part.next) }
 
         // Memory is wanted for events alone.
-        ensures err { OnErr result
-            (take limit (delta (drop place (set_of self.now)) peer.now) ≢ []) }
+        ensures err { OnErr result (take limit
+            (lacking_of (set_of self.now) peer.now (drop place (set_of self.now))) ≢ []) }
     {
         let mut events = Batch::empty(self.alloc);
         let len = self.len();
@@ -74,37 +96,57 @@ impl Site {
                 return Ok(DeltaPart { events, next: i });
             }
             let event = self.at(i);
-            if is_lacking(peer, event) {
+            if is_wanting(peer, own, event) {
                 events.push(event.copy()?)?;
             }
         }
         Ok(DeltaPart { events, next: len })
     }
 
-    /// The events whose number the peer's summary doesn't hold for their source, in key order. Goes
-    /// over all events, with a look-up in the summary for each; what is not lacking is not copied.
+    /// The events that the peer lacks, in key order: those whose number its summary doesn't hold
+    /// for their source, and from a summary of version 2 also all events of each block of which it
+    /// has another digest than this site, or none. Goes over all events, with a look-up in the
+    /// summary for each; what is not lacking is not copied. For a peer of version 2 it makes the
+    /// own summary first.
     pub fn delta(&self, peer: &Summary) -> Result<Batch, AllocError>
         ensures delta { IfOk result (λ batch. batch ≡ delta (set_of self.now) peer.now) }
 
-        // Memory is wanted for events alone.
-        ensures err { OnErr result (delta (set_of self.now) peer.now ≢ []) }
+        // A site without events wants no memory.
+        ensures err { OnErr result (set_of self.now ≢ []) }
+
+        // For a peer of version 1 memory is wanted for events alone.
+        ensures err_of_numbers { OnErr result
+            (version_of peer.now ≡ 1 → delta (set_of self.now) peer.now ≢ []) }
     {
-        Ok(self.delta_from(peer, 0, self.len())?.events)
+        let len = self.len();
+        if len == 0 {
+            return Ok(Batch::empty(self.alloc));
+        }
+        let own = self.summary_for(peer)?;
+        Ok(self.delta_from(peer, &own, 0, len)?.events)
     }
 
     /// The events at the places from `from` on of the peer's `delta`, `limit` of them at most: 1 to
     /// 100. Goes over the events up to the last one that is answered, with a look-up in the summary
-    /// for each; nothing else is copied.
+    /// for each; nothing else is copied. For a peer of version 2 it makes the own summary first.
     pub fn delta_page(&self, peer: &Summary, from: u64, limit: u64) -> Result<Batch, AllocError>
         requires low { 1 ≤ limit }
         requires high { limit ≤ 100 }
         ensures page { IfOk result (λ batch. batch
             ≡ page (delta (set_of self.now) peer.now) from limit) }
 
-        // Memory is wanted for events alone.
-        ensures err { OnErr result (page (delta (set_of self.now) peer.now) from limit ≢ []) }
+        // A site without events wants no memory.
+        ensures err { OnErr result (set_of self.now ≢ []) }
+
+        // For a peer of version 1 memory is wanted for events alone.
+        ensures err_of_numbers { OnErr result (version_of peer.now ≡ 1
+            → page (delta (set_of self.now) peer.now) from limit ≢ []) }
     {
-        let place = self.place_behind(peer, from);
-        Ok(self.delta_from(peer, place, limit)?.events)
+        if self.len() == 0 {
+            return Ok(Batch::empty(self.alloc));
+        }
+        let own = self.summary_for(peer)?;
+        let place = self.place_behind(peer, &own, from);
+        Ok(self.delta_from(peer, &own, place, limit)?.events)
     }
 }

@@ -26,7 +26,8 @@ impl Site {
             return Ok(());
         }
         let copy = event.copy()?;
-        grow(&mut self.inbox, &mut self.summary, event)?;
+        grow(&mut self.inbox, &mut self.summary, &mut self.blocks, event)?;
+        self.mark = None;
         let _taken = self.inbox.put(copy);
         Ok(())
     }

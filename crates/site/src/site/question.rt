@@ -1,9 +1,10 @@
 //! What a site is asked.
 
 ghost use Rattle.std.specs.Prelude.{◌≡◌, IfOk};
+ghost use Rattle.coverage.specs.Digests.{Digests};
 ghost use Rattle.inbox.specs.Sets.{set_of};
+ghost use Rattle.views.specs.Number.{Sums};
 ghost use Rattle.views.specs.Question.{IsAnswer, IsTrueOf, query_of};
-ghost use Rattle.site.specs.Sum.{Sums};
 
 use super::Site;
 use attributes::Text;
@@ -14,9 +15,40 @@ use views::laws::answers_are_alike;
 use views::{Answer, Query, answer, answer_lines, print};
 
 impl Site {
-    /// Which numbers the events of each source have: a copy of what is kept as events come. Time and
-    /// memory in proportion to the sources and their intervals.
-    pub fn summary(&self) -> Result<Summary, AllocError>
+    /// The summary that digests the set, version 2: which numbers the events of each source have,
+    /// and the digest of each block of them. Sorts and hashes the blocks to which events came since
+    /// their digest was made, and keeps their digests; else time and memory in proportion to the
+    /// sources, their intervals and the blocks.
+    pub fn summary(&mut self) -> Result<Summary, AllocError>
+        ensures same { self.new ≡ self.old }
+        ensures digests { IfOk result (Digests (set_of self.new)) }
+    {
+        self.mend()?;
+        self.digested()
+    }
+
+    /// Makes the digests of the blocks to which events came since theirs were made.
+    pub(super) fn mend(&mut self) -> Result<(), AllocError>
+        ensures { self.new ≡ self.old }
+    {
+        // Only events are kept.
+        let _arrived = self.inbox.arrived();
+        self.blocks.mend(&self.inbox)
+    }
+
+    /// `summary`, which keeps no digest that it makes.
+    pub(super) fn digested(&self) -> Result<Summary, AllocError>
+        ensures { IfOk result (Digests (set_of self.now)) }
+    {
+        // What the set has and what came are the same events.
+        let _arrived = self.inbox.arrived();
+        sets_are_members();
+        self.summary.digested(&self.blocks, &self.inbox)
+    }
+
+    /// Which numbers the events of each source have, version 1: a copy of what is kept as events
+    /// come. Time and memory in proportion to the sources and their intervals.
+    fn numbers(&self) -> Result<Summary, AllocError>
         ensures { IfOk result (Sums (set_of self.now)) }
     {
         // What the set has and what came are the same events.
@@ -25,14 +57,14 @@ impl Site {
         self.summary.copy()
     }
 
-    /// The answer to a question about the set. `Cover` costs what `summary` does, each other
-    /// question what `views::answer` does.
+    /// The answer to a question about the set. `Cover` is answered by a summary of version 1,
+    /// a copy of what is kept as events come; each other question costs what `views::answer` does.
     pub fn query(&self, query: Query) -> Result<Answer, AllocError>
         ensures query { IfOk result (λ a. query_of a ≡ query) }
         ensures answer { IfOk result (IsTrueOf (set_of self.now)) }
     {
         match query {
-            Query::Cover => Ok(Answer::Cover(self.summary()?)),
+            Query::Cover => Ok(Answer::Cover(self.numbers()?)),
             _ => answer(self.alloc, &self.inbox, query),
         }
     }

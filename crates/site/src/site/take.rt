@@ -4,25 +4,32 @@ ghost use Rattle.std.specs.Prelude.{◌≡◌, ◌+◌, ◌<◌, [], ◌∷◌, 
 ghost use Rattle.inbox.specs.KeyOrder.{key_cmp};
 ghost use Rattle.inbox.specs.Ordered.{append_new, has};
 ghost use Rattle.inbox.specs.Sets.{set_of, union};
+ghost use Rattle.block_digests.specs.Kept.{IsKeptOf};
+ghost use Rattle.coverage.specs.Summary.{version_of};
 ghost use Rattle.views.specs.Number.{HasNumbers};
 ghost use Rattle.site.specs.Arrival.{AreDistinct, AreNumbered, LacksAt};
 
 use super::Site;
 use attributes::{Batch, Sequenced};
+use block_digests::Blocks;
 use coverage::Summary;
 use inbox::laws::sets_are_members;
 use inbox::{Counts, Inbox, Short};
 use std::alloc::AllocError;
 
-/// Makes all that an event needs to grow: room for it, and its number in the summary.
+/// Makes all that a new event needs to grow: room for it, its place in its block, and its number in
+/// the summary.
 pub(super) fn grow(
     inbox: &mut Inbox,
     summary: &mut Summary,
+    blocks: &mut Blocks,
     event: &Sequenced,
 ) -> Result<(), AllocError>
     requires numbers { HasNumbers inbox.old.arrivals summary.old }
     requires numbered { AreNumbered inbox.old.arrivals }
     requires distinct { AreDistinct inbox.old.arrivals }
+    requires kept { IsKeptOf inbox.old.arrivals blocks.old }
+    requires new { has key_cmp inbox.old.arrivals event.now ≡ false }
     ensures same { inbox.new.arrivals ≡ inbox.old.arrivals }
     ensures room { OnOk result (0 < inbox.new.spare) }
     ensures numbers { OnOk result (HasNumbers
@@ -31,19 +38,25 @@ pub(super) fn grow(
         (append_new key_cmp inbox.old.arrivals (event.now ∷ []))) }
     ensures distinct { OnOk result (AreDistinct
         (append_new key_cmp inbox.old.arrivals (event.now ∷ []))) }
+    ensures version { OnOk result (version_of summary.new ≡ 1) }
+    ensures kept { OnOk result (IsKeptOf
+        (append_new key_cmp inbox.old.arrivals (event.now ∷ [])) blocks.new) }
     ensures err { OnErr result (summary.new ≡ summary.old) }
-
-    // Where there is room, memory is wanted for a new number alone.
-    ensures err_of_new { OnErr result (0 < inbox.old.spare
-        → has key_cmp inbox.old.arrivals event.now ≡ false) }
+    ensures still_kept { OnErr result (IsKeptOf inbox.old.arrivals blocks.new) }
 {
     // Only events are kept and taken, and what the set has of them is one of them.
-    let _arrived = inbox.arrived();
+    let place = inbox.arrived();
     let _text = event.event().text();
     sets_are_members();
     inbox.reserve(1)?;
-    summary.insert_str(event.event().source(), event.number())?;
-    Ok(())
+    blocks.note(event, place)?;
+    match summary.insert_str(event.event().source(), event.number()) {
+        Ok(_) => Ok(()),
+        Err(error) => {
+            blocks.forget(event);
+            Err(error)
+        }
+    }
 }
 
 impl Site {
@@ -59,12 +72,18 @@ impl Site {
         ensures whole { OnErr result (batch.new ≡ batch.old) }
         ensures err_of_new { OnErr result (LacksAt self.old batch.old 0) }
     {
-        if self.inbox.spare() == 0 && self.inbox.place_of(batch.at(0)).is_ok() {
+        if self.inbox.place_of(batch.at(0)).is_ok() {
             sets_are_members();
             drop(batch.take_front());
             return Ok(());
         }
-        grow(&mut self.inbox, &mut self.summary, batch.at(0))?;
+        grow(
+            &mut self.inbox,
+            &mut self.summary,
+            &mut self.blocks,
+            batch.at(0),
+        )?;
+        self.mark = None;
         if let Some(event) = batch.take_front() {
             let _taken = self.inbox.put(event);
         }
@@ -73,8 +92,9 @@ impl Site {
 
     /// Takes the events of a batch, from its front on. Those that are there change nothing and need
     /// no memory. After want of memory the batch holds what was not taken; those before it stay.
-    /// The time is that of `Inbox::put` for each event, and for each new one that of a look-up of
-    /// its source and number in the summary.
+    /// The time is that of a search for each event; for each new one also that of `Inbox::put`, and
+    /// of a look-up of its source and number in the summary and among the blocks. Nothing is
+    /// hashed.
     pub fn take_batch(&mut self, batch: &mut Batch) -> Result<Counts, Short>
         ensures arrivals { OnOk result (self.new ≡ append_new key_cmp self.old batch.old) }
         ensures set { OnOk result (set_of self.new ≡ union (set_of self.old) batch.old) }

@@ -1,6 +1,7 @@
 //! Questions asked in a turn.
 
 ghost use Rattle.std.specs.Prelude.{◌≡◌, ◌≢◌, ◌≤◌, [], OnErr};
+ghost use Rattle.coverage.specs.Summary.{version_of};
 ghost use Rattle.inbox.specs.Sets.{set_of};
 ghost use Rattle.site.specs.Delta.{delta};
 ghost use Rattle.site.specs.Desk.{answered, paged, summed};
@@ -20,14 +21,17 @@ use std::sync::Wait;
 use views::{Answer, Query};
 
 /// What a peer lacks, as a desk answers.
-fn delta_page(site: &Site, peer: &Summary, from: u64, limit: u64) -> Result<Batch, DeskFault>
+fn delta_page(site: &mut Site, peer: &Summary, from: u64, limit: u64) -> Result<Batch, DeskFault>
     requires low { 1 ≤ limit }
     requires high { limit ≤ 100 }
-    ensures answers { Answers site.now
+    ensures same { site.new ≡ site.old }
+    ensures answers { Answers site.old
         (call (command.DeltaPage peer.now from limit) (paged result)) }
-    ensures err { OnErr result (page (delta (set_of site.now) peer.now) from limit ≢ []) }
+    ensures err { OnErr result (set_of site.old ≢ []) }
+    ensures err_of_numbers { OnErr result (version_of peer.now ≡ 1
+        → page (delta (set_of site.old) peer.now) from limit ≢ []) }
 {
-    Ok(site.delta_page(peer, from, limit)?)
+    Ok(site.next_delta_page(peer, from, limit)?)
 }
 
 /// A page in key order, as a desk answers.
@@ -90,13 +94,16 @@ impl SharedSite {
         ensures made { Made pass.old pass.new
             (call (command.DeltaPage peer.now from limit) (paged result)) }
 
-        // Memory is wanted for events alone.
-        ensures err { OnErr result
-            (page (delta (set_of (leaves pass.new)) peer.now) from limit ≢ []) }
+        // A site without events wants no memory.
+        ensures err { OnErr result (set_of (leaves pass.new) ≢ []) }
+
+        // For a peer of version 1 memory is wanted for events alone.
+        ensures err_of_numbers { OnErr result (version_of peer.now ≡ 1
+            → page (delta (set_of (leaves pass.new)) peer.now) from limit ≢ []) }
     {
         let seat = &mut pass.seat;
-        let Held { site } = self.turns.enter(rt, seat);
-        let reply = delta_page(&site, peer, from, limit);
+        let Held { mut site } = self.turns.enter(rt, seat);
+        let reply = delta_page(&mut site, peer, from, limit);
         self.end::<Brand, _, _>(seat, site, &(peer, from, limit), &reply);
         reply
     }

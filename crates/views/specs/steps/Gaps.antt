@@ -1,7 +1,7 @@
 -- The gaps of a summary, entry by entry.
 use Rattle.std.specs.Prelude.{◌≡◌, List, [], ◌∷◌, Bool, true, false, filter}
 use Rattle.coverage.specs.Intervals.{Interval, Forms, IsMissing}
-use Rattle.coverage.specs.Summary.{Entry, Sources}
+use Rattle.coverage.specs.Summary.{Entry, Entries}
 
 -- whether there is an interval
 abbrev pub has_any : List Interval → Bool
@@ -13,13 +13,13 @@ abbrev pub has_gap : Entry → Bool
 has_gap row = has_any row.1
 
 -- for each entry the source with what is missing of its numbers
-abbrev pub AreMissing : Sources → Sources → Type 0
+abbrev pub AreMissing : Entries → Entries → Type 0
 AreMissing [] [] = Unit {0}
 AreMissing (e ∷ es) (row ∷ rows) =
     (row.0 ≡ e.0) × Forms row.1 (IsMissing e.1) × AreMissing es rows
 AreMissing _ _ = ⊥
 
 -- the same, without the sources that lack nothing
-abbrev pub AreGapsOf : Sources → Sources → Type 0
+abbrev pub AreGapsOf : Entries → Entries → Type 0
 AreGapsOf entries rows =
-    (all : Sources) × AreMissing entries all × (rows ≡ filter has_gap all)
+    (all : Entries) × AreMissing entries all × (rows ≡ filter has_gap all)

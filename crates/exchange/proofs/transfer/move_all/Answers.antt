@@ -3,7 +3,7 @@ use Rattle.std.proofs.lemmas.List.{drop_all, drop-drop, length-drop, length-take
 use Rattle.inbox.specs.KeyOrder.{key_cmp}
 use Rattle.inbox.specs.Ordered.{append_new}
 use Rattle.inbox.specs.Sets.{set_of, union}
-use Rattle.site.specs.Delta.{delta, is_lacking}
+use Rattle.site.specs.Delta.{delta, is_lacking, lacking_of}
 use Rattle.exchange.proofs.TransferLemmas.{arrivals_on, length-append_new, length-filter, set_on}
 use Rattle.exchange.proofs.transfer.move_all.Goals as goal
 
@@ -12,7 +12,7 @@ loop-place-preserved c =
     let E = set_of c.args.from.now in
     let peer = c.args.peer.now in
     let all = delta E peer in
-    let M = delta (drop c.loop-place.place E) peer in
+    let M = lacking_of E peer (drop c.loop-place.place E) in
     let A = c.args.to.now in
     let rest = c.loop-place.invariant.rest in
     let n = c.in-Ok.moved.count in
@@ -34,7 +34,7 @@ overflow_sub-fresh c =
     let E = set_of c.args.from.now in
     let peer = c.args.peer.now in
     let all = delta E peer in
-    let M = delta (drop c.loop-place.place E) peer in
+    let M = lacking_of E peer (drop c.loop-place.place E) in
     let A = c.args.to.now in
     let rest = c.loop-place.invariant.rest in
     let bounds = length-append_new key_cmp c.loop-place.to (take c.in-Err.part M) in
@@ -45,17 +45,17 @@ overflow_add-taken-in-Err c =
     let E = set_of c.args.from.now in
     let peer = c.args.peer.now in
     let all = delta E peer in
-    let M = delta (drop c.loop-place.place E) peer in
+    let M = lacking_of E peer (drop c.loop-place.place E) in
     let A = c.args.to.now in
     let rest = c.loop-place.invariant.rest in
-    omega (arith, c.in-Err.ensures.short_taken, ap length rest, length-drop c.loop-place.taken all, c.loop-place.invariant.counted, length-filter (is_lacking peer) E, c.len-len.ensures, c.len-len.type_inv)
+    omega (arith, c.in-Err.ensures.short_taken, ap length rest, length-drop c.loop-place.taken all, c.loop-place.invariant.counted, length-filter (is_lacking E peer) E, c.len-len.ensures, c.len-len.type_inv)
 
 pub returns-in-Err-clause-short : goal.returns-in-Err-clause-short
 returns-in-Err-clause-short c =
     let E = set_of c.args.from.now in
     let peer = c.args.peer.now in
     let all = delta E peer in
-    let M = delta (drop c.loop-place.place E) peer in
+    let M = lacking_of E peer (drop c.loop-place.place E) in
     let A = c.args.to.now in
     let rest = c.loop-place.invariant.rest in
     arrivals_on key_cmp A c.loop-place.to all M c.loop-place.taken c.in-Err.part c.move_part.new.to c.loop-place.invariant.arrivals rest c.in-Err.ensures.short
@@ -65,7 +65,7 @@ returns-in-Err-clause-short_set c =
     let E = set_of c.args.from.now in
     let peer = c.args.peer.now in
     let all = delta E peer in
-    let M = delta (drop c.loop-place.place E) peer in
+    let M = lacking_of E peer (drop c.loop-place.place E) in
     let A = c.args.to.now in
     let rest = c.loop-place.invariant.rest in
     set_on key_cmp (set_of A) (set_of c.loop-place.to) all M c.loop-place.taken c.in-Err.part (set_of c.move_part.new.to) c.loop-place.invariant.set rest c.in-Err.ensures.short_set
@@ -75,7 +75,7 @@ returns-in-Err-clause-short_fresh c =
     let E = set_of c.args.from.now in
     let peer = c.args.peer.now in
     let all = delta E peer in
-    let M = delta (drop c.loop-place.place E) peer in
+    let M = lacking_of E peer (drop c.loop-place.place E) in
     let A = c.args.to.now in
     let rest = c.loop-place.invariant.rest in
     let bounds = length-append_new key_cmp c.loop-place.to (take c.in-Err.part M) in
@@ -86,10 +86,10 @@ returns-clause-arrivals c =
     let E = set_of c.args.from.now in
     let peer = c.args.peer.now in
     let all = delta E peer in
-    let M = delta (drop c.loop-place.place E) peer in
+    let M = lacking_of E peer (drop c.loop-place.place E) in
     let A = c.args.to.now in
     let rest = c.loop-place.invariant.rest in
-    let none : M ≡ [] = ap (λ l. delta l peer) (drop_all c.loop-place.place E (omega (arith, c.loop-place-test.false, c.len-len.ensures))) in
+    let none : M ≡ [] = ap (lacking_of E peer) (drop_all c.loop-place.place E (omega (arith, c.loop-place-test.false, c.len-len.ensures))) in
     let done : length all ≤ c.loop-place.taken = omega (arith, ap length (sym rest ∙ none), length-drop c.loop-place.taken all) in
     c.loop-place.invariant.arrivals ∙ ap (append_new key_cmp A) (take_all c.loop-place.taken all done)
 
@@ -98,10 +98,10 @@ returns-clause-set c =
     let E = set_of c.args.from.now in
     let peer = c.args.peer.now in
     let all = delta E peer in
-    let M = delta (drop c.loop-place.place E) peer in
+    let M = lacking_of E peer (drop c.loop-place.place E) in
     let A = c.args.to.now in
     let rest = c.loop-place.invariant.rest in
-    let none : M ≡ [] = ap (λ l. delta l peer) (drop_all c.loop-place.place E (omega (arith, c.loop-place-test.false, c.len-len.ensures))) in
+    let none : M ≡ [] = ap (lacking_of E peer) (drop_all c.loop-place.place E (omega (arith, c.loop-place-test.false, c.len-len.ensures))) in
     let done : length all ≤ c.loop-place.taken = omega (arith, ap length (sym rest ∙ none), length-drop c.loop-place.taken all) in
     c.loop-place.invariant.set ∙ ap (union (set_of A)) (take_all c.loop-place.taken all done)
 
@@ -110,9 +110,9 @@ returns-clause-repeated c =
     let E = set_of c.args.from.now in
     let peer = c.args.peer.now in
     let all = delta E peer in
-    let M = delta (drop c.loop-place.place E) peer in
+    let M = lacking_of E peer (drop c.loop-place.place E) in
     let A = c.args.to.now in
     let rest = c.loop-place.invariant.rest in
-    let none : M ≡ [] = ap (λ l. delta l peer) (drop_all c.loop-place.place E (omega (arith, c.loop-place-test.false, c.len-len.ensures))) in
+    let none : M ≡ [] = ap (lacking_of E peer) (drop_all c.loop-place.place E (omega (arith, c.loop-place-test.false, c.len-len.ensures))) in
     let done : length all ≤ c.loop-place.taken = omega (arith, ap length (sym rest ∙ none), length-drop c.loop-place.taken all) in
     omega (arith, done, c.loop-place.invariant.counted, c.loop-place.invariant.no_fewer, c.loop-place.invariant.no_more, c.arrived-before.ensures.count)

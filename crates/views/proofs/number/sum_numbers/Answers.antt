@@ -12,7 +12,12 @@ pub loop-i-preserved : goal.loop-i-preserved
 loop-i-preserved c =
     let E = events c.args.inbox.now in
     let e = c.at-event.result.now in
-    λ s n. c.in_ok-insert.ensures.members s n
-    ∙ ap (λ b. holds_at c.loop-i.summary s n || b) (is_numbered-Some e c.in_ok-source.source s c.number.result n (c.in_ok-source.ensures ∙ c.source.ensures.value ∙ ap source_of c.event.ensures) c.number.ensures)
-    ∙ ap (λ b. b || is_numbered e s n) (c.loop-i.invariant s n)
-    ∙ sym (has_number-more (take c.loop-i.i E) e s n) ∙ ap (λ l. has_number l s n) (sym (take_next E c.loop-i.i e c.at-event.ensures))
+    let was = c.loop-i.invariant in
+    record {
+      version = c.in_ok-insert.ensures.version;
+      in_form = c.insert.ensures.summary;
+      exact = λ s n. c.in_ok-insert.ensures.members s n
+          ∙ ap (λ b. holds_at c.loop-i.summary s n || b) (is_numbered-Some e c.in_ok-source.source s c.number.result n (c.in_ok-source.ensures ∙ c.source.ensures.value ∙ ap source_of c.event.ensures) c.number.ensures)
+          ∙ ap (λ b. b || is_numbered e s n) (was.exact s n)
+          ∙ sym (has_number-more (take c.loop-i.i E) e s n) ∙ ap (λ l. has_number l s n) (sym (take_next E c.loop-i.i e c.at-event.ensures));
+    }

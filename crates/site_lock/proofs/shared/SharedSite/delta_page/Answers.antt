@@ -1,6 +1,7 @@
-use Rattle.std.proofs.Common.{◌≢◌, List, [], refl, ◌∙◌, subst}
+use Rattle.std.proofs.Common.{◌≡◌, ◌≢◌, List, [], refl, ◌∙◌, subst}
 use Rattle.std.specs.Prelude.{OnErr}
 use Rattle.attributes.specs.Event.{EventValue}
+use Rattle.coverage.specs.Summary.{version_of}
 use Rattle.inbox.specs.Sets.{set_of}
 use Rattle.site.specs.Delta.{delta}
 use Rattle.site.specs.Page.{page}
@@ -14,5 +15,10 @@ returns-clause-made g c =
 
 pub returns-clause-err : goal.returns-clause-err
 returns-clause-err g c =
-    subst (λ (A : List EventValue). OnErr c.delta_page-reply.result (page (delta (set_of A) c.args.peer.now) c.args.from c.args.limit ≢ []))
+    subst (λ (A : List EventValue). OnErr c.delta_page-reply.result (set_of A ≢ []))
     (shows_site c.end.new.seat.table_id c.enter-site.new.pass.me c.end.new.seat.me c.enter-site.result.site _ _ c.enter-site.ensures.turn refl c.end.ensures.ended) c.delta_page-reply.ensures.err
+
+pub returns-clause-err_of_numbers : goal.returns-clause-err_of_numbers
+returns-clause-err_of_numbers g c =
+    subst (λ (A : List EventValue). OnErr c.delta_page-reply.result (version_of c.args.peer.now ≡ 1 → page (delta (set_of A) c.args.peer.now) c.args.from c.args.limit ≢ []))
+    (shows_site c.end.new.seat.table_id c.enter-site.new.pass.me c.end.new.seat.me c.enter-site.result.site _ _ c.enter-site.ensures.turn refl c.end.ensures.ended) c.delta_page-reply.ensures.err_of_numbers

@@ -1,0 +1,7 @@
+use Rattle.std.proofs.Common.{◌∙◌}
+use Rattle.coverage.proofs.ShapeLemmas.{block-wrong_length}
+use Rattle.coverage.proofs.numbers.shape.block_in.Goals as goal
+
+pub returns-then-len-ne2 : goal.returns-then-len-ne2
+returns-then-len-ne2 c =
+    block-wrong_length _ c.in-Some.pair.now.items c.in-Some.ensures (λ two. c.if-len-ne2.true (c.len.ensures ∙ c.in-Some.pair.now.ok.0 ∙ two))

@@ -1,6 +1,0 @@
-use Rattle.std.proofs.Common.{◌≡◌, ◌++◌}
-use Rattle.coverage.specs.steps.Entries.{sources_in}
-use Rattle.coverage.proofs.summary.Summary.copy.Given as goal
-
-abbrev pub invariant-loop-source : goal.invariant-loop-source
-invariant-loop-source l = l.own ++ sources_in l.source-iterator ≡ l.self

@@ -1,7 +1,0 @@
-use Rattle.std.proofs.Common.{◌≡◌}
-use Rattle.serde_json.specs.View.{view, members_view}
-use Rattle.coverage.specs.SummaryShape.{is_object_of_lists, are_lists}
-use Rattle.coverage.proofs.summary.shape.is_object_of_lists.Given as goal
-
-abbrev pub invariant-loop-list : goal.invariant-loop-list
-invariant-loop-list l = is_object_of_lists (view l.value) ≡ are_lists (members_view l.list-iterator)
