@@ -57,6 +57,88 @@ for row in '0 100' '100 100' '200 50' '250 0'; do
         is "$words" 0 "${row#* }" ''
     done
 done
+# Every page, each a line: 100, 100 and 50 events, in the order of the pages one by one.
+for words in 'delta --db many.db --all nothing.json' 'scrub --db many.db --all'; do
+    # shellcheck disable=SC2086
+    run $words
+    mv got.out all.out
+    awk '{ n += gsub(/"id"/, "&"); printf "%d ", n; n = 0 }' all.out >got.out
+    is "$words" 0 '100 100 50 ' ''
+    for from in 0 100 200; do "$program" "${words%% *}" --db many.db --from "$from" $(printf '%s' "$words" | grep -o 'nothing.json'); done >got.out 2>got.err
+    status=$?
+    cmp -s got.out all.out || status='other bytes'
+    : >got.out
+    is "$words: as page by page" 0 '' ''
+done
+run scrub --db s.db --all
+is 'all of less than a page' 0 "[$e1,$e2,$e3]$lf" ''
+run delta --db s.db --all held.json
+is 'all that a summary lacks' 0 "[$e1,$e3]$lf" ''
+run cover three.json
+cp got.out three.summary
+run delta --db s.db --all three.summary
+is 'nothing lacks' 0 '' ''
+head -1 all.out >page.json
+run take --db first.db page.json
+is 'a line is a batch' 0 "read 100 new 100 repeated 0$lf" ''
+"$program" scrub --db many.db --all 2>got.err >&-
+status=$?
+: >got.out
+is 'all pages to a closed stream' 1 '' ''
+
+# Summaries, and questions over a database.
+run summary --db s.db
+cp got.out s.summary
+is 'a summary' 0 '*' ''
+run delta --db s.db s.summary
+is 'a database lacks nothing of its own' 0 "[]$lf" ''
+run delta --db many.db --all s.summary
+mv got.out all.out
+awk '{ n += gsub(/"id"/, "&") } END { printf "%d", n }' all.out >got.out
+is 'by the summary of another site' 0 250 ''
+for question in cover gaps shown latest kinds days conflicts; do
+    run "$question" --db s.db
+    mv got.out held.out
+    run "$question" three.json
+    cmp -s got.out held.out || status='other bytes'
+    : >got.out
+    is "$question of a database" 0 '' ''
+    run "$question" --db s.db many.json two.json
+    mv got.out held.out
+    run "$question" many.json three.json
+    cmp -s got.out held.out || status='other bytes'
+    : >got.out
+    is "$question of a database and files" 0 '' ''
+done
+run take --db s.db three.json
+is 'a question changes nothing' 0 "read 3 new 0 repeated 3$lf" ''
+run order --db served.db --at 2024-02-29T10:00:00Z place 7
+cp served.db served.before
+run summary --db served.db
+is 'a summary beside a service alone' 0 '*' ''
+run kinds --db served.db
+is 'a question beside a service alone' 0 '' ''
+cmp served.db served.before
+status=$?
+: >got.out
+is 'nothing is made beside it' 0 '' ''
+for words in 'summary' 'scrub --all' 'delta --all nothing.json' 'cover' 'kinds three.json'; do
+    set -- $words
+    word=$1
+    shift
+    run "$word" --db absent.db "$@"
+    is "$words of a database that isn't there" 1 '' "site: absent.db: cannot read$lf"
+done
+run cover --db s.db missing.json
+is 'files are read before the database of a question' 1 '' "site: missing.json: cannot read$lf"
+printf '[{}]' >bad.json
+run cover --db absent.db bad.json
+is 'and judged' 1 '' "site: bad.json: event 0: SpecVersion$lf"
+[ ! -e absent.db ]
+status=$?
+: >got.out
+: >got.err
+is 'none of them makes a file' 0 '' ''
 : >got.err
 "$program" take --db closed.db three.json 2>got.err >&-
 status=$?
@@ -276,10 +358,29 @@ before one.db beside.db 'CREATE TABLE strange (a INTEGER)'
 run_over beside.db scrub --db beside.db
 is 'a table of another program beside an inbox of before' 1 '' "site: beside.db: Store$lf"
 
+# Names that mean no file to SQLite.
+for name in '' :memory: file: file:s.db 'file:s.db?mode=ro'; do
+    for words in 'take three.json' 'scrub' 'scrub --all' 'summary' 'kinds' 'run three.json' 'relay --after 0'; do
+        set -- $words
+        word=$1
+        shift
+        run "$word" --db "$name" "$@"
+        is "$words of '$name'" 1 '' "site: $name: Store$lf"
+    done
+done
+for name in :memory: file: file:s.db 'file:s.db?mode=ro'; do
+    [ -e "$name" ] && status='a file was made'
+done
+: >got.out
+: >got.err
+is 'such names make no file' 1 '' ''
+
 # Faulty words: status 2, and no file is made.
 for words in 'take three.json' 'take --db w.db' 'delta --db w.db' 'delta --db w.db --from x held.json' \
     'delta --db w.db --from +1 held.json' 'scrub --db w.db --from 18446744073709551616' \
-    'scrub --db w.db --from 000000000000000000001' 'relay --db w.db' 'relay --db w.db --after -1' \
+    'scrub --db w.db --from 000000000000000000001' 'scrub --db w.db --all --from 1' 'scrub --db w.db --all 1' \
+    'delta --db w.db --from 0 --all held.json' 'summary' 'summary --db w.db three.json' 'cover' 'cover --all three.json' \
+    'relay --db w.db' 'relay --db w.db --after -1' \
     'order --db w.db place 7' 'order --db w.db --at 2024-02-30T10:00:00Z place 7' \
     'order --db w.db --at 2024-02-29T10:00:00Z send 7' 'order --db w.db --at 2024-02-29T10:00:00Z place 0' \
     'order --db w.db --at 2024-02-29T10:00:00Z place 9223372036854775808' \
@@ -301,7 +402,7 @@ status=0
 is 'faulty words make no file' 0 '' ''
 
 # Want of memory at each place: the whole answer, or that line. What is there is not touched.
-for words in 'scrub --db s.db' 'take --db s.db three.json'; do
+for words in 'scrub --db s.db' 'take --db s.db three.json' 'summary --db s.db' 'scrub --db s.db --all' 'kinds --db s.db'; do
     # shellcheck disable=SC2086
     "$here/tools/refuse_allocations.py" "$program" $words >told 2>got.err
     status=$?

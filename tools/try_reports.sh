@@ -114,8 +114,8 @@ tells err 'cover'
 tells err '<FILE>...' shown
 tells err 'covers' covers f
 tells err '--from' cover --from f
-tells out 'Usage: site cover <FILE>...' cover --help
-tells out 'Usage: site cover <FILE>...' help cover
+tells out 'Usage: site cover [OPTIONS] [FILE]...' cover --help
+tells out 'Usage: site cover [OPTIONS] [FILE]...' help cover
 tells out 'Files of CloudEvents' shown --help
 tells out 'cover' --help
 tells out 'site 0.1.0' --version

@@ -1,5 +1,5 @@
 -- From what a command's values are to what the words are a plan for.
-use Rattle.std.proofs.Common.{◌≡◌, List, ℕ, [], Result, Ok, Err, IfOk, refl, sym, ap, subst, ◌∙◌}
+use Rattle.std.proofs.Common.{◌≡◌, List, [], Result, Ok, Err, IfOk, refl, sym, ap, subst, ◌∙◌}
 use Rattle.std.specs.Result.{IfErr}
 use Rattle.clap.specs.Words.{Row, Text, fault_of, matches_of}
 use Rattle.command_words.specs.Commands.{app_for, word_of}

@@ -1,9 +1,9 @@
 -- The commands of the program, as clap's rule reads them.
 use Rattle.std.specs.Prelude.{List, ℕ, [], ◌∷◌, codes, true, Some}
 use Rattle.clap.specs.Words.{App, Rule, new_app, new_rule, with_rule}
-use Rattle.clap.specs.declared.builder.action.ArgAction.TheVariants.{Append}
+use Rattle.clap.specs.declared.builder.action.ArgAction.TheVariants.{Append, SetTrue}
 use Rattle.command_words.specs.declared.command.Command.{Command}
-use Rattle.command_words.specs.declared.command.Command.TheVariants.{Ask, Delta, Order, Relay, Run, Scrub, Take}
+use Rattle.command_words.specs.declared.command.Command.TheVariants.{Ask, Delta, Order, Relay, Run, Scrub, Summary, Take}
 use Rattle.views.specs.declared.query.Query.TheVariants.{Conflicts, Cover, Days, Gaps, Kinds, Latest, Shown}
 
 -- the word of a command
@@ -15,6 +15,7 @@ word_of (Ask Latest) = codes "latest"
 word_of (Ask Kinds) = codes "kinds"
 word_of (Ask Days) = codes "days"
 word_of (Ask Conflicts) = codes "conflicts"
+word_of Summary = codes "summary"
 word_of Take = codes "take"
 word_of Delta = codes "delta"
 word_of Scrub = codes "scrub"
@@ -32,6 +33,10 @@ place_rule id = record (new_rule id) { value_names = 1; required = true }
 abbrev pub files_rule : Rule
 files_rule = record (place_rule (codes "file")) { action = Some Append }
 
+-- `FILE..`, or none
+abbrev pub question_files_rule : Rule
+question_files_rule = record (new_rule (codes "file")) { value_names = 1; action = Some Append }
+
 -- `--NAME VALUE`
 abbrev pub option_rule : List ℕ → Rule
 option_rule name = record (new_rule name) { long = Some name; value_names = 1 }
@@ -39,6 +44,10 @@ option_rule name = record (new_rule name) { long = Some name; value_names = 1 }
 -- `--NAME VALUE`, required
 abbrev pub needed_rule : List ℕ → Rule
 needed_rule name = record (option_rule name) { required = true }
+
+-- `--NAME`
+abbrev pub flag_rule : List ℕ → Rule
+flag_rule name = record (new_rule name) { long = Some name; action = Some SetTrue }
 
 -- `--NAME VALUE`, with this value where it isn't given
 abbrev pub default_rule : List ℕ → List ℕ → Rule
@@ -56,10 +65,13 @@ with_db command = with_rule (new_app (word_of command)) (needed_rule (codes "db"
 
 -- a command's word and its arguments
 abbrev pub app_for : Command → App
-app_for (Ask query) = with_rule (new_app (word_of (Ask query))) files_rule
+app_for (Ask query) = with_rule (with_rule (new_app (word_of (Ask query)))
+    (option_rule (codes "db"))) question_files_rule
+app_for Summary = with_db Summary
 app_for Take = with_rule (with_db Take) files_rule
-app_for Delta = with_rule (with_rule (with_db Delta) from_rule) (place_rule (codes "summary"))
-app_for Scrub = with_rule (with_db Scrub) from_rule
+app_for Delta = with_rule (with_rule (with_rule (with_db Delta) from_rule)
+    (flag_rule (codes "all"))) (place_rule (codes "summary"))
+app_for Scrub = with_rule (with_rule (with_db Scrub) from_rule) (flag_rule (codes "all"))
 app_for Run = with_rule (with_rule (with_db Run) (option_rule (codes "peer"))) files_rule
 app_for Order = with_rule (with_rule (with_rule (with_rule (with_db Order)
     (default_rule (codes "source") (codes "/orders"))) (needed_rule (codes "at")))

@@ -1,5 +1,5 @@
 -- What the words after the program's name ask for.
-use Rattle.std.specs.Prelude.{◌≡◌, ◌≢◌, ◌≤◌, ◌<◌, ◌+◌, ◌^◌, Bool, ℕ, List, [], true, false, codes, find, length, Option, None, Some, option_and_then, slice_get, unwrap_or, if◌then◌else◌}
+use Rattle.std.specs.Prelude.{◌≡◌, ◌≢◌, ◌≤◌, ◌<◌, ◌+◌, ◌^◌, ◌⊎◌, Bool, ℕ, List, [], true, false, codes, find, length, Option, None, Some, option_and_then, slice_get, unwrap_or, if◌then◌else◌}
 use Rattle.std.specs.Option.{is_some}
 use Rattle.std.specs.Str.{bytes_eq}
 use Rattle.std.specs.Str.Parse.{IsNumeral, digits_value}
@@ -14,6 +14,8 @@ use Rattle.command_words.specs.declared.command.Command.TheVariants as command
 use Rattle.command_words.specs.declared.request.Action.{Action}
 use Rattle.command_words.specs.declared.request.Action.TheVariants as action
 use Rattle.command_words.specs.declared.request.Request.{Request}
+use Rattle.command_words.specs.declared.request.Pages.{Pages}
+use Rattle.command_words.specs.declared.request.Pages.TheVariants as pages
 use Rattle.command_words.specs.declared.request.Plan.{Plan}
 use Rattle.command_words.specs.declared.request.Plan.TheVariants as plan
 use Rattle.command_words.specs.declared.fault.Faulty.{Faulty}
@@ -22,10 +24,11 @@ use Rattle.command_words.specs.Commands.{app_for, word_of}
 
 -- the command of a plan
 abbrev pub command_of : Plan → Command
-command_of (plan.Ask query files) = command.Ask query
+command_of (plan.Ask query db files) = command.Ask query
+command_of (plan.Summary db) = command.Summary
 command_of (plan.Take db files) = command.Take
-command_of (plan.Delta db from summary) = command.Delta
-command_of (plan.Scrub db from) = command.Scrub
+command_of (plan.Delta db which summary) = command.Delta
+command_of (plan.Scrub db which) = command.Scrub
 command_of (plan.Run db peer files) = command.Run
 command_of (plan.Order request) = command.Order
 command_of (plan.Relay db after) = command.Relay
@@ -97,16 +100,28 @@ pub record HasRequestOf (rows : List Row) (r : Request) : Type 0 where
   pub action : text_in rows (codes "action") ≡ action_word r.action
   pub order : IsOrderNumber (text_in rows (codes "order")) r.order
 
+-- the words gave the one page that is printed, or its default, or they asked for all
+abbrev pub HasPages : List Row → Pages → Type 0
+HasPages rows (pages.Behind n) =
+    (is_given rows (codes "all") ≡ false) × IsNumber (text_in rows (codes "from")) n
+HasPages rows pages.All =
+    (is_given rows (codes "all") ≡ true) × (is_given rows (codes "from") ≡ false)
+
+-- a database is given, or a file
+abbrev pub AreSome : Option Text → List Text → Type 0
+AreSome db files = (is_some db ≡ true) ⊎ (files ≢ [])
+
 -- the plan has the texts, and the values that they write, that were matched for its arguments
 abbrev pub HasTextsOf : List Row → Plan → Type 0
-HasTextsOf rows (plan.Ask query files) = files ≡ texts_in rows (codes "file")
+HasTextsOf rows (plan.Ask query db files) = (db ≡ first_of (codes "db") rows)
+    × (files ≡ texts_in rows (codes "file")) × AreSome db files
+HasTextsOf rows (plan.Summary db) = db ≡ text_in rows (codes "db")
 HasTextsOf rows (plan.Take db files) =
     (db ≡ text_in rows (codes "db")) × (files ≡ texts_in rows (codes "file"))
-HasTextsOf rows (plan.Delta db from summary) =
-    (db ≡ text_in rows (codes "db")) × IsNumber (text_in rows (codes "from")) from
-    × (summary ≡ text_in rows (codes "summary"))
-HasTextsOf rows (plan.Scrub db from) =
-    (db ≡ text_in rows (codes "db")) × IsNumber (text_in rows (codes "from")) from
+HasTextsOf rows (plan.Delta db which summary) = (db ≡ text_in rows (codes "db"))
+    × HasPages rows which × (summary ≡ text_in rows (codes "summary"))
+HasTextsOf rows (plan.Scrub db which) =
+    (db ≡ text_in rows (codes "db")) × HasPages rows which
 HasTextsOf rows (plan.Run db peer files) =
     (db ≡ text_in rows (codes "db")) × (peer ≡ first_of (codes "peer") rows)
     × (files ≡ texts_in rows (codes "file")) × AreFew (is_some peer) (length files)

@@ -1,7 +1,7 @@
 //! The arguments of the commands, as clap declares them.
 ghost use Rattle.std.specs.Prelude.{◌≡◌, false, codes};
 ghost use Rattle.clap.specs.Words.{rule_of};
-ghost use Rattle.command_words.specs.Commands.{default_rule, files_rule, from_rule, needed_rule, option_rule, place_rule};
+ghost use Rattle.command_words.specs.Commands.{default_rule, files_rule, flag_rule, from_rule, needed_rule, option_rule, place_rule, question_files_rule};
 
 use clap::{Arg, ArgAction};
 use std::alloc::Global;
@@ -16,6 +16,50 @@ pub fn files<'a>(alloc: Global) -> Arg<'a>
         .help("Files of CloudEvents in JSON, an event or a batch each; - is standard input")
         .action(ArgAction::Append)
         .required(true)
+}
+
+/// `FILE..`, which a question over a database may have none of.
+pub fn question_files<'a>(alloc: Global) -> Arg<'a>
+    ensures rule { rule_of result ≡ question_files_rule }
+    ensures local { result.global ≡ false }
+{
+    Arg::new(alloc, "file")
+        .value_name("FILE")
+        .help("Files of CloudEvents in JSON, an event or a batch each; - is standard input")
+        .action(ArgAction::Append)
+}
+
+/// `--db DB` of a command that only reads.
+pub fn read_db<'a>(alloc: Global) -> Arg<'a>
+    ensures rule { rule_of result ≡ needed_rule (codes "db") }
+    ensures local { result.global ≡ false }
+{
+    Arg::new(alloc, "db")
+        .long("db")
+        .value_name("DB")
+        .help("The database file")
+        .required(true)
+}
+
+/// `--db DB` of a question.
+pub fn question_db<'a>(alloc: Global) -> Arg<'a>
+    ensures rule { rule_of result ≡ option_rule (codes "db") }
+    ensures local { result.global ≡ false }
+{
+    Arg::new(alloc, "db").long("db").value_name("DB").help(
+        "A database file, whose events are asked with those of the files",
+    )
+}
+
+/// `--all`
+pub fn all<'a>(alloc: Global) -> Arg<'a>
+    ensures rule { rule_of result ≡ flag_rule (codes "all") }
+    ensures local { result.global ≡ false }
+{
+    Arg::new(alloc, "all")
+        .long("all")
+        .help("Every page, each as a line of its own, instead of one")
+        .action(ArgAction::SetTrue)
 }
 
 /// `--db DB`

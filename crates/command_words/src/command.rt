@@ -4,20 +4,26 @@ ghost use Rattle.clap.specs.Words.{app_of, new_app, with_rule};
 ghost use Rattle.command_words.specs.Commands.{app_for, needed_rule, place_rule, word_of};
 ghost use Rattle.command_words.specs.declared.command.Command.{Command};
 
-use crate::argument::{action, after, at, db, files, from, order, peer, source, summary};
+use crate::argument::{
+    action, after, all, at, db, files, from, order, peer, question_db, question_files, read_db,
+    source, summary,
+};
 use std::alloc::{AllocError, Global};
 use views::Query;
 
 /// A command of the program.
 #[derive(Clone, Copy, Debug, PartialEq, Eq)]
 pub enum Command {
-    /// `WORD FILE..`: answers the query for the events of all files together.
+    /// `WORD [--db DB] FILE..`: answers the query for the events of all files together, and those
+    /// of a database.
     Ask(Query),
+    /// `summary --db DB`: which events a database has, for another site to compare.
+    Summary,
     /// `take --db DB FILE..`: adds the files' events to a database.
     Take,
-    /// `delta --db DB [--from N] SUMMARY`: a page of the events that a summary lacks.
+    /// `delta --db DB [--from N | --all] SUMMARY`: the events that a summary lacks.
     Delta,
-    /// `scrub --db DB [--from N]`: a page of all events.
+    /// `scrub --db DB [--from N | --all]`: all events.
     Scrub,
     /// `run --db DB [--peer FILE] FILE..`: takes files side by side into a database.
     Run,
@@ -40,7 +46,7 @@ pub struct Row<'a> {
 }
 
 /// The words of all commands, in the order in which help lists them.
-pub const WORDS: [&str; 13] = [
+pub const WORDS: [&str; 14] = [
     "cover",
     "gaps",
     "shown",
@@ -49,6 +55,7 @@ pub const WORDS: [&str; 13] = [
     "days",
     "conflicts",
     "take",
+    "summary",
     "delta",
     "scrub",
     "run",
@@ -111,6 +118,12 @@ pub fn row_of<'a>(word: &str) -> Option<Row<'a>>
             full_name: "site take",
             about: "Adds the files' events to a database, each once, and prints how many were new",
         }),
+        "summary" => Some(Row {
+            command: Command::Summary,
+            word: "summary",
+            full_name: "site summary",
+            about: "Prints which events a database has, as a summary that delta compares",
+        }),
         "delta" => Some(Row {
             command: Command::Delta,
             word: "delta",
@@ -163,10 +176,14 @@ impl<'a> Row<'a> {
     {
         let bare = self.bare(alloc)?;
         match self.command {
-            Command::Ask(_) => bare.arg(files(alloc)),
+            Command::Ask(_) => bare.arg(question_db(alloc))?.arg(question_files(alloc)),
+            Command::Summary => bare.arg(read_db(alloc)),
             Command::Take => bare.arg(db(alloc))?.arg(files(alloc)),
-            Command::Delta => bare.arg(db(alloc))?.arg(from(alloc))?.arg(summary(alloc)),
-            Command::Scrub => bare.arg(db(alloc))?.arg(from(alloc)),
+            Command::Delta => {
+                let begun = bare.arg(db(alloc))?.arg(from(alloc))?;
+                begun.arg(all(alloc))?.arg(summary(alloc))
+            }
+            Command::Scrub => bare.arg(db(alloc))?.arg(from(alloc))?.arg(all(alloc)),
             Command::Run => bare.arg(db(alloc))?.arg(peer(alloc))?.arg(files(alloc)),
             Command::Order => {
                 let begun = bare.arg(db(alloc))?.arg(source(alloc))?;

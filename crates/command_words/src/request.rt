@@ -5,26 +5,32 @@ use views::Query;
 /// What the words ask for: a command, and the values of its arguments.
 #[derive(Drop)]
 pub enum Plan {
-    /// The answer to a query for the events of all files together.
+    /// The answer to a query for the events of all files together, and those of a database where
+    /// one is given; there is one, or a file.
     Ask {
         query: Query,
+        db: Option<Text>,
         files: Texts,
+    },
+    /// Which events a database has.
+    Summary {
+        db: Text,
     },
     /// The files' events into a database.
     Take {
         db: Text,
         files: Texts,
     },
-    /// The events of a database that a summary lacks, from a place on.
+    /// The events of a database that a summary lacks.
     Delta {
         db: Text,
-        from: u64,
+        pages: Pages,
         summary: Text,
     },
-    /// The events of a database in key order, from a place on.
+    /// The events of a database in key order.
     Scrub {
         db: Text,
-        from: u64,
+        pages: Pages,
     },
     /// Files taken side by side into a database, each by a thread of its own, and with them the
     /// events of another site's file, where one is given; 16 files at most, that one counted.
@@ -40,6 +46,15 @@ pub enum Plan {
         db: Text,
         after: u64,
     },
+}
+
+/// Which pages of a list of events are printed.
+#[derive(Clone, Copy, Debug, PartialEq, Eq)]
+pub enum Pages {
+    /// The one behind so many events.
+    Behind(u64),
+    /// Every one.
+    All,
 }
 
 /// A command to a service: what is done with which order, and when.

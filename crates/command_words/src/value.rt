@@ -118,16 +118,37 @@ pub fn workers(alloc: Global, has_peer: bool, files: u64) -> Result<(), Faulty>
 
 /// What is said of a run of too many files.
 fn too_many(alloc: Global) -> Faulty {
-    match Text::of(
+    said(
         alloc,
         "error: a run takes at most 16 files, its peer's counted\n\nFor more information, try '--help'.\n",
-    ) {
+    )
+}
+
+/// Faulty words, of which this is said.
+fn said(alloc: Global, what: &str) -> Faulty {
+    match Text::of(alloc, what) {
         Ok(text) => Faulty::Words {
             text,
             is_help: false,
         },
         Err(_) => Faulty::OutOfMemory,
     }
+}
+
+/// What is said of a question without a file and without a database.
+pub fn no_events(alloc: Global) -> Faulty {
+    said(
+        alloc,
+        "error: a question wants a file or a database: <FILE>... or --db <DB>\n\nFor more information, try '--help'.\n",
+    )
+}
+
+/// What is said of words that ask for one page and for all.
+pub fn both_pages(alloc: Global) -> Faulty {
+    said(
+        alloc,
+        "error: the argument '--from <N>' cannot be used with '--all'\n\nFor more information, try '--help'.\n",
+    )
 }
 
 /// The source of a service.

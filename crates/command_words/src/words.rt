@@ -2,8 +2,9 @@
 ghost use Rattle.std.specs.Prelude.{◌≡◌, IfOk, IfErr, map};
 ghost use Rattle.clap.specs.Words.{found_of, rows_of};
 ghost use Rattle.command_words.specs.Commands.{word_of};
-ghost use Rattle.command_words.specs.Plans.{AreFaulty, Blames, HasRequestOf, HasTextsOf, HaveNoPlan, IsPlan, IsPlanFor, command_of};
+ghost use Rattle.command_words.specs.Plans.{AreFaulty, AreSome, Blames, HasPages, HasRequestOf, HasTextsOf, HaveNoPlan, IsPlan, IsPlanFor, command_of};
 ghost use Rattle.command_words.specs.declared.command.Command.TheVariants as command;
+ghost use Rattle.command_words.specs.declared.request.Pages.{Pages};
 ghost use Rattle.command_words.specs.declared.request.Plan.{Plan};
 ghost use Rattle.command_words.specs.declared.request.Request.{Request};
 
@@ -11,8 +12,8 @@ use crate::command::{Command, row_of};
 use crate::fault::Faulty;
 use crate::matched::{given_text_of, is_given, str_of, text_of, texts_of};
 use crate::program::{faulty_of, no_command};
-use crate::request::{Plan, Request};
-use crate::value::{action, number, order_number, source, time, workers};
+use crate::request::{Pages, Plan, Request};
+use crate::value::{action, both_pages, no_events, number, order_number, source, time, workers};
 use attributes::Text;
 use clap::ArgMatches;
 use std::alloc::{AllocError, Global};
@@ -56,8 +57,16 @@ fn matched(alloc: Global, command: Command, matches: &ArgMatches<'_>) -> Result<
 {
     match command {
         Command::Ask(query) => {
+            let db = given_text_of(alloc, matches, "db")?;
             let files = texts_of(alloc, matches, "file")?;
-            Ok(Plan::Ask { query, files })
+            if db.is_none() && files.is_empty() {
+                return Err(no_events(alloc));
+            }
+            Ok(Plan::Ask { query, db, files })
+        }
+        Command::Summary => {
+            let db = text_of(alloc, matches, "db")?;
+            Ok(Plan::Summary { db })
         }
         Command::Take => {
             let db = text_of(alloc, matches, "db")?;
@@ -67,15 +76,15 @@ fn matched(alloc: Global, command: Command, matches: &ArgMatches<'_>) -> Result<
         Command::Delta => {
             let db = text_of(alloc, matches, "db")?;
             let summary = text_of(alloc, matches, "summary")?;
-            match number(alloc, "--from <N>", str_of(matches, "from")) {
-                Ok(from) => Ok(Plan::Delta { db, from, summary }),
+            match pages(alloc, matches) {
+                Ok(pages) => Ok(Plan::Delta { db, pages, summary }),
                 Err(faulty) => Err(faulty),
             }
         }
         Command::Scrub => {
             let db = text_of(alloc, matches, "db")?;
-            match number(alloc, "--from <N>", str_of(matches, "from")) {
-                Ok(from) => Ok(Plan::Scrub { db, from }),
+            match pages(alloc, matches) {
+                Ok(pages) => Ok(Plan::Scrub { db, pages }),
                 Err(faulty) => Err(faulty),
             }
         }
@@ -92,6 +101,24 @@ fn matched(alloc: Global, command: Command, matches: &ArgMatches<'_>) -> Result<
             }
         }
     }
+}
+
+/// Which pages are printed.
+fn pages(alloc: Global, matches: &ArgMatches<'_>) -> Result<Pages, Faulty>
+    ensures ok { IfOk result (HasPages (rows_of (found_of matches.now))) }
+    ensures err { IfErr result (Blames ((p : Pages)
+        → HasPages (rows_of (found_of matches.now)) p → ⊥)) }
+{
+    if !is_given(matches, "all") {
+        return match number(alloc, "--from <N>", str_of(matches, "from")) {
+            Ok(passed) => Ok(Pages::Behind(passed)),
+            Err(faulty) => Err(faulty),
+        };
+    }
+    if is_given(matches, "from") {
+        return Err(both_pages(alloc));
+    }
+    Ok(Pages::All)
 }
 
 /// The plan of files that are taken side by side.

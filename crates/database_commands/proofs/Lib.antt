@@ -1,2 +1,3 @@
 mod HeldLemmas
+mod PageLemmas
 mod ServedLemmas

@@ -8,6 +8,8 @@ use Rattle.inbox.specs.Sets.{set_of}
 use Rattle.coverage.specs.Summary.{Sources}
 use Rattle.site.specs.Delta.{delta}
 use Rattle.site.specs.Page.{page}
+use Rattle.coverage.specs.Digests.{Digests}
+use Rattle.coverage.specs.SummaryText.{summary_text}
 use Rattle.inbox_table.specs.Rows.{IsAnyInbox, IsInbox}
 use Rattle.outbox.specs.Order.{Accepted, refusal}
 use Rattle.outbox.specs.Row.{row_event, rows_after}
@@ -16,6 +18,7 @@ use Rattle.outbox.specs.Service.{IsService}
 use Rattle.outbox.specs.declared.fault.OutboxFault.{OutboxFault}
 use Rattle.outbox.specs.declared.status.Status.{Status}
 use Rattle.database_commands.specs.Fault.{of_outbox}
+use Rattle.database_commands.specs.Pages.{max_page}
 use Rattle.database_commands.specs.Print.{batch_line, counts_line, event_line}
 use Rattle.database_commands.specs.declared.fault.CommandFault.{CommandFault}
 use Rattle.database_commands.specs.declared.fault.CommandFault.TheVariants as command
@@ -28,10 +31,6 @@ pub record Holds (db : Database) (events : List EventValue) : Type 0 where
 -- whatever events it held, it holds
 abbrev pub KeepsEvents : Database → Database → Type 0
 KeepsEvents old new = (held : List EventValue) → Holds old held → Holds new held
-
--- the most events that are printed at once
-abbrev pub max_page : ℕ
-max_page = 100
 
 -- the database has the events that were held and behind them those of L that weren't there, and the
 -- text says how many those are
@@ -71,6 +70,26 @@ SaysDelta summary from text = (events : List EventValue)
 abbrev pub SaysPage : ℕ → List ℕ → Type 0
 SaysPage from text = (events : List EventValue)
     × (text ≡ batch_line (page (set_of events) from max_page))
+
+-- the text is the line of the summary that digests these events
+abbrev pub SaysSummaryOf : List EventValue → List ℕ → Type 0
+SaysSummaryOf E text = (s : Sources) × Digests E s × (text ≡ summary_text s ++ 10 ∷ [])
+
+-- so it is of all that the database held
+abbrev pub ShowsSummary : Database → List ℕ → Type 0
+ShowsSummary db text = (held : List EventValue) → Holds db held → SaysSummaryOf (set_of held) text
+
+-- so it is of some events
+abbrev pub SaysSummary : List ℕ → Type 0
+SaysSummary text = (events : List EventValue) × SaysSummaryOf (set_of events) text
+
+-- these are all of some events, in key order
+abbrev pub HasEvents : List EventValue → Type 0
+HasEvents es = (events : List EventValue) × (es ≡ set_of events)
+
+-- these are what the summary lacks of some events
+abbrev pub HasDelta : Sources → List EventValue → Type 0
+HasDelta summary es = (events : List EventValue) × (es ≡ delta (set_of events) summary)
 
 -- a service that is new has the source that is given, the base 0, and no commands
 pub record IsNew (given source : List ℕ) (base : ℕ) (commands : List Accepted) : Type 0 where

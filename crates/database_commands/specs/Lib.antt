@@ -1,3 +1,6 @@
 pub mod Fault
+pub mod Name
 pub mod Print
+pub mod Pages
 pub mod Held
+pub mod steps

@@ -40,6 +40,9 @@ pub enum CommandFault {
     /// The service has another source than the one that was named.
     #[error("AnotherSource")]
     AnotherSource,
+    /// There is no file of that name, and the command makes none.
+    #[error("CannotRead")]
+    CannotRead,
 }
 
 impl From<AllocError> for CommandFault {

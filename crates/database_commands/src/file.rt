@@ -1,15 +1,18 @@
 //! Databases by the names of their files.
-ghost use Rattle.std.specs.Prelude.{◌≡◌, ◌≤◌, ℕ, List, length, true, IfOk};
+ghost use Rattle.std.specs.Prelude.{◌≡◌, ◌≤◌, ◌↔◌, ℕ, List, length, true, IfOk, IsErrOf, IsTrue};
 ghost use Rattle.attributes.specs.Character.{is_filled};
 ghost use Rattle.attributes.specs.Event.{EventValue};
 ghost use Rattle.attributes.specs.Sequence.{max_sequence};
-ghost use Rattle.database_commands.specs.Held.{SaysDelta, SaysOrder, SaysPage};
+ghost use Rattle.database_commands.specs.Held.{HasDelta, HasEvents, SaysDelta, SaysOrder, SaysPage, SaysSummary};
+ghost use Rattle.database_commands.specs.Name.{IsNoFile};
+ghost use Rattle.database_commands.specs.declared.fault.CommandFault.TheVariants as CommandFault;
 ghost use Rattle.database_commands.specs.Print.{batch_line, counts_line};
 
 use crate::Ended;
 use crate::fault::{CommandFault, of_kind, of_store};
 use crate::intake::take;
-use crate::page::{delta, scrub};
+use crate::page::{Contents, Paged, delta, delta_pages, held, scrub, scrub_pages, summary};
+use crate::pages::EventPages;
 use crate::service::{order, relay};
 use attributes::{Batch, Moment, Text};
 use coverage::Summary;
@@ -23,6 +26,7 @@ use sqlite_store::FileStore;
 use std::alloc::Global;
 use std::fs;
 use std::hash::{BuildHasher, RandomState};
+use std::io::ErrorKind;
 
 /// The bytes of a database's page.
 const PAGE: u64 = 4_096;
@@ -34,8 +38,8 @@ const LEAST_PAGES: u64 = 200;
 const MOST_PAGES: u64 = 65_536;
 
 /// The commands over databases, by the names of their files. Each opens the database, makes its
-/// file where there is none, and closes it in the end; what was committed stays, also where the
-/// closing fails. What a file of the operating system holds no clause can say: those of the commands
+/// file where there is none unless it says otherwise, and closes it in the end; what was committed
+/// stays, also where the closing fails. What a file of the operating system holds no clause can say: those of the commands
 /// over a connection do. The clauses here say of which form an answer is, for some events or some
 /// service: the page from that place, what the summary lacks, the command that was given.
 pub trait Databases {
@@ -48,6 +52,27 @@ pub trait Databases {
         watch: &W,
     ) -> Result<Text, CommandFault>
         ensures { IfOk result (λ text. (fresh : ℕ) × (text ≡ counts_line (length events.now) fresh)) };
+
+    /// The events that a database holds, as [`crate::held`]. A file that isn't there is not made:
+    /// `CannotRead`.
+    fn events(&self, alloc: Global, name: &str) -> Result<Batch, CommandFault>;
+
+    /// As [`crate::summary`]. A file that isn't there is not made: `CannotRead`.
+    fn summary(&self, alloc: Global, name: &str) -> Result<Text, CommandFault>
+        ensures { IfOk result SaysSummary };
+
+    /// As [`crate::delta_pages`]. A file that isn't there is not made: `CannotRead`.
+    fn delta_pages(
+        &self,
+        alloc: Global,
+        name: &str,
+        summary: Summary,
+    ) -> Result<EventPages, CommandFault>
+        ensures { IfOk result (HasDelta summary) };
+
+    /// As [`crate::scrub_pages`]. A file that isn't there is not made: `CannotRead`.
+    fn scrub_pages(&self, alloc: Global, name: &str) -> Result<EventPages, CommandFault>
+        ensures { IfOk result HasEvents };
 
     /// As [`crate::delta`].
     fn delta(
@@ -104,6 +129,43 @@ impl Databases for HostRuntime {
         let growth = events.len().saturating_mul(512);
         match open(self, name, growth) {
             Ok(conn) => closed(take(alloc, conn, events, watch)),
+            Err(fault) => Err(fault),
+        }
+    }
+
+    fn events(&self, alloc: Global, name: &str) -> Result<Batch, CommandFault> {
+        match open_there(self, name) {
+            Ok(conn) => {
+                let Contents { conn, events } = held(alloc, conn);
+                let _closed = conn.close();
+                events
+            }
+            Err(fault) => Err(fault),
+        }
+    }
+
+    fn summary(&self, alloc: Global, name: &str) -> Result<Text, CommandFault> {
+        match open_there(self, name) {
+            Ok(conn) => closed(summary(alloc, conn)),
+            Err(fault) => Err(fault),
+        }
+    }
+
+    fn delta_pages(
+        &self,
+        alloc: Global,
+        name: &str,
+        summary: Summary,
+    ) -> Result<EventPages, CommandFault> {
+        match open_there(self, name) {
+            Ok(conn) => closed_pages(delta_pages(alloc, conn, summary)),
+            Err(fault) => Err(fault),
+        }
+    }
+
+    fn scrub_pages(&self, alloc: Global, name: &str) -> Result<EventPages, CommandFault> {
+        match open_there(self, name) {
+            Ok(conn) => closed_pages(scrub_pages(alloc, conn)),
             Err(fault) => Err(fault),
         }
     }
@@ -167,13 +229,59 @@ fn closed(ended: Ended<FileStore<File>>) -> Result<Text, CommandFault>
     outcome
 }
 
+/// Closes the database of a command, and answers the pages that it came to.
+fn closed_pages(paged: Paged<FileStore<File>>) -> Result<EventPages, CommandFault>
+    ensures { result ≡ paged.pages }
+{
+    let Paged { conn, pages } = paged;
+    let _closed = conn.close();
+    pages
+}
+
+/// Whether the name means no file of that name to SQLite: the empty one and `:memory:` are databases
+/// that go away there, and one that begins with `file:` is a URI.
+fn is_no_file(name: &str) -> bool
+    ensures some { IsTrue result → IsNoFile name.now }
+    ensures none { IsNoFile name.now → IsTrue result }
+{
+    if name.is_empty() {
+        return true;
+    }
+    if name == ":memory:" {
+        return true;
+    }
+    name.starts_with("file:")
+}
+
+/// Opens the database of that name for a command that makes none.
+fn open_there(rt: &HostRuntime, name: &str) -> Result<Connection<FileStore<File>>, CommandFault>
+    ensures { IsNoFile name.now → IsErrOf result CommandFault.Store }
+{
+    if is_no_file(name) {
+        return Err(CommandFault::Store);
+    }
+    match fs::metadata(rt, name) {
+        Ok(_) => open(rt, name, 0),
+        Err(error) => match error.kind() {
+            ErrorKind::OutOfMemory => Err(CommandFault::OutOfMemory),
+            _ => Err(CommandFault::CannotRead),
+        },
+    }
+}
+
 /// Opens the database of that name, and makes its file where there is none. `growth` is about how
-/// many bytes will be added, for the size of the cache alone.
+/// many bytes will be added, for the size of the cache alone. A name that means no file to SQLite is
+/// `Store`: who knows it would look for their events in vain.
 pub fn open(
     rt: &HostRuntime,
     name: &str,
     growth: u64,
-) -> Result<Connection<FileStore<File>>, CommandFault> {
+) -> Result<Connection<FileStore<File>>, CommandFault>
+    ensures { IsNoFile name.now → IsErrOf result CommandFault.Store }
+{
+    if is_no_file(name) {
+        return Err(CommandFault::Store);
+    }
     let pages = pages_for(length_of(rt, name), growth);
     let options = options(rt, pages)?;
     match sqlite_std_file::open(rt, name, Unknown) {

@@ -5,6 +5,7 @@ mod fault;
 mod file;
 mod intake;
 mod page;
+mod pages;
 mod service;
 mod text;
 
@@ -13,7 +14,8 @@ pub use fault::{CommandFault, of_table};
 pub use file::{Databases, open};
 pub use intake::{loaded, take};
 pub use outbox::Status;
-pub use page::{delta, scrub};
+pub use page::{Contents, Paged, delta, delta_pages, held, scrub, scrub_pages, summary};
+pub use pages::EventPages;
 pub use service::{order, relay};
 use sqlite::{Alter, Connection};
 pub use text::summary_of;

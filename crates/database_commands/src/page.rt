@@ -1,5 +1,5 @@
 //! Pages of the events that a database holds.
-ghost use Rattle.std.specs.Prelude.{◌≡◌, ℕ, List, [], IfOk, IsTrue};
+ghost use Rattle.std.specs.Prelude.{◌≡◌, ℕ, List, [], false, IfOk, IsOk, IsTrue};
 ghost use Rattle.sqlite.specs.Held.{state};
 ghost use Rattle.sqlite.specs.State.{HasCleanDisk};
 ghost use Rattle.attributes.specs.Event.{EventValue};
@@ -8,28 +8,35 @@ ghost use Rattle.inbox.specs.Ordered.{append_new};
 ghost use Rattle.inbox.specs.Sets.{set_of};
 ghost use Rattle.site.specs.Delta.{delta};
 ghost use Rattle.site.specs.Page.{page};
-ghost use Rattle.database_commands.specs.Held.{Holds, KeepsEvents, SaysDelta, SaysPage, ShowsDelta, ShowsPage};
+ghost use Rattle.database_layout.specs.Layout.{has_inbox};
+ghost use Rattle.database_commands.specs.Held.{HasDelta, HasEvents, Holds, KeepsEvents, SaysDelta, SaysPage, SaysSummary, SaysSummaryOf, ShowsDelta, ShowsPage, ShowsSummary};
 ghost use Rattle.database_commands.specs.Print.{batch_line};
 
 use crate::Ended;
 use crate::fault::{CommandFault, of_table};
 use crate::intake::loaded;
+use crate::pages::{EventPages, MAX_PAGE};
 use crate::text::batch_line;
 use attributes::{Batch, Text};
 use coverage::Summary;
+use database_layout::has_inbox;
 use inbox_table::{Loaded, NotMade};
 use site::Site;
 use sqlite::{Alter, Connection};
 use std::alloc::{AllocError, Global};
 
-/// The most events that are printed at once.
-const MAX_PAGE: u64 = 100;
-
-/// The connection of a database, and the events that it holds.
+/// The connection of a database, and the events that it holds, in the order of their places.
 #[derive(Drop)]
-struct Contents<S: Alter + Drop> {
-    conn: Connection<S>,
-    events: Result<Batch, CommandFault>,
+pub struct Contents<S: Alter + Drop> {
+    pub conn: Connection<S>,
+    pub events: Result<Batch, CommandFault>,
+}
+
+/// The connection of a database, and events of it that are to be printed.
+#[derive(Drop)]
+pub struct Paged<S: Alter + Drop> {
+    pub conn: Connection<S>,
+    pub pages: Result<EventPages, CommandFault>,
 }
 
 /// What a database holds; the table is made where there is none.
@@ -56,6 +63,102 @@ fn contents_of<S: Alter + Drop>(alloc: Global, conn: Connection<S>) -> Contents<
                 events: Err(of_table(fault)),
             }
         }
+    }
+}
+
+/// The events that a database holds. Nothing is made: where there is no inbox, there are none. One of
+/// version 1 gives way to one of version 2. Time in proportion to all events.
+pub fn held<S: Alter + Drop>(alloc: Global, conn: Connection<S>) -> Contents<S>
+    ensures events { HasCleanDisk (state S.Store result.conn) → IfOk result.events (λ events.
+        (held : List EventValue) → Holds (state S.Store conn).now held → events ≡ held) }
+    ensures list { HasCleanDisk (state S.Store result.conn)
+        → IsTrue (state S.Store result.conn).is_open
+        → KeepsEvents (state S.Store conn).now (state S.Store result.conn).now }
+    ensures without { has_inbox (state S.Store conn).now.schema ≡ false
+        → ((state S.Store result.conn).now ≡ (state S.Store conn).now) × IfOk result.events (λ es. es ≡ [])
+        × IsOk result.events }
+{
+    if has_inbox(conn.schema()) {
+        return contents_of(alloc, conn);
+    }
+    Contents {
+        conn,
+        events: Ok(Batch::empty(alloc)),
+    }
+}
+
+/// Which events a database holds, as the line of its summary. Nothing is made, and the events stay,
+/// also where it is refused. Time in proportion to all events and their texts.
+pub fn summary<S: Alter + Drop>(alloc: Global, conn: Connection<S>) -> Ended<S>
+    ensures shown { HasCleanDisk (state S.Store result.conn) → IfOk result.outcome
+        (ShowsSummary (state S.Store conn).now) }
+    ensures list { HasCleanDisk (state S.Store result.conn)
+        → IsTrue (state S.Store result.conn).is_open
+        → KeepsEvents (state S.Store conn).now (state S.Store result.conn).now }
+    ensures line { IfOk result.outcome SaysSummary }
+{
+    let Contents { conn, events } = held(alloc, conn);
+    match events {
+        Ok(events) => {
+            let outcome = summary_line(alloc, events);
+            Ended { conn, outcome }
+        }
+        Err(fault) => Ended {
+            conn,
+            outcome: Err(fault),
+        },
+    }
+}
+
+/// All events of a database in key order, to be printed page after page. Nothing is made, and the
+/// events stay, also where it is refused. Time in proportion to all events.
+pub fn scrub_pages<S: Alter + Drop>(alloc: Global, conn: Connection<S>) -> Paged<S>
+    ensures pages { HasCleanDisk (state S.Store result.conn) → IfOk result.pages
+        (λ pages. (held : List EventValue) → Holds (state S.Store conn).now held
+        → pages ≡ set_of held) }
+    ensures list { HasCleanDisk (state S.Store result.conn)
+        → IsTrue (state S.Store result.conn).is_open
+        → KeepsEvents (state S.Store conn).now (state S.Store result.conn).now }
+    ensures some { IfOk result.pages HasEvents }
+{
+    let Contents { conn, events } = held(alloc, conn);
+    match events {
+        Ok(events) => {
+            let pages = all_pages(alloc, events);
+            Paged { conn, pages }
+        }
+        Err(fault) => Paged {
+            conn,
+            pages: Err(fault),
+        },
+    }
+}
+
+/// What a summary lacks of all events of a database, in key order, to be printed page after page.
+/// Nothing is made, and the events stay, also where it is refused. Time in proportion to all events.
+pub fn delta_pages<S: Alter + Drop>(
+    alloc: Global,
+    conn: Connection<S>,
+    summary: Summary,
+) -> Paged<S>
+    ensures pages { HasCleanDisk (state S.Store result.conn) → IfOk result.pages
+        (λ pages. (held : List EventValue) → Holds (state S.Store conn).now held
+        → pages ≡ delta (set_of held) summary) }
+    ensures list { HasCleanDisk (state S.Store result.conn)
+        → IsTrue (state S.Store result.conn).is_open
+        → KeepsEvents (state S.Store conn).now (state S.Store result.conn).now }
+    ensures some { IfOk result.pages (HasDelta summary) }
+{
+    let Contents { conn, events } = held(alloc, conn);
+    match events {
+        Ok(events) => {
+            let pages = lacking_pages(alloc, events, summary);
+            Paged { conn, pages }
+        }
+        Err(fault) => Paged {
+            conn,
+            pages: Err(fault),
+        },
     }
 }
 
@@ -121,6 +224,34 @@ fn site_of(alloc: Global, mut events: Batch) -> Result<Site, AllocError>
         Ok(_) => Ok(site),
         Err(_) => Err(AllocError),
     }
+}
+
+/// The line of the summary of the events.
+fn summary_line(alloc: Global, events: Batch) -> Result<Text, CommandFault>
+    ensures { IfOk result (SaysSummaryOf (set_of (append_new key_cmp [] events))) }
+{
+    let mut site = site_of(alloc, events)?;
+    let summary = site.summary()?;
+    let mut line = summary.to_text()?.into_string();
+    line.push_str("\n")?;
+    Ok(Text::from_string(line))
+}
+
+/// All of the events.
+fn all_pages(alloc: Global, events: Batch) -> Result<EventPages, CommandFault>
+    ensures { IfOk result (λ pages. pages ≡ set_of (append_new key_cmp [] events)) }
+{
+    let site = site_of(alloc, events)?;
+    Ok(EventPages::of_all(alloc, site))
+}
+
+/// What a summary lacks of the events.
+fn lacking_pages(alloc: Global, events: Batch, summary: Summary) -> Result<EventPages, CommandFault>
+    ensures { IfOk result (λ pages.
+        pages ≡ delta (set_of (append_new key_cmp [] events)) summary) }
+{
+    let site = site_of(alloc, events)?;
+    Ok(EventPages::of_delta(alloc, site, summary)?)
 }
 
 /// The line of a page of what a summary lacks of the events.

@@ -14,7 +14,7 @@ use Rattle.views.specs.Law.{AnswersAreAlike}
 use Rattle.views.specs.Question.{IsAnswer}
 use Rattle.views.specs.declared.query.Query.{Query}
 use Rattle.file_reports.specs.Reports.{EachReads, HoldsEvent, HoldSameEvents, IsReport, joined}
-use Rattle.file_reports.specs.steps.Intake.{KeepsFiles}
+use Rattle.file_reports.specs.Reports.{KeepsFiles}
 
 or_true : (b : Bool) → (b || true) ≡ true
 or_true true = refl

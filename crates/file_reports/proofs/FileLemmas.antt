@@ -19,11 +19,13 @@ use Rattle.inbox.specs.Sets.{AreEvents, set_of}
 use Rattle.std.specs.BTreeSet.{insert_key}
 use Rattle.attributes.specs.Sequence.{number_of, sequence_fault}
 use Rattle.attributes.specs.declared.fault.Fault.{Fault}
+use Rattle.views.specs.Question.{IsAnswer}
+use Rattle.views.specs.declared.query.Query.{Query}
 use Rattle.file_reports.proofs.ListLemmas.{take_next}
 use Rattle.file_reports.specs.declared.refusal.ReportFault.{ReportFault}
 use Rattle.file_reports.specs.declared.refusal.ReportFault.TheVariants.{OutOfMemory, Read, Event}
-use Rattle.file_reports.specs.steps.Intake.{Gains, KeepsFiles}
-use Rattle.file_reports.specs.Reports.{AreSequenced, EachReads, IsFault, IsRefusal, IsUnnumberedAt, SpellAll, joined}
+use Rattle.file_reports.specs.steps.Intake.{Gains}
+use Rattle.file_reports.specs.Reports.{AreSequenced, EachReads, IsFault, IsRefusal, IsReportWith, IsUnnumberedAt, KeepsFiles, SpellAll, joined}
 
 pub EachReads-more : (files : List (List ℕ)) (lists : List (List EventValue)) (file : List ℕ) (events : List EventValue)
     → EachReads files lists → Reads file events → AreSequenced events → EachReads (files ++ file ∷ []) (lists ++ events ∷ [])
@@ -52,6 +54,15 @@ KeepsFiles-more files file L old new h r s are added = (
   EachReads-more files h.0 file L h.1 r s,
   subst AreEvents (sym (joined-more h.0 L)) (AreEvents-append (joined h.0) L h.2 are),
   added ∙ ap (λ E. add_all key_cmp E L) h.3 ∙ sym (add_all-append [] (joined h.0) L) ∙ ap (λ l. set_of l) (sym (joined-more h.0 L)),
+)
+
+-- an answer about a set that got a list more
+pub answered_with : (query : Query) (files : List (List ℕ)) (held old new : List EventValue) (text : List ℕ) → Gains held old new
+    → IsAnswer query (set_of new) text → KeepsFiles files old → IsReportWith query held files text
+answered_with query files held old new text gained answer h = (
+  h.0,
+  h.1,
+  subst (λ E. IsAnswer query E text) (gained ∙ ap (λ E. add_all key_cmp E held) h.3 ∙ sym (add_all-append [] (joined h.0) held)) answer,
 )
 
 -- a file more was read

@@ -1,11 +1,11 @@
 -- Answers to questions about the events of files.
-use Rattle.std.specs.Prelude.{◌≡◌, ◌⊎◌, ◌↔◌, Contains, ℕ, List, [], ◌∷◌, true, None, Some, is_some, slice_get, take}
+use Rattle.std.specs.Prelude.{◌≡◌, ◌⊎◌, ◌↔◌, ◌++◌, Contains, ℕ, List, [], ◌∷◌, true, None, Some, is_some, slice_get, take}
 use Rattle.std.specs.List.{flat_map, list_all}
 use Rattle.attributes.specs.Event.{EventValue}
 use Rattle.attributes.specs.Sequence.{number_of, sequence_fault}
 use Rattle.attributes.specs.declared.fault.Fault.{Fault}
 use Rattle.event_json.specs.Reading.{Refuses, Reads}
-use Rattle.inbox.specs.Sets.{set_of}
+use Rattle.inbox.specs.Sets.{AreEvents, set_of}
 use Rattle.views.specs.Question.{IsAnswer}
 use Rattle.views.specs.declared.query.Query.{Query}
 use Rattle.file_reports.specs.declared.refusal.ReportFault.{ReportFault}
@@ -34,6 +34,12 @@ abbrev pub SpellAll : List (List ℕ) → List EventValue → Type 0
 SpellAll files events =
     (lists : List (List EventValue)) × EachReads files lists × (events ≡ joined lists)
 
+-- the files spell events with numbers, and the site's set, of which these are the arrivals, is that of
+-- these events
+abbrev pub KeepsFiles : List (List ℕ) → List EventValue → Type 0
+KeepsFiles files site = (lists : List (List EventValue)) × EachReads files lists
+    × AreEvents (joined lists) × (set_of site ≡ set_of (joined lists))
+
 -- ---- the answers
 
 -- the files all spell events with numbers, and the text answers the question about the set of these
@@ -41,6 +47,12 @@ SpellAll files events =
 abbrev pub IsReport : Query → List (List ℕ) → List ℕ → Type 0
 IsReport query files text = (lists : List (List EventValue)) × EachReads files lists
     × IsAnswer query (set_of (joined lists)) text
+
+-- the files all spell events with numbers, and the text answers the question about the set of these
+-- events and those that are held besides
+abbrev pub IsReportWith : Query → List EventValue → List (List ℕ) → List ℕ → Type 0
+IsReportWith query held files text = (lists : List (List EventValue)) × EachReads files lists
+    × IsAnswer query (set_of (joined lists ++ held)) text
 
 -- the event is one of those that the files spell
 abbrev pub HoldsEvent : List (List ℕ) → EventValue → Type 0

@@ -1,13 +1,13 @@
 //! The answer to a question about the events of files.
 ghost use Rattle.std.specs.Prelude.{◌≡◌, ℕ, List, IfErr, IfOk};
-ghost use Rattle.file_reports.specs.Reports.{HoldSameEvents, IsReport, IsRefusal};
+ghost use Rattle.file_reports.specs.Reports.{HoldSameEvents, IsReport, IsReportWith, IsRefusal, KeepsFiles};
 
-use crate::intake::site_of;
+use crate::intake::{site_of, take_all};
 use crate::refusal::Refused;
-use attributes::{Octets, Text};
+use attributes::{Batch, Octets, Text};
 use event_json::readings_are_one;
 use site::Site;
-use std::alloc::Global;
+use std::alloc::{AllocError, Global};
 use views::Query;
 use views::laws::answers_are_alike;
 
@@ -37,6 +37,17 @@ pub fn report(alloc: Global, query: Query, files: &[Octets]) -> Result<Reported,
     readings_are_one();
     answers_are_alike();
     let events = site_of(alloc, files)?;
+    let text = events.lines(query)?;
+    Ok(Reported { text, events })
+}
+
+/// The answer to a question about the events of files, as [`crate::site_of`] has them, and those of a
+/// batch besides. Time n log n in the batch, and that of the question.
+pub fn report_with(query: Query, mut events: Site, held: Batch) -> Result<Reported, AllocError>
+    ensures { IfOk result (λ r. (files : List (List ℕ)) → KeepsFiles files events
+        → IsReportWith query held files r.text) }
+{
+    take_all(&mut events, held)?;
     let text = events.lines(query)?;
     Ok(Reported { text, events })
 }

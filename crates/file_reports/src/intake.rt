@@ -1,7 +1,7 @@
 //! The events of all files, in one site or one batch.
 ghost use Rattle.std.specs.Prelude.{◌≡◌, ◌++◌, IfErr, IfOk, OnOk};
-ghost use Rattle.file_reports.specs.Reports.{IsRefusal, SpellAll};
-ghost use Rattle.file_reports.specs.steps.Intake.{Gains, KeepsFiles};
+ghost use Rattle.file_reports.specs.Reports.{IsRefusal, KeepsFiles, SpellAll};
+ghost use Rattle.file_reports.specs.steps.Intake.{Gains};
 
 use crate::batch::{events_of_file, in_key_order};
 use crate::refusal::Refused;
@@ -32,7 +32,7 @@ pub fn site_of(alloc: Global, files: &[Octets]) -> Result<Site, Refused>
 }
 
 /// Moves the events of a batch into the site.
-fn take_all(site: &mut Site, mut batch: Batch) -> Result<(), AllocError>
+pub fn take_all(site: &mut Site, mut batch: Batch) -> Result<(), AllocError>
     ensures { OnOk result (Gains batch site.old site.new) }
 {
     match site.take_batch(&mut batch) {

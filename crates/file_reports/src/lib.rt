@@ -8,9 +8,9 @@ mod intake;
 mod refusal;
 mod shelf;
 
-pub use answer::{Reported, report};
+pub use answer::{Reported, report, report_with};
 pub use input::{Unread, read_all};
-pub use intake::events_of;
+pub use intake::{events_of, site_of};
 pub use refusal::{Refused, ReportFault};
 pub use shelf::{Shelf, UnreadAt, contents_of};
 pub use views::Query;

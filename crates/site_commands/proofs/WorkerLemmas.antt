@@ -1,9 +1,9 @@
 -- What a run's peer and feeds come to.
-use Rattle.std.proofs.Common.{◌≡◌, ◌≤◌, ℕ, List, [], ◌∷◌, Bool, true, false, arith, drop, length, refl, subst, sym, inr, Option, None, Some, Result, Ok, Err, IfOk}
+use Rattle.std.proofs.Common.{◌≡◌, ◌≤◌, ℕ, List, [], ◌∷◌, Bool, true, arith, drop, length, refl, subst, sym, inr, Option, None, Some, Result, Ok, Err, IfOk}
 use Rattle.std.specs.Result.{IfErr}
 use Rattle.std.specs.Option.{is_some}
 use Rattle.command_words.specs.Plans.{AreFew}
-use Rattle.file_reports.specs.Shelves.{AreContents, IsUnreadAt}
+use Rattle.file_reports.specs.Shelves.{AreContents}
 use Rattle.file_reports.specs.declared.input.Unread.{Unread}
 use Rattle.site_commands.specs.Answers.{AnswersJobs, AnswersRun, PeerSpells, RefusesFeed, RefusesJobs, RefusesRun}
 use Rattle.site_commands.specs.Names.{names_of}

@@ -1,6 +1,6 @@
 -- What the plans of the program are answered with, and why they are refused. C says what a name is
 -- read as, U why a name isn't read.
-use Rattle.std.specs.Prelude.{◌≡◌, ◌≤◌, ◌+◌, ◌⊎◌, Bool, List, ℕ, drop, length, slice_get, take, false, true, Option, Some}
+use Rattle.std.specs.Prelude.{◌≡◌, ◌≤◌, ◌+◌, ◌⊎◌, Bool, List, ℕ, drop, length, slice_get, take, false, true, Option, None, Some}
 use Rattle.std.specs.Option.{is_some}
 use Rattle.attributes.specs.Character.{is_filled}
 use Rattle.attributes.specs.Event.{EventValue}
@@ -14,14 +14,17 @@ use Rattle.outbox.specs.declared.status.Status.{Status}
 use Rattle.outbox.specs.declared.status.Status.TheVariants as status
 use Rattle.command_words.specs.declared.request.Action.{Action}
 use Rattle.command_words.specs.declared.request.Action.TheVariants as action
-use Rattle.database_commands.specs.Held.{SaysDelta, SaysOrder, SaysPage}
+use Rattle.command_words.specs.declared.request.Pages.{Pages}
+use Rattle.command_words.specs.declared.request.Pages.TheVariants as pages
+use Rattle.database_commands.specs.Held.{HasDelta, HasEvents, SaysDelta, SaysOrder, SaysPage, SaysSummary}
+use Rattle.database_commands.specs.Pages.{pages_text}
 use Rattle.database_commands.specs.Print.{WithoutLineEnd, batch_line, counts_line}
 use Rattle.command_words.specs.declared.request.Request.{Request}
 use Rattle.command_words.specs.declared.request.Plan.{Plan}
 use Rattle.command_words.specs.declared.request.Plan.TheVariants as plan
 use Rattle.command_words.specs.Plans.{AreFew}
 use Rattle.file_reports.specs.Shelves.{AreContents, IsUnreadAt}
-use Rattle.file_reports.specs.Reports.{IsRefusal, IsReport, SpellAll}
+use Rattle.file_reports.specs.Reports.{EachReads, IsRefusal, IsReport, IsReportWith, SpellAll}
 use Rattle.file_reports.specs.declared.input.Unread.{Unread}
 use Rattle.file_reports.specs.declared.refusal.Refused.{Refused}
 use Rattle.file_reports.specs.declared.refusal.ReportFault.TheVariants as report
@@ -31,20 +34,27 @@ use Rattle.site_commands.specs.Names.{names_of}
 use Rattle.site_commands.specs.declared.line.Refusal.{Refusal}
 use Rattle.site_commands.specs.declared.line.Refusal.TheVariants as refusal
 
--- the text is the report of the files' contents
-abbrev pub AnswersQuery : (List ℕ → List ℕ → Type 0) → Query → List (List ℕ) → List ℕ → Type 0
-AnswersQuery C query files text = (contents : List (List ℕ)) × AreContents C files contents
+-- the text is the report of the files' contents, and of some events of the database where one is given
+abbrev pub AnswersQuery : (List ℕ → List ℕ → Type 0) → Query → Option (List ℕ) → List (List ℕ)
+    → List ℕ → Type 0
+AnswersQuery C query None files text = (contents : List (List ℕ)) × AreContents C files contents
     × IsReport query contents text
+AnswersQuery C query (Some db) files text = (contents : List (List ℕ))
+    × AreContents C files contents × (held : List EventValue) × IsReportWith query held contents text
 
--- the first file that wasn't read, or, where all were, the first at fault
+-- the first file that wasn't read, or, where all were, the first at fault, or, where none was, the
+-- database, if one is given
 abbrev pub RefusesQuery : (List ℕ → List ℕ → Type 0) → (List ℕ → Unread → Type 0)
-    → List (List ℕ) → Refusal → Type 0
-RefusesQuery C U files (refusal.Unread at) = IsUnreadAt C U files at
-RefusesQuery C U files (refusal.File refused) =
+    → Option (List ℕ) → List (List ℕ) → Refusal → Type 0
+RefusesQuery C U db files (refusal.Unread at) = IsUnreadAt C U files at
+RefusesQuery C U db files (refusal.File refused) =
     (contents : List (List ℕ)) × AreContents C files contents × IsRefusal contents refused
-RefusesQuery C U files (refusal.Summary why) = ⊥
-RefusesQuery C U files (refusal.Database why) = ⊥
-RefusesQuery C U files refusal.NoThread = ⊥
+RefusesQuery C U db files (refusal.Summary why) = ⊥
+RefusesQuery C U None files (refusal.Database why) = ⊥
+RefusesQuery C U (Some db) files (refusal.Database why) =
+    (contents : List (List ℕ)) × AreContents C files contents
+    × (lists : List (List EventValue)) × EachReads contents lists
+RefusesQuery C U db files refusal.NoThread = ⊥
 
 -- the text is a batch, as one line
 abbrev pub PrintsBatch : List ℕ → Type 0
@@ -94,10 +104,21 @@ abbrev pub HasSummary : (List ℕ → List ℕ → Type 0) → List ℕ → Sour
 HasSummary C file s = (bytes : List ℕ) × C file bytes
     × (words : List ℕ) × WithoutLineEnd bytes words × (words ≡ summary_text s)
 
--- the file has a summary, and the text is the batch of the page, from this place on, of what it lacks
--- of some events
-abbrev pub AnswersDelta : (List ℕ → List ℕ → Type 0) → ℕ → List ℕ → List ℕ → Type 0
-AnswersDelta C from file text = (s : Sources) × HasSummary C file s × SaysDelta s from text
+-- the text is the page, from a place on, of what the summary lacks of some events, or all pages
+abbrev pub SaysLacking : Sources → Pages → List ℕ → Type 0
+SaysLacking s (pages.Behind n) text = SaysDelta s n text
+SaysLacking s pages.All text =
+    (events : List EventValue) × HasDelta s events × (text ≡ pages_text events)
+
+-- the text is the page of some events from a place on, or all pages
+abbrev pub SaysPages : Pages → List ℕ → Type 0
+SaysPages (pages.Behind n) text = SaysPage n text
+SaysPages pages.All text = (events : List EventValue) × HasEvents events × (text ≡ pages_text events)
+
+-- the file has a summary, and the text has the pages that are asked for of what it lacks of some
+-- events
+abbrev pub AnswersDelta : (List ℕ → List ℕ → Type 0) → Pages → List ℕ → List ℕ → Type 0
+AnswersDelta C which file text = (s : Sources) × HasSummary C file s × SaysLacking s which text
 
 -- the file wasn't read, or, where it was, has no summary, or, where it has one, the database
 abbrev pub RefusesDelta : (List ℕ → List ℕ → Type 0) → (List ℕ → Unread → Type 0)
@@ -171,10 +192,11 @@ RefusesRun C U peer files refusal = (contents : List (List ℕ))
 
 -- the text is the answer to the plan
 abbrev pub AnswersPlan : (List ℕ → List ℕ → Type 0) → Plan → List ℕ → Type 0
-AnswersPlan C (plan.Ask query files) text = AnswersQuery C query files text
+AnswersPlan C (plan.Ask query db files) text = AnswersQuery C query db files text
+AnswersPlan C (plan.Summary db) text = SaysSummary text
 AnswersPlan C (plan.Take db files) text = AnswersTake C files text
-AnswersPlan C (plan.Delta db from summary) text = AnswersDelta C from summary text
-AnswersPlan C (plan.Scrub db from) text = SaysPage from text
+AnswersPlan C (plan.Delta db which summary) text = AnswersDelta C which summary text
+AnswersPlan C (plan.Scrub db which) text = SaysPages which text
 AnswersPlan C (plan.Run db peer files) text = AnswersRun C peer files text
 AnswersPlan C (plan.Order request) text = AnswersOrder request text
 AnswersPlan C (plan.Relay db after) text = PrintsBatch text
@@ -182,30 +204,33 @@ AnswersPlan C (plan.Relay db after) text = PrintsBatch text
 -- this is why the plan has no answer
 abbrev pub RefusesPlan : (List ℕ → List ℕ → Type 0) → (List ℕ → Unread → Type 0)
     → Plan → Refusal → Type 0
-RefusesPlan C U (plan.Ask query files) refusal = RefusesQuery C U files refusal
+RefusesPlan C U (plan.Ask query db files) refusal = RefusesQuery C U db files refusal
+RefusesPlan C U (plan.Summary db) refusal = IsOfDatabase refusal
 RefusesPlan C U (plan.Take db files) refusal = RefusesTake C U files refusal
-RefusesPlan C U (plan.Delta db from summary) refusal = RefusesDelta C U summary refusal
-RefusesPlan C U (plan.Scrub db from) refusal = IsOfDatabase refusal
+RefusesPlan C U (plan.Delta db which summary) refusal = RefusesDelta C U summary refusal
+RefusesPlan C U (plan.Scrub db which) refusal = IsOfDatabase refusal
 RefusesPlan C U (plan.Run db peer files) refusal = RefusesRun C U peer files refusal
 RefusesPlan C U (plan.Order request) refusal = IsOfDatabase refusal
 RefusesPlan C U (plan.Relay db after) refusal = IsOfDatabase refusal
 
 -- whether the plan is a run
 abbrev pub is_run : Plan → Bool
-is_run (plan.Ask query files) = false
+is_run (plan.Ask query db files) = false
+is_run (plan.Summary db) = false
 is_run (plan.Take db files) = false
-is_run (plan.Delta db from summary) = false
-is_run (plan.Scrub db from) = false
+is_run (plan.Delta db which summary) = false
+is_run (plan.Scrub db which) = false
 is_run (plan.Run db peer files) = true
 is_run (plan.Order request) = false
 is_run (plan.Relay db after) = false
 
 -- what is asked of an order is within what a service allows, and of a run within what workers do
 abbrev pub IsAllowed : Plan → Type 0
-IsAllowed (plan.Ask query files) = Unit {0}
+IsAllowed (plan.Ask query db files) = Unit {0}
+IsAllowed (plan.Summary db) = Unit {0}
 IsAllowed (plan.Take db files) = Unit {0}
-IsAllowed (plan.Delta db from summary) = Unit {0}
-IsAllowed (plan.Scrub db from) = Unit {0}
+IsAllowed (plan.Delta db which summary) = Unit {0}
+IsAllowed (plan.Scrub db which) = Unit {0}
 IsAllowed (plan.Run db peer files) = AreFew (is_some peer) (length files)
 IsAllowed (plan.Order request) = IsAllowedRequest request
 IsAllowed (plan.Relay db after) = Unit {0}

@@ -1,6 +1,7 @@
 pub mod Names
 pub mod Lines
 pub mod Answers
+pub mod Printed
 pub mod Endings
 pub mod Runs
 pub mod steps

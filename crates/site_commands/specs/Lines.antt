@@ -128,35 +128,39 @@ database_line db number database.WrongState = order_line number (codes "WrongSta
 database_line db number database.Full = order_line number (codes "Full")
 database_line db number database.RouteFailed = codes "site: route failed" ++ 10 ∷ []
 database_line db number database.AnotherSource = file_line db (codes "another source")
+database_line db number database.CannotRead = file_line db (codes "cannot read")
 
 -- ---- what a plan names
 
 -- the file at a place of a plan
 abbrev pub name_in : Plan → ℕ → List ℕ
-name_in (plan.Ask query files) file = name_at files file
+name_in (plan.Ask query db files) file = name_at files file
+name_in (plan.Summary db) file = []
 name_in (plan.Take db files) file = name_at files file
-name_in (plan.Delta db from name) file = name
-name_in (plan.Scrub db from) file = []
+name_in (plan.Delta db which name) file = name
+name_in (plan.Scrub db which) file = []
 name_in (plan.Run db peer files) file = name_at (names_of peer files) file
 name_in (plan.Order request) file = []
 name_in (plan.Relay db after) file = []
 
 -- the database of a plan; empty where it has none
 abbrev pub db_in : Plan → List ℕ
-db_in (plan.Ask query files) = []
+db_in (plan.Ask query db files) = unwrap_or db []
+db_in (plan.Summary db) = db
 db_in (plan.Take db files) = db
-db_in (plan.Delta db from name) = db
-db_in (plan.Scrub db from) = db
+db_in (plan.Delta db which name) = db
+db_in (plan.Scrub db which) = db
 db_in (plan.Run db peer files) = db
 db_in (plan.Order request) = request.db
 db_in (plan.Relay db after) = db
 
 -- the order of a plan; 0 where it has none
 abbrev pub order_in : Plan → ℕ
-order_in (plan.Ask query files) = 0
+order_in (plan.Ask query db files) = 0
+order_in (plan.Summary db) = 0
 order_in (plan.Take db files) = 0
-order_in (plan.Delta db from name) = 0
-order_in (plan.Scrub db from) = 0
+order_in (plan.Delta db which name) = 0
+order_in (plan.Scrub db which) = 0
 order_in (plan.Run db peer files) = 0
 order_in (plan.Order request) = request.order
 order_in (plan.Relay db after) = 0

@@ -3,6 +3,7 @@ use Rattle.std.specs.Prelude.{◌≡◌, ℕ, List, Option}
 use Rattle.std.specs.Io.KnownBytes.{Appends}
 use Rattle.command_words.specs.Plans.{AreFaulty, IsPlan}
 use Rattle.command_words.specs.declared.request.Plan.{Plan}
+use Rattle.database_commands.specs.Pages.{pages_text}
 use Rattle.file_reports.specs.declared.input.Unread.{Unread}
 use Rattle.site_commands.specs.Answers.{AnswersPlan, RefusesPlan}
 use Rattle.site_commands.specs.Endings.{Ends}
@@ -30,6 +31,7 @@ pub record RefusesWords (C : List ℕ → List ℕ → Type 0) (U : List ℕ →
 -- the line of a refusal, or want of memory for it
 abbrev pub IsLine : Plan → Refusal → Ending → Type 0
 IsLine plan refusal (ending.Answer text) = ⊥
+IsLine plan refusal (ending.Pages events) = ⊥
 IsLine plan refusal (ending.Help text) = ⊥
 IsLine plan refusal (ending.Faulty text) = ⊥
 IsLine plan refusal (ending.Refused text) = text ≡ line_of plan refusal
@@ -39,6 +41,7 @@ IsLine plan refusal ending.NoMemory = Unit {0}
 abbrev pub IsPlanEnding : (List ℕ → List ℕ → Type 0) → (List ℕ → Unread → Type 0)
     → Plan → Ending → Type 0
 IsPlanEnding C U plan (ending.Answer text) = AnswersPlan C plan text
+IsPlanEnding C U plan (ending.Pages events) = AnswersPlan C plan (pages_text events)
 IsPlanEnding C U plan (ending.Help text) = ⊥
 IsPlanEnding C U plan (ending.Faulty text) = ⊥
 IsPlanEnding C U plan (ending.Refused text) =
@@ -49,6 +52,7 @@ IsPlanEnding C U plan ending.NoMemory = Unit {0}
 abbrev pub IsEnding : (List ℕ → List ℕ → Type 0) → (List ℕ → Unread → Type 0)
     → List (List ℕ) → Ending → Type 0
 IsEnding C U words (ending.Answer text) = AnswersWords C words text
+IsEnding C U words (ending.Pages events) = AnswersWords C words (pages_text events)
 IsEnding C U words (ending.Help text) = AreFaulty words
 IsEnding C U words (ending.Faulty text) = AreFaulty words
 IsEnding C U words (ending.Refused text) = RefusesWords C U words text
@@ -65,6 +69,7 @@ pub record RunsWords (C : List ℕ → List ℕ → Type 0) (U : List ℕ → Un
 -- what is said where the words couldn't be had
 abbrev pub IsUnheard : Ending → Type 0
 IsUnheard (ending.Answer text) = ⊥
+IsUnheard (ending.Pages events) = ⊥
 IsUnheard (ending.Help text) = ⊥
 IsUnheard (ending.Faulty text) = text ≡ arguments_line
 IsUnheard (ending.Refused text) = ⊥

@@ -1,11 +1,13 @@
 //! The commands over a database.
 ghost use Rattle.std.specs.Prelude.{◌≡◌, IfErr, IfOk};
-ghost use Rattle.database_commands.specs.Held.{SaysPage};
-ghost use Rattle.site_commands.specs.Answers.{AnswersDelta, AnswersOrder, AnswersTake, HasSummary, IsAllowedRequest, IsOfDatabase, PrintsBatch, RefusesDelta, RefusesTake, status_of};
+ghost use Rattle.database_commands.specs.Held.{SaysSummary};
+ghost use Rattle.site_commands.specs.Answers.{AnswersDelta, AnswersOrder, AnswersTake, HasSummary, IsAllowedRequest, IsOfDatabase, PrintsBatch, RefusesDelta, RefusesTake, SaysLacking, SaysPages, status_of};
+ghost use Rattle.site_commands.specs.Printed.{printed};
 
 use crate::line::Refusal;
+use crate::printed::Printed;
 use attributes::Text;
-use command_words::{Action, Request};
+use command_words::{Action, Pages, Request};
 use coverage::Summary;
 use database_commands::{CommandFault, Databases, Status, summary_of};
 use file_reports::{Shelf, UnreadAt, contents_of, events_of};
@@ -59,40 +61,79 @@ fn summary_in<S: Shelf>(alloc: Global, shelf: &S, file: &str) -> Result<Summary,
     }
 }
 
-/// A page of the events of a database that the summary in a file lacks. The file is read and judged
-/// before the database is opened.
+/// The pages that are asked for of the events of a database that the summary in a file lacks. The file
+/// is read and judged before the database is opened.
 pub fn delta<S: Shelf, D: Databases>(
     alloc: Global,
     shelf: &S,
     databases: &D,
     db: &str,
-    from: u64,
+    pages: Pages,
     file: &str,
-) -> Result<Text, Refusal>
-    ensures ok { IfOk result (AnswersDelta (S.is_content shelf.now) from file.now) }
+) -> Result<Printed, Refusal>
+    ensures ok { IfOk result (λ p. AnswersDelta (S.is_content shelf.now) pages file.now (printed p)) }
     ensures err { IfErr result
         (RefusesDelta (S.is_content shelf.now) (S.is_unread shelf.now) file.now) }
 {
     match summary_in(alloc, shelf, file) {
-        Ok(summary) => match databases.delta(alloc, db, &summary, from) {
-            Ok(text) => Ok(text),
+        Ok(summary) => match lacking(alloc, databases, db, pages, summary) {
+            Ok(printed) => Ok(printed),
             Err(why) => Err(Refusal::Database(why)),
         },
         Err(refusal) => Err(refusal),
     }
 }
 
-/// A page of the events of a database, in key order.
+/// The pages that are asked for of the events of a database that a summary lacks.
+fn lacking<D: Databases>(
+    alloc: Global,
+    databases: &D,
+    db: &str,
+    pages: Pages,
+    summary: Summary,
+) -> Result<Printed, CommandFault>
+    ensures { IfOk result (λ p. SaysLacking summary pages (printed p)) }
+{
+    match pages {
+        Pages::Behind(passed) => match databases.delta(alloc, db, &summary, passed) {
+            Ok(text) => Ok(Printed::Line(text)),
+            Err(why) => Err(why),
+        },
+        Pages::All => match databases.delta_pages(alloc, db, summary) {
+            Ok(events) => Ok(Printed::Pages(events)),
+            Err(why) => Err(why),
+        },
+    }
+}
+
+/// The pages that are asked for of the events of a database, in key order.
 pub fn scrub<D: Databases>(
     alloc: Global,
     databases: &D,
     db: &str,
-    from: u64,
-) -> Result<Text, Refusal>
-    ensures ok { IfOk result (SaysPage from) }
+    pages: Pages,
+) -> Result<Printed, Refusal>
+    ensures ok { IfOk result (λ p. SaysPages pages (printed p)) }
     ensures err { IfErr result IsOfDatabase }
 {
-    match databases.scrub(alloc, db, from) {
+    match pages {
+        Pages::Behind(passed) => match databases.scrub(alloc, db, passed) {
+            Ok(text) => Ok(Printed::Line(text)),
+            Err(why) => Err(Refusal::Database(why)),
+        },
+        Pages::All => match databases.scrub_pages(alloc, db) {
+            Ok(events) => Ok(Printed::Pages(events)),
+            Err(why) => Err(Refusal::Database(why)),
+        },
+    }
+}
+
+/// Which events a database has, as a summary.
+pub fn summary<D: Databases>(alloc: Global, databases: &D, db: &str) -> Result<Text, Refusal>
+    ensures ok { IfOk result SaysSummary }
+    ensures err { IfErr result IsOfDatabase }
+{
+    match databases.summary(alloc, db) {
         Ok(text) => Ok(text),
         Err(why) => Err(Refusal::Database(why)),
     }

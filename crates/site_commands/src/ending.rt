@@ -1,10 +1,12 @@
 //! How a run ends, as a value, and the one place that writes it.
 ghost use Rattle.std.specs.Prelude.{List, ℕ, OnErr, OnOk};
 ghost use Rattle.std.specs.Io.KnownBytes.{Appends};
-ghost use Rattle.site_commands.specs.Endings.{Ends, Writes, Wrote};
+ghost use Rattle.site_commands.specs.Endings.{Ends, EndsPages, Writes, Wrote};
 
 use attributes::Text;
+use database_commands::EventPages;
 use std::io::Write;
+use std::mem;
 
 /// The status of a run that printed a result.
 const DONE: u8 = 0;
@@ -13,11 +15,17 @@ const REFUSED: u8 = 1;
 /// The status of words that are at fault, or ask for help or the version.
 const FAULTY: u8 = 2;
 
+/// What is said where memory ran out.
+const NO_MEMORY: &str = "site: out of memory\n";
+
 /// What a run comes to, before anything is written.
 #[derive(Drop)]
 pub enum Ending {
     /// The answer, for standard output: status 0.
     Answer(Text),
+    /// The answer in pages, each a line that is made when it is written, for standard output: status
+    /// 0. Memory that runs out between two pages ends it with 1 and a line on standard error.
+    Pages(EventPages),
     /// Help or the version, asked for, for standard output: status 2.
     Help(Text),
     /// What is said of faulty words, for standard error: status 2.
@@ -40,11 +48,36 @@ pub fn finish<O: Write, E: Write>(ending: Ending, out: &mut O, err: &mut E) -> u
 {
     match ending {
         Ending::Answer(text) => print(out, text.as_str(), DONE),
+        Ending::Pages(mut pages) => {
+            let status = print_pages(out, err, &mut pages);
+            // The program ends next: the memory of the events is left to the operating system.
+            mem::forget(pages);
+            status
+        }
         Ending::Help(text) => print(out, text.as_str(), FAULTY),
         Ending::Faulty(text) => print(err, text.as_str(), FAULTY),
         Ending::Refused(text) => print(err, text.as_str(), REFUSED),
-        Ending::NoMemory => print(err, "site: out of memory\n", REFUSED),
+        Ending::NoMemory => print(err, NO_MEMORY, REFUSED),
     }
+}
+
+/// Writes the pages that are left, each as it is made.
+fn print_pages<O: Write, E: Write>(out: &mut O, err: &mut E, left: &mut EventPages) -> u8
+    ensures { EndsPages left.old result (O.contents out.old) (O.contents out.new)
+        (E.contents err.old) (E.contents err.new) }
+{
+    let most = left.most();
+    for page in 0..most {
+        match left.next_line() {
+            Ok(Some(line)) => match put(out, line.as_str().as_bytes()) {
+                Ok(()) => {}
+                Err(_) => return REFUSED,
+            },
+            Ok(None) => return DONE,
+            Err(_) => return print(err, NO_MEMORY, REFUSED),
+        }
+    }
+    DONE
 }
 
 /// Writes a text. The answer is the status, or that of a refusal where the writing fails.

@@ -6,6 +6,7 @@ mod database;
 mod ending;
 mod files;
 mod line;
+mod printed;
 mod progress;
 mod query;
 mod run;

@@ -1,5 +1,5 @@
 //! The lines of refusals on standard error.
-ghost use Rattle.std.specs.Prelude.{◌≡◌, ◌<◌, ◌++◌, [], ◌∷◌, IfOk, OnOk, string_bytes};
+ghost use Rattle.std.specs.Prelude.{◌≡◌, ◌<◌, ◌++◌, [], ◌∷◌, IfOk, OnOk, string_bytes, unwrap_or};
 ghost use Rattle.std.specs.Char.{digit_char};
 ghost use Rattle.site_commands.specs.Names.{names_of};
 ghost use Rattle.site_commands.specs.Lines.{database_line, db_in, event_words, fault_line, fault_name, file_line, line_of, name_at, name_char, name_in, order_in, order_line, other_char, printed_name, summary_line, unread_line};
@@ -46,6 +46,7 @@ fn name_in(plan: &Plan, file: u64) -> &str
 {
     match plan {
         Plan::Ask { files, .. } => name_at(files.as_slice(), file),
+        Plan::Summary { .. } => "",
         Plan::Take { files, .. } => name_at(files.as_slice(), file),
         Plan::Delta { summary, .. } => summary.as_str(),
         Plan::Scrub { .. } => "",
@@ -60,13 +61,24 @@ fn db_in(plan: &Plan) -> &str
     ensures { result.now ≡ db_in plan.now }
 {
     match plan {
-        Plan::Ask { .. } => "",
+        Plan::Ask { db, .. } => given_name(db),
+        Plan::Summary { db } => db.as_str(),
         Plan::Take { db, .. } => db.as_str(),
         Plan::Delta { db, .. } => db.as_str(),
         Plan::Scrub { db, .. } => db.as_str(),
         Plan::Run { db, .. } => db.as_str(),
         Plan::Order(request) => request.db.as_str(),
         Plan::Relay { db, .. } => db.as_str(),
+    }
+}
+
+/// The name that is given; empty where none is.
+fn given_name(name: &Option<Text>) -> &str
+    ensures { result.now ≡ unwrap_or name.now [] }
+{
+    match name {
+        Some(name) => name.as_str(),
+        None => "",
     }
 }
 
@@ -161,6 +173,7 @@ fn database_line(
         CommandFault::Full => order_line(alloc, number, "Full"),
         CommandFault::RouteFailed => Text::of(alloc, "site: route failed\n"),
         CommandFault::AnotherSource => file_line(alloc, db, "another source"),
+        CommandFault::CannotRead => file_line(alloc, db, "cannot read"),
     }
 }
 

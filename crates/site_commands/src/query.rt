@@ -1,24 +1,45 @@
 //! The commands that ask a question about the events of files.
-ghost use Rattle.std.specs.Prelude.{◌≡◌, IfErr, IfOk};
+ghost use Rattle.std.specs.Prelude.{◌≡◌, IfErr, IfOk, None, Some};
 ghost use Rattle.site_commands.specs.Answers.{AnswersQuery, RefusesQuery};
 
 use crate::line::Refusal;
 use attributes::Text;
-use file_reports::{Query, Shelf, contents_of, report};
+use database_commands::{CommandFault, Databases};
+use file_reports::{Query, Shelf, contents_of, report, report_with, site_of};
 use std::alloc::Global;
 use std::mem;
 
-/// The answer to the query for the events of all files. All files are read before one is judged. The
-/// memory of the events is left to the operating system, since the program ends next.
-pub fn ask<S: Shelf>(
+/// The answer to the query for the events of all files, and those of a database where one is given.
+/// All files are read before one is judged, and judged before the database is opened.
+pub fn ask<S: Shelf, D: Databases>(
+    alloc: Global,
+    shelf: &S,
+    databases: &D,
+    query: Query,
+    db: &Option<Text>,
+    files: &[Text],
+) -> Result<Text, Refusal>
+    ensures ok { IfOk result (AnswersQuery (S.is_content shelf.now) query db.now files.now) }
+    ensures err { IfErr result
+        (RefusesQuery (S.is_content shelf.now) (S.is_unread shelf.now) db.now files.now) }
+{
+    match db {
+        Some(db) => ask_with(alloc, shelf, databases, query, db.as_str(), files),
+        None => ask_files(alloc, shelf, query, files),
+    }
+}
+
+/// The answer to the query for the events of all files. The memory of the events is left to the
+/// operating system, since the program ends next.
+fn ask_files<S: Shelf>(
     alloc: Global,
     shelf: &S,
     query: Query,
     files: &[Text],
 ) -> Result<Text, Refusal>
-    ensures ok { IfOk result (AnswersQuery (S.is_content shelf.now) query files.now) }
+    ensures ok { IfOk result (AnswersQuery (S.is_content shelf.now) query None files.now) }
     ensures err { IfErr result
-        (RefusesQuery (S.is_content shelf.now) (S.is_unread shelf.now) files.now) }
+        (RefusesQuery (S.is_content shelf.now) (S.is_unread shelf.now) None files.now) }
 {
     match contents_of(alloc, shelf, files) {
         Ok(contents) => match report(alloc, query, contents.as_slice()) {
@@ -26,6 +47,37 @@ pub fn ask<S: Shelf>(
                 mem::forget(report.events);
                 Ok(report.text)
             }
+            Err(refused) => Err(Refusal::File(refused)),
+        },
+        Err(at) => Err(Refusal::Unread(at)),
+    }
+}
+
+/// The answer to the query for the events of all files and those of a database.
+fn ask_with<S: Shelf, D: Databases>(
+    alloc: Global,
+    shelf: &S,
+    databases: &D,
+    query: Query,
+    db: &str,
+    files: &[Text],
+) -> Result<Text, Refusal>
+    ensures ok { IfOk result (AnswersQuery (S.is_content shelf.now) query (Some db.now) files.now) }
+    ensures err { IfErr result
+        (RefusesQuery (S.is_content shelf.now) (S.is_unread shelf.now) (Some db.now) files.now) }
+{
+    match contents_of(alloc, shelf, files) {
+        Ok(contents) => match site_of(alloc, contents.as_slice()) {
+            Ok(events) => match databases.events(alloc, db) {
+                Ok(held) => match report_with(query, events, held) {
+                    Ok(report) => {
+                        mem::forget(report.events);
+                        Ok(report.text)
+                    }
+                    Err(_) => Err(Refusal::Database(CommandFault::OutOfMemory)),
+                },
+                Err(why) => Err(Refusal::Database(why)),
+            },
             Err(refused) => Err(Refusal::File(refused)),
         },
         Err(at) => Err(Refusal::Unread(at)),

@@ -1,14 +1,17 @@
 //! The whole program, over any runtime and writers.
-ghost use Rattle.std.specs.Prelude.{◌≡◌, ◌≤◌, false, true, IfErr, IfOk, MatchResult};
+ghost use Rattle.std.specs.Prelude.{◌≡◌, ◌≤◌, false, true, Err, IfErr, IfOk, MatchResult, Ok};
 ghost use Rattle.std.specs.Process.{exit_status};
 ghost use Rattle.command_words.specs.Plans.{AreFaulty};
 ghost use Rattle.site_commands.specs.Answers.{AnswersPlan, IsAllowed, RefusesPlan, is_run};
+ghost use Rattle.site_commands.specs.Printed.{printed};
+ghost use Rattle.site_commands.specs.declared.printed.Printed.TheVariants as Printed;
 ghost use Rattle.site_commands.specs.Runs.{EndsUnheard, IsEnding, IsLine, IsPlanEnding, IsUnheard, PrintsAnswer, RunsWords};
 
-use crate::database::{delta, order, relay, scrub, take};
+use crate::database::{delta, order, relay, scrub, summary, take};
 use crate::ending::{Ending, finish};
 use crate::files::SystemFiles;
 use crate::line::{Refusal, line_of};
+use crate::printed::Printed;
 use crate::progress::Progress;
 use crate::query::ask;
 use crate::workers::run;
@@ -132,7 +135,8 @@ fn ending_of<S: Shelf, D: Databases, P: Progress>(
     ensures { IsPlanEnding (S.is_content shelf.now) (S.is_unread shelf.now) plan.now result }
 {
     match carried_out(alloc, shelf, databases, plan, progress) {
-        Ok(text) => Ending::Answer(text),
+        Ok(Printed::Line(text)) => Ending::Answer(text),
+        Ok(Printed::Pages(events)) => Ending::Pages(events),
         Err(refusal) => refused(alloc, plan, refusal),
     }
 }
@@ -177,35 +181,53 @@ fn carried_out<S: Shelf, D: Databases, P: Progress>(
     databases: &D,
     plan: &Plan,
     progress: &P,
-) -> Result<Text, Refusal>
+) -> Result<Printed, Refusal>
     requires alone { is_run plan.now ≡ false }
     requires allowed { IsAllowed plan.now }
-    ensures ok { IfOk result (AnswersPlan (S.is_content shelf.now) plan.now) }
+    ensures ok { IfOk result (λ p. AnswersPlan (S.is_content shelf.now) plan.now (printed p)) }
     ensures err { IfErr result
         (RefusesPlan (S.is_content shelf.now) (S.is_unread shelf.now) plan.now) }
 {
     match plan {
-        Plan::Ask { query, files } => ask(alloc, shelf, *query, files.as_slice()),
-        Plan::Take { db, files } => take(
+        Plan::Ask { query, db, files } => lined(ask(
+            alloc,
+            shelf,
+            databases,
+            *query,
+            db,
+            files.as_slice(),
+        )),
+        Plan::Take { db, files } => lined(take(
             alloc,
             shelf,
             databases,
             db.as_str(),
             files.as_slice(),
             progress,
-        ),
-        Plan::Delta { db, from, summary } => delta(
+        )),
+        Plan::Summary { db } => lined(summary(alloc, databases, db.as_str())),
+        Plan::Delta { db, pages, summary } => delta(
             alloc,
             shelf,
             databases,
             db.as_str(),
-            *from,
+            *pages,
             summary.as_str(),
         ),
-        Plan::Scrub { db, from } => scrub(alloc, databases, db.as_str(), *from),
+        Plan::Scrub { db, pages } => scrub(alloc, databases, db.as_str(), *pages),
         Plan::Run { .. } => unreachable!(),
-        Plan::Order(request) => order(alloc, databases, request),
-        Plan::Relay { db, after } => relay(alloc, databases, db.as_str(), *after),
+        Plan::Order(request) => lined(order(alloc, databases, request)),
+        Plan::Relay { db, after } => lined(relay(alloc, databases, db.as_str(), *after)),
+    }
+}
+
+/// An answer that is one text.
+fn lined(answer: Result<Text, Refusal>) -> Result<Printed, Refusal>
+    ensures { MatchResult answer (λ text. result ≡ Ok (Printed.Line text)) (λ e. result ≡ Err e) }
+{
+    match answer {
+        Ok(text) => Ok(Printed::Line(text)),
+        Err(refusal) => Err(refusal),
     }
 }
 

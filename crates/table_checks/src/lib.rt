@@ -14,6 +14,8 @@ mod keepers;
 #[cfg(test)]
 mod orders;
 #[cfg(test)]
+mod pages;
+#[cfg(test)]
 mod relays;
 #[cfg(test)]
 mod stops;

@@ -1,8 +1,8 @@
-use Rattle.std.proofs.Common.{ℕ, List, ap, ◌∙◌, sym, subst}
+use Rattle.std.proofs.Common.{ℕ, List, ap, ◌∙◌}
 use Rattle.std.specs.Prelude.{map}
 use Rattle.std.specs.Borrow.{Bor}
 use Rattle.command_words.specs.Commands.{app_for}
-use Rattle.command_words.specs.Plans.{HasTextsOf, command_of}
+use Rattle.command_words.specs.Plans.{command_of}
 use Rattle.command_words.proofs.ClapLemmas.{Blames-weaker, app_for-simple, command_by_word, fault_by, is_simple_by, refused_by, rows_by}
 use Rattle.command_words.proofs.PlanLemmas.{planned, refused}
 use Rattle.command_words.proofs.words.plan_for.Goals as goal

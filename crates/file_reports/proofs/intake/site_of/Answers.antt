@@ -1,7 +1,7 @@
 use Rattle.std.proofs.Common.{◌≡◌, ◌∙◌, ℕ, List, ap, sym, subst, take, length, arith, refl}
 use Rattle.std.specs.Prelude.{Some, slice_get}
 use Rattle.std.proofs.lemmas.Option.{slice_get_read}
-use Rattle.file_reports.specs.steps.Intake.{KeepsFiles}
+use Rattle.file_reports.specs.Reports.{KeepsFiles}
 use Rattle.file_reports.proofs.ListLemmas.{take_next}
 use Rattle.file_reports.proofs.FileLemmas.{Gains-permutation, KeepsFiles-more, refusal_by}
 use Rattle.file_reports.proofs.intake.site_of.Goals as goal

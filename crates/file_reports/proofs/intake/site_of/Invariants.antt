@@ -1,5 +1,5 @@
 use Rattle.std.proofs.Common.{take}
-use Rattle.file_reports.specs.steps.Intake.{KeepsFiles}
+use Rattle.file_reports.specs.Reports.{KeepsFiles}
 use Rattle.file_reports.proofs.intake.site_of.Given as goal
 
 abbrev pub invariant-loop-file : goal.invariant-loop-file

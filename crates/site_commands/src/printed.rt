@@ -1,0 +1,12 @@
+//! What a plan is answered with.
+use attributes::Text;
+use database_commands::EventPages;
+
+/// What is to be written of an answer.
+#[derive(Drop)]
+pub enum Printed {
+    /// One text.
+    Line(Text),
+    /// The pages of some events, each as a line.
+    Pages(EventPages),
+}
