@@ -96,6 +96,8 @@ pub fn summary<S: Alter + Drop>(alloc: Global, conn: Connection<S>) -> Ended<S>
         → IsTrue (state S.Store result.conn).is_open
         → KeepsEvents (state S.Store conn).now (state S.Store result.conn).now }
     ensures line { IfOk result.outcome SaysSummary }
+    ensures without { has_inbox (state S.Store conn).now.schema ≡ false
+        → (state S.Store result.conn).now ≡ (state S.Store conn).now }
 {
     let Contents { conn, events } = held(alloc, conn);
     match events {
@@ -120,6 +122,8 @@ pub fn scrub_pages<S: Alter + Drop>(alloc: Global, conn: Connection<S>) -> Paged
         → IsTrue (state S.Store result.conn).is_open
         → KeepsEvents (state S.Store conn).now (state S.Store result.conn).now }
     ensures some { IfOk result.pages HasEvents }
+    ensures without { has_inbox (state S.Store conn).now.schema ≡ false
+        → (state S.Store result.conn).now ≡ (state S.Store conn).now }
 {
     let Contents { conn, events } = held(alloc, conn);
     match events {
@@ -148,6 +152,8 @@ pub fn delta_pages<S: Alter + Drop>(
         → IsTrue (state S.Store result.conn).is_open
         → KeepsEvents (state S.Store conn).now (state S.Store result.conn).now }
     ensures some { IfOk result.pages (HasDelta summary) }
+    ensures without { has_inbox (state S.Store conn).now.schema ≡ false
+        → (state S.Store result.conn).now ≡ (state S.Store conn).now }
 {
     let Contents { conn, events } = held(alloc, conn);
     match events {
