@@ -275,6 +275,22 @@ impl Blocks {
         self.alloc
     }
 
+    /// How many blocks are kept. There may be some without places.
+    pub fn len(&self) -> u64
+        ensures { result ≡ length self.now.blocks }
+    {
+        self.blocks.len() as u64
+    }
+
+    /// The places of the block that is kept as the i-th, from 0: those of one block of a source,
+    /// ascending. The order of blocks is that in which they were first noted.
+    pub fn places(&self, i: u64) -> &[u64]
+        requires { i < length self.now.blocks }
+        ensures { slice_get (map (λ b. b.places) self.now.blocks) i ≡ Some result.now }
+    {
+        &self.blocks[i as usize].places
+    }
+
     /// The event that came stands at the place, behind all that came before: its block is stale
     /// from now on, and the digests of the others stay. Time logarithmic in the sources and in the
     /// blocks of the source; a source is copied where it is new.

@@ -26,3 +26,4 @@ pub mod SummaryTextLemmas
 pub mod SpanLemmas
 pub mod ReadDigestsLemmas
 pub mod HashLemmas
+pub mod RunLemmas

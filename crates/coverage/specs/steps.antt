@@ -3,5 +3,6 @@ pub mod Blocks
 pub mod Entries
 pub mod Fits
 pub mod Places
+pub mod Spans
 pub mod Starts
 pub mod Tokens

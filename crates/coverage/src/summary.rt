@@ -9,6 +9,7 @@ ghost use Rattle.attributes.specs.Character.{is_filled};
 ghost use Rattle.attributes.specs.Event.{EventValue, source_of};
 ghost use Rattle.attributes.specs.JsonText.{IsJsonText};
 ghost use Rattle.attributes.specs.Sequence.{number_of};
+ghost use Rattle.block_digests.specs.Block.{block_of};
 ghost use Rattle.block_digests.specs.Digest.{is_one_digest};
 ghost use Rattle.coverage.specs.Intervals.{IsCanonical};
 ghost use Rattle.coverage.specs.Digests.{Digests, digest_at, is_lacking, is_wanted};
@@ -337,6 +338,39 @@ impl Summary {
             (Some(own), Some(others)) => own.same(others),
             (None, None) => true,
             _ => false,
+        }
+    }
+
+    /// Whether the summary needs no event of a source that stands in the block of a number, going by
+    /// the own summary of a site and the numbers that the site has: it holds each of them that is
+    /// in the block, and in version 2 has the own digest of the block. Where it isn't so, the answer
+    /// may be false. Time logarithmic in the sources, the intervals and the blocks of the source,
+    /// and linear in the intervals of the block.
+    pub fn wants_none_beside(
+        &self,
+        own: &Summary,
+        numbers: &Summary,
+        source: &str,
+        number: Sequence,
+    ) -> bool
+        ensures { IsTrue result → (n : ℕ) → block_of n ≡ block_of number
+            → holds_at numbers.now source.now n ≡ true
+            → is_wanted self.now own.now source.now n ≡ false }
+    {
+        // The number bounds the block.
+        let _number = number.number();
+        let k = block_of(number);
+        if let Some(digests) = &self.digests {
+            if !is_one_digest(digests.digest_of(source, k), own.digest_of(source, k)) {
+                return false;
+            }
+        }
+        let Some(held) = numbers.of_source(source) else {
+            return true;
+        };
+        match self.of_source(source) {
+            Some(own) => own.covers_block(held, k),
+            None => false,
         }
     }
 

@@ -1,5 +1,6 @@
 -- Running sites stand for places, step by step.
 use Rattle.std.proofs.Common.{◌≡◌, ◌≢◌, ℕ, zero, suc, ◌+◌, ◌<◌, ◌≤◌, List, [], ◌∷◌, ◌++◌, true, false, ◌||◌, length, get_or, set, take, Some, slice_get, if◌then◌else◌, refl, sym, ap, ◌∙◌, subst, arith, length-append}
+use Rattle.std.specs.Prelude.{Result, Ok, Err, IfErr, OnErr}
 use Rattle.std.specs.declared.cmp.Ordering.{Ordering}
 use Rattle.std.specs.declared.cmp.Ordering.TheVariants.{Less, Equal, Greater}
 use Rattle.std.specs.Ordering.{is_eq, match_ordering}
@@ -16,7 +17,8 @@ use Rattle.inbox.specs.Sets.{set_of, union}
 use Rattle.exchange.specs.declared.world.Hosted.{Hosted}
 use Rattle.exchange.specs.declared.step.Step.{Step}
 use Rattle.exchange.specs.Place.{Place, gains, nothing, place_at}
-use Rattle.exchange.specs.Schedule.{FitsIn, after, world_after}
+use Rattle.site.specs.Arrival.{LacksAt}
+use Rattle.exchange.specs.Schedule.{FitsIn, IsShortOfNext, after, world_after}
 use Rattle.exchange.specs.Standing.{Stands, StandsFor}
 use Rattle.exchange.specs.steps.Given.{GivesTo, site_at}
 use Rattle.exchange.proofs.TransferLemmas.{add_all-append, length-append_new}
@@ -182,3 +184,12 @@ stands_length [] [] s = refl
 stands_length [] (p ∷ ps) s = absurd s
 stands_length (h ∷ hs) [] s = absurd s
 stands_length (h ∷ hs) (p ∷ ps) s = ap suc (stands_length hs ps s.1)
+
+-- memory was wanted for an event that a site hasn't, after it took the first ones
+pub short_of_next : SetLaws → (new E L : List EventValue) (n : ℕ) → n < length L → set_of new ≡ union E (take n L) → LacksAt new L n → IsShortOfNext E n L
+short_of_next sets new E L n less is lacks = (less, λ e h. ap (λ F. has key_cmp F e) (sym is) ∙ sets.members new e ∙ lacks e h)
+
+-- what holds of an error by two clauses
+pub stops_both : {T E : Type 0} (r : Result T E) (P : Type 0) (Q R : E → Type 0) → ((y : E) → P → Q y → R y) → OnErr r P → IfErr r Q → IfErr r R
+stops_both (Ok x) P Q R f p q = tt
+stops_both (Err y) P Q R f p q = f y p q

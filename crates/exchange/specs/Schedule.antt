@@ -1,7 +1,9 @@
 -- A schedule of steps among sites.
-use Rattle.std.specs.Prelude.{◌<◌, ℕ, List, [], ◌∷◌, slice_set, take}
+use Rattle.std.specs.Prelude.{◌≡◌, ◌≢◌, ◌<◌, ◌⊎◌, ℕ, List, [], ◌∷◌, length, slice_set, take}
 use Rattle.attributes.specs.Event.{EventValue}
 use Rattle.exchange.specs.Lacking.{lacking}
+use Rattle.inbox.specs.Sets.{union}
+use Rattle.site.specs.Arrival.{LacksAt}
 use Rattle.exchange.specs.Place.{Place, gains, place_at}
 use Rattle.exchange.specs.declared.step.Step.{Step}
 use Rattle.exchange.specs.declared.step.Step.TheVariants.{Deliver, Flush, Gossip, Restart, Scrub}
@@ -14,14 +16,6 @@ after (Scrub i j) w = gains w j (place_at w i).taken
 after (Flush i) w = slice_set w i (record (place_at w i) { kept = (place_at w i).taken })
 after (Restart i) w = slice_set w i (record (place_at w i) { taken = (place_at w i).kept })
 
--- the events that a step gives its site
-abbrev pub given_by : Step → List Place → List EventValue
-given_by (Deliver i L) w = L
-given_by (Gossip i j) w = lacking (place_at w i).taken (place_at w j).taken
-given_by (Scrub i j) w = (place_at w i).taken
-given_by (Flush i) w = []
-given_by (Restart i) w = []
-
 -- the world after a step of which the site takes the first n events alone
 abbrev pub after_part : ℕ → Step → List Place → List Place
 after_part n (Deliver i L) w = gains w i (take n L)
@@ -30,6 +24,29 @@ after_part n (Gossip i j) w =
 after_part n (Scrub i j) w = gains w j (take n (place_at w i).taken)
 after_part n (Flush i) w = w
 after_part n (Restart i) w = w
+
+-- so many of the events were taken when memory was wanted: fewer than all, or none, where it was
+-- wanted before the first
+abbrev pub IsCutShort : ℕ → List EventValue → Type 0
+IsCutShort n L = (n ≡ 0) ⊎ (n < length L)
+
+-- memory was wanted for the next event of the list, which those events and the site's don't have
+abbrev pub IsShortOfNext : List EventValue → ℕ → List EventValue → Type 0
+IsShortOfNext E n L = (n < length L) × LacksAt (union E (take n L)) L n
+
+-- want of memory may stop the step after its site took the first n events that it gives: a delivery
+-- for the copy of its batch, before the first event, or for one that the site hasn't; a gossip for
+-- what the giver has, and a scrub for an event of it that the taker hasn't, if they are two sites;
+-- a restart for what was flushed, before the site changes; and a flush for nothing
+abbrev pub StopsAt : ℕ → Step → List Place → Type 0
+StopsAt n (Deliver i L) w =
+    (n < length L) × ((n ≡ 0) ⊎ IsShortOfNext (place_at w i).taken n L)
+StopsAt n (Gossip i j) w =
+    (i ≢ j) × ((place_at w i).taken ≢ [])
+    × IsCutShort n (lacking (place_at w i).taken (place_at w j).taken)
+StopsAt n (Scrub i j) w = (i ≢ j) × IsShortOfNext (place_at w j).taken n (place_at w i).taken
+StopsAt n (Flush i) w = ⊥
+StopsAt n (Restart i) w = (n ≡ 0) × ((place_at w i).kept ≢ [])
 
 -- the world after all steps
 abbrev pub world_after : List Step → List Place → List Place

@@ -1,9 +1,9 @@
 -- Running sites, and what they have as sets.
-use Rattle.std.specs.Prelude.{◌≡◌, ◌≤◌, ◌⊎◌, ℕ, List, [], length, slice_get, take, Some}
+use Rattle.std.specs.Prelude.{◌≡◌, ◌≢◌, ◌≤◌, ◌⊎◌, ℕ, List, [], length, slice_get, take, Some}
 use Rattle.std.specs.List.{AllZip}
 use Rattle.inbox.specs.Sets.{set_of}
 use Rattle.exchange.specs.Place.{Place, start}
-use Rattle.exchange.specs.Schedule.{after_part, given_by, world_after}
+use Rattle.exchange.specs.Schedule.{StopsAt, after_part, world_after}
 use Rattle.exchange.specs.declared.step.Step.{Step}
 use Rattle.exchange.specs.declared.world.Hosted.{Hosted}
 
@@ -20,11 +20,16 @@ pub record StandsFor (host : Hosted) (place : Place) : Type 0 where
 abbrev pub Stands : List Hosted → List Place → Type 0
 Stands hosts w = AllZip StandsFor hosts w
 
--- a run of n sites that was stopped: no site could be made, or so many steps were done and the next
--- one took its first events alone
+-- a run of n sites that was stopped in a step: so many were done, and the next one was stopped
+-- after its first events
+abbrev pub StoppedIn : ℕ → List Step → List Hosted → ℕ → ℕ → Type 0
+StoppedIn n steps hosts done part =
+    (step : Step) × (slice_get steps done ≡ Some step)
+    × StopsAt part step (world_after (take done steps) (start n))
+    × Stands hosts (after_part part step (world_after (take done steps) (start n)))
+
+-- a run of n sites that was stopped: the list of sites couldn't be made, of which there was to be
+-- one at least; or in a step
 abbrev pub StoppedAt : ℕ → List Step → List Hosted → ℕ → ℕ → Type 0
 StoppedAt n steps hosts done part =
-    ((hosts ≡ []) × (done ≡ 0) × (part ≡ 0))
-    ⊎ ((step : Step) × (slice_get steps done ≡ Some step)
-    × (part ≤ length (given_by step (world_after (take done steps) (start n))))
-    × Stands hosts (after_part part step (world_after (take done steps) (start n))))
+    ((n ≢ 0) × (hosts ≡ []) × (done ≡ 0) × (part ≡ 0)) ⊎ StoppedIn n steps hosts done part

@@ -1,14 +1,14 @@
 //! Schedules, run.
 
-ghost use Rattle.std.specs.Prelude.{◌≡◌, ◌≢◌, ◌<◌, ◌≤◌, List, [], length, take, vec_len, IfErr, IfOk, OnOk};
+ghost use Rattle.std.specs.Prelude.{◌≡◌, ◌≢◌, ◌<◌, List, [], length, take, vec_len, IfErr, IfOk, OnErr, OnOk};
 ghost use Rattle.std.specs.List.{AllByRecursion};
 ghost use Rattle.inbox.specs.KeyOrder.{key_cmp};
 ghost use Rattle.inbox.specs.Ordered.{append_new};
 ghost use Rattle.inbox.specs.Sets.{set_of};
 ghost use Rattle.exchange.specs.Lacking.{lacking};
 ghost use Rattle.exchange.specs.Place.{Place, start};
-ghost use Rattle.exchange.specs.Schedule.{FitsIn, after, after_part, given_by, world_after};
-ghost use Rattle.exchange.specs.Standing.{Stands, StoppedAt};
+ghost use Rattle.exchange.specs.Schedule.{FitsIn, IsCutShort, IsShortOfNext, StopsAt, after, after_part, world_after};
+ghost use Rattle.exchange.specs.Standing.{Stands, StoppedAt, StoppedIn};
 ghost use Rattle.exchange.specs.steps.Given.{GivesTo, site_at};
 
 use crate::step::{Step, Steps};
@@ -31,7 +31,8 @@ pub struct Stopped {
 
 /// A copy of a batch.
 fn copy_of(alloc: Global, batch: &Batch) -> Result<Batch, AllocError>
-    ensures { IfOk result (λ copy. copy ≡ batch.now) }
+    ensures ok { IfOk result (λ copy. copy ≡ batch.now) }
+    ensures err { OnErr result (0 < length batch.now) }
 {
     let mut copy = Batch::empty(alloc);
     for i in 0..batch.len() {
@@ -47,8 +48,11 @@ fn deliver(hosts: &mut Vec<Hosted>, to: usize, mut batch: Batch) -> Result<(), u
     ensures ok { OnOk result (GivesTo hosts.old.items hosts.new.items to batch) }
     ensures err { IfErr result (λ part. GivesTo hosts.old.items hosts.new.items to
         (take part batch)) }
-    ensures taken { IfErr result (λ part. part ≤ length batch) }
+    ensures short { IfErr result (λ part.
+        IsShortOfNext (set_of (site_at hosts.old.items to)) part batch) }
 {
+    // A site has what its set has.
+    sets_are_members();
     let host = &mut hosts[to];
     match host.site.take_batch(&mut batch) {
         Ok(_) => Ok(()),
@@ -68,8 +72,9 @@ fn gossip_between(alloc: Global, hosts: &mut Vec<Hosted>, from: usize, to: usize
     ensures err { IfErr result (λ part. GivesTo hosts.old.items hosts.new.items to
         (take part
         (lacking (set_of (site_at hosts.old.items from)) (set_of (site_at hosts.old.items to))))) }
-    ensures taken { IfErr result (λ part. part ≤ length
+    ensures short { IfErr result (λ part. IsCutShort part
         (lacking (set_of (site_at hosts.old.items from)) (set_of (site_at hosts.old.items to)))) }
+    ensures giver { OnErr result (set_of (site_at hosts.old.items from) ≢ []) }
 {
     // Both sites are lent at once, so the second is taken out meanwhile.
     let mut site = mem::replace(&mut hosts[to].site, Site::empty(alloc));
@@ -91,8 +96,11 @@ fn scrub_between(alloc: Global, hosts: &mut Vec<Hosted>, from: usize, to: usize)
         (set_of (site_at hosts.old.items from))) }
     ensures err { IfErr result (λ part. GivesTo hosts.old.items hosts.new.items to
         (take part (set_of (site_at hosts.old.items from)))) }
-    ensures taken { IfErr result (λ part. part ≤ length (set_of (site_at hosts.old.items from))) }
+    ensures short { IfErr result (λ part. IsShortOfNext (set_of (site_at hosts.old.items to)) part
+        (set_of (site_at hosts.old.items from))) }
 {
+    // A site has what its set has.
+    sets_are_members();
     // Both sites are lent at once, so the second is taken out meanwhile.
     let mut site = mem::replace(&mut hosts[to].site, Site::empty(alloc));
     let done = scrub(&hosts[from].site, &mut site);
@@ -108,6 +116,7 @@ fn restarted(alloc: Global, host: &Hosted) -> Result<Site, AllocError>
     ensures arrivals { IfOk result (λ site. site
         ≡ append_new key_cmp [] (take host.now.kept host.now.site)) }
     ensures set { IfOk result (λ site. set_of site ≡ set_of (take host.now.kept host.now.site)) }
+    ensures err { OnErr result (0 < host.now.kept) }
 {
     let mut batch = Batch::empty(alloc);
     for i in 0..host.kept.min(host.site.arrived()) {
@@ -128,8 +137,8 @@ fn make_step(alloc: Global, hosts: &mut Vec<Hosted>, step: &Step) -> Result<(), 
         → Stands hosts.new.items (after step.now w)) }
     ensures err { IfErr result (λ part. (w : List Place) → Stands hosts.old.items w
         → Stands hosts.new.items (after_part part step.now w)) }
-    ensures taken { IfErr result (λ part. (w : List Place) → Stands hosts.old.items w
-        → part ≤ length (given_by step.now w)) }
+    ensures stops { IfErr result (λ part. (w : List Place) → Stands hosts.old.items w
+        → StopsAt part step.now w) }
 {
     // A site keeps each event once, and what it has already adds nothing.
     sets_are_members();
@@ -170,7 +179,8 @@ fn make_step(alloc: Global, hosts: &mut Vec<Hosted>, step: &Step) -> Result<(), 
 
 /// So many sites that have nothing.
 fn empty_sites(alloc: Global, sites: u32) -> Result<Vec<Hosted>, AllocError>
-    ensures { IfOk result (λ hosts. Stands hosts.items (start sites)) }
+    ensures ok { IfOk result (λ hosts. Stands hosts.items (start sites)) }
+    ensures err { OnErr result (sites ≢ 0) }
 {
     let mut hosts = Vec::new(alloc);
     for i in 0..sites {
@@ -182,23 +192,18 @@ fn empty_sites(alloc: Global, sites: u32) -> Result<Vec<Hosted>, AllocError>
     Ok(hosts)
 }
 
-/// Runs a schedule from so many sites that have nothing. Where want of memory stops it, the world
-/// stands after the steps that were done and the first events of the next one; where not even the
-/// sites could be made, it has none.
-pub fn run(alloc: Global, sites: u32, steps: &Steps) -> Result<World, Stopped>
-    requires { AllByRecursion (FitsIn sites) steps.now }
+/// Runs a schedule from so many sites that have nothing, which there are.
+fn run_steps(
+    alloc: Global,
+    mut hosts: Vec<Hosted>,
+    sites: u32,
+    steps: &Steps,
+) -> Result<World, Stopped>
+    requires fits { AllByRecursion (FitsIn sites) steps.now }
+    requires stands { Stands hosts.items (start sites) }
     ensures done { IfOk result (λ world. Stands world (world_after steps.now (start sites))) }
-    ensures stopped { IfErr result (λ s. StoppedAt sites steps.now s.world s.done s.part) }
+    ensures stopped { IfErr result (λ s. StoppedIn sites steps.now s.world s.done s.part) }
 {
-    let Ok(mut hosts) = empty_sites(alloc, sites) else {
-        return Err(Stopped {
-            world: World {
-                hosts: Vec::new(alloc),
-            },
-            done: 0,
-            part: 0,
-        });
-    };
     for done in 0..steps.len() {
         if let Err(part) = make_step(alloc, &mut hosts, steps.at(done)) {
             let world = World { hosts };
@@ -206,4 +211,24 @@ pub fn run(alloc: Global, sites: u32, steps: &Steps) -> Result<World, Stopped>
         }
     }
     Ok(World { hosts })
+}
+
+/// Runs a schedule from so many sites that have nothing. Where want of memory stops it, the world
+/// stands after the steps that were done and the first events of the next one; where not even the
+/// sites could be made, of which there was to be one at least, it has none.
+pub fn run(alloc: Global, sites: u32, steps: &Steps) -> Result<World, Stopped>
+    requires { AllByRecursion (FitsIn sites) steps.now }
+    ensures done { IfOk result (λ world. Stands world (world_after steps.now (start sites))) }
+    ensures stopped { IfErr result (λ s. StoppedAt sites steps.now s.world s.done s.part) }
+{
+    match empty_sites(alloc, sites) {
+        Ok(hosts) => run_steps(alloc, hosts, sites, steps),
+        Err(_) => Err(Stopped {
+            world: World {
+                hosts: Vec::new(alloc),
+            },
+            done: 0,
+            part: 0,
+        }),
+    }
 }

@@ -1,5 +1,6 @@
 //! The answer to a question about the events of files.
 ghost use Rattle.std.specs.Prelude.{◌≡◌, ℕ, List, IfErr, IfOk};
+ghost use Rattle.inbox.specs.Sets.{set_of, union};
 ghost use Rattle.file_reports.specs.Reports.{HoldSameEvents, IsReport, IsReportWith, IsRefusal, KeepsFiles};
 
 use crate::intake::{site_of, take_all};
@@ -27,6 +28,7 @@ pub struct Reported {
 /// files are held at once, each once.
 pub fn report(alloc: Global, query: Query, files: &[Octets]) -> Result<Reported, Refused>
     ensures ok { IfOk result (λ r. IsReport query files.now r.text) }
+    ensures events { IfOk result (λ r. KeepsFiles files.now r.events) }
     ensures err { IfErr result (IsRefusal files.now) }
 
     // Other files with the same events have the same report, byte for byte.
@@ -44,10 +46,14 @@ pub fn report(alloc: Global, query: Query, files: &[Octets]) -> Result<Reported,
 /// The answer to a question about the events of files, as [`crate::site_of`] has them, and those of a
 /// batch besides. Time n log n in the batch, and that of the question.
 pub fn report_with(query: Query, mut events: Site, held: Batch) -> Result<Reported, AllocError>
-    ensures { IfOk result (λ r. (files : List (List ℕ)) → KeepsFiles files events
+    ensures ok { IfOk result (λ r. (files : List (List ℕ)) → KeepsFiles files events
         → IsReportWith query held files r.text) }
+    ensures events { IfOk result (λ r. set_of r.events ≡ union (set_of events) held) }
 {
     take_all(&mut events, held)?;
-    let text = events.lines(query)?;
-    Ok(Reported { text, events })
+    let lines = events.lines(query)?;
+    Ok(Reported {
+        text: lines,
+        events,
+    })
 }

@@ -3,3 +3,5 @@ pub mod SumLemmas
 pub mod PageLemmas
 pub mod DeltaLemmas
 pub mod MarkLemmas
+pub mod SkipLemmas
+pub mod AmongLemmas

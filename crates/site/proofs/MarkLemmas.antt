@@ -1,6 +1,7 @@
 -- Where pages of what a peer lacks go on.
-use Rattle.std.proofs.Common.{◌≡◌, ℕ, ◌+◌, ◌≤◌, List, length, take, drop, min, sym, ap, ◌∙◌, subst}
+use Rattle.std.proofs.Common.{◌≡◌, ℕ, ◌+◌, ◌≤◌, List, Option, length, take, drop, min, sym, ap, ◌∙◌, subst}
 use Rattle.std.proofs.lemmas.List.{drop-drop, drop_min, length-take}
+use Rattle.std.specs.BTreeSet.{BTreeSet}
 use Rattle.attributes.specs.Event.{EventValue}
 use Rattle.coverage.specs.Summary.{Sources}
 use Rattle.inbox.specs.Sets.{set_of}
@@ -8,19 +9,20 @@ use Rattle.site.specs.Delta.{delta, lacking_of}
 use Rattle.site.specs.steps.Mark.{IsMark}
 
 -- a page further
-pub mark_moves : (A events : List EventValue) (peer own : Sources) (from place next limit n : ℕ) → IsMark A peer own from place → n ≡ length events
+pub mark_moves : (A events : List EventValue) (peer own : Sources) (among : Option (BTreeSet ℕ)) (from place next limit n : ℕ) → IsMark A peer own among from place → n ≡ length events
     → events ≡ take limit (lacking_of (set_of A) peer (drop place (set_of A)))
     → lacking_of (set_of A) peer (drop next (set_of A)) ≡ drop limit (lacking_of (set_of A) peer (drop place (set_of A)))
-    → next ≤ length (set_of A) → IsMark A peer own (from + n) next
-mark_moves A events peer own from place next limit n mark counted page rest within =
+    → next ≤ length (set_of A) → IsMark A peer own among (from + n) next
+mark_moves A events peer own among from place next limit n mark counted page rest within =
     let X = lacking_of (set_of A) peer (drop place (set_of A)) in
     let few : n ≡ min limit (length X) = counted ∙ ap length page ∙ length-take limit X in
     record {
+      all = mark.all;
       tells = mark.tells;
       within = within;
       rest = rest ∙ sym (ap (λ k. drop k X) few ∙ drop_min limit X) ∙ ap (drop n) mark.rest ∙ drop-drop n from (delta (set_of A) peer);
     }
 
 -- it is a mark of the same peer, behind as many events
-pub mark_of : (A : List EventValue) (q peer own : Sources) (f from place : ℕ) → IsMark A q own f place → q ≡ peer → f ≡ from → IsMark A peer own from place
-mark_of A q peer own f from place mark same behind = subst (λ k. IsMark A peer own k place) behind (subst (λ p. IsMark A p own f place) same mark)
+pub mark_of : (A : List EventValue) (q peer own : Sources) (among : Option (BTreeSet ℕ)) (f from place : ℕ) → IsMark A q own among f place → q ≡ peer → f ≡ from → IsMark A peer own among from place
+mark_of A q peer own among f from place mark same behind = subst (λ k. IsMark A peer own among k place) behind (subst (λ p. IsMark A p own among f place) same mark)

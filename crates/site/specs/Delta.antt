@@ -2,8 +2,10 @@
 -- source and number it doesn't hold, and those of the blocks of which it has another digest. One of
 -- version 1 has no digests: where two events of a source have one number, it can't tell them apart.
 pub use Rattle.coverage.specs.Digests.{delta, is_lacking, lacking_of}
-use Rattle.std.specs.Prelude.{◌≡◌, List, Bool, false}
+use Rattle.std.specs.Prelude.{◌≡◌, ℕ, List, Bool, true, false, Some, slice_get}
+use Rattle.std.specs.BTreeSet.{BTreeSet, contains}
 use Rattle.std.specs.Option.{option_map_or}
+use Rattle.std.specs.Ordering.{nat_cmp}
 use Rattle.attributes.specs.Event.{EventValue, source_of}
 use Rattle.attributes.specs.Sequence.{number_of}
 use Rattle.coverage.specs.Digests.{is_wanted}
@@ -16,3 +18,8 @@ is_wanting peer own e = option_map_or (is_wanted peer own (source_of e)) (number
 -- the second summary tells of each event whether the peer lacks it, going by the digests of E
 abbrev pub Tells : List EventValue → Sources → Sources → Type 0
 Tells E peer own = (e : EventValue) → is_lacking E peer e ≡ is_wanting peer own e
+
+-- every place of E at which an event stands that the peer lacks is one of the places
+abbrev pub AreAll : List EventValue → Sources → BTreeSet ℕ → Type 0
+AreAll E peer places = (i : ℕ) (e : EventValue) → slice_get E i ≡ Some e
+    → is_lacking E peer e ≡ true → contains nat_cmp places i ≡ true

@@ -1,5 +1,5 @@
 -- What holds of sites, whatever they took.
-use Rattle.std.specs.Prelude.{◌≡◌, ℕ, List, ◌||◌}
+use Rattle.std.specs.Prelude.{◌≡◌, ℕ, List, ◌||◌, Contains, take}
 use Rattle.attributes.specs.Event.{EventValue}
 use Rattle.coverage.specs.Digests.{Digests}
 use Rattle.coverage.specs.Summary.{Sources}
@@ -39,3 +39,10 @@ pub record IsUnited (A L : List EventValue) : Type 0 where
 -- whatever a site takes, it has what it had and that
 abbrev pub TakingUnites : Type 0
 TakingUnites = (A L : List EventValue) → AreEvents A → AreEvents L → IsUnited A L
+
+-- an event of a set that isn't among its first n isn't among the first n after more was taken
+abbrev pub PagesSkipNone : Type 0
+PagesSkipNone =
+    (A L : List EventValue) (n : ℕ) (e : EventValue) → AreEvents A → AreEvents L
+    → Contains (set_of A) e → ¬ Contains (take n (set_of A)) e
+    → ¬ Contains (take n (set_of (append_new key_cmp A L))) e

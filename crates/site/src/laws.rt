@@ -1,6 +1,6 @@
 //! Laws of sites, each as the contract of a function that does nothing.
 
-ghost use Rattle.site.specs.Law.{SitesAnswerAlike, TakingUnites};
+ghost use Rattle.site.specs.Law.{PagesSkipNone, SitesAnswerAlike, TakingUnites};
 
 use coverage::laws::sets_have_one_summary;
 use inbox::laws::{arrivals_unite, sets_are_members, unions_are_sets};
@@ -23,5 +23,14 @@ pub fn taking_unites()
 {
     sets_are_members();
     unions_are_sets();
+    arrivals_unite();
+}
+
+/// Whoever goes on with pages from a place of key order that was reached skips no event that was
+/// there before, whatever was taken meanwhile.
+pub fn pages_skip_none()
+    ensures { PagesSkipNone }
+{
+    sets_are_members();
     arrivals_unite();
 }

@@ -4,6 +4,7 @@ ghost use Rattle.std.specs.Prelude.{◌≡◌, ◌<◌, [], length, slice_get, S
 ghost use Rattle.inbox.specs.Sets.{AreEvents, set_of};
 ghost use Rattle.site.specs.Arrival.{AreDistinct, AreNumbered};
 
+mod among;
 mod delta;
 mod mark;
 mod merge;
@@ -55,7 +56,7 @@ impl Model for Site {
     ghost invariant = { λ s. HasNumbers s.inbox.arrivals s.summary
         × AreNumbered s.inbox.arrivals × AreDistinct s.inbox.arrivals
         × (version_of s.summary ≡ 1) × IsKeptOf s.inbox.arrivals s.blocks
-        × IfSome s.mark (λ m. IsMark s.inbox.arrivals m.peer m.own m.from m.place) };
+        × IfSome s.mark (λ m. IsMark s.inbox.arrivals m.peer m.own m.among m.from m.place) };
 }
 
 impl Site {

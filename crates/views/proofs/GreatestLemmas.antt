@@ -72,7 +72,7 @@ any_filtered p q (x ∷ xs) h =
       | false ↦ λ h. any_filtered p q xs h
     ] h
 
-each_there : {X : Type 0} (Q : X → Type 0) (xs : List X) → ((y : X) → Contains xs y → Q y) → AllByRecursion Q xs
+pub each_there : {X : Type 0} (Q : X → Type 0) (xs : List X) → ((y : X) → Contains xs y → Q y) → AllByRecursion Q xs
 each_there Q [] q = tt
 each_there Q (x ∷ xs) q = (q x (0, omega arith, refl), each_there Q xs (λ y c. q y (suc c.0, omega (arith, c.1), c.2)))
 

@@ -8,5 +8,7 @@ pub mod OrderLemmas
 pub mod GapLemmas
 pub mod LineLemmas
 pub mod GreatestLemmas
+pub mod TieLemmas
 pub mod AnswerLemmas
 pub mod InOrderLemmas
+pub mod SilentLemmas

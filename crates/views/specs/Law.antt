@@ -1,11 +1,12 @@
 -- What holds of answers.
 use Rattle.std.specs.Prelude.{◌≡◌, ℕ, List, ◌&&◌, true, false, Some, Contains}
 use Rattle.std.specs.List.{list_any}
-use Rattle.std.specs.Ordering.{is_lt}
+use Rattle.std.specs.Ordering.{is_eq, is_lt}
 use Rattle.attributes.specs.Event.{EventValue}
 use Rattle.inbox.specs.KeyOrder.{key_cmp}
 use Rattle.inbox.specs.Ordered.{has}
 use Rattle.inbox.specs.Sets.{AreEvents, set_of}
+use Rattle.inbox.specs.Shown.{shown}
 use Rattle.views.specs.Latest.{is_of, latest_of, number_cmp}
 use Rattle.views.specs.Question.{AreLines, IsAnswer, IsTrueOf, query_of}
 use Rattle.views.specs.declared.query.Query.{Query}
@@ -23,6 +24,20 @@ abbrev pub LatestAreGreatest : Type 0
 LatestAreGreatest =
     (events : List EventValue) (thread : List ℕ × List ℕ) (e : EventValue)
     → latest_of events thread ≡ Some e → IsLatest events thread e
+
+-- a thread of which there is an event has a latest one
+abbrev pub ThreadsHaveLatest : Type 0
+ThreadsHaveLatest =
+    (events : List EventValue) (thread : List ℕ × List ℕ) (e : EventValue)
+    → Contains events e → is_of thread e ≡ true
+    → (l : EventValue) × (latest_of events thread ≡ Some l)
+
+-- of the shown events of a set no two of one thread have one number and one id, so none tie
+abbrev pub NoneTie : Type 0
+NoneTie =
+    (A : List EventValue) (thread : List ℕ × List ℕ) (e f : EventValue) → AreEvents A
+    → Contains (shown (set_of A)) e → Contains (shown (set_of A)) f
+    → is_of thread e ≡ true → is_of thread f ≡ true → is_eq (number_cmp e f) ≡ true → e ≡ f
 
 -- the lines of a true answer to a question answer it
 abbrev pub LinesAreAnswers : Type 0

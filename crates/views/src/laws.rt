@@ -1,7 +1,8 @@
 //! Laws of answers, each as the contract of a function that does nothing.
 
-ghost use Rattle.views.specs.Law.{AnswersAreAlike, AnswersAreOne, LatestAreGreatest, LinesAreAnswers};
+ghost use Rattle.views.specs.Law.{AnswersAreAlike, AnswersAreOne, LatestAreGreatest, LinesAreAnswers, NoneTie, ThreadsHaveLatest};
 
+use attributes::laws::text_tells_events;
 use coverage::laws::{numbers_tell_cover_texts, numbers_tell_summaries};
 use inbox::laws::sets_are_members;
 
@@ -10,6 +11,16 @@ use inbox::laws::sets_are_members;
 pub fn latest_are_greatest()
     ensures { LatestAreGreatest }
 {}
+
+/// A source and subject that an event has has a latest event, and just one: no two shown events of
+/// a set tie by number and id there.
+pub fn latest_are_one()
+    ensures each { ThreadsHaveLatest }
+    ensures one { NoneTie }
+{
+    text_tells_events();
+    sets_are_members();
+}
 
 /// The lines of a true answer to a question answer it; a question has one text over a set of
 /// events; and where two lists have the same events, in whatever order and repetition, it has one

@@ -1,6 +1,6 @@
 //! Any question, answered and printed.
 
-ghost use Rattle.std.specs.Prelude.{◌≡◌, IfOk};
+ghost use Rattle.std.specs.Prelude.{◌≡◌, ◌≢◌, ◌↔◌, [], IfOk, IsTrue, OnErr};
 ghost use Rattle.inbox.specs.Kept.{events};
 ghost use Rattle.views.specs.Question.{AreLines, IsAnswer, IsTrueOf, query_of};
 
@@ -11,10 +11,29 @@ use crate::line::{
 };
 use crate::number::{find_gaps, sum_numbers};
 use crate::query::{Answer, Query};
+use crate::row::{Days, Gaps, Kinds};
 use crate::view::{count_days, count_kinds, find_latest, latest_events, shown_events};
-use attributes::Text;
-use inbox::Inbox;
+use attributes::{Batch, Text};
+use coverage::Summary;
+use inbox::{Conflicts, Inbox};
 use std::alloc::{AllocError, Global};
+
+/// The answer about no events. It takes no memory.
+fn empty_answer(alloc: Global, query: Query) -> Answer
+    ensures query { query_of result ≡ query }
+    ensures answer { IsTrueOf [] result }
+    ensures lines { IsAnswer query [] [] → AreLines result [] }
+{
+    match query {
+        Query::Cover => Answer::Cover(Summary::empty(alloc)),
+        Query::Shown => Answer::Shown(Batch::empty(alloc)),
+        Query::Conflicts => Answer::Conflicts(Conflicts::empty(alloc)),
+        Query::Latest => Answer::Latest(Batch::empty(alloc)),
+        Query::Kinds => Answer::Kinds(Kinds::empty(alloc)),
+        Query::Days => Answer::Days(Days::empty(alloc)),
+        Query::Gaps => Answer::Gaps(Gaps::empty(alloc)),
+    }
+}
 
 /// The answer to a question about a set of events, from scratch. Time in proportion to the events,
 /// times a logarithm, and to what is copied into the answer; memory in proportion to the events,
@@ -22,7 +41,13 @@ use std::alloc::{AllocError, Global};
 pub fn answer(alloc: Global, inbox: &Inbox, query: Query) -> Result<Answer, AllocError>
     ensures query { IfOk result (λ a. query_of a ≡ query) }
     ensures answer { IfOk result (IsTrueOf (events inbox.now)) }
+
+    // Without events no memory is wanted.
+    ensures err { OnErr result (events inbox.now ≢ []) }
 {
+    if inbox.len() == 0 {
+        return Ok(empty_answer(alloc, query));
+    }
     match query {
         Query::Cover => Ok(Answer::Cover(sum_numbers(alloc, inbox)?)),
         Query::Shown => Ok(Answer::Shown(inbox.shown()?)),
@@ -34,11 +59,32 @@ pub fn answer(alloc: Global, inbox: &Inbox, query: Query) -> Result<Answer, Allo
     }
 }
 
+/// Whether an answer has no lines.
+fn is_silent(answer: &Answer) -> bool
+    ensures { IsTrue result ↔ AreLines answer.now [] }
+{
+    match answer {
+        Answer::Cover(_) => false,
+        Answer::Shown(events) => events.is_empty(),
+        Answer::Conflicts(conflicts) => conflicts.is_empty(),
+        Answer::Latest(events) => events.is_empty(),
+        Answer::Kinds(kinds) => kinds.is_empty(),
+        Answer::Days(days) => days.is_empty(),
+        Answer::Gaps(gaps) => gaps.is_empty(),
+    }
+}
+
 /// The answer in lines that end with LF; an answer without lines is the empty text. Time and memory
 /// in proportion to the text. `AllocError` where memory is refused.
 pub fn print(alloc: Global, answer: &Answer) -> Result<Text, AllocError>
-    ensures { IfOk result (AreLines answer.now) }
+    ensures lines { IfOk result (AreLines answer.now) }
+
+    // Memory is wanted for lines alone.
+    ensures err { OnErr result (¬ AreLines answer.now []) }
 {
+    if is_silent(answer) {
+        return Ok(Text::from_string(String::new(alloc)));
+    }
     match answer {
         Answer::Cover(summary) => print_cover(alloc, summary),
         Answer::Shown(events) => print_events(alloc, events),
@@ -54,10 +100,16 @@ pub fn print(alloc: Global, answer: &Answer) -> Result<Text, AllocError>
 /// events are printed where they stand, without a copy of each. `AllocError` where memory
 /// is refused.
 pub fn answer_lines(alloc: Global, inbox: &Inbox, query: Query) -> Result<Text, AllocError>
-    ensures { IfOk result (IsAnswer query (events inbox.now)) }
+    ensures lines { IfOk result (IsAnswer query (events inbox.now)) }
+
+    // Without events memory is wanted for lines alone.
+    ensures err { OnErr result (IsAnswer query (events inbox.now) [] → events inbox.now ≢ []) }
 {
-    // A law that the clause rests on; the call does nothing.
+    // A law that the clauses rest on; the call does nothing.
     answers_are_alike();
+    if inbox.len() == 0 {
+        return print(alloc, &empty_answer(alloc, query));
+    }
     match query {
         Query::Shown => {
             let shown = shown_events(alloc, inbox)?;

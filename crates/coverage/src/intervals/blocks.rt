@@ -1,8 +1,11 @@
 //! The blocks that the numbers of a set stand in.
-ghost use Rattle.std.specs.Prelude.{◌≡◌, ◌+◌, ◌↔◌, ℕ, IsTrue, IfOk};
+ghost use Rattle.std.specs.Prelude.{◌≡◌, ◌≤◌, ◌<◌, ◌+◌, ◌↔◌, ℕ, true, false, IsTrue, IfOk, MatchOption};
+ghost use Rattle.block_digests.specs.Block.{block_of};
 ghost use Rattle.coverage.specs.Intervals.{IsCanonical, holds};
+ghost use Rattle.coverage.specs.steps.Spans.{IsRunFrom, NoneFrom};
 ghost use Rattle.coverage.specs.steps.Fits.{HoldsIn};
 
+use super::map::last_up_to;
 use super::merge::append_interval;
 use super::{Interval, Intervals};
 use std::alloc::{AllocError, Global};
@@ -33,5 +36,51 @@ impl Intervals {
         let own = self.pairs()?;
         let found = block_intervals(self.alloc, &own)?;
         Intervals::of_pairs(self.alloc, &found)
+    }
+
+    /// Whether every number from the first to the last is held.
+    fn holds_span(&self, first: u64, last: u64) -> bool
+        ensures { IsTrue result
+            → (n : ℕ) → first ≤ n → n ≤ last → holds self.now n ≡ true }
+    {
+        match last_up_to(&self.starts, first) {
+            Some((_, end)) => last <= end,
+            None => false,
+        }
+    }
+
+    /// The first numbers from a number on that are held in a row, where there are any.
+    fn run_from(&self, from: u64) -> Option<Interval>
+        ensures { MatchOption result (NoneFrom self.now from) (IsRunFrom self.now from) }
+    {
+        match last_up_to(&self.starts, from) {
+            Some((_, last)) if from <= last => Some((from, last)),
+            _ => self.next_span(from),
+        }
+    }
+
+    /// Whether every number of a block that the other set holds is held; where not, the answer
+    /// may be false. Time goes by the other's intervals in the block, times a logarithm.
+    pub(crate) fn covers_block(&self, other: &Intervals, k: u64) -> bool
+        requires { k ≤ 9007199254740991 }
+        ensures { IsTrue result → (n : ℕ) → block_of n ≡ k
+            → holds other.now n ≡ true → holds self.now n ≡ true }
+    {
+        let end = 1024 * k + 1024;
+        let mut from = 1024 * k;
+        while from < end {
+            let Some((first, last)) = other.run_from(from) else {
+                return true;
+            };
+            if first >= end {
+                return true;
+            }
+            let last = last.min(end - 1);
+            if !self.holds_span(first, last) {
+                return false;
+            }
+            from = last + 1;
+        }
+        true
     }
 }

@@ -1,5 +1,5 @@
 //! Summaries with the digests of a set's blocks.
-ghost use Rattle.std.specs.Prelude.{◌≡◌, ℕ, List, IfOk};
+ghost use Rattle.std.specs.Prelude.{◌≡◌, ℕ, List, [], IfOk};
 ghost use Rattle.std.specs.List.Sorted.{IsStrictlySortedBy};
 ghost use Rattle.inbox.specs.KeyOrder.{key_cmp};
 ghost use Rattle.inbox.specs.Sets.{AreEvents, set_of};
@@ -10,6 +10,7 @@ ghost use Rattle.coverage.specs.Summary.{holds_at};
 
 use super::Summary;
 use crate::digests::SourceDigests;
+use crate::numbers::Numbers;
 use attributes::Batch;
 use attributes::laws::text_tells_events;
 use block_digests::{Arrivals, Blocks};
@@ -17,6 +18,16 @@ use inbox::laws::sets_are_members;
 use std::alloc::{AllocError, Global};
 
 impl Summary {
+    /// The summary of version 2 of no events. It takes no memory.
+    pub fn empty_digested(alloc: Global) -> Summary
+        ensures { Digests [] result }
+    {
+        Summary {
+            numbers: Numbers::empty(alloc),
+            digests: Some(SourceDigests::empty(alloc)),
+        }
+    }
+
     /// The summary of version 2 of events that came, of which this one has the numbers; the blocks
     /// are those of the events. Digests that are stale are made, and not kept: `mend` the blocks
     /// before. Time and memory linear in the sources, the intervals and the blocks, but for a

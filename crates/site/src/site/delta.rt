@@ -20,7 +20,7 @@ pub struct DeltaPart {
 }
 
 /// Whether a summary wants an event of which the own summary tells.
-fn is_wanting(peer: &Summary, own: &Summary, event: &Sequenced) -> bool
+pub(super) fn is_wanting(peer: &Summary, own: &Summary, event: &Sequenced) -> bool
     ensures { result ≡ is_wanting peer.now own.now event.now }
 {
     peer.wants(own, event.event().source(), event.number())
@@ -33,6 +33,9 @@ impl Site {
     pub fn summary_for(&self, peer: &Summary) -> Result<Summary, AllocError>
         ensures tells { IfOk result (Tells (set_of self.now) peer.now) }
         ensures err { OnErr result (version_of peer.now ≡ 2) }
+
+        // A site without events wants no memory.
+        ensures err_of_events { OnErr result (set_of self.now ≢ []) }
     {
         // A law that the clause rests on; the call does nothing.
         summaries_stand_for_sets();
@@ -50,6 +53,9 @@ impl Site {
         ensures rest { lacking_of (set_of self.now) peer.now (drop result (set_of self.now))
             ≡ drop from (delta (set_of self.now) peer.now) }
     {
+        if from == 0 {
+            return 0;
+        }
         let mut left = from;
         let len = self.len();
         for i in 0..len {

@@ -11,13 +11,16 @@ use super::Site;
 use attributes::Batch;
 use coverage::Summary;
 use std::alloc::AllocError;
+use std::collections::BTreeSet;
 
 /// Where the pages of a peer go on: behind so many events that it lacks, which are those up to a
-/// place of key order. The own summary tells which they are.
+/// place of key order. The own summary tells which they are; where there are places, they stand
+/// there.
 #[derive(Drop)]
 pub(super) struct Mark {
     pub(super) peer: Summary,
     pub(super) own: Summary,
+    pub(super) among: Option<BTreeSet<u64>>,
     pub(super) from: u64,
     pub(super) place: u64,
 }
@@ -28,16 +31,18 @@ impl Site {
         ensures same { self.new ≡ self.old }
         ensures from { IfOk result (λ m. m.from ≡ from) }
         ensures peer { IfOk result (λ m. m.peer ≡ peer.now) }
-        ensures mark { IfOk result (λ m. IsMark self.new m.peer m.own m.from m.place) }
+        ensures mark { IfOk result (λ m. IsMark self.new m.peer m.own m.among m.from m.place) }
     {
         if peer.version() == 2 {
             self.mend()?;
         }
         let own = self.summary_for(peer)?;
+        let among = self.places_for(peer, &own);
         let place = self.place_behind(peer, &own, from);
         Ok(Mark {
             peer: peer.copy()?,
             own,
+            among,
             from,
             place,
         })
@@ -49,7 +54,7 @@ impl Site {
         ensures same { self.new ≡ self.old }
         ensures from { IfSome result (λ m. m.from ≡ from) }
         ensures peer { IfSome result (λ m. m.peer ≡ peer.now) }
-        ensures mark { IfSome result (λ m. IsMark self.new m.peer m.own m.from m.place) }
+        ensures mark { IfSome result (λ m. IsMark self.new m.peer m.own m.among m.from m.place) }
     {
         if let Some(mark) = self.mark.take() {
             if mark.from == from && mark.peer.same(peer) {
@@ -87,10 +92,11 @@ impl Site {
         };
         // The count bounds the sum below.
         let _len = self.len();
-        let part = self.delta_from(peer, &mark.own, mark.place, limit)?;
+        let part = self.delta_part(peer, &mark.own, &mark.among, mark.place, limit)?;
         self.mark = Some(Mark {
             peer: mark.peer,
             own: mark.own,
+            among: mark.among,
             from: from + part.events.len(),
             place: part.next,
         });

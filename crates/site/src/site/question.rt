@@ -1,6 +1,6 @@
 //! What a site is asked.
 
-ghost use Rattle.std.specs.Prelude.{◌≡◌, IfOk};
+ghost use Rattle.std.specs.Prelude.{◌≡◌, ◌≢◌, [], IfOk, OnErr};
 ghost use Rattle.coverage.specs.Digests.{Digests};
 ghost use Rattle.inbox.specs.Sets.{set_of};
 ghost use Rattle.views.specs.Number.{Sums};
@@ -22,6 +22,9 @@ impl Site {
     pub fn summary(&mut self) -> Result<Summary, AllocError>
         ensures same { self.new ≡ self.old }
         ensures digests { IfOk result (Digests (set_of self.new)) }
+
+        // A site without events wants no memory.
+        ensures err { OnErr result (set_of self.old ≢ []) }
     {
         self.mend()?;
         self.digested()
@@ -29,8 +32,12 @@ impl Site {
 
     /// Makes the digests of the blocks to which events came since theirs were made.
     pub(super) fn mend(&mut self) -> Result<(), AllocError>
-        ensures { self.new ≡ self.old }
+        ensures same { self.new ≡ self.old }
+        ensures err { OnErr result (set_of self.old ≢ []) }
     {
+        if self.inbox.len() == 0 {
+            return Ok(());
+        }
         // Only events are kept.
         let _arrived = self.inbox.arrived();
         self.blocks.mend(&self.inbox)
@@ -38,8 +45,12 @@ impl Site {
 
     /// `summary`, which keeps no digest that it makes.
     pub(super) fn digested(&self) -> Result<Summary, AllocError>
-        ensures { IfOk result (Digests (set_of self.now)) }
+        ensures digests { IfOk result (Digests (set_of self.now)) }
+        ensures err { OnErr result (set_of self.now ≢ []) }
     {
+        if self.len() == 0 {
+            return Ok(Summary::empty_digested(self.alloc));
+        }
         // What the set has and what came are the same events.
         let _arrived = self.inbox.arrived();
         sets_are_members();
@@ -49,8 +60,12 @@ impl Site {
     /// Which numbers the events of each source have, version 1: a copy of what is kept as events
     /// come. Time and memory in proportion to the sources and their intervals.
     fn numbers(&self) -> Result<Summary, AllocError>
-        ensures { IfOk result (Sums (set_of self.now)) }
+        ensures sums { IfOk result (Sums (set_of self.now)) }
+        ensures err { OnErr result (set_of self.now ≢ []) }
     {
+        if self.len() == 0 {
+            return Ok(Summary::empty(self.alloc));
+        }
         // What the set has and what came are the same events.
         let _arrived = self.inbox.arrived();
         sets_are_members();
@@ -62,6 +77,9 @@ impl Site {
     pub fn query(&self, query: Query) -> Result<Answer, AllocError>
         ensures query { IfOk result (λ a. query_of a ≡ query) }
         ensures answer { IfOk result (IsTrueOf (set_of self.now)) }
+
+        // A site without events wants no memory.
+        ensures err { OnErr result (set_of self.now ≢ []) }
     {
         match query {
             Query::Cover => Ok(Answer::Cover(self.numbers()?)),
@@ -72,10 +90,17 @@ impl Site {
     /// The lines of the answer to a question about the set: what `views::print` makes of `query`,
     /// but the shown events are printed where they stand, without a copy of each.
     pub fn lines(&self, query: Query) -> Result<Text, AllocError>
-        ensures { IfOk result (IsAnswer query (set_of self.now)) }
+        ensures lines { IfOk result (IsAnswer query (set_of self.now)) }
+
+        // Where there are no events, memory is wanted for a text alone that isn't empty.
+        ensures err { OnErr result (IsAnswer query (set_of self.now) []
+            → set_of self.now ≢ []) }
     {
-        // A law that the clause rests on; the call does nothing.
+        // A law that the clauses rest on; the call does nothing.
         answers_are_alike();
+        if self.len() == 0 {
+            return answer_lines(self.alloc, &self.inbox, query);
+        }
         match query {
             Query::Shown => answer_lines(self.alloc, &self.inbox, query),
             _ => print(self.alloc, &self.query(query)?),

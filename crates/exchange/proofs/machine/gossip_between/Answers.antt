@@ -1,8 +1,9 @@
-use Rattle.std.proofs.Common.{◌≡◌, ◌<◌, length, take, ◌∙◌, subst, arith}
+use Rattle.std.proofs.Common.{◌≢◌, ◌<◌, [], length, take, ◌∙◌, subst}
 use Rattle.inbox.specs.KeyOrder.{key_cmp}
 use Rattle.inbox.specs.Ordered.{append_new}
 use Rattle.inbox.specs.Sets.{set_of, union}
 use Rattle.exchange.specs.Lacking.{lacking}
+use Rattle.exchange.specs.Schedule.{IsCutShort}
 use Rattle.exchange.specs.declared.world.Hosted.{Hosted}
 use Rattle.exchange.specs.steps.Given.{site_at}
 use Rattle.exchange.proofs.StandingLemmas.{given_twice, other_site, own_site}
@@ -41,8 +42,8 @@ returns-in-Err-clause-err c =
     (c.in-Err.ensures.short ∙ (λ k. append_new key_cmp (own k) (take n (lacking (set_of (other k)) (set_of ((own ∙ named) k))))))
     (c.in-Err.ensures.short_set ∙ (λ k. union (set_of (own k)) (take n (lacking (set_of (other k)) (set_of ((own ∙ named) k))))))
 
-pub returns-in-Err-clause-taken : goal.returns-in-Err-clause-taken
-returns-in-Err-clause-taken c =
+pub returns-in-Err-clause-short : goal.returns-in-Err-clause-short
+returns-in-Err-clause-short c =
     let hosts = c.args.hosts.now.items in
     let from = c.args.from in
     let to = c.args.to in
@@ -53,5 +54,15 @@ returns-in-Err-clause-taken c =
     let own = c.replace-site.ensures.value in
     let named = own_site hosts to h to_in c.index_mut.ensures.value in
     let other = other_site hosts from to c.index.result.now out from_in c.requires.others c.index.ensures in
-    let same : length (lacking (set_of c.index.result.now.site) (set_of c.replace-site.result)) ≡ length (lacking (set_of (site_at hosts from)) (set_of (site_at hosts to))) = λ k. length (lacking (set_of (other k)) (set_of ((own ∙ named) k))) in
-    omega (arith, c.in-Err.ensures.short_taken, same)
+    subst (IsCutShort c.in-Err.short.taken) (λ k. lacking (set_of (other k)) (set_of ((own ∙ named) k))) c.in-Err.ensures.short_taken
+
+pub returns-in-Err-clause-giver : goal.returns-in-Err-clause-giver
+returns-in-Err-clause-giver c =
+    let hosts = c.args.hosts.now.items in
+    let from = c.args.from in
+    let to = c.args.to in
+    let h = c.index_mut.result.now in
+    let from_in : from < length hosts = subst (λ n. from < n) c.args.hosts.now.ok.0 c.requires.giver in
+    let out : Hosted = record { site = c.replace-site.new.dest; kept = h.kept } in
+    let other = other_site hosts from to c.index.result.now out from_in c.requires.others c.index.ensures in
+    subst (λ A. set_of A ≢ []) other c.in-Err.ensures.short_of_events

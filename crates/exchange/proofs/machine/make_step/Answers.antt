@@ -1,13 +1,13 @@
-use Rattle.std.proofs.Common.{◌≡◌, ◌<◌, ◌≤◌, List, length, set, take, vec_len, sym, ap, ap₂, ◌∙◌, subst}
+use Rattle.std.proofs.Common.{◌≡◌, ◌≢◌, ◌<◌, List, [], length, set, take, vec_len, refl, sym, ap, ap₂, ◌∙◌, subst, arith, inr}
 use Rattle.std.proofs.lemmas.Result.{IfErr-weaker, on_ok_weaker}
 use Rattle.inbox.specs.Sets.{set_of, union}
 use Rattle.exchange.specs.Lacking.{lacking}
 use Rattle.exchange.specs.Place.{Place, place_at}
-use Rattle.exchange.specs.Schedule.{FitsIn, after, after_part, given_by}
+use Rattle.exchange.specs.Schedule.{FitsIn, IsCutShort, IsShortOfNext, StopsAt, after, after_part}
 use Rattle.exchange.specs.Standing.{Stands}
 use Rattle.exchange.specs.steps.Given.{GivesTo, site_at}
 use Rattle.exchange.proofs.SelfLemmas.{lacking-self, union-self}
-use Rattle.exchange.proofs.StandingLemmas.{flush_at, gives_stands, restart_at, same_stands, site_taken}
+use Rattle.exchange.proofs.StandingLemmas.{flush_at, gives_stands, restart_at, same_stands, site_taken, stands_at, stops_both}
 use Rattle.exchange.proofs.machine.make_step.Goals as goal
 
 pub returns-in-Ok-clause-ok : goal.returns-in-Ok-clause-ok
@@ -16,7 +16,7 @@ returns-in-Ok-clause-ok c =
     let new = c.deliver.new.hosts.items in
     let to = c.in-Deliver.site in
     on_ok_weaker c.deliver.result (λ g w s. subst (λ st. Stands new (after st w)) (sym c.in-Deliver.is)
-    (gives_stands c.sets_are_members.ensures old new w to c.in-Deliver.batch (subst (GivesTo old new to) c.in-Ok.ensures g) s))
+    (gives_stands c.sets_are_members.ensures old new w to c.in-Deliver.batch (subst (GivesTo old new to) c.in-Ok.ensures.ok g) s))
     c.deliver.ensures.ok
 
 pub returns-in-Ok-clause-err : goal.returns-in-Ok-clause-err
@@ -26,7 +26,7 @@ returns-in-Ok-clause-err c =
     let to = c.in-Deliver.site in
     IfErr-weaker c.deliver.result (λ part. GivesTo old new to (take part c.in-Ok.copy)) (λ part. (w : List Place) → Stands old w → Stands new (after_part part c.args.step.now w))
     (λ part g w s. subst (λ st. Stands new (after_part part st w)) (sym c.in-Deliver.is)
-    (gives_stands c.sets_are_members.ensures old new w to (take part c.in-Deliver.batch) (subst (λ b. GivesTo old new to (take part b)) c.in-Ok.ensures g) s))
+    (gives_stands c.sets_are_members.ensures old new w to (take part c.in-Deliver.batch) (subst (λ b. GivesTo old new to (take part b)) c.in-Ok.ensures.ok g) s))
     c.deliver.ensures.err
 
 pub returns-then-from-to-clause-ok : goal.returns-then-from-to-clause-ok
@@ -114,31 +114,50 @@ returns-in-Ok-restarted-clause-ok c w s =
     subst (λ st. Stands (set old i (record { site = c.in-Ok-restarted.again; kept = h.kept })) (after st w)) (sym c.in-Restart.is)
     (restart_at c.sets_are_members.ensures old w i h c.in-Ok-restarted.again i_in c.index_mut-host-in-Restart.ensures.value c.in-Ok-restarted.ensures.arrivals c.in-Ok-restarted.ensures.set s)
 
-pub returns-in-Ok-clause-taken : goal.returns-in-Ok-clause-taken
-returns-in-Ok-clause-taken c =
+pub returns-in-Ok-clause-stops : goal.returns-in-Ok-clause-stops
+returns-in-Ok-clause-stops c =
     let old = c.args.hosts.now.items in
-    IfErr-weaker c.deliver.result (λ part. part ≤ length c.in-Ok.copy) (λ part. (w : List Place) → Stands old w → part ≤ length (given_by c.args.step.now w))
-    (λ part few w s. subst (λ st. part ≤ length (given_by st w)) (sym c.in-Deliver.is) (subst (λ b. part ≤ length b) c.in-Ok.ensures few))
-    c.deliver.ensures.taken
+    let to = c.in-Deliver.site in
+    let batch = c.in-Deliver.batch in
+    let to_in : to < length old = subst (λ n. to < n) c.args.hosts.now.ok.0 (subst (FitsIn (vec_len c.args.hosts.now)) c.in-Deliver.is c.requires) in
+    IfErr-weaker c.deliver.result (λ part. IsShortOfNext (set_of (site_at old to)) part c.in-Ok.copy) (λ part. (w : List Place) → Stands old w → StopsAt part c.args.step.now w)
+    (λ part short w s. subst (λ st. StopsAt part st w) (sym c.in-Deliver.is)
+    (let own = subst (λ b. IsShortOfNext (set_of (site_at old to)) part b) c.in-Ok.ensures.ok short in
+    (own.0, inr (subst (λ E. IsShortOfNext E part batch) (site_taken old w to s to_in) own))))
+    c.deliver.ensures.short
 
-pub returns-else-from-to-clause-taken : goal.returns-else-from-to-clause-taken
-returns-else-from-to-clause-taken c =
+pub returns-else-from-to-clause-stops : goal.returns-else-from-to-clause-stops
+returns-else-from-to-clause-stops c =
     let old = c.args.hosts.now.items in
     let from = c.in-Gossip.from in
     let to = c.in-Gossip.to in
     let fits = subst (FitsIn (vec_len c.args.hosts.now)) c.in-Gossip.is c.requires in
     let from_in : from < length old = subst (λ n. from < n) c.args.hosts.now.ok.0 fits.0 in
     let to_in : to < length old = subst (λ n. to < n) c.args.hosts.now.ok.0 fits.1 in
-    IfErr-weaker c.gossip_between.result (λ part. part ≤ length (lacking (set_of (site_at old from)) (set_of (site_at old to)))) (λ part. (w : List Place) → Stands old w → part ≤ length (given_by c.args.step.now w))
-    (λ part few w s. subst (λ st. part ≤ length (given_by st w)) (sym c.in-Gossip.is) (subst (λ L. part ≤ length L) (ap₂ lacking (site_taken old w from s from_in) (site_taken old w to s to_in)) few))
-    c.gossip_between.ensures.taken
+    stops_both c.gossip_between.result (set_of (site_at old from) ≢ []) (λ part. IsCutShort part (lacking (set_of (site_at old from)) (set_of (site_at old to)))) (λ part. (w : List Place) → Stands old w → StopsAt part c.args.step.now w)
+    (λ part some short w s. subst (λ st. StopsAt part st w) (sym c.in-Gossip.is)
+    (c.if-from-to.false, subst (λ E. E ≢ []) (site_taken old w from s from_in) some, subst (IsCutShort part) (ap₂ lacking (site_taken old w from s from_in) (site_taken old w to s to_in)) short))
+    c.gossip_between.ensures.giver c.gossip_between.ensures.short
 
-pub returns-else-from-to-2-clause-taken : goal.returns-else-from-to-2-clause-taken
-returns-else-from-to-2-clause-taken c =
+pub returns-else-from-to-2-clause-stops : goal.returns-else-from-to-2-clause-stops
+returns-else-from-to-2-clause-stops c =
     let old = c.args.hosts.now.items in
     let from = c.in-Scrub.from in
+    let to = c.in-Scrub.to in
     let fits = subst (FitsIn (vec_len c.args.hosts.now)) c.in-Scrub.is c.requires in
     let from_in : from < length old = subst (λ n. from < n) c.args.hosts.now.ok.0 fits.0 in
-    IfErr-weaker c.scrub_between.result (λ part. part ≤ length (set_of (site_at old from))) (λ part. (w : List Place) → Stands old w → part ≤ length (given_by c.args.step.now w))
-    (λ part few w s. subst (λ st. part ≤ length (given_by st w)) (sym c.in-Scrub.is) (subst (λ L. part ≤ length L) (site_taken old w from s from_in) few))
-    c.scrub_between.ensures.taken
+    let to_in : to < length old = subst (λ n. to < n) c.args.hosts.now.ok.0 fits.1 in
+    IfErr-weaker c.scrub_between.result (λ part. IsShortOfNext (set_of (site_at old to)) part (set_of (site_at old from))) (λ part. (w : List Place) → Stands old w → StopsAt part c.args.step.now w)
+    (λ part short w s. subst (λ st. StopsAt part st w) (sym c.in-Scrub.is)
+    (c.if-from-to-2.false, subst (λ E. IsShortOfNext E part (place_at w from).taken) (site_taken old w to s to_in) (subst (IsShortOfNext (set_of (site_at old to)) part) (site_taken old w from s from_in) short)))
+    c.scrub_between.ensures.short
+
+pub returns-in_default-restarted-clause-stops : goal.returns-in_default-restarted-clause-stops
+returns-in_default-restarted-clause-stops c w s =
+    let old = c.args.hosts.now.items in
+    let i = c.in-Restart.site in
+    let h = c.index_mut-host-in-Restart.result.now in
+    let i_in : i < length old = subst (λ n. i < n) c.args.hosts.now.ok.0 (subst (FitsIn (vec_len c.args.hosts.now)) c.in-Restart.is c.requires) in
+    let one = stands_at old w i h s i_in c.index_mut-host-in-Restart.ensures.value in
+    subst (λ st. StopsAt 0 st w) (sym c.in-Restart.is)
+    (refl, λ none. absurd (omega (arith, c.in_default-restarted.ensures.err, one.mark, ap length none)))

@@ -1,10 +1,11 @@
-use Rattle.std.proofs.Common.{◌≡◌, ◌<◌, length, take, ◌∙◌, subst, arith}
+use Rattle.std.proofs.Common.{◌<◌, length, take, ap, ◌∙◌, subst}
 use Rattle.inbox.specs.KeyOrder.{key_cmp}
 use Rattle.inbox.specs.Ordered.{append_new}
 use Rattle.inbox.specs.Sets.{set_of, union}
 use Rattle.exchange.specs.declared.world.Hosted.{Hosted}
+use Rattle.exchange.specs.Schedule.{IsShortOfNext}
 use Rattle.exchange.specs.steps.Given.{site_at}
-use Rattle.exchange.proofs.StandingLemmas.{given_twice, other_site, own_site}
+use Rattle.exchange.proofs.StandingLemmas.{given_twice, other_site, own_site, short_of_next}
 use Rattle.exchange.proofs.machine.scrub_between.Goals as goal
 
 pub returns-in-Ok-clause-ok : goal.returns-in-Ok-clause-ok
@@ -40,8 +41,8 @@ returns-in-Err-clause-err c =
     (c.in-Err.ensures.short ∙ (λ k. append_new key_cmp (own k) (take n (set_of (other k)))))
     (c.in-Err.ensures.short_set ∙ (λ k. union (set_of (own k)) (take n (set_of (other k)))))
 
-pub returns-in-Err-clause-taken : goal.returns-in-Err-clause-taken
-returns-in-Err-clause-taken c =
+pub returns-in-Err-clause-short : goal.returns-in-Err-clause-short
+returns-in-Err-clause-short c =
     let hosts = c.args.hosts.now.items in
     let from = c.args.from in
     let to = c.args.to in
@@ -52,5 +53,6 @@ returns-in-Err-clause-taken c =
     let own = c.replace-site.ensures.value in
     let named = own_site hosts to h to_in c.index_mut.ensures.value in
     let other = other_site hosts from to c.index.result.now out from_in c.requires.others c.index.ensures in
-    let same : length (set_of c.index.result.now.site) ≡ length (set_of (site_at hosts from)) = λ k. length (set_of (other k)) in
-    omega (arith, c.in-Err.ensures.short_taken, same)
+    let n = c.in-Err.short.taken in
+    let short = short_of_next c.sets_are_members.ensures c.scrub-done.new.to (set_of c.replace-site.result) (set_of c.index.result.now.site) n c.in-Err.ensures.short_taken c.in-Err.ensures.short_set c.in-Err.ensures.short_of_new in
+    subst (λ F. IsShortOfNext (set_of (site_at hosts to)) n F) (ap set_of other) (subst (λ E. IsShortOfNext E n (set_of c.index.result.now.site)) (ap set_of (own ∙ named)) short)

@@ -6,8 +6,8 @@ use Rattle.views.specs.Number.{Sums, has_number}
 use Rattle.site.proofs.SumLemmas.{has_number-set_of}
 use Rattle.site.proofs.site.Site.numbers.Goals as goal
 
-pub returns : goal.returns
-returns c =
+pub returns-clause-sums : goal.returns-clause-sums
+returns-clause-sums c =
     let A = c.args.self.now in
     let are : AreEvents A = subst AreEvents c.self.view_is c.arrived-arrived.ensures.events in
     IfOk-weaker c.copy.result (λ s. s ≡ c.self.inside.summary) (Sums (set_of A)) (λ s same. record {
