@@ -1,19 +1,18 @@
 -- Lists of relays, routes and ends, and the lanes that they make.
-use Rattle.std.proofs.Common.{◌≡◌, ◌⊎◌, ◌+◌, ◌<◌, ◌≤◌, ℕ, zero, suc, List, [], ◌∷◌, ◌++◌, length, map, take, get_or, slice_get, Some, None, Option, All, append_assoc, append-nil, refl, sym, ap, subst, ◌∙◌, arith}
+use Rattle.std.proofs.Common.{◌≡◌, ◌⊎◌, ◌+◌, ◌<◌, ◌≤◌, inl, inr, ℕ, zero, suc, List, [], ◌∷◌, ◌++◌, length, map, take, get_or, slice_get, Some, None, Option, All, append_assoc, append-nil, refl, sym, ap, subst, ◌∙◌, arith}
 use Rattle.std.specs.Prelude.{⊤, MatchOption}
 use Rattle.std.specs.List.{AllByRecursion}
 use Rattle.std.proofs.lemmas.List.{take_more, take_all, map-append, length-append}
 use Rattle.std.proofs.lemmas.List.Elements.{recursion_from_All, All-from_recursion, All-append}
 use Rattle.attributes.specs.Event.{EventValue}
 use Rattle.relay.specs.Relay.{Marked}
-use Rattle.relay.specs.Fan.{IsAtEnd, HasCause, Leaves, Delivers, AtEach}
-use Rattle.relay.specs.steps.Lane.{Moves, Sends, HasSent, Each, end_after, end_of}
+use Rattle.relay.specs.Fan.{IsAtEnd, HasCause, Closes, Hands, Leaves, Delivers, AtEach}
+use Rattle.relay.specs.steps.Lane.{Moves, Sends, HasSent, Each, Whatever, AreBetween, end_after, end_of}
 use Rattle.relay.specs.declared.fault.RelayFault.{RelayFault}
-use Rattle.relay.specs.declared.fault.RelayFault.TheVariants.{OutOfMemory, Store}
+use Rattle.relay.specs.declared.fault.RelayFault.TheVariants.{OutOfMemory, RouteFailed, Stranger, Store, NoThread, GateShut}
 use Rattle.relay.specs.declared.fan.lane.Lane.{Lane}
 use Rattle.relay.specs.declared.fan.End.{End}
 use Rattle.relay.specs.declared.fan.End.TheVariants.{Done, Failed}
-use Rattle.relay.proofs.LaneLemmas.{some_cause}
 use Rattle.relay.proofs.RoundLemmas.{each_from}
 
 nil_of : {A : Type 0} (l : List A) → length l ≡ 0 → l ≡ []
@@ -106,44 +105,63 @@ each_to D F P Q one [] (y ∷ ys) h f = absurd h
 each_to D F P Q one (x ∷ xs) [] h f = absurd h
 each_to D F P Q one (x ∷ xs) (y ∷ ys) h f = (one x y h.0 (λ d. (f d).0), each_to D F P Q one xs ys h.1 (λ d. (f d).1))
 
-leaves : {R : Type 0} (accepted : R → List EventValue) (has_failed : R → R → Type 0) (end : End) → ((f : RelayFault) → end ≡ Failed f → (f ≡ OutOfMemory) ⊎ (f ≡ Store)) → (o n : Lane R) → (o.fault ≡ None) × Moves accepted has_failed o n → Leaves accepted has_failed o.relay n.relay o.route n.route (end_of end n)
-leaves {R} accepted has_failed end why o n h = record {
+-- what the end of a lane did to its route, where this is the end of those that didn't stop
+closes : {R : Type 0} (has_failed : R → R → Type 0) (before route : R) (end : End) → ((f : RelayFault) → end ≡ Failed f → (f ≡ OutOfMemory) ⊎ (f ≡ Store)) → (o : Option RelayFault) → MatchOption o (route ≡ before) (HasCause has_failed before route) → Closes has_failed before route (end_after o end)
+closes has_failed before route end why (Some f) h = h
+closes has_failed before route Done why None h = h
+closes has_failed before route (Failed OutOfMemory) why None h = h
+closes has_failed before route (Failed Store) why None h = h
+closes has_failed before route (Failed NoThread) why None h = h
+closes has_failed before route (Failed GateShut) why None h = h
+closes has_failed before route (Failed RouteFailed) why None h = elim (why RouteFailed refl) [ inl is ↦ absurd (cc) | inr is ↦ absurd (cc) ]
+closes has_failed before route (Failed Stranger) why None h = elim (why Stranger refl) [ inl is ↦ absurd (cc) | inr is ↦ absurd (cc) ]
+
+ended : {R : Type 0} (takes : R → List EventValue → R → Type 0) (has_failed : R → R → Type 0) (end : End) → ((f : RelayFault) → end ≡ Failed f → (f ≡ OutOfMemory) ⊎ (f ≡ Store)) → (o n : Lane R) (pages : List (List EventValue)) → Rattle.relay.specs.steps.Lane.Hands takes has_failed o n pages → Hands takes has_failed o.route n.route (end_of end n) pages
+ended takes has_failed end why o n pages h = record { before = h.before; taken = h.taken; closed = closes has_failed h.before n.route end why n.fault h.closed; sized = h.sized }
+
+leaves : {R : Type 0} (accepted : R → List EventValue) (takes : R → List EventValue → R → Type 0) (has_failed : R → R → Type 0) (end : End) → ((f : RelayFault) → end ≡ Failed f → (f ≡ OutOfMemory) ⊎ (f ≡ Store)) → (o n : Lane R) → (o.fault ≡ None) × Moves accepted takes has_failed o n → Leaves accepted takes has_failed o.relay n.relay o.route n.route (end_of end n)
+leaves {R} accepted takes has_failed end why o n h = record {
   site = h.1.site;
   forward = h.1.forward;
   kept = h.1.kept;
-  cause = λ f is. go n.fault (h.1.cause (subst (λ (x : Option RelayFault). MatchOption x ⊤ (HasCause has_failed o.route)) (sym h.0) tt)) f is;
+  handed = (pages.0, ended takes has_failed end why o n pages.0 pages.1.0);
 }
   where
-    go : (x : Option RelayFault) → MatchOption x ⊤ (HasCause has_failed n.route) → (f : RelayFault) → end_after x end ≡ Failed f → HasCause has_failed n.route f
-    go None k f is = some_cause has_failed n.route f (why f is)
-    go (Some y) k f is = let same : y ≡ f = cc in subst (HasCause has_failed n.route) same k
+    pages : (pages : List (List EventValue)) × (Rattle.relay.specs.steps.Lane.Hands takes has_failed o n pages × Whatever pages)
+    pages = h.1.handed h.0
 
-delivers : {R : Type 0} (accepted : R → List EventValue) (base : ℕ) (rows : List EventValue) (end : End) → (o n : Lane R) → Sends accepted base rows o n × (end ≡ Done → HasSent base rows n) → Delivers accepted base rows o.relay n.relay o.route n.route (end_of end n)
-delivers accepted base rows end o n h = record {
-  sent = h.0.sent;
-  new_rows = h.0.new_rows;
-  reached = h.0.reached;
+delivers : {R : Type 0} (accepted : R → List EventValue) (takes : R → List EventValue → R → Type 0) (has_failed : R → R → Type 0) (base : ℕ) (rows : List EventValue) (end : End) → ((f : RelayFault) → end ≡ Failed f → (f ≡ OutOfMemory) ⊎ (f ≡ Store)) → (o n : Lane R) → ((o.fault ≡ None) × Sends accepted takes has_failed base rows o n) × (end ≡ Done → HasSent base rows n) → Delivers accepted takes has_failed base rows o.relay n.relay o.route n.route (end_of end n)
+delivers {R} accepted takes has_failed base rows end why o n h = record {
+  sent = h.0.1.sent;
+  new_rows = h.0.1.new_rows;
+  handed = (pages.0, (ended takes has_failed end why o n pages.0 pages.1.0, pages.1.1));
+  reached = h.0.1.reached;
   done = λ is. go n.fault refl is;
 }
   where
+    pages : (pages : List (List EventValue)) × (Rattle.relay.specs.steps.Lane.Hands takes has_failed o n pages × AreBetween base rows o.relay.mark n.relay.mark pages)
+    pages = h.0.1.handed h.0.0
+
     go : (x : Option RelayFault) → n.fault ≡ x → end_after x end ≡ Done → IsAtEnd base rows n.relay.mark
     go None none is = h.1 is none
     go (Some f) some is = absurd (cc)
 
-pub fan_leaves : {R : Type 0} (accepted : R → List EventValue) (has_failed : R → R → Type 0) (end : End) (olds news : List (Lane R)) (relays after : List Marked) (routes back : List R) (ends : List End)
-    → ((f : RelayFault) → end ≡ Failed f → (f ≡ OutOfMemory) ⊎ (f ≡ Store)) → All (λ x. x.fault ≡ None) olds → Each (Moves accepted has_failed) olds news
+pub fan_leaves : {R : Type 0} (accepted : R → List EventValue) (takes : R → List EventValue → R → Type 0) (has_failed : R → R → Type 0) (end : End) (olds news : List (Lane R)) (relays after : List Marked) (routes back : List R) (ends : List End)
+    → ((f : RelayFault) → end ≡ Failed f → (f ≡ OutOfMemory) ⊎ (f ≡ Store)) → All (λ x. x.fault ≡ None) olds → Each (Moves accepted takes has_failed) olds news
     → map (λ x. x.relay) olds ≡ relays → after ≡ map (λ x. x.relay) news → map (λ x. x.route) olds ≡ routes → back ≡ map (λ x. x.route) news → ends ≡ map (end_of end) news
-    → AtEach relays after routes back ends (Leaves accepted has_failed)
-fan_leaves {R} accepted has_failed end olds news relays after routes back ends why fresh moves p q s t u =
-    at_lists (Leaves accepted has_failed) _ relays _ after _ routes _ back _ ends
-    (each_at (λ x y. (x.fault ≡ None) × Moves accepted has_failed x y) (Leaves accepted has_failed) end (leaves accepted has_failed end why) olds news
-    (each_from (λ (x : Lane R). x.fault ≡ None) (Moves accepted has_failed) (λ x y. (x.fault ≡ None) × Moves accepted has_failed x y) (λ x y f m. (f, m)) olds news (recursion_from_All (λ (x : Lane R). x.fault ≡ None) olds fresh) moves)) p q s t u
+    → AtEach relays after routes back ends (Leaves accepted takes has_failed)
+fan_leaves {R} accepted takes has_failed end olds news relays after routes back ends why fresh moves p q s t u =
+    at_lists (Leaves accepted takes has_failed) _ relays _ after _ routes _ back _ ends
+    (each_at (λ x y. (x.fault ≡ None) × Moves accepted takes has_failed x y) (Leaves accepted takes has_failed) end (leaves accepted takes has_failed end why) olds news
+    (each_from (λ (x : Lane R). x.fault ≡ None) (Moves accepted takes has_failed) (λ x y. (x.fault ≡ None) × Moves accepted takes has_failed x y) (λ x y f m. (f, m)) olds news (recursion_from_All (λ (x : Lane R). x.fault ≡ None) olds fresh) moves)) p q s t u
 
-pub fan_delivers : {R : Type 0} (accepted : R → List EventValue) (base : ℕ) (rows : List EventValue) (end : End) (olds news : List (Lane R)) (relays after : List Marked) (routes back : List R) (ends : List End)
-    → Each (Sends accepted base rows) olds news → (end ≡ Done → All (HasSent base rows) news)
+pub fan_delivers : {R : Type 0} (accepted : R → List EventValue) (takes : R → List EventValue → R → Type 0) (has_failed : R → R → Type 0) (base : ℕ) (rows : List EventValue) (end : End) (olds news : List (Lane R)) (relays after : List Marked) (routes back : List R) (ends : List End)
+    → ((f : RelayFault) → end ≡ Failed f → (f ≡ OutOfMemory) ⊎ (f ≡ Store)) → All (λ x. x.fault ≡ None) olds → Each (Sends accepted takes has_failed base rows) olds news → (end ≡ Done → All (HasSent base rows) news)
     → map (λ x. x.relay) olds ≡ relays → after ≡ map (λ x. x.relay) news → map (λ x. x.route) olds ≡ routes → back ≡ map (λ x. x.route) news → ends ≡ map (end_of end) news
-    → AtEach relays after routes back ends (Delivers accepted base rows)
-fan_delivers {R} accepted base rows end olds news relays after routes back ends sends done p q s t u =
-    at_lists (Delivers accepted base rows) _ relays _ after _ routes _ back _ ends
-    (each_at (λ x y. Sends accepted base rows x y × (end ≡ Done → HasSent base rows y)) (Delivers accepted base rows) end (delivers accepted base rows end) olds news
-    (each_to (end ≡ Done) (HasSent base rows) (Sends accepted base rows) (λ x y. Sends accepted base rows x y × (end ≡ Done → HasSent base rows y)) (λ x y m f. (m, f)) olds news sends (λ is. recursion_from_All (HasSent base rows) news (done is)))) p q s t u
+    → AtEach relays after routes back ends (Delivers accepted takes has_failed base rows)
+fan_delivers {R} accepted takes has_failed base rows end olds news relays after routes back ends why fresh sends done p q s t u =
+    let going : Each (λ x y. (x.fault ≡ None) × Sends accepted takes has_failed base rows x y) olds news =
+    each_from (λ (x : Lane R). x.fault ≡ None) (Sends accepted takes has_failed base rows) (λ x y. (x.fault ≡ None) × Sends accepted takes has_failed base rows x y) (λ x y f m. (f, m)) olds news (recursion_from_All (λ (x : Lane R). x.fault ≡ None) olds fresh) sends in
+    at_lists (Delivers accepted takes has_failed base rows) _ relays _ after _ routes _ back _ ends
+    (each_at (λ x y. ((x.fault ≡ None) × Sends accepted takes has_failed base rows x y) × (end ≡ Done → HasSent base rows y)) (Delivers accepted takes has_failed base rows) end (delivers accepted takes has_failed base rows end why) olds news
+    (each_to (end ≡ Done) (HasSent base rows) (λ x y. (x.fault ≡ None) × Sends accepted takes has_failed base rows x y) (λ x y. ((x.fault ≡ None) × Sends accepted takes has_failed base rows x y) × (end ≡ Done → HasSent base rows y)) (λ x y m f. (m, f)) olds news going (λ is. recursion_from_All (HasSent base rows) news (done is)))) p q s t u

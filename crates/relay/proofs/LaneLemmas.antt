@@ -1,10 +1,12 @@
 -- Lanes on their way through rows.
-use Rattle.std.proofs.Common.{◌≡◌, ◌⊎◌, ◌+◌, ◌-◌, ◌<◌, inl, inr, ℕ, zero, suc, Bool, true, false, nat_lt, List, [], ◌∷◌, ◌++◌, length, slice_get, Some, Option, IsSome, refl, sym, ap, subst, ◌∙◌, arith}
+use Rattle.std.proofs.Common.{◌≡◌, ◌⊎◌, ◌+◌, ◌-◌, ◌<◌, ◌≤◌, inl, inr, ℕ, zero, suc, Bool, true, false, nat_lt, List, [], ◌∷◌, ◌++◌, length, take, drop, slice_get, Some, None, Option, IsSome, append_assoc, refl, sym, ap, subst, ◌∙◌, arith}
+use Rattle.std.specs.Prelude.{⊤, MatchOption}
+use Rattle.std.specs.List.{AllByRecursion}
 use Rattle.std.proofs.lemmas.Bool.Decides.{nat_tests}
 use Rattle.attributes.specs.Event.{EventValue}
 use Rattle.relay.specs.Route.{Has, AreIn, AreOf}
-use Rattle.relay.specs.Fan.{AreSent, HasCause}
-use Rattle.relay.specs.steps.Lane.{Moves, Carries, Each}
+use Rattle.relay.specs.Fan.{AreSent, HasCause, Closes, IsPage, TakesAll, joined, rows_between}
+use Rattle.relay.specs.steps.Lane.{Moves, Carries, Each, Hands, HandsOver, IsClosed, Whatever, AreBetween}
 use Rattle.relay.specs.declared.fan.lane.Lane.{Lane}
 use Rattle.relay.specs.declared.fault.RelayFault.{RelayFault}
 use Rattle.relay.specs.declared.fault.RelayFault.TheVariants.{OutOfMemory, RouteFailed, Stranger, Store, NoThread, GateShut}
@@ -64,43 +66,198 @@ of_then a b c rows h k e x = elim (k e x) [ inl was ↦ h e was | inr new ↦ in
 pub of_in : (a b page rows : List EventValue) → AreOf b a page → AreIn page rows → AreOf b a rows
 of_in a b page rows h k e x = elim (h e x) [ inl was ↦ inl was | inr new ↦ inr (k e new) ]
 
-pub moves_none : {R : Type 0} (accepted : R → List EventValue) (has_failed : R → R → Type 0) (lane : Lane R) → Moves accepted has_failed lane lane
-moves_none accepted has_failed lane = record { site = refl; forward = omega arith; kept = λ e x. x; cause = λ h. h; idle = λ h. refl }
+-- pages after pages
+pub takes_then : {R : Type 0} (takes : R → List EventValue → R → Type 0) (a b c : R) (ps qs : List (List EventValue)) → TakesAll takes a ps b → TakesAll takes b qs c → TakesAll takes a (ps ++ qs) c
+takes_then takes a b c [] qs h k = subst (λ r. TakesAll takes r qs c) h k
+takes_then takes a b c (p ∷ ps) qs h k = (h.0, (h.1.0, takes_then takes h.0 b c ps qs h.1.1 k))
 
-pub moves_then : {R : Type 0} (accepted : R → List EventValue) (has_failed : R → R → Type 0) (a b c : Lane R) → Moves accepted has_failed a b → Moves accepted has_failed b c → Moves accepted has_failed a c
-moves_then accepted has_failed a b c h k = record {
+sized_then : (ps qs : List (List EventValue)) → AllByRecursion IsPage ps → AllByRecursion IsPage qs → AllByRecursion IsPage (ps ++ qs)
+sized_then [] qs h k = k
+sized_then (p ∷ ps) qs h k = (h.0, sized_then ps qs h.1 k)
+
+joined_then : (ps qs : List (List EventValue)) → joined (ps ++ qs) ≡ joined ps ++ joined qs
+joined_then [] qs = refl
+joined_then (p ∷ ps) qs = ap (λ l. p ++ l) (joined_then ps qs) ∙ sym (append_assoc p (joined ps) (joined qs))
+
+drop_nil : (n : ℕ) → ◌≡◌ {A = List EventValue} (drop n []) []
+drop_nil zero = refl
+drop_nil (suc n) = refl
+
+drop_take : (n m : ℕ) (l : List EventValue) → m ≤ n → drop n (take m l) ≡ []
+drop_take n zero l low = drop_nil n
+drop_take n (suc m) [] low = drop_nil n
+drop_take zero (suc m) (x ∷ l) low = absurd (omega (arith, low))
+drop_take (suc n) (suc m) (x ∷ l) low = drop_take n m l (omega (arith, low))
+
+slices : (x y z : ℕ) (l : List EventValue) → x ≤ y → y ≤ z → drop x (take y l) ++ drop y (take z l) ≡ drop x (take z l)
+slices zero zero z l low high = refl
+slices (suc x) zero z l low high = absurd (omega (arith, low))
+slices x (suc y) zero l low high = absurd (omega (arith, high))
+slices zero (suc y) (suc z) [] low high = refl
+slices (suc x) (suc y) (suc z) [] low high = refl
+slices zero (suc y) (suc z) (e ∷ l) low high = ap (λ r. e ∷ r) (slices zero y z l (omega arith) (omega (arith, high)))
+slices (suc x) (suc y) (suc z) (e ∷ l) low high = slices x y z l (omega (arith, low)) (omega (arith, high))
+
+pub between_none : (base : ℕ) (rows : List EventValue) (mark : ℕ) → rows_between base rows mark mark ≡ []
+between_none base rows mark = drop_take (mark - base) (mark - base) rows (omega arith)
+
+pub between_then : (base : ℕ) (rows : List EventValue) (a b c : ℕ) → a ≤ b → b ≤ c → rows_between base rows a b ++ rows_between base rows b c ≡ rows_between base rows a c
+between_then base rows a b c low high = slices (a - base) (b - base) (c - base) rows (omega (arith, low)) (omega (arith, high))
+
+-- nothing was handed over
+pub hands_none : {R : Type 0} (takes : R → List EventValue → R → Type 0) (has_failed : R → R → Type 0) (old new : Lane R) → IsClosed has_failed old.route new → Hands takes has_failed old new []
+hands_none takes has_failed old new h = record { before = old.route; taken = refl; closed = h; sized = tt }
+
+-- one page was handed over
+pub hands_one : {R : Type 0} (takes : R → List EventValue → R → Type 0) (has_failed : R → R → Type 0) (old new : Lane R) (page : List EventValue) → IsPage page → takes old.route page new.route → new.fault ≡ None → Hands takes has_failed old new (page ∷ [])
+hands_one {R} takes has_failed old new page sized h goes = record {
+  before = new.route;
+  taken = (new.route, (h, refl));
+  closed = subst (λ (o : Option RelayFault). MatchOption o (new.route ≡ new.route) (HasCause has_failed new.route new.route)) (sym goes) refl;
+  sized = (sized, tt);
+}
+
+-- the lane was at rest
+pub hands_rest : {R : Type 0} (takes : R → List EventValue → R → Type 0) (has_failed : R → R → Type 0) (lane : Lane R) → lane.fault ≡ None → Hands takes has_failed lane lane []
+hands_rest takes has_failed lane goes = hands_none takes has_failed lane lane (subst (λ (o : Option RelayFault). MatchOption o (lane.route ≡ lane.route) (HasCause has_failed lane.route lane.route)) (sym goes) refl)
+
+pub over_then : {R : Type 0} (takes : R → List EventValue → R → Type 0) (has_failed : R → R → Type 0) (P Q T : List (List EventValue) → Type 0) (a b c : Lane R) → (IsSome b.fault → c ≡ b) → ((ps : List (List EventValue)) → c ≡ b → P ps → T ps) → ((ps qs : List (List EventValue)) → P ps → Q qs → T (ps ++ qs))
+    → HandsOver takes has_failed P a b → HandsOver takes has_failed Q b c → HandsOver takes has_failed T a c
+over_then {R} takes has_failed P Q T a b c idle same both h k goes = go b.fault refl
+  where
+    first : (pages : List (List EventValue)) × (Hands takes has_failed a b pages × P pages)
+    first = h goes
+
+    go : (o : Option RelayFault) → b.fault ≡ o → (pages : List (List EventValue)) × (Hands takes has_failed a c pages × T pages)
+    go None is =
+        let second : (pages : List (List EventValue)) × (Hands takes has_failed b c pages × Q pages) = k is in
+        let there : b.route ≡ first.1.0.before = subst (λ (x : Option RelayFault). MatchOption x (b.route ≡ first.1.0.before) (HasCause has_failed first.1.0.before b.route)) is first.1.0.closed in (
+          first.0 ++ second.0,
+          (
+            record {
+              before = second.1.0.before;
+              taken = takes_then takes a.route b.route second.1.0.before first.0 second.0 (subst (λ r. TakesAll takes a.route first.0 r) (sym there) first.1.0.taken) second.1.0.taken;
+              closed = second.1.0.closed;
+              sized = sized_then first.0 second.0 first.1.0.sized second.1.0.sized;
+            },
+            both first.0 second.0 first.1.1 second.1.1,
+          ),
+        )
+    go (Some f) is =
+        let one : c ≡ b = idle (subst (λ (x : Option RelayFault). IsSome x) (sym is) refl) in
+        (first.0, (subst (λ (l : Lane R). Hands takes has_failed a l first.0) (sym one) first.1.0, same first.0 one first.1.1))
+
+-- marks that meet
+pub over_between : {R : Type 0} (takes : R → List EventValue → R → Type 0) (has_failed : R → R → Type 0) (base : ℕ) (rows : List EventValue) (a b c : Lane R) → (IsSome b.fault → c ≡ b) → a.relay.mark ≤ b.relay.mark → b.relay.mark ≤ c.relay.mark
+    → HandsOver takes has_failed (AreBetween base rows a.relay.mark b.relay.mark) a b → HandsOver takes has_failed (AreBetween base rows b.relay.mark c.relay.mark) b c → HandsOver takes has_failed (AreBetween base rows a.relay.mark c.relay.mark) a c
+over_between {R} takes has_failed base rows a b c idle low high h k =
+    over_then takes has_failed (AreBetween base rows a.relay.mark b.relay.mark) (AreBetween base rows b.relay.mark c.relay.mark) (AreBetween base rows a.relay.mark c.relay.mark) a b c idle
+    (λ ps same are. are ∙ ap (λ (l : Lane R). rows_between base rows a.relay.mark l.relay.mark) (sym same))
+    (λ ps qs p q. joined_then ps qs ∙ ap (λ l. l ++ joined qs) p ∙ ap (λ l. rows_between base rows a.relay.mark b.relay.mark ++ l) q ∙ between_then base rows a.relay.mark b.relay.mark c.relay.mark low high)
+    h k
+
+pub moves_none : {R : Type 0} (accepted : R → List EventValue) (takes : R → List EventValue → R → Type 0) (has_failed : R → R → Type 0) (lane : Lane R) → Moves accepted takes has_failed lane lane
+moves_none accepted takes has_failed lane = record { site = refl; forward = omega arith; kept = λ e x. x; handed = λ goes. ([], (hands_rest takes has_failed lane goes, tt)); idle = λ h. refl }
+
+pub moves_then : {R : Type 0} (accepted : R → List EventValue) (takes : R → List EventValue → R → Type 0) (has_failed : R → R → Type 0) (a b c : Lane R) → Moves accepted takes has_failed a b → Moves accepted takes has_failed b c → Moves accepted takes has_failed a c
+moves_then accepted takes has_failed a b c h k = record {
   site = k.site ∙ h.site;
   forward = omega (arith, h.forward, k.forward);
   kept = λ e x. k.kept e (h.kept e x);
-  cause = λ x. k.cause (h.cause x);
+  handed = over_then takes has_failed Whatever Whatever Whatever a b c k.idle (λ ps same x. tt) (λ ps qs x y. tt) h.handed k.handed;
   idle = λ some. let one = h.idle some in k.idle (subst (λ l. IsSome l.fault) (sym one) some) ∙ one;
 }
 
-pub carries_none : {R : Type 0} (accepted : R → List EventValue) (has_failed : R → R → Type 0) (start : ℕ) (rows : List EventValue) (lane : Lane R) → Carries accepted has_failed start rows lane lane
-carries_none accepted has_failed start rows lane = record {
-  moves = moves_none accepted has_failed lane;
+pub over_rest : {R : Type 0} (takes : R → List EventValue → R → Type 0) (has_failed : R → R → Type 0) (base : ℕ) (rows : List EventValue) (lane : Lane R) → HandsOver takes has_failed (AreBetween base rows lane.relay.mark lane.relay.mark) lane lane
+over_rest takes has_failed base rows lane goes = ([], (hands_rest takes has_failed lane goes, sym (between_none base rows lane.relay.mark)))
+
+pub carries_none : {R : Type 0} (accepted : R → List EventValue) (takes : R → List EventValue → R → Type 0) (has_failed : R → R → Type 0) (start : ℕ) (rows : List EventValue) (lane : Lane R) → Carries accepted takes has_failed start rows lane lane
+carries_none accepted takes has_failed start rows lane = record {
+  moves = moves_none accepted takes has_failed lane;
   within = inl refl;
   sent = sent_none start rows lane.relay.mark (accepted lane.route);
   new_rows = λ e x. inl x;
+  handed = over_rest takes has_failed start rows lane;
 }
 
-pub carries_then : {R : Type 0} (accepted : R → List EventValue) (has_failed : R → R → Type 0) (start : ℕ) (rows : List EventValue) (a b c : Lane R) → Carries accepted has_failed start rows a b → Carries accepted has_failed start rows b c → Carries accepted has_failed start rows a c
-carries_then accepted has_failed start rows a b c h k = record {
-  moves = moves_then accepted has_failed a b c h.moves k.moves;
+pub carries_then : {R : Type 0} (accepted : R → List EventValue) (takes : R → List EventValue → R → Type 0) (has_failed : R → R → Type 0) (start : ℕ) (rows : List EventValue) (a b c : Lane R) → Carries accepted takes has_failed start rows a b → Carries accepted takes has_failed start rows b c → Carries accepted takes has_failed start rows a c
+carries_then accepted takes has_failed start rows a b c h k = record {
+  moves = moves_then accepted takes has_failed a b c h.moves k.moves;
   within = elim k.within [ inl same ↦ elim h.within [ inl still ↦ inl (same ∙ still) | inr low ↦ inr (omega (arith, same, low)) ] | inr low ↦ inr low ];
   sent = sent_then start rows a.relay.mark b.relay.mark c.relay.mark (accepted b.route) (accepted c.route) h.sent k.moves.kept k.sent;
   new_rows = of_then (accepted a.route) (accepted b.route) (accepted c.route) rows h.new_rows k.new_rows;
+  handed = over_between takes has_failed start rows a b c k.moves.idle h.moves.forward k.moves.forward h.handed k.handed;
 }
 
-pub some_cause : {R : Type 0} (has_failed : R → R → Type 0) (route : R) (f : RelayFault) → (f ≡ OutOfMemory) ⊎ (f ≡ Store) → HasCause has_failed route f
-some_cause has_failed route OutOfMemory h = tt
-some_cause has_failed route RouteFailed (inl is) = absurd (cc)
-some_cause has_failed route RouteFailed (inr is) = absurd (cc)
-some_cause has_failed route Stranger (inl is) = absurd (cc)
-some_cause has_failed route Stranger (inr is) = absurd (cc)
-some_cause has_failed route Store h = tt
-some_cause has_failed route NoThread h = tt
-some_cause has_failed route GateShut h = tt
+-- a lane that stopped before or at a send: its mark is as it was
+pub carries_stop : {R : Type 0} (accepted : R → List EventValue) (takes : R → List EventValue → R → Type 0) (has_failed : R → R → Type 0) (start : ℕ) (rows : List EventValue) (old new : Lane R) (f : RelayFault) → old.fault ≡ None → new.relay ≡ old.relay → new.fault ≡ Some f → HasCause has_failed old.route new.route f
+    → AreIn (accepted old.route) (accepted new.route) → AreOf (accepted new.route) (accepted old.route) rows → Carries accepted takes has_failed start rows old new
+carries_stop {R} accepted takes has_failed start rows old new f going same stop cause kept of = record {
+  moves = record {
+    site = ap (λ m. m.site) same;
+    forward = omega (arith, ap (λ m. m.mark) same);
+    kept = kept;
+    handed = λ goes. ([], (hands, tt));
+    idle = λ some. absurd (none_some old.fault going some);
+  };
+  within = inl (ap (λ m. m.mark) same);
+  sent = subst (λ m. AreSent start rows old.relay.mark m (accepted new.route)) (sym (ap (λ m. m.mark) same)) (sent_none start rows old.relay.mark (accepted new.route));
+  new_rows = of;
+  handed = λ goes. ([], (hands, sym (ap (λ m. rows_between start rows old.relay.mark m.mark) same ∙ between_none start rows old.relay.mark)));
+}
+  where
+    hands : Hands takes has_failed old new []
+    hands = hands_none takes has_failed old new (subst (λ (o : Option RelayFault). MatchOption o (new.route ≡ old.route) (HasCause has_failed old.route new.route)) (sym stop) cause)
+
+    none_some : (o : Option RelayFault) → o ≡ None → IsSome o → ⊥
+    none_some (Some x) is h = absurd (cc)
+    none_some None is h = let k : ◌≡◌ {A = Bool} false true = h in absurd (cc)
+
+-- a lane whose route accepted the next page
+pub carries_page : {R : Type 0} (accepted : R → List EventValue) (takes : R → List EventValue → R → Type 0) (has_failed : R → R → Type 0) (start : ℕ) (rows page : List EventValue) (old new : Lane R) → old.fault ≡ None → new.fault ≡ None → new.relay.site ≡ old.relay.site → old.relay.mark ≤ new.relay.mark → new.relay.mark ≤ start + length rows
+    → AreSent start rows old.relay.mark new.relay.mark page → AreIn page rows → page ≡ rows_between start rows old.relay.mark new.relay.mark → IsPage page → takes old.route page new.route
+    → AreIn page (accepted new.route) → AreIn (accepted old.route) (accepted new.route) → AreOf (accepted new.route) (accepted old.route) page → Carries accepted takes has_failed start rows old new
+carries_page {R} accepted takes has_failed start rows page old new going goes same low high there rows-in exact sized took sent kept of = record {
+  moves = record {
+    site = same;
+    forward = low;
+    kept = kept;
+    handed = λ was. (page ∷ [], (hands, tt));
+    idle = λ some. absurd (none_some old.fault going some);
+  };
+  within = inr high;
+  sent = sent_in start rows old.relay.mark new.relay.mark page (accepted new.route) there sent;
+  new_rows = of_in (accepted old.route) (accepted new.route) page rows of rows-in;
+  handed = λ was. (page ∷ [], (hands, Rattle.std.proofs.Common.append-nil page ∙ exact));
+}
+  where
+    hands : Hands takes has_failed old new (page ∷ [])
+    hands = hands_one takes has_failed old new page sized took goes
+
+    none_some : (o : Option RelayFault) → o ≡ None → IsSome o → ⊥
+    none_some (Some x) is h = absurd (cc)
+    none_some None is h = let k : ◌≡◌ {A = Bool} false true = h in absurd (cc)
+
+-- what was copied so far, of a page that begins there
+pub between_more : (rows page : List EventValue) (from to : ℕ) (e : EventValue) → from ≤ to → slice_get rows to ≡ Some e → page ≡ rows_between 0 rows from to → page ++ e ∷ [] ≡ rows_between 0 rows from (to + 1)
+between_more rows page from to e low at h = ap (λ l. l ++ e ∷ []) h ∙ ap (λ l. rows_between 0 rows from to ++ l) (sym last) ∙ slices (from - 0) (to - 0) (to + 1 - 0) rows (omega (arith, low)) (omega arith)
+  where
+    one : (n : ℕ) (l : List EventValue) → slice_get l n ≡ Some e → drop n (take (n + 1) l) ≡ e ∷ []
+    one n [] is = absurd (cc)
+    one zero (x ∷ l) is = let k : x ≡ e = cc in ap (λ y. y ∷ []) k
+    one (suc n) (x ∷ l) is = ap (λ k. drop (suc n) (take k (x ∷ l))) (let k : suc n + 1 ≡ suc (n + 1) = omega arith in k) ∙ one n l is
+
+    last : drop (to - 0) (take (to + 1 - 0) rows) ≡ e ∷ []
+    last = ap (λ n. drop n (take (to + 1 - 0) rows)) (let k : to - 0 ≡ to = omega arith in k) ∙ ap (λ n. drop to (take n rows)) (let k : to + 1 - 0 ≡ to + 1 = omega arith in k) ∙ one to rows at
+
+pub between_length : (start : ℕ) (rows : List EventValue) (from to : ℕ) → to - start ≤ length rows → length (rows_between start rows from to) ≡ to - start - (from - start)
+between_length start rows from to high = go (from - start) (to - start) rows high
+  where
+    go : (n m : ℕ) (l : List EventValue) → m ≤ length l → length (drop n (take m l)) ≡ m - n
+    go n zero l low = ap length (drop_nil n) ∙ (let k : 0 ≡ 0 - n = omega arith in k)
+    go n (suc m) [] low = absurd (omega (arith, low))
+    go zero (suc m) (x ∷ l) low = ap suc (go zero m l (omega (arith, low)) ∙ (let k : m - 0 ≡ m = omega arith in k)) ∙ (let k : suc m ≡ suc m - 0 = omega arith in k)
+    go (suc n) (suc m) (x ∷ l) low = go n m l (omega (arith, low)) ∙ (let k : m - n ≡ suc m - suc n = omega arith in k)
 
 pub each_more : {A : Type 0} → {B : Type 0} (Holds : A → B → Type 0) (xs : List A) (ys : List B) (x : A) (y : B) → Each Holds xs ys → Holds x y → Each Holds (xs ++ x ∷ []) (ys ++ y ∷ [])
 each_more Holds [] [] x y h k = (k, tt)

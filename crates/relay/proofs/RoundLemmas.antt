@@ -10,12 +10,12 @@ use Rattle.outbox.specs.Row.{rows_of}
 use Rattle.outbox.specs.Service.{IsService}
 use Rattle.outbox.specs.Call.{IsSame}
 use Rattle.relay.specs.Fan.{AreSent}
-use Rattle.relay.specs.steps.Lane.{Moves, Carries, Sends, Each, IsWindow, ShowsWindow, IsAhead, IsStopped, Goes, Ends}
+use Rattle.relay.specs.steps.Lane.{Moves, Carries, Sends, Hands, AreBetween, Each, IsWindow, ShowsWindow, IsAhead, IsStopped, Goes, Ends}
 use Rattle.relay.specs.declared.fault.RelayFault.{RelayFault}
 use Rattle.relay.specs.declared.fan.lane.Lane.{Lane}
 use Rattle.relay.specs.declared.fan.End.TheVariants.{Done, Failed}
-use Rattle.relay.proofs.LaneLemmas.{sent_none, sent_then, of_then, of_in, moves_none, moves_then}
-use Rattle.relay.proofs.WindowLemmas.{in_window, of_window, no_window, window_end}
+use Rattle.relay.proofs.LaneLemmas.{sent_none, sent_then, of_then, of_in, moves_none, moves_then, over_rest, over_between}
+use Rattle.relay.proofs.WindowLemmas.{between_window, in_window, of_window, no_window, window_end}
 
 each_same : {A : Type 0} (Holds : A → A → Type 0) → ((x : A) → Holds x x) → (xs : List A) → Each Holds xs xs
 each_same Holds one [] = tt
@@ -28,6 +28,12 @@ each_then P Q T both [] (y ∷ ys) zs h k = absurd h
 each_then P Q T both (x ∷ xs) [] zs h k = absurd h
 each_then P Q T both (x ∷ xs) (y ∷ ys) [] h k = absurd k
 each_then P Q T both (x ∷ xs) (y ∷ ys) (z ∷ zs) h k = (both x y z h.0 k.0, each_then P Q T both xs ys zs h.1 k.1)
+
+each_both : {A : Type 0} (P Q : A → A → Type 0) → (xs ys : List A) → Each P xs ys → Each Q xs ys → Each (λ x y. P x y × Q x y) xs ys
+each_both P Q [] [] h k = tt
+each_both P Q [] (y ∷ ys) h k = absurd h
+each_both P Q (x ∷ xs) [] h k = absurd h
+each_both P Q (x ∷ xs) (y ∷ ys) h k = ((h.0, k.0), each_both P Q xs ys h.1 k.1)
 
 -- the same, where the second step may use a fact of its first lane
 pub each_from : {A : Type 0} (F : A → Type 0) (P Q : A → A → Type 0) → ((x y : A) → F x → P x y → Q x y) → (xs ys : List A) → AllByRecursion F xs → Each P xs ys → Each Q xs ys
@@ -64,27 +70,30 @@ same_then a b c h k = record {
 pub service_then : (a b : State) (source : List ℕ) (base : ℕ) (commands : List Accepted) → IsSame a b → HasCleanDisk b → IsTrue b.is_open → IsService a.now source base commands → IsService b.now source base commands
 service_then a b source base commands h clean opened is = subst (λ db. IsService db source base commands) (sym (h.same clean opened is.layout is.schema).0) is
 
-pub goes_none : {R : Type 0} (accepted : R → List EventValue) (has_failed : R → R → Type 0) (source : List ℕ) (base : ℕ) (a : State) (lanes : List (Lane R)) → Goes accepted has_failed source base a a lanes lanes
-goes_none accepted has_failed source base a lanes = record {
+pub goes_none : {R : Type 0} (accepted : R → List EventValue) (takes : R → List EventValue → R → Type 0) (has_failed : R → R → Type 0) (source : List ℕ) (base : ℕ) (a : State) (lanes : List (Lane R)) → Goes accepted takes has_failed source base a a lanes lanes
+goes_none accepted takes has_failed source base a lanes = record {
   same = same_none a;
-  moves = each_same (Moves accepted has_failed) (moves_none accepted has_failed) lanes;
-  sends = λ clean commands is. each_same (Sends accepted base (rows_of source base commands)) (λ l. record { sent = sent_none base (rows_of source base commands) l.relay.mark (accepted l.route); new_rows = λ e x. inl x; reached = inl refl }) lanes;
+  moves = each_same (Moves accepted takes has_failed) (moves_none accepted takes has_failed) lanes;
+  sends = λ clean commands is. each_same (Sends accepted takes has_failed base (rows_of source base commands)) (λ l. record { sent = sent_none base (rows_of source base commands) l.relay.mark (accepted l.route); new_rows = λ e x. inl x; handed = over_rest takes has_failed base (rows_of source base commands) l; reached = inl refl }) lanes;
 }
 
 -- a reading after which the lanes are as they were
-pub goes_still : {R : Type 0} (accepted : R → List EventValue) (has_failed : R → R → Type 0) (source : List ℕ) (base : ℕ) (a b c : State) (olds news : List (Lane R)) → Goes accepted has_failed source base a b olds news → IsSame b c → Goes accepted has_failed source base a c olds news
-goes_still accepted has_failed source base a b c olds news h k = record {
+pub goes_still : {R : Type 0} (accepted : R → List EventValue) (takes : R → List EventValue → R → Type 0) (has_failed : R → R → Type 0) (source : List ℕ) (base : ℕ) (a b c : State) (olds news : List (Lane R)) → Goes accepted takes has_failed source base a b olds news → IsSame b c → Goes accepted takes has_failed source base a c olds news
+goes_still accepted takes has_failed source base a b c olds news h k = record {
   same = same_then a b c h.same k;
   moves = h.moves;
   sends = λ clean commands is. h.sends (omega (arith, clean, k.clean)) commands is;
 }
 
 -- what a lane carried over a window, it carried over the rows of the service
-sends_on : {R : Type 0} (accepted : R → List EventValue) (has_failed : R → R → Type 0) (base : ℕ) (all : List EventValue) (start least : ℕ) (rows : List EventValue) → IsWindow base all start rows → base ≤ start → (start ≤ least) ⊎ (start ≤ base)
-    → (x y : Lane R) → IsAhead least x → Carries accepted has_failed start rows x y → Sends accepted base all x y
-sends_on {R} accepted has_failed base all start least rows w low top x y ahead c = record {
+sends_on : {R : Type 0} (accepted : R → List EventValue) (takes : R → List EventValue → R → Type 0) (has_failed : R → R → Type 0) (base : ℕ) (all : List EventValue) (start least : ℕ) (rows : List EventValue) → IsWindow base all start rows → base ≤ start → (start ≤ least) ⊎ (start ≤ base)
+    → (x y : Lane R) → IsAhead least x → Carries accepted takes has_failed start rows x y → Sends accepted takes has_failed base all x y
+sends_on {R} accepted takes has_failed base all start least rows w low top x y ahead c = record {
   sent = go x.fault refl;
   new_rows = of_in (accepted x.route) (accepted y.route) rows all c.new_rows (of_window base all start rows w);
+  handed = λ goes.
+      let was : (pages : List (List EventValue)) × (Hands takes has_failed x y pages × AreBetween start rows x.relay.mark y.relay.mark pages) = c.handed goes in
+      (was.0, (was.1.0, was.1.1 ∙ between_window base all start least rows x.relay.mark y.relay.mark w low top (ahead goes) c.moves.forward c.within));
   reached = reach x.fault refl;
 }
   where
@@ -100,35 +109,36 @@ sends_on {R} accepted has_failed base all start least rows w low top x y ahead c
         let one : y ≡ x = c.moves.idle (subst (λ o. IsSome o) (sym is) refl) in
         subst (λ (m : Lane R). AreSent base all x.relay.mark m.relay.mark (accepted y.route)) (sym one) (sent_none base all x.relay.mark (accepted y.route))
 
-sends_then : {R : Type 0} (accepted : R → List EventValue) (has_failed : R → R → Type 0) (base : ℕ) (all : List EventValue) (x y z : Lane R) → Sends accepted base all x y → Moves accepted has_failed y z × Sends accepted base all y z → Sends accepted base all x z
-sends_then accepted has_failed base all x y z h k = record {
+sends_then : {R : Type 0} (accepted : R → List EventValue) (takes : R → List EventValue → R → Type 0) (has_failed : R → R → Type 0) (base : ℕ) (all : List EventValue) (x y z : Lane R) → x.relay.mark ≤ y.relay.mark → Sends accepted takes has_failed base all x y → Moves accepted takes has_failed y z × Sends accepted takes has_failed base all y z → Sends accepted takes has_failed base all x z
+sends_then accepted takes has_failed base all x y z forward h k = record {
   sent = sent_then base all x.relay.mark y.relay.mark z.relay.mark (accepted y.route) (accepted z.route) h.sent k.0.kept k.1.sent;
   new_rows = of_then (accepted x.route) (accepted y.route) (accepted z.route) all h.new_rows k.1.new_rows;
+  handed = over_between takes has_failed base all x y z k.0.idle forward k.0.forward h.handed k.1.handed;
   reached = elim k.1.reached [ inl same ↦ elim h.reached [ inl still ↦ inl (same ∙ still) | inr low ↦ inr (omega (arith, same, low)) ] | inr low ↦ inr low ];
 }
 
 -- one window more
-pub goes_on : {R : Type 0} (accepted : R → List EventValue) (has_failed : R → R → Type 0) (source : List ℕ) (base : ℕ) (a b c : State) (olds mids news : List (Lane R)) (start least : ℕ) (rows : List EventValue)
-    → Goes accepted has_failed source base a b olds mids → IsSame b c → (HasCleanDisk c → IsTrue b.is_open) → (HasCleanDisk c → ShowsWindow source base start b.now rows)
-    → base ≤ start → (start ≤ least) ⊎ (start ≤ base) → All (IsAhead least) mids → Each (Carries accepted has_failed start rows) mids news → Goes accepted has_failed source base a c olds news
-goes_on {R} accepted has_failed source base a b c olds mids news start least rows h k opened shows low top ahead carries = record {
+pub goes_on : {R : Type 0} (accepted : R → List EventValue) (takes : R → List EventValue → R → Type 0) (has_failed : R → R → Type 0) (source : List ℕ) (base : ℕ) (a b c : State) (olds mids news : List (Lane R)) (start least : ℕ) (rows : List EventValue)
+    → Goes accepted takes has_failed source base a b olds mids → IsSame b c → (HasCleanDisk c → IsTrue b.is_open) → (HasCleanDisk c → ShowsWindow source base start b.now rows)
+    → base ≤ start → (start ≤ least) ⊎ (start ≤ base) → All (IsAhead least) mids → Each (Carries accepted takes has_failed start rows) mids news → Goes accepted takes has_failed source base a c olds news
+goes_on {R} accepted takes has_failed source base a b c olds mids news start least rows h k opened shows low top ahead carries = record {
   same = same_then a b c h.same k;
-  moves = each_then (Moves accepted has_failed) (Carries accepted has_failed start rows) (Moves accepted has_failed) (λ x y z p q. moves_then accepted has_failed x y z p q.moves) olds mids news h.moves carries;
+  moves = each_then (Moves accepted takes has_failed) (Carries accepted takes has_failed start rows) (Moves accepted takes has_failed) (λ x y z p q. moves_then accepted takes has_failed x y z p q.moves) olds mids news h.moves carries;
   sends = λ clean commands is.
       let was : HasCleanDisk b = omega (arith, clean, k.clean) in
       let all = rows_of source base commands in
       let w : IsWindow base all start rows = shows clean commands (service_then a b source base commands h.same was (opened clean) is) in
-      let next : Each (λ x y. Moves accepted has_failed x y × Sends accepted base all x y) mids news =
-      each_from (IsAhead least) (Carries accepted has_failed start rows) (λ x y. Moves accepted has_failed x y × Sends accepted base all x y) (λ x y f q. (q.moves, sends_on accepted has_failed base all start least rows w low top x y f q)) mids news (recursion_from_All (IsAhead least) mids ahead) carries in
-      each_then (Sends accepted base all) (λ x y. Moves accepted has_failed x y × Sends accepted base all x y) (Sends accepted base all) (sends_then accepted has_failed base all) olds mids news (h.sends was commands is) next;
+      let next : Each (λ x y. Moves accepted takes has_failed x y × Sends accepted takes has_failed base all x y) mids news =
+      each_from (IsAhead least) (Carries accepted takes has_failed start rows) (λ x y. Moves accepted takes has_failed x y × Sends accepted takes has_failed base all x y) (λ x y f q. (q.moves, sends_on accepted takes has_failed base all start least rows w low top x y f q)) mids news (recursion_from_All (IsAhead least) mids ahead) carries in
+      each_then (λ x y. Moves accepted takes has_failed x y × Sends accepted takes has_failed base all x y) (λ x y. Moves accepted takes has_failed x y × Sends accepted takes has_failed base all x y) (Sends accepted takes has_failed base all) (λ x y z p q. sends_then accepted takes has_failed base all x y z p.0.forward p.1 q) olds mids news (each_both (Moves accepted takes has_failed) (Sends accepted takes has_failed base all) olds mids h.moves (h.sends was commands is)) next;
 }
 
 -- the window is empty
-pub ends_empty : {R : Type 0} (accepted : R → List EventValue) (has_failed : R → R → Type 0) (source : List ℕ) (base : ℕ) (a b c : State) (olds news : List (Lane R)) (start least : ℕ) (rows : List EventValue)
-    → Goes accepted has_failed source base a b olds news → IsSame b c → (HasCleanDisk c → IsTrue b.is_open) → (HasCleanDisk c → ShowsWindow source base start b.now rows)
-    → base ≤ start → (start ≤ least) ⊎ (start ≤ base) → All (IsAhead least) news → length rows ≡ 0 → Ends accepted has_failed source base a c olds news Done
-ends_empty {R} accepted has_failed source base a b c olds news start least rows h k opened shows low top ahead none = record {
-  goes = goes_still accepted has_failed source base a b c olds news h k;
+pub ends_empty : {R : Type 0} (accepted : R → List EventValue) (takes : R → List EventValue → R → Type 0) (has_failed : R → R → Type 0) (source : List ℕ) (base : ℕ) (a b c : State) (olds news : List (Lane R)) (start least : ℕ) (rows : List EventValue)
+    → Goes accepted takes has_failed source base a b olds news → IsSame b c → (HasCleanDisk c → IsTrue b.is_open) → (HasCleanDisk c → ShowsWindow source base start b.now rows)
+    → base ≤ start → (start ≤ least) ⊎ (start ≤ base) → All (IsAhead least) news → length rows ≡ 0 → Ends accepted takes has_failed source base a c olds news Done
+ends_empty {R} accepted takes has_failed source base a b c olds news start least rows h k opened shows low top ahead none = record {
+  goes = goes_still accepted takes has_failed source base a b c olds news h k;
   done = λ is_done clean commands is place d within goes number e it.
       let was : HasCleanDisk b = omega (arith, clean, k.clean) in
       let all = rows_of source base commands in
@@ -142,16 +152,16 @@ ends_empty {R} accepted has_failed source base a b c olds news start least rows 
     no_rows (x ∷ l) is = absurd (omega (arith, is))
 
 -- no lane goes on
-pub ends_stopped : {R : Type 0} (accepted : R → List EventValue) (has_failed : R → R → Type 0) (source : List ℕ) (base : ℕ) (a b : State) (olds news : List (Lane R)) → Goes accepted has_failed source base a b olds news → All IsStopped news → Ends accepted has_failed source base a b olds news Done
-ends_stopped accepted has_failed source base a b olds news h stopped = record {
+pub ends_stopped : {R : Type 0} (accepted : R → List EventValue) (takes : R → List EventValue → R → Type 0) (has_failed : R → R → Type 0) (source : List ℕ) (base : ℕ) (a b : State) (olds news : List (Lane R)) → Goes accepted takes has_failed source base a b olds news → All IsStopped news → Ends accepted takes has_failed source base a b olds news Done
+ends_stopped accepted takes has_failed source base a b olds news h stopped = record {
   goes = h;
   done = λ is_done clean commands is place d within goes number e it. absurd (some_none _ (stopped place d within) goes);
 }
 
 -- the rows couldn't be read
-pub ends_unread : {R : Type 0} (accepted : R → List EventValue) (has_failed : R → R → Type 0) (source : List ℕ) (base : ℕ) (a b c : State) (olds news : List (Lane R)) (f : RelayFault) → Goes accepted has_failed source base a b olds news → IsSame b c → Ends accepted has_failed source base a c olds news (Failed f)
-ends_unread accepted has_failed source base a b c olds news f h k = record {
-  goes = goes_still accepted has_failed source base a b c olds news h k;
+pub ends_unread : {R : Type 0} (accepted : R → List EventValue) (takes : R → List EventValue → R → Type 0) (has_failed : R → R → Type 0) (source : List ℕ) (base : ℕ) (a b c : State) (olds news : List (Lane R)) (f : RelayFault) → Goes accepted takes has_failed source base a b olds news → IsSame b c → Ends accepted takes has_failed source base a c olds news (Failed f)
+ends_unread accepted takes has_failed source base a b c olds news f h k = record {
+  goes = goes_still accepted takes has_failed source base a b c olds news h k;
   done = λ is_done. absurd (cc);
 }
 

@@ -4,9 +4,10 @@ use Rattle.std.proofs.lemmas.Option.{slice_get_within}
 use Rattle.std.proofs.lemmas.List.{take-append-drop, length-append}
 use Rattle.attributes.specs.Event.{EventValue}
 use Rattle.relay.specs.Route.{Has, AreIn}
-use Rattle.relay.specs.Fan.{IsRow, IsAtEnd}
+use Rattle.relay.specs.Fan.{IsRow, IsAtEnd, rows_between}
 use Rattle.relay.specs.steps.Lane.{IsWindow}
 use Rattle.relay.proofs.RouteLemmas.{has_left}
+use Rattle.relay.proofs.LaneLemmas.{between_none}
 
 -- the first rows after a number, at least one of them
 pub first_rows : (base : ℕ) (all : List EventValue) (start limit : ℕ) (rows : List EventValue) → rows ≡ take (suc limit) (drop (start - base) all) → IsWindow base all start rows
@@ -103,3 +104,28 @@ window_end base all start least rows old new w low top ahead forward fits =
       | inl is ↦ inr (omega (arith, is, whole, low, fits))
       | inr is ↦ elim top [ inl near ↦ inl (omega (arith, is.0, whole, near, ahead, forward, fits)) | inr near ↦ inr (omega (arith, is.0, whole, near, fits)) ]
     ]
+
+take_past : (m : ℕ) (a b : List EventValue) → m ≤ length a → take m (a ++ b) ≡ take m a
+take_past zero a b low = refl
+take_past (suc m) [] b low = absurd (omega (arith, low))
+take_past (suc m) (x ∷ a) b low = ap (λ l. x ∷ l) (take_past m a b (omega (arith, low)))
+
+take_nil : (m : ℕ) → ◌≡◌ {A = List EventValue} (take m []) []
+take_nil zero = refl
+take_nil (suc m) = refl
+
+drop_shift : (k m s : ℕ) (l : List EventValue) → drop (k + s) (take (m + s) l) ≡ drop k (take m (drop s l))
+drop_shift k m zero l = ap (λ n. drop n (take (m + 0) l)) (let e : k + 0 ≡ k = omega arith in e) ∙ ap (λ n. drop k (take n l)) (let e : m + 0 ≡ m = omega arith in e)
+drop_shift k m (suc s) [] = ap (drop (k + suc s)) (take_nil (m + suc s)) ∙ drop_empty (k + suc s) ∙ sym (ap (drop k) (take_nil m) ∙ drop_empty k)
+drop_shift k m (suc s) (x ∷ l) = ap (λ n. drop n (take (m + suc s) (x ∷ l))) (let e : k + suc s ≡ suc (k + s) = omega arith in e) ∙ ap (λ n. drop (suc (k + s)) (take n (x ∷ l))) (let e : m + suc s ≡ suc (m + s) = omega arith in e) ∙ drop_shift k m s l
+
+-- the rows between two marks are the same in a window and in the service
+pub between_window : (base : ℕ) (all : List EventValue) (start least : ℕ) (rows : List EventValue) (old new : ℕ) → IsWindow base all start rows → base ≤ start → (start ≤ least) ⊎ (start ≤ base) → least ≤ old → old ≤ new → (new ≡ old) ⊎ (new ≤ start + length rows)
+    → rows_between start rows old new ≡ rows_between base all old new
+between_window base all start least rows old new w low top ahead forward (inl same) =
+    ap (rows_between start rows old) same ∙ between_none start rows old ∙ sym (ap (rows_between base all old) same ∙ between_none base all old)
+between_window base all start least rows old new w low top ahead forward (inr fits) =
+    let from : old - base ≡ old - start + (start - base) = elim top [ inl near ↦ omega (arith, near, ahead, low) | inr near ↦ omega (arith, near, low) ] in
+    let to : new - base ≡ new - start + (start - base) = elim top [ inl near ↦ omega (arith, near, ahead, low, forward) | inr near ↦ omega (arith, near, low) ] in
+    sym (ap (λ n. drop n (take (new - base) all)) from ∙ ap (λ n. drop (old - start + (start - base)) (take n all)) to
+    ∙ drop_shift (old - start) (new - start) (start - base) all ∙ ap (λ l. drop (old - start) (take (new - start) l)) w.whole ∙ ap (drop (old - start)) (take_past (new - start) rows w.rest (omega (arith, fits))))

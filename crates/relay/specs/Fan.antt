@@ -1,7 +1,8 @@
 -- What a fan-out does for each relay and its route.
-use Rattle.std.specs.Prelude.{◌≡◌, ◌⊎◌, ◌<◌, ◌≤◌, ◌+◌, ◌-◌, ⊤, ℕ, suc, List, length, slice_get, Some}
+use Rattle.std.specs.Prelude.{◌≡◌, ◌⊎◌, ◌<◌, ◌≤◌, ◌+◌, ◌-◌, ℕ, suc, List, [], ◌∷◌, ◌++◌, length, take, drop, slice_get, Some}
+use Rattle.std.specs.List.{AllByRecursion}
 use Rattle.attributes.specs.Event.{EventValue}
-use Rattle.relay.specs.Relay.{Marked}
+use Rattle.relay.specs.Relay.{Marked, max_page}
 use Rattle.relay.specs.Route.{Has, AreIn, AreOf}
 use Rattle.relay.specs.declared.fault.RelayFault.{RelayFault}
 use Rattle.relay.specs.declared.fault.RelayFault.TheVariants.{OutOfMemory, RouteFailed, Stranger, Store, NoThread, GateShut}
@@ -21,31 +22,73 @@ AreSent base rows from to events = (number : ℕ) (e : EventValue)
 abbrev pub IsAtEnd : ℕ → List EventValue → ℕ → Type 0
 IsAtEnd base rows mark = (number : ℕ) (e : EventValue) → IsRow base rows number e → number ≤ mark
 
--- what a route shows of a fault: it failed where it is said so, and no outcome was of strangers
-abbrev pub HasCause : {R : Type 0} → (R → R → Type 0) → R → RelayFault → Type 0
-HasCause has_failed route OutOfMemory = ⊤
-HasCause {R} has_failed route RouteFailed = (before : R) × has_failed before route
-HasCause has_failed route Stranger = ⊥
-HasCause has_failed route Store = ⊤
-HasCause has_failed route NoThread = ⊤
-HasCause has_failed route GateShut = ⊤
+-- the rows with a number above `from`, up to `to`, in their order
+abbrev pub rows_between : ℕ → List EventValue → ℕ → ℕ → List EventValue
+rows_between base rows from to = drop (from - base) (take (to - base) rows)
+
+-- the pages one after another
+abbrev pub joined : List (List EventValue) → List EventValue
+joined [] = []
+joined (page ∷ pages) = page ++ joined pages
+
+-- what is sent at once: at least one row, at most a page
+abbrev pub IsPage : List EventValue → Type 0
+IsPage page = (0 < length page) × (length page ≤ max_page)
+
+-- the pages were handed to the route's send, each once, in their order, and each was accepted
+abbrev pub TakesAll : {R : Type 0} → (R → List EventValue → R → Type 0) → R
+    → List (List EventValue) → R → Type 0
+TakesAll takes old [] new = new ≡ old
+TakesAll {R} takes old (page ∷ pages) new =
+    (mid : R) × (takes old page mid × TakesAll takes mid pages new)
+
+-- what a fault did to a route: one send that failed where it is said so, and else nothing; no
+-- outcome was of strangers
+abbrev pub HasCause : {R : Type 0} → (R → R → Type 0) → R → R → RelayFault → Type 0
+HasCause has_failed before route OutOfMemory = route ≡ before
+HasCause has_failed before route RouteFailed = has_failed before route
+HasCause has_failed before route Stranger = ⊥
+HasCause has_failed before route Store = route ≡ before
+HasCause has_failed before route NoThread = route ≡ before
+HasCause has_failed before route GateShut = route ≡ before
+
+-- what an end did to a route
+abbrev pub Closes : {R : Type 0} → (R → R → Type 0) → R → R → End → Type 0
+Closes has_failed before route Done = route ≡ before
+Closes has_failed before route (Failed f) = HasCause has_failed before route f
+
+-- a route was handed these pages and then nothing more, but for one that failed where the end is
+-- that it failed
+pub record Hands {R : Type 0} (takes : R → List EventValue → R → Type 0)
+    (has_failed : R → R → Type 0) (route back : R) (end : End) (pages : List (List EventValue))
+    : Type 0 where
+  pub before : R
+  pub taken : TakesAll takes route pages before
+  pub closed : Closes has_failed before back end
+  pub sized : AllByRecursion IsPage pages
 
 -- a relay and its route, before and after, whatever the disk did: the mark doesn't fall, nothing
--- that was accepted is lost, and a fault has its cause
-pub record Leaves {R : Type 0} (accepted : R → List EventValue) (has_failed : R → R → Type 0)
+-- that was accepted is lost, and the route was handed pages, each once
+pub record Leaves {R : Type 0} (accepted : R → List EventValue)
+    (takes : R → List EventValue → R → Type 0) (has_failed : R → R → Type 0)
     (old new : Marked) (route back : R) (end : End) : Type 0 where
   pub site : new.site ≡ old.site
   pub forward : old.mark ≤ new.mark
   pub kept : AreIn (accepted route) (accepted back)
-  pub cause : (f : RelayFault) → end ≡ Failed f → HasCause has_failed back f
+  pub handed : (pages : List (List EventValue)) × Hands takes has_failed route back end pages
 
 -- a relay and its route, before and after, over the rows of a service: the rows between the marks
--- are accepted, what is new is of the rows, a mark doesn't rise past the last row, and the end is
--- done only where no row is left
-pub record Delivers {R : Type 0} (accepted : R → List EventValue) (base : ℕ)
+-- are accepted, what is new is of the rows, the pages that the route was handed are just the rows
+-- between the marks, a mark doesn't rise past the last row, and the end is done only where no row
+-- is left
+pub record Delivers {R : Type 0} (accepted : R → List EventValue)
+    (takes : R → List EventValue → R → Type 0) (has_failed : R → R → Type 0) (base : ℕ)
     (rows : List EventValue) (old new : Marked) (route back : R) (end : End) : Type 0 where
   pub sent : AreSent base rows old.mark new.mark (accepted back)
   pub new_rows : AreOf (accepted back) (accepted route) rows
+  pub handed : (pages : List (List EventValue))
+      × (Hands takes has_failed route back end pages
+      × (joined pages ≡ rows_between base rows old.mark new.mark))
   pub reached : (new.mark ≡ old.mark) ⊎ (new.mark ≤ base + length rows)
   pub done : end ≡ Done → IsAtEnd base rows new.mark
 

@@ -155,9 +155,10 @@ fn settle<R: Drop>(
 /// stays with the caller's thread, which reads a window of rows at a time, once for all routes.
 ///
 /// A worker's number is its route's place, from 0, and each page of at most 100 rows is a call,
-/// from 1; the gate is asked before it and told after it. `RouteFailed` is the end of a route that
-/// failed, `GateShut` that of one whose gate was shut, `NoThread` where its thread couldn't be
-/// started, `Store` where rows couldn't be read, and `OutOfMemory` for want of memory. The routes
+/// from 1; the gate is asked before it and told after it. Each page is handed to its route once.
+/// `RouteFailed` is the end of a route that failed at its last page, `GateShut` that of one whose
+/// gate was shut, `NoThread` where its thread couldn't be started, `Store` where rows couldn't be
+/// read, and `OutOfMemory` for want of memory; those leave the route as it was. The routes
 /// come back whatever fails. It may wait for as long as routes and gate do.
 ///
 /// Memory for one window and for a page a route; the time is that of the slowest route of each
@@ -182,11 +183,11 @@ pub fn fan_out<H: Threads + Wait + Sync, S: Alter, R: Route + Drop + Send, G: Ga
     ensures not_begun { result.ends.items ≡ []
         → (result.routes.items ≡ routes.items) × (relays.new.items ≡ relays.old.items) }
     ensures each { AtEach relays.old.items relays.new.items routes.items result.routes.items
-        result.ends.items (Leaves R.accepted R.has_failed) }
+        result.ends.items (Leaves R.accepted R.takes R.has_failed) }
     ensures sent { HasCleanDisk (state S.Store service.new.conn) → (commands : List Accepted)
         → IsService (state S.Store service.old.conn).now service.old.source service.old.base commands
         → AtEach relays.old.items relays.new.items routes.items result.routes.items
-        result.ends.items (Delivers R.accepted service.old.base
+        result.ends.items (Delivers R.accepted R.takes R.has_failed service.old.base
         (rows_of service.old.source service.old.base commands)) }
 {
     // What needs memory comes first, so that nothing that was sent goes unreported.

@@ -2,7 +2,7 @@
 
 ghost use Rattle.std.specs.Prelude.{◌≡◌, ◌⊎◌, ◌<◌, ◌≤◌, ◌-◌, ◌+◌, length, None, OnOk, IfOk, IfErr};
 ghost use Rattle.relay.specs.Route.{AreIn, AreOf};
-ghost use Rattle.relay.specs.Fan.{AreSent, HasCause};
+ghost use Rattle.relay.specs.Fan.{AreSent, HasCause, IsPage, rows_between};
 ghost use Rattle.relay.specs.steps.Lane.{Carries, left};
 ghost use Rattle.relay.specs.declared.fault.RelayFault.TheVariants.{OutOfMemory, Store};
 
@@ -37,6 +37,7 @@ fn copied(alloc: Global, rows: &Batch, from: u64, to: u64) -> Result<Batch, Allo
     requires high { to ≤ length rows.now }
     ensures there { IfOk result (λ page. AreSent 0 rows.now from to page) }
     ensures rows { IfOk result (λ page. AreIn page rows.now) }
+    ensures exact { IfOk result (λ page. page ≡ rows_between 0 rows.now from to) }
 {
     let mut page = Batch::empty(alloc);
     for i in from..to {
@@ -54,6 +55,8 @@ fn next_page(alloc: Global, rows: &Batch, start: u64, mark: u64) -> Result<Page,
     ensures last { IfOk result (λ p. (mark < p.last) × (p.last ≤ start + length rows.now)) }
     ensures there { IfOk result (λ p. AreSent start rows.now mark p.last p.rows) }
     ensures rows { IfOk result (λ p. AreIn p.rows rows.now) }
+    ensures exact { IfOk result (λ p. p.rows ≡ rows_between start rows.now mark p.last) }
+    ensures sized { IfOk result (λ p. IsPage p.rows) }
     ensures fault { IfErr result (λ f. (f ≡ OutOfMemory) ⊎ (f ≡ Store)) }
 {
     let from = mark.saturating_sub(start);
@@ -78,7 +81,8 @@ fn send_page<R: Route, G: Gate>(
     ensures sent { OnOk result (AreIn page.now (R.accepted route.new)) }
     ensures kept { AreIn (R.accepted route.old) (R.accepted route.new) }
     ensures new { AreOf (R.accepted route.new) (R.accepted route.old) page.now }
-    ensures fault { IfErr result (HasCause R.has_failed route.new) }
+    ensures took { OnOk result (R.takes route.old page.now route.new) }
+    ensures fault { IfErr result (HasCause R.has_failed route.old route.new) }
 {
     match gate.before(worker, call) {
         Ok(()) => {}
@@ -103,7 +107,7 @@ fn send_next<R: Route, G: Gate>(
 ) -> Lane<R>
     requires going { lane.fault ≡ None }
     requires more { lane.relay.mark - start < length rows.now }
-    ensures carried { Carries R.accepted R.has_failed start rows.now lane result }
+    ensures carried { Carries R.accepted R.takes R.has_failed start rows.now lane result }
     ensures less { left start rows.now result < left start rows.now lane }
 {
     let Lane {
@@ -149,7 +153,7 @@ pub(crate) fn carry_lane<R: Route, G: Gate>(
     worker: u64,
     lane: Lane<R>,
 ) -> Lane<R>
-    ensures { Carries R.accepted R.has_failed start rows.now lane result }
+    ensures { Carries R.accepted R.takes R.has_failed start rows.now lane result }
 {
     let mut lane = lane;
     'pages: while lane.fault.is_none() && lane.relay.mark().saturating_sub(start) < rows.len() {

@@ -60,7 +60,7 @@ pub(crate) fn run_rounds<
 ) -> (Vec<Lane<R>>, End)
     ensures kept_service { (service.new.source ≡ service.old.source)
         × (service.new.base ≡ service.old.base) × (service.new.last ≡ service.old.last) }
-    ensures ends { Ends R.accepted R.has_failed service.old.source service.old.base
+    ensures ends { Ends R.accepted R.takes R.has_failed service.old.source service.old.base
         (state S.Store service.old.conn) (state S.Store service.new.conn)
         lanes.items result.0.items result.1 }
     ensures fault { (f : _) → result.1 ≡ Failed f → (f ≡ OutOfMemory) ⊎ (f ≡ Store) }

@@ -30,7 +30,7 @@ impl<R: Route> Promise<Lane<R>> for Carried<R> {
     ghost use Rattle.relay.specs.steps.Lane.{Carries};
 
     ghost kept_by = { λ p lane.
-        Carries R.accepted R.has_failed p.start p.rows.value p.lane.value lane };
+        Carries R.accepted R.takes R.has_failed p.start p.rows.value p.lane.value lane };
 }
 
 /// Adds a value where there is room for it.
@@ -48,7 +48,7 @@ pub(crate) fn put<T: Drop>(list: &mut Vec<T>, value: T)
 #[tactic(auto, using(crate::proofs::LaneLemmas::sent_none))]
 fn unstarted<R: Route>(lane: Lane<R>) -> Lane<R>
     ensures { (start : ℕ) (rows : List EventValue)
-        → Carries R.accepted R.has_failed start rows lane result }
+        → Carries R.accepted R.takes R.has_failed start rows lane result }
 {
     if lane.fault.is_some() {
         return lane;
@@ -78,7 +78,7 @@ pub(crate) fn run_lanes<H: Threads + Wait + Sync, R: Route + Drop + Send, G: Gat
     gate: &G,
     mut lanes: Vec<Lane<R>>,
 ) -> Vec<Lane<R>>
-    ensures carried { Each (Carries R.accepted R.has_failed start rows.now)
+    ensures carried { Each (Carries R.accepted R.takes R.has_failed start rows.now)
         lanes.items result.items }
     ensures room { vec_capacity lanes ≤ vec_capacity result }
 {
@@ -107,14 +107,14 @@ pub(crate) fn run_lanes<H: Threads + Wait + Sync, R: Route + Drop + Send, G: Gat
             requires { IsSync H.row × IsSync G.row × IsSend R.row
                 × (vec_len lanes < vec_capacity lanes) × (promise.lane.value ≡ lane)
                 × (promise.rows.value ≡ rows.now) × (promise.start ≡ start) }
-            ensures { Each (Carries R.accepted R.has_failed start rows.entry.now)
+            ensures { Each (Carries R.accepted R.takes R.has_failed start rows.entry.now)
                 (lanes.items ++ lane ∷ []) result.items
                 × (vec_capacity lanes ≤ vec_capacity result) }
         {
             let child = scope.spawn_with(
                 promise,
                 move || -> Lane<R>
-                    ensures { Carries R.accepted R.has_failed start rows.entry.now lane result }
+                    ensures { Carries R.accepted R.takes R.has_failed start rows.entry.now lane result }
                 {
                     if refused.load(Ordering::SeqCst) {
                         unstarted(lane)
