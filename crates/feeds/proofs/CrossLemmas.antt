@@ -15,7 +15,6 @@ use mir.Syntax.{Sym, Ty, w64}
 use Prim.Native.Nat.{ℕ}
 use Rattle.std.proofs.Crossing as heap
 use Rattle.std.proofs.MapsCrossing as maps
-use Rattle.serde_json.proofs.value.Value.TheLaws.TheKnot as tree
 use Rattle.attributes.specs.contracts.batch.Batch as batch
 use Rattle.coverage.specs.contracts.intervals.Intervals as intervals
 use Rattle.coverage.specs.contracts.summary.Summary as summary
@@ -29,14 +28,10 @@ use Rattle.feeds.specs.contracts.asking.Asked as asked
 use Rattle.feeds.specs.contracts.serving.worker.Finished as finished
 use Rattle.feeds.specs.contracts.serving.worker.Job as job
 use Rattle.feeds.specs.contracts.serving.worker.Outcome as outcome
-use Rattle.feeds.specs.contracts.serving.worker.Work as work
 
--- sites and answers have events, which hold JSON trees
-work_is_send : IsSend (enum.Enum (enum_declared.shape work.the_type))
-work_is_send = search (maps.crosses, heap.crosses, tree.crosses, sendable) depth 60 fits 20000
-
+-- the answers to questions: no single search finds them
 batch_is_send : IsSend batch.the_row
-batch_is_send = search (maps.crosses, heap.crosses, tree.crosses, sendable) depth 60 fits 20000
+batch_is_send = search (heap.crosses, sendable) depth 60 fits 20000
 
 intervals_is_send : IsSend intervals.the_row
 intervals_is_send = search (maps.crosses, heap.crosses, sendable) depth 60 fits 20000
@@ -45,7 +40,7 @@ summary_is_send : IsSend summary.the_row
 summary_is_send = search (maps.crosses, heap.crosses, sendable) depth 60 fits 20000
 
 conflict_is_send : IsSend conflict.the_row
-conflict_is_send = search (maps.crosses, heap.crosses, tree.crosses, sendable) depth 60 fits 20000
+conflict_is_send = search (heap.crosses, sendable) depth 60 fits 20000
 
 answer_is_send : IsSend answer.the_row
 answer_is_send = recorded_send (answer.the_field).row _ _ (answer.the_type).to_one (enum_send (enum_declared.shape answer.the_type) (
@@ -78,7 +73,7 @@ outcome_is_send : IsSend (enum.Enum (enum_declared.shape outcome.the_type))
 outcome_is_send = enum_send (enum_declared.shape outcome.the_type) ((search (heap.crosses, sendable) depth 60 fits 20000, tt), ((asked_is_send, tt), tt))
 
 pub job_is_send : PassesAreSend → IsSend job.the_row
-job_is_send pass = recorded_send (job.the_field).row _ _ (job.the_type).to_one (struct_send (declared.shape job.the_type) (work_is_send, (pass, tt)))
+job_is_send pass = recorded_send (job.the_field).row _ _ (job.the_type).to_one (struct_send (declared.shape job.the_type) (search (maps.crosses, heap.crosses, sendable) depth 60 fits 20000, (pass, tt)))
 
 pub finished_is_send : PassesAreSend → IsSend finished.the_row
 finished_is_send pass = recorded_send (finished.the_field).row _ _ (finished.the_type).to_one (struct_send (declared.shape finished.the_type) (outcome_is_send, (pass, tt)))

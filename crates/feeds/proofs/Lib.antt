@@ -1,5 +1,6 @@
-pub mod TallyLemmas
+mod CauseLemmas
+mod CrossLemmas
 pub mod AskLemmas
 pub mod PullLemmas
 pub mod ServeLemmas
-mod CrossLemmas
+pub mod TallyLemmas

@@ -19,13 +19,14 @@ use Rattle.site.specs.declared.call.Reply.TheVariants.{Answered, Paged, Refused,
 use Rattle.site.specs.declared.desk.DeskFault.{DeskFault}
 use Rattle.site.specs.declared.desk.DeskFault.TheVariants as desk
 use Rattle.feeds.specs.Pull.{ArePages, Brings, EndsEmpty, Holds, IsUnbegun, Pulled, Pulls, events_in, replied}
-use Rattle.feeds.specs.Report.{EndsEarly, Handles, handled, reported}
+use Rattle.feeds.specs.Report.{AreAnswered, EndsEarly, Handles, HasCause, HasCauseIf, IsRefused, handled, reported}
 use Rattle.feeds.specs.declared.report.Ended.{Ended}
-use Rattle.feeds.specs.declared.report.Ended.TheVariants.{Done, OutOfMemory}
+use Rattle.feeds.specs.declared.report.Ended.TheVariants.{BadInput, Done, GateShut, OutOfMemory}
 use Rattle.feeds.specs.declared.report.Report.{Report}
 use Rattle.feeds.specs.declared.report.Tally.{Tally}
-use Rattle.feeds.specs.steps.Pull.{HasSameCounts, Moves, Pages, Pulling}
+use Rattle.feeds.specs.steps.Pull.{HasSameCounts, Moves, Pages, Pulling, Sums}
 use Rattle.feeds.specs.steps.Tally.{Flushed, Gains}
+use Rattle.feeds.proofs.CauseLemmas.{answered-append, answered_if, cause_behind, cause_if, early_if, last_refused, refused_fault}
 use Rattle.feeds.proofs.TallyLemmas.{empty_is, fresh-append, handled-append, repeated-append, takes-append}
 
 -- a page has at most 100 events
@@ -103,14 +104,15 @@ ends-append [] n h = h
 ends-append (c ∷ cs) n h = ends-cons c (cs ++ n) (ends-append cs n h)
 
 -- no page was got
-moved_nothing : (peer : Sources) (m : List Call) (t u : Tally) (ended : Ended) → EndsEarly ended → ArePages peer (t.fresh + t.repeated) m → replied m ≡ [] → HasSameCounts t u → Moves peer m [] t u (Some ended)
-moved_nothing peer m t u ended early pages none same = record {
+moved_nothing : (peer : Sources) (m : List Call) (t u : Tally) (ended : Ended) → EndsEarly ended → HasCause m ended → ArePages peer (t.fresh + t.repeated) m → replied m ≡ [] → HasSameCounts t u → Moves peer m [] t u (Some ended)
+moved_nothing peer m t u ended early cause pages none same = record {
   pages = pages;
   handles = record { takes = tt; rest = []; order = sym none };
   counted = record { fresh = omega (arith, same.0); repeated = omega (arith, same.1); refused = same.2; all = refl };
   most = omega (arith, ap length none);
   whole = λ k. absurd (cc);
   ended = λ e k. let is : ended ≡ e = cc in inr (subst EndsEarly is early);
+  cause = (cause, inl tt);
   done = λ k. let is : ended ≡ Done = cc in absurd (subst EndsEarly is early);
 }
 
@@ -118,9 +120,11 @@ no_events : (fault : DeskFault) → events_in (refused fault) ≡ []
 no_events (desk.OutOfMemory taken fresh) = refl
 
 pub moved_not : (peer : Sources) (m : List Call) (t u : Tally) (ended : Ended) → Pages peer (t.fresh + t.repeated) m (Err ended) → HasSameCounts t u → Moves peer m [] t u (Some ended)
-moved_not peer m t u ended (never, inl none) same = subst (λ z. Moves peer z [] t u (Some ended)) (sym none) (moved_nothing peer [] t u ended never tt refl same)
-moved_not peer m t u ended (never, inr (fault, one)) same = subst (λ z. Moves peer z [] t u (Some ended)) (sym one)
-    (moved_nothing peer (call (command.DeltaPage peer (t.fresh + t.repeated) 100) (refused fault) ∷ []) t u ended never (refl, tt) (append-nil (events_in (refused fault)) ∙ no_events fault) same)
+moved_not peer m t u GateShut none same = subst (λ z. Moves peer z [] t u (Some GateShut)) (sym none) (moved_nothing peer [] t u GateShut tt (inl tt) tt refl same)
+moved_not peer m t u OutOfMemory (fault, one) same = let c : Call = call (command.DeltaPage peer (t.fresh + t.repeated) 100) (refused fault) in subst (λ z. Moves peer z [] t u (Some OutOfMemory)) (sym one)
+    (moved_nothing peer (c ∷ []) t u OutOfMemory tt (inr (last_refused c (refused_fault fault), refl)) (refl, tt) (append-nil (events_in (refused fault)) ∙ no_events fault) same)
+moved_not peer m t u Done never same = absurd never
+moved_not peer m t u (BadInput f) never same = absurd never
 
 -- the page was empty
 pub moved_last : (peer : Sources) (m : List Call) (t u : Tally) (L : List EventValue) → Pages peer (t.fresh + t.repeated) m (Ok L) → length L ≡ 0 → HasSameCounts t u → Moves peer m [] t u (Some Done)
@@ -132,11 +136,15 @@ moved_last peer m t u [] page empty same = subst (λ z. Moves peer z [] t u (Som
   most = omega arith;
   whole = λ k. absurd (cc);
   ended = λ e k. let is : Done ≡ e = cc in inl (sym is);
+  cause = (inl ((λ r. r), tt), inl tt);
   done = λ k. (refl, refl, refl);
 })
 
 pub replied_page : (peer : Sources) (place : ℕ) (m : List Call) (L : List EventValue) → Pages peer place m (Ok L) → replied m ≡ L
 replied_page peer place m L page = ap replied page.0 ∙ append-nil L
+
+answered_page : (peer : Sources) (place : ℕ) (m : List Call) (L : List EventValue) → Pages peer place m (Ok L) → AreAnswered m
+answered_page peer place m L page = subst (λ (z : List Call). AreAnswered z) (sym page.0) ((λ r. r), tt)
 
 -- the page was handed over
 pub moved : (peer : Sources) (m n : List Call) (t s u : Tally) (L left : List EventValue) (o : Option Ended) → Pages peer (t.fresh + t.repeated) m (Ok L) → HasSameCounts t s → Flushed n L left s u o → Moves peer m n t u o
@@ -146,12 +154,13 @@ moved peer m n t s u L left o page same f = let is = replied_page peer (t.fresh 
   counted = record { fresh = omega (arith, same.0, k.fresh); repeated = omega (arith, same.1, k.repeated); refused = k.refused ∙ same.2; all = k.all };
   most = omega (arith, ap length is, page.1);
   whole = λ none. (f.whole none).0 ∙ sym is;
-  ended = λ e k. inr (f.early e k);
-  done = λ k. absurd (f.early Done k);
+  ended = λ e k. inr (early_if n o e k f.stop);
+  cause = (answered_if m o (answered_page peer (t.fresh + t.repeated) m L page), cause_if n o f.stop);
+  done = λ k. absurd (early_if n o Done k f.stop);
 }
 
 pub pulling_start : (peer : Sources) (t : Tally) → t ≡ record { calls = 1; fresh = 0; repeated = 0; refused = 0 } → Pulling peer [] [] t
-pulling_start peer t is = record { pages = tt; takes = tt; order = refl; fresh = ap (λ z. z.fresh) is; repeated = ap (λ z. z.repeated) is; all = refl; refused = ap (λ z. z.refused) is }
+pulling_start peer t is = record { pages = tt; takes = tt; order = refl; fresh = ap (λ z. z.fresh) is; repeated = ap (λ z. z.repeated) is; all = refl; refused = ap (λ z. z.refused) is; answered = (tt, tt) }
 
 -- what was counted is where the next page begins
 place_is : (peer : Sources) (m n : List Call) (t : Tally) → Pulling peer m n t → t.fresh + t.repeated ≡ length (replied m)
@@ -169,6 +178,10 @@ pulls_on peer m n k l t u o none p moves = let c = moves.counted in record {
   repeated = omega (arith, repeated-append n l, p.repeated, c.repeated);
   all = omega (arith, fresh-append n l, repeated-append n l, ap length (handled-append n l), length-append (handled n) (handled l), p.all, c.all);
   refused = c.refused ∙ p.refused;
+  answered = (
+    answered-append m k p.answered.0 (subst (λ (z : Option Ended). HasCauseIf k z) none moves.cause.0),
+    answered-append n l p.answered.1 (subst (λ (z : Option Ended). HasCauseIf l z) none moves.cause.1),
+  );
 }
 
 -- a page adds at most 100 to the counts
@@ -192,6 +205,10 @@ pull_stops peer m n k l t u o ended is p moves = let c = moves.counted in let hs
   };
   refused = c.refused ∙ p.refused;
   ended = moves.ended ended is;
+  cause = (
+    cause_behind m k ended p.answered.0 (subst (λ (z : Option Ended). HasCauseIf k z) is moves.cause.0),
+    cause_behind n l ended p.answered.1 (subst (λ (z : Option Ended). HasCauseIf l z) is moves.cause.1),
+  );
   done = λ d. let e = moves.done (is ∙ ap Some d) in
       (handled-append n l ∙ ap (λ z. z ++ handled l) p.order ∙ ap (λ z. replied m ++ z) e.0 ∙ sym (replied-append m k), ends-append m k e.2);
 }
@@ -203,16 +220,30 @@ pull_short peer m n t p = record {
   counts = record { fresh = p.fresh; repeated = p.repeated; handled = omega (arith, p.fresh, p.repeated, p.all); read = refl };
   refused = p.refused;
   ended = inr tt;
+  cause = (inl p.answered.0, inl p.answered.1);
   done = λ d. absurd (cc);
 }
 
-pub unbegun : (n : List Call) (t : Tally) (ended : Ended) (r : Report) → EndsEarly ended → (n ≡ []) ⊎ ((reply : Reply) × (n ≡ call command.Summary reply ∷ []))
+pub early_sum : (n : List Call) (ended : Ended) → Sums n (Err ended) → EndsEarly ended
+early_sum n OutOfMemory h = tt
+early_sum n GateShut h = tt
+early_sum n Done h = h
+early_sum n (BadInput f) h = absurd h
+
+asked_once : (n : List Call) (ended : Ended) → Sums n (Err ended) → ((ended ≡ GateShut) × (n ≡ [])) ⊎ ((ended ≡ OutOfMemory) × ((reply : Reply) × IsRefused reply × (n ≡ call command.Summary reply ∷ [])))
+asked_once n OutOfMemory h = inr (refl, (refused h.0, refused_fault h.0, h.1))
+asked_once n GateShut h = inl (refl, h)
+asked_once n Done h = absurd h
+asked_once n (BadInput f) h = absurd h
+
+pub unbegun : (n : List Call) (t : Tally) (ended : Ended) (r : Report) → Sums n (Err ended)
     → t ≡ record { calls = 0; fresh = 0; repeated = 0; refused = 0 } → r ≡ reported t ended → IsUnbegun [] n r
-unbegun n t ended r early asked start is =
-    let same : r ≡ reported (record { calls = 0; fresh = 0; repeated = 0; refused = 0 }) ended = is ∙ ap (λ z. reported z ended) start in record {
+unbegun n t ended r sums start is =
+    let same : r ≡ reported (record { calls = 0; fresh = 0; repeated = 0; refused = 0 }) ended = is ∙ ap (λ z. reported z ended) start in
+    let ends : ended ≡ r.ended = sym (ap (λ (z : Report). z.ended) is) in record {
       no_pages = refl;
-      asked = asked;
-      early = subst EndsEarly (sym (ap (λ z. z.ended) is)) early;
+      asked = subst (λ (z : Ended). ((z ≡ GateShut) × (n ≡ [])) ⊎ ((z ≡ OutOfMemory) × ((reply : Reply) × IsRefused reply × (n ≡ call command.Summary reply ∷ [])))) ends (asked_once n ended sums);
+      early = subst EndsEarly ends (early_sum n ended sums);
       counts = same ∙ ap (λ z. reported (record { calls = 0; fresh = 0; repeated = 0; refused = 0 }) z) (sym (ap (λ z. z.ended) is));
     }
 

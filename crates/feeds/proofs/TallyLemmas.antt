@@ -15,12 +15,13 @@ use Rattle.site.specs.declared.call.Call.{Call}
 use Rattle.site.specs.declared.call.Command.TheVariants as command
 use Rattle.site.specs.declared.desk.DeskFault.{DeskFault}
 use Rattle.site.specs.declared.desk.DeskFault.TheVariants as desk
-use Rattle.feeds.specs.Report.{AreTakes, EndsEarly, Tells, fresh_of, handled, has_number, repeated_of, reported, sequenced, unsequenced}
+use Rattle.feeds.specs.Report.{AreTakes, EndsEarly, HasCause, Tells, fresh_of, handled, has_number, repeated_of, reported, sequenced, unsequenced}
 use Rattle.feeds.specs.declared.report.Ended.{Ended}
 use Rattle.feeds.specs.declared.report.Ended.TheVariants.{Done, GateShut, OutOfMemory}
 use Rattle.feeds.specs.declared.report.Report.{Report}
 use Rattle.feeds.specs.declared.report.Tally.{Tally}
-use Rattle.feeds.specs.steps.Tally.{Flushed, FlushedIfFull, Going, Passes, short_of}
+use Rattle.feeds.specs.steps.Tally.{Flushed, FlushedIfFull, Going, Passes, StopsBy, short_of}
+use Rattle.feeds.proofs.CauseLemmas.{answered-append, early_by, last_refused, stop_behind}
 
 module _ {K : Type 0} (R : K → K → Ordering) where
   length-append_new : (A xs : List K) → length (append_new R A xs) ≤ length A + length xs
@@ -36,11 +37,11 @@ pub refused_within : (A B L : List EventValue) (fault : DeskFault) → Follows A
 refused_within A B L (desk.OutOfMemory taken fresh) h = let D : List EventValue = A ++ h.0 in
     (omega (arith, length-append_new key_cmp D (take taken L), length-take taken L, h.1.0, h.1.1), h.1.1)
 
-pub flushed_ok : (A B L left : List EventValue) (counts : inbox.Counts) (t u : Tally) (o : Option Ended) → Follows A (call (command.Take L) (took (Ok counts))) B
+pub flushed_ok : (A B L left : List EventValue) (counts : inbox.Counts) (t u : Tally) (o : Option Ended) → length L ≤ 100 → Follows A (call (command.Take L) (took (Ok counts))) B
     → left ≡ [] → u.fresh ≡ t.fresh + counts.fresh → u.repeated ≡ t.repeated + counts.repeated → u.refused ≡ t.refused → o ≡ None
     → Flushed (call (command.Take L) (took (Ok counts)) ∷ []) L left t u o
-flushed_ok A B L left counts t u o h e fresh repeated refused nothing = record {
-  handles = record { takes = (tt, tt); rest = []; order = append-nil (L ++ []) ∙ append-nil L };
+flushed_ok A B L left counts t u o few h e fresh repeated refused nothing = record {
+  handles = record { takes = (few, tt); rest = []; order = append-nil (L ++ []) ∙ append-nil L };
   counted = record {
     fresh = omega (arith, fresh);
     repeated = omega (arith, repeated);
@@ -48,14 +49,14 @@ flushed_ok A B L left counts t u o h e fresh repeated refused nothing = record {
     all = omega (arith, h.1.1, ap length (append-nil L));
   };
   whole = λ _. (append-nil L, e);
-  early = λ e k. absurd (cc);
+  stop = subst (λ (z : Option Ended). StopsBy (call (command.Take L) (took (Ok counts)) ∷ []) z) (sym nothing) ((λ r. r), tt);
 }
 
-pub flushed_short : (A B L left : List EventValue) (fault : DeskFault) (short : Short) (t u : Tally) (o : Option Ended) → Follows A (call (command.Take L) (took (Err fault))) B
+pub flushed_short : (A B L left : List EventValue) (fault : DeskFault) (short : Short) (t u : Tally) (o : Option Ended) → length L ≤ 100 → Follows A (call (command.Take L) (took (Err fault))) B
     → short ≡ short_of fault → u.fresh ≡ t.fresh + short.fresh → u.repeated ≡ t.repeated + (short.taken - short.fresh) → u.refused ≡ t.refused → o ≡ Some OutOfMemory
     → Flushed (call (command.Take L) (took (Err fault)) ∷ []) L left t u o
-flushed_short A B L left (desk.OutOfMemory taken fresh) short t u o h is grew again refused some = record {
-  handles = record { takes = (tt, tt); rest = drop taken L; order = ap (λ z. z ++ drop taken L) (append-nil (take taken L)) ∙ take-append-drop taken L };
+flushed_short A B L left (desk.OutOfMemory taken fresh) short t u o few h is grew again refused some = record {
+  handles = record { takes = (few, tt); rest = drop taken L; order = ap (λ z. z ++ drop taken L) (append-nil (take taken L)) ∙ take-append-drop taken L };
   counted = record {
     fresh = omega (arith, grew, ap (λ z. z.fresh) is);
     repeated = omega (arith, again, ap (λ z. z.fresh) is, ap (λ z. z.taken) is);
@@ -63,7 +64,7 @@ flushed_short A B L left (desk.OutOfMemory taken fresh) short t u o h is grew ag
     all = let within = refused_within A B L (desk.OutOfMemory taken fresh) h in omega (arith, within.0, within.1, ap length (append-nil (take taken L)), length-take taken L);
   };
   whole = λ k. absurd (cc);
-  early = λ e k. let same : OutOfMemory ≡ e = cc in subst EndsEarly same tt;
+  stop = let c : Call = call (command.Take L) (took (Err (desk.OutOfMemory taken fresh))) in subst (λ (z : Option Ended). StopsBy (c ∷ []) z) (sym some) (last_refused c tt);
 }
 
 pub flushed_not : (L left : List EventValue) (t u : Tally) (o : Option Ended) → u.fresh ≡ t.fresh → u.repeated ≡ t.repeated → u.refused ≡ t.refused → o ≡ Some GateShut
@@ -72,7 +73,7 @@ flushed_not L left t u o fresh repeated refused shut = record {
   handles = record { takes = tt; rest = L; order = refl };
   counted = record { fresh = omega (arith, fresh); repeated = omega (arith, repeated); refused = refused; all = refl };
   whole = λ k. absurd (cc);
-  early = λ e k. let same : GateShut ≡ e = cc in subst EndsEarly same tt;
+  stop = subst (λ (z : Option Ended). StopsBy [] z) (sym shut) tt;
 }
 
 pub handled-append : (m n : List Call) → handled (m ++ n) ≡ handled m ++ handled n
@@ -112,7 +113,7 @@ both_kinds (e ∷ es) = elim (has_number e) as (λ b. length (cond b (e ∷ sequ
 ]
 
 pub going_start : (t : Tally) → t ≡ record { calls = 0; fresh = 0; repeated = 0; refused = 0 } → Going [] [] [] t
-going_start t is = record { takes = tt; order = refl; fresh = ap (λ z. z.fresh) is; repeated = ap (λ z. z.repeated) is; all = refl; refused = ap (λ z. z.refused) is }
+going_start t is = record { takes = tt; order = refl; fresh = ap (λ z. z.fresh) is; repeated = ap (λ z. z.repeated) is; all = refl; refused = ap (λ z. z.refused) is; answered = tt }
 
 -- all that was passed is counted or waits
 pub bounded : (L : List EventValue) (m : List Call) (b : List EventValue) (t : Tally) → Going L m b t → t.fresh + t.repeated + length b + t.refused ≡ length L
@@ -127,6 +128,7 @@ skips L e m b t u g no_number is = record {
   all = g.all;
   refused = let more = ap length (filter-append (λ d. not (has_number d)) L (e ∷ []) ∙ ap (λ z. unsequenced L ++ z) (one_refused e no_number)) in
       omega (arith, ap (λ z. z.refused) is, g.refused, more, length-append (unsequenced L) (e ∷ []));
+  answered = g.answered;
 }
 
 keeps : (L : List EventValue) (e : EventValue) (m : List Call) (b c : List EventValue) (t : Tally) → Going L m b t → has_number e ≡ true → c ≡ b ++ e ∷ [] → Going (L ++ e ∷ []) m c t
@@ -138,6 +140,7 @@ keeps L e m b c t g numbered is = record {
   repeated = g.repeated;
   all = g.all;
   refused = g.refused ∙ ap length (sym (filter-append (λ d. not (has_number d)) L (e ∷ []) ∙ ap (λ z. unsequenced L ++ z) (not_refused e numbered) ∙ append-nil (unsequenced L)));
+  answered = g.answered;
 }
 
 pub goes : (L : List EventValue) (e : EventValue) (m : List Call) (b c : List EventValue) (t u : Tally) → Going L m b t → Passes e b c t u → Going (L ++ e ∷ []) m c u
@@ -159,6 +162,7 @@ flushes L m n b left t u g f = let w = f.whole refl in let k = f.counted in reco
   repeated = omega (arith, repeated-append m n, g.repeated, k.repeated);
   all = omega (arith, fresh-append m n, repeated-append m n, ap length (handled-append m n), length-append (handled m) (handled n), g.all, k.all);
   refused = k.refused ∙ g.refused;
+  answered = answered-append m n g.answered f.stop;
 }
 
 pub stops : (all L rest : List EventValue) (m n : List Call) (b left : List EventValue) (t u : Tally) (e : Ended) (r : Report) → L ++ rest ≡ all → Going L m b t → Flushed n b left t u (Some e) → r ≡ reported u e
@@ -180,8 +184,9 @@ stops all L rest m n b left t u e r split g f is = let k = f.counted in let hs =
   };
   refused = ap (λ z. z.refused) is ∙ k.refused ∙ g.refused;
   most = omega (arith, ap (λ z. z.read) is, bounded L m b t g, k.fresh, k.repeated, k.refused, k.all, ap length hs.order, length-append (handled n) hs.rest, ap length split, length-append L rest);
-  ended = inr (subst EndsEarly (sym (ap (λ z. z.ended) is)) (f.early e refl));
-  done = λ d. absurd (subst EndsEarly (sym (ap (λ z. z.ended) is) ∙ d) (f.early e refl));
+  ended = inr (subst EndsEarly (sym (ap (λ z. z.ended) is)) (early_by n e f.stop));
+  cause = subst (λ z. HasCause (m ++ n) z) (sym (ap (λ z. z.ended) is)) (stop_behind m n e g.answered f.stop);
+  done = λ d. absurd (subst EndsEarly (sym (ap (λ z. z.ended) is) ∙ d) (early_by n e f.stop));
 }
 
 pub stops_here : (all L rest : List EventValue) (m : List Call) (b : List EventValue) (t : Tally) (e : Ended) (r : Report) → L ++ rest ≡ all → Going L m b t → EndsEarly e → r ≡ reported t e → Tells all m r
@@ -199,6 +204,7 @@ stops_here all L rest m b t e r split g early is = record {
   refused = ap (λ z. z.refused) is ∙ g.refused;
   most = omega (arith, ap (λ z. z.read) is, bounded L m b t g, ap length split, length-append L rest);
   ended = inr (subst EndsEarly (sym (ap (λ z. z.ended) is)) early);
+  cause = inl g.answered;
   done = λ d. absurd (subst EndsEarly (sym (ap (λ z. z.ended) is) ∙ d) early);
 }
 
@@ -222,6 +228,7 @@ ends all L rest m b t r split none g empty is = let same : L ≡ all = sym (appe
       refused = ap (λ z. z.refused) is ∙ g.refused;
       most = omega (arith, ap (λ z. z.read) is, bounded L m b t g, ap length same);
       ended = inl (ap (λ z. z.ended) is);
+      cause = inl g.answered;
       done = λ _. (handled_all ∙ ap sequenced same, omega (arith, ap (λ z. z.read) is, bounded L m b t g, ap length same, empty));
     }
 

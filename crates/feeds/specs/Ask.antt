@@ -7,7 +7,7 @@ use Rattle.site.specs.declared.call.Reply.{Reply}
 use Rattle.site.specs.declared.call.Reply.TheVariants.{Answered}
 use Rattle.views.specs.declared.query.Answer.{Answer}
 use Rattle.views.specs.declared.query.Query.{Query}
-use Rattle.feeds.specs.Report.{EndsEarly}
+use Rattle.feeds.specs.Report.{EndsEarly, HasCause}
 use Rattle.feeds.specs.declared.asking.Asked.{Asked}
 use Rattle.feeds.specs.declared.report.Ended.{Ended}
 use Rattle.feeds.specs.declared.report.Ended.TheVariants.{Done, OutOfMemory}
@@ -42,5 +42,6 @@ pub record Asks (queries : List Query) (m : List Call) (r : Asked) : Type 0 wher
   pub calls : commands_of m ≡ map command.Query asked
   pub answers : KeepsAnswers m r.answers r.ended
   pub ended : (r.ended ≡ Done) ⊎ EndsEarly r.ended
+  pub cause : HasCause m r.ended
   pub done : r.ended ≡ Done → (asked ≡ queries) × (r.answers ≡ answers_of m)
       × (length r.answers ≡ length queries)

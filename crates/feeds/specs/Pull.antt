@@ -12,8 +12,8 @@ use Rattle.site.specs.declared.call.Call.{Call}
 use Rattle.site.specs.declared.call.Command.TheVariants as command
 use Rattle.site.specs.declared.call.Reply.{Reply}
 use Rattle.site.specs.declared.call.Reply.TheVariants.{Paged, Summed}
-use Rattle.feeds.specs.Report.{Counts, EndsEarly, Handles, handled}
-use Rattle.feeds.specs.declared.report.Ended.TheVariants.{Done}
+use Rattle.feeds.specs.Report.{Counts, EndsEarly, Handles, HasCause, IsRefused, handled}
+use Rattle.feeds.specs.declared.report.Ended.TheVariants.{Done, GateShut, OutOfMemory}
 use Rattle.feeds.specs.declared.report.Report.{Report}
 
 -- the events of a page; any other reply has none
@@ -51,12 +51,15 @@ pub record Pulled (peer : Sources) (m n : List Call) (r : Report) : Type 0 where
   pub counts : Counts n r
   pub refused : r.refused ≡ 0
   pub ended : (r.ended ≡ Done) ⊎ EndsEarly r.ended
+  pub cause : HasCause m r.ended × HasCause n r.ended
   pub done : r.ended ≡ Done → (handled n ≡ replied m) × EndsEmpty m
 
--- a pull that got no summary: it did nothing else
+-- a pull that got no summary: it did nothing else. The gate was shut before it asked for one, or
+-- this was refused
 pub record IsUnbegun (m n : List Call) (r : Report) : Type 0 where
   pub no_pages : m ≡ []
-  pub asked : (n ≡ []) ⊎ ((reply : Reply) × (n ≡ call command.Summary reply ∷ []))
+  pub asked : ((r.ended ≡ GateShut) × (n ≡ [])) ⊎ ((r.ended ≡ OutOfMemory)
+      × ((reply : Reply) × IsRefused reply × (n ≡ call command.Summary reply ∷ [])))
   pub early : EndsEarly r.ended
   pub counts : r ≡ record { read = 0; fresh = 0; repeated = 0; refused = 0; ended = r.ended }
 

@@ -1,6 +1,7 @@
 -- What a report tells of the calls that a worker made.
 use Rattle.std.specs.Prelude.{◌≡◌, ◌≢◌, ◌⊎◌, ◌+◌, ◌-◌, ◌≤◌, ℕ, Bool, not, is_some, filter}
-use Rattle.std.specs.Prelude.{List, [], ◌∷◌, ◌++◌, length}
+use Rattle.std.specs.Prelude.{List, [], ◌∷◌, ◌++◌, length, Option, None, Some}
+use Rattle.std.specs.List.{AllByRecursion}
 use Rattle.attributes.specs.Event.{EventValue}
 use Rattle.attributes.specs.Sequence.{number_of}
 use Rattle.event_json.specs.Reading.{Reads, Refuses}
@@ -53,8 +54,13 @@ abbrev pub repeated_of : List Call → ℕ
 repeated_of [] = 0
 repeated_of (c ∷ cs) = repeated_by c.reply + repeated_of cs
 
+-- the most events that are handed over, or asked for, in one call
+abbrev pub max_batch : ℕ
+max_batch = 100
+
+-- the command hands a batch over, of at most so many events
 abbrev pub IsTake : Command → Type 0
-IsTake (command.Take L) = Unit {0}
+IsTake (command.Take L) = length L ≤ max_batch
 IsTake _ = ⊥
 
 abbrev pub AreTakes : List Call → Type 0
@@ -81,6 +87,32 @@ EndsEarly GateShut = Unit {0}
 EndsEarly Done = ⊥
 EndsEarly (BadInput fault) = ⊥
 
+-- the reply says that the call was refused, for want of memory
+abbrev pub IsRefused : Reply → Type 0
+IsRefused (Refused taken fresh) = Unit {0}
+IsRefused _ = ⊥
+
+-- none of the calls was refused
+abbrev pub AreAnswered : List Call → Type 0
+AreAnswered m = AllByRecursion (λ c. IsRefused c.reply → ⊥) m
+
+-- the last of the calls was refused, and no other
+pub record EndsRefused (m : List Call) : Type 0 where
+  pub before : List Call
+  pub last : Call
+  pub calls : m ≡ before ++ last ∷ []
+  pub answered : AreAnswered before
+  pub refused : IsRefused last.reply
+
+-- no call of a worker that ended so was refused, or the last alone, and that is why it ended
+abbrev pub HasCause : List Call → Ended → Type 0
+HasCause m ended = AreAnswered m ⊎ (EndsRefused m × (ended ≡ OutOfMemory))
+
+-- so it is of one that ended, if it did
+abbrev pub HasCauseIf : List Call → Option Ended → Type 0
+HasCauseIf m None = AreAnswered m
+HasCauseIf m (Some ended) = HasCause m ended
+
 -- the report of a worker that brought these events by these calls: it read the first of them,
 -- passed over those without a number, and handed over the others as far as it came; all of them,
 -- where it was done
@@ -93,6 +125,7 @@ pub record Tells (events : List EventValue) (m : List Call) (r : Report) : Type 
   pub refused : r.refused ≡ length (unsequenced passed)
   pub most : r.read ≤ length events
   pub ended : (r.ended ≡ Done) ⊎ EndsEarly r.ended
+  pub cause : HasCause m r.ended
   pub done : r.ended ≡ Done → (handled m ≡ sequenced events) × (r.read ≡ length events)
 
 -- the report with these counts

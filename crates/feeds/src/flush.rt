@@ -30,7 +30,8 @@ pub(crate) fn flush<D: Desk, G: Gate>(
     batch: &mut Batch,
     tally: &mut Tally,
 ) -> Option<Ended>
-    requires { tally.old.fresh + tally.old.repeated + length batch.old < 2 ^ 64 }
+    requires room { tally.old.fresh + tally.old.repeated + length batch.old < 2 ^ 64 }
+    requires most { length batch.old ≤ 100 }
     ensures flushed { (m : List Call) × D.went desk.old desk.new m
         × Flushed m batch.old batch.new tally.old tally.new result }
     ensures gains { result ≡ None

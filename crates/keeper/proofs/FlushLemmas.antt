@@ -1,6 +1,6 @@
 -- What a step is to a flusher.
 use Rattle.std.proofs.Common.{◌≡◌, ◌+◌, ◌-◌, ◌≤◌, ℕ, [], ◌∷◌, ◌++◌, true, false, length, refl, ap, ◌∙◌, subst, append_assoc, arith, Option, Some, None}
-use Rattle.std.specs.Prelude.{IsSome, min}
+use Rattle.std.specs.Prelude.{IsSome, IsTrue, min}
 use Rattle.sqlite.specs.Held.{Held}
 use Rattle.sqlite.specs.State.{State, HasCleanDisk}
 use Rattle.atomic_table.specs.Seated.{TableId}
@@ -23,20 +23,22 @@ module _ {S : Type 0} (state : Held S → State) (site : TableId) (k l : Kept S)
   no_fault : IsSome fault → ⊥
   no_fault some = let bad : false ≡ true = subst IsSome none some in cc
 
-  flushes : (after : Option KeepFault) → k.rows ≤ l.rows → Flushes state before record { site = site; keeper = l; pass = q; fault = after }
-  flushes after mark = record {
+  flushes : (after : Option KeepFault) → k.rows ≤ l.rows → (HasCleanDisk (state l.conn) → after ≡ None → IsTrue (state l.conn).is_open) → Flushes state before record { site = site; keeper = l; pass = q; fault = after }
+  flushes after mark opens = record {
     site = refl;
     same = asked.1.same;
+    splits = asked.1.splits;
     seen = asked_more k.rows p q asked;
     mark = mark;
     list = list;
+    stays_open = λ clean last is_open. opens clean last;
     stopped = λ some. absurd (no_fault some);
   }
 
   pub stepped : (n : ℕ) → l.rows ≡ k.rows + n → (HasCleanDisk (state l.conn) → n ≡ min max_page (length (leaves q) - k.rows))
-      → Turns state before record { site = site; keeper = l; pass = q; fault = fault } true
-  stepped n grew page = record {
-    flushes = flushes fault (omega (arith, grew));
+      → (HasCleanDisk (state l.conn) → IsTrue (state l.conn).is_open) → Turns state before record { site = site; keeper = l; pass = q; fault = fault } true
+  stepped n grew page opens = record {
+    flushes = flushes fault (omega (arith, grew)) (λ clean last. opens clean);
     step = λ _. record {
       asked = asked;
       went = λ _. none;
@@ -48,7 +50,7 @@ module _ {S : Type 0} (state : Held S → State) (site : TableId) (k l : Kept S)
 
   pub refused : (why : KeepFault) → l.rows ≡ k.rows → Turns state before record { site = site; keeper = l; pass = q; fault = Some why } false
   refused why stays = record {
-    flushes = flushes (Some why) (omega (arith, stays));
+    flushes = flushes (Some why) (omega (arith, stays)) (λ clean last. absurd (cc));
     step = λ _. record {
       asked = asked;
       went = λ yes. absurd (cc);

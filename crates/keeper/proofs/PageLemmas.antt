@@ -18,7 +18,7 @@ use Rattle.site.specs.declared.call.Command.TheVariants as command
 use Rattle.site.specs.declared.call.Reply.{Reply}
 use Rattle.site.specs.declared.call.Reply.TheVariants.{Paged}
 use Rattle.keeper.proofs.NewLemmas.{all_new, grows}
-use Rattle.keeper.specs.Keep.{Grows, HasAll, HasFirst, KeepsUp, MayKeep, MayKeepAll, max_page}
+use Rattle.keeper.specs.Keep.{Grows, HasAll, HasFirst, KeepsUp, MayGrow, MayKeep, MayKeepAll, max_page}
 
 -- the page behind the first arrivals is new to them, and they are the first ones with it
 record IsNext (A : List EventValue) (rows : ℕ) (b : List EventValue) : Type 0 where
@@ -60,12 +60,39 @@ still_first old new rows rows' A B reply f first was_clean was_open same is clea
     let h : HasFirst old.now rows B = first_in old.now rows A B o.0 o.1 (first (was_clean clean) (was_open clean is_open)) in
     subst (λ n. HasFirst new.now n B) (sym is) (subst (λ d. HasFirst d rows B) (sym (same clean is_open)) h)
 
+-- what may be left, said in other words
+survives_as : (old new : State) (P Q : Trees → Type 0) → Survives old new P → (HasCleanDisk old → (trees : Trees) → P trees → Q trees) → Survives old new Q
+survives_as old new P Q s weaker = record {
+  clean = s.clean;
+  shield = s.shield;
+  counts = s.counts;
+  limit = s.limit;
+  closes = s.closes;
+  crash = λ clean trees may. either (omega (arith, s.clean, clean)) trees (s.crash clean trees may);
+}
+  where
+    either : HasCleanDisk old → (trees : Trees) → old.may_leave trees ⊎ P trees → old.may_leave trees ⊎ Q trees
+    either clean trees (inl before) = inl before
+    either clean trees (inr may) = inr (weaker clean trees may)
+
+-- what was taken comes behind what the table had, after a crash too
+took_survives : (old new : State) (b : List EventValue) → Survives old new (λ trees. IsTrue old.is_open → MayTake b old.now trees) → Survives old new (λ trees. IsTrue old.is_open → MayGrow old.now trees)
+took_survives old new b s = survives_as old new _ _ s (λ clean trees takes is_open.
+    let m = takes is_open in
+    record {
+      db = m.db;
+      are = m.are;
+      sound = m.sound;
+      list = λ held box. let g = grows key_cmp held b in (g.0, subst (IsInbox m.db) g.1 (m.takes held box));
+    })
+
 pub still_grows : (old new : State) → (HasCleanDisk new → HasCleanDisk old) → (HasCleanDisk new → IsTrue new.is_open → IsTrue old.is_open)
-    → (HasCleanDisk new → IsTrue new.is_open → new.now ≡ old.now) → Grows old new
-still_grows old new was_clean was_open same = record {
+    → (HasCleanDisk new → IsTrue new.is_open → new.now ≡ old.now) → (b : List EventValue) → Survives old new (λ trees. IsTrue old.is_open → MayTake b old.now trees) → Grows old new
+still_grows old new was_clean was_open same b crash = record {
   was_clean = was_clean;
   was_open = was_open;
   list = λ clean is_open held box. ([], subst (λ d. IsInbox d (held ++ [])) (sym (same clean is_open)) (subst (IsInbox old.now) (sym (append-nil held)) box));
+  survives = took_survives old new b crash;
 }
 
 pub both_ok : {T E : Type 0} (r : Result T E) (P Q : T → Type 0) → IfOk r P → IfOk r Q → IfOk r (λ x. P x × Q x)
@@ -81,11 +108,12 @@ loaded_first s rows events db box same count = record {
 
 -- what a table takes comes behind what it had
 pub taken_grows : (old new : State) (b : List EventValue) → (HasCleanDisk new → HasCleanDisk old) → (HasCleanDisk new → IsTrue new.is_open → IsTrue old.is_open)
-    → (HasCleanDisk new → Takes b old.now new.now) → Grows old new
-taken_grows old new b was_clean was_open takes = record {
+    → (HasCleanDisk new → Takes b old.now new.now) → Survives old new (λ trees. IsTrue old.is_open → MayTake b old.now trees) → Grows old new
+taken_grows old new b was_clean was_open takes crash = record {
   was_clean = was_clean;
   was_open = was_open;
   list = λ clean is_open held box. let g = grows key_cmp held b in (g.0, subst (IsInbox new.now) g.1 (takes clean held box));
+  survives = took_survives old new b crash;
 }
 
 -- what comes behind the first arrivals is new to them, and with it they are all
@@ -133,26 +161,11 @@ module _ (old new : State) (rows rows' fresh : ℕ) (A B b : List EventValue) (f
   pub page_count : HasCleanDisk new → fresh ≡ min max_page (length B - rows)
   page_count clean = fresh_is clean ∙ (next clean).count
 
-  pub page_grows : Grows old new
-  page_grows = taken_grows old new b was_clean was_open takes
+  pub page_grows : Survives old new (λ trees. IsTrue old.is_open → MayTake b old.now trees) → Grows old new
+  page_grows crash = taken_grows old new b was_clean was_open takes crash
 
 pub survives_same : (s : State) (P : Trees → Type 0) → Survives s s P
 survives_same s P = record { clean = omega arith; shield = λ h. h; counts = omega arith; limit = refl; closes = λ clean h. inl h; crash = λ clean db h. inl h }
-
--- what may be left, said in other words
-survives_as : (old new : State) (P Q : Trees → Type 0) → Survives old new P → (HasCleanDisk old → (trees : Trees) → P trees → Q trees) → Survives old new Q
-survives_as old new P Q s weaker = record {
-  clean = s.clean;
-  shield = s.shield;
-  counts = s.counts;
-  limit = s.limit;
-  closes = s.closes;
-  crash = λ clean trees may. either (omega (arith, s.clean, clean)) trees (s.crash clean trees may);
-}
-  where
-    either : HasCleanDisk old → (trees : Trees) → old.may_leave trees ⊎ P trees → old.may_leave trees ⊎ Q trees
-    either clean trees (inl before) = inl before
-    either clean trees (inr may) = inr (weaker clean trees may)
 
 -- what a crash may leave of a page that is being kept
 pub page_crash : (old new : State) (rows : ℕ) (A B b : List EventValue) → Follows A (call (command.Fresh rows max_page) (Paged b)) B → AreDistinct B → KeepsUp old rows A

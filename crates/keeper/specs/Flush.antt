@@ -1,5 +1,5 @@
 -- What a flusher shows, and what its turns do.
-use Rattle.std.specs.Prelude.{◌≡◌, ◌+◌, ◌-◌, ◌≤◌, Bool, true, false, length, min, Option, None, IsSome}
+use Rattle.std.specs.Prelude.{◌≡◌, ◌+◌, ◌-◌, ◌≤◌, Bool, true, false, length, min, Option, None, IsSome, IsTrue}
 use Rattle.sqlite.specs.Held.{Held}
 use Rattle.sqlite.specs.State.{State, HasCleanDisk}
 use Rattle.atomic_table.specs.Seated.{TableId}
@@ -17,14 +17,18 @@ pub record Flushing (S : Type 0) : Type 0 where
   pub fault : Option KeepFault
 
 module _ {S : Type 0} (state : Held S → State) where
-  -- what turns may come to: the shared site and the number of the pass stay; what the pass has
-  -- seen and the table's list only grow, and so does the mark; after a refusal all stays
+  -- what turns may come to: the shared site and the number of the pass stay, and it is never split;
+  -- what the pass has seen and the table's list only grow, and so does the mark; the database stays
+  -- open but for a refusal, and after one all stays
   pub record Flushes (f g : Flushing S) : Type 0 where
     pub site : g.site ≡ f.site
     pub same : IsSame f.pass g.pass
+    pub splits : g.pass.splits ≡ f.pass.splits
     pub seen : StartsWith g.pass.seen f.pass.seen
     pub mark : f.keeper.rows ≤ g.keeper.rows
     pub list : Grows (state f.keeper.conn) (state g.keeper.conn)
+    pub stays_open : HasCleanDisk (state g.keeper.conn) → g.fault ≡ None
+        → IsTrue (state f.keeper.conn).is_open → IsTrue (state g.keeper.conn).is_open
     pub stopped : IsSome f.fault → g ≡ f
 
   -- one step was made: the pass asked once; it is refused exactly where the answer is false, and

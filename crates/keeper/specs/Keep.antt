@@ -2,7 +2,7 @@
 use Rattle.std.specs.Prelude.{◌≡◌, ◌+◌, ◌-◌, ◌≤◌, ℕ, List, ◌++◌, length, min, take, IsTrue}
 use Rattle.sqlite_trees.specs.Tree.{Trees}
 use Rattle.sqlite.specs.Effect.{Database, IsDatabase}
-use Rattle.sqlite.specs.State.{State, HasCleanDisk}
+use Rattle.sqlite.specs.State.{State, HasCleanDisk, Survives}
 use Rattle.attributes.specs.Event.{EventValue}
 use Rattle.inbox_table.specs.Beside.{KeepsService}
 use Rattle.inbox_table.specs.Rows.{IsInbox}
@@ -35,13 +35,24 @@ pub record HasAll (s : State) (rows : ℕ) (arrivals : List EventValue) : Type 0
 abbrev pub Asks : ℕ → Shown → Shown → Type 0
 Asks rows p q = (reply : Reply) × Made p q (call (command.Fresh rows max_page) reply)
 
+-- these are the trees of a database that has whatever events the table had, and more behind them or
+-- none
+pub record MayGrow (old : Database) (trees : Trees) : Type 0 where
+  pub db : Database
+  pub are : trees ≡ db.trees
+  pub sound : IsDatabase db
+  pub list : (held : List EventValue) → IsInbox old held
+      → (more : List EventValue) × IsInbox db (held ++ more)
+
 -- whatever events the table had, it has them, and more behind them or none; this is so while the
--- disk gives back what was written and the database is open, and then it was so before
+-- disk gives back what was written and the database is open, and then it was so before. A crash
+-- leaves what it could leave before, or such a database
 pub record Grows (old new : State) : Type 0 where
   pub was_clean : HasCleanDisk new → HasCleanDisk old
   pub was_open : HasCleanDisk new → IsTrue new.is_open → IsTrue old.is_open
   pub list : HasCleanDisk new → IsTrue new.is_open → (held : List EventValue)
       → IsInbox old.now held → (more : List EventValue) × IsInbox new.now (held ++ more)
+  pub survives : Survives old new (λ trees. IsTrue old.is_open → MayGrow old.now trees)
 
 -- these are the trees of a database that has the first so many of the arrivals, and the page behind
 -- them; what lies beside the table is as it was

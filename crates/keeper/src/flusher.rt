@@ -126,7 +126,7 @@ impl<'a, R: Wait, S: Alter + Drop> Flusher<'a, R, S> {
 
 impl<'a, R: Wait, S: Alter + Drop> Aside for Flusher<'a, R, S> {
     ghost use Rattle.sqlite.specs.Held.{state};
-    ghost use Rattle.keeper.specs.Flush.{Flushes};
+    ghost use Rattle.keeper.specs.Flush.{Flushes, Turns};
     ghost use Rattle.keeper.specs.steps.Flushes.{flushes_none, flushes_on};
 
     ghost moves = { λ f g. Flushes (λ conn. state S.Store conn) f g };
@@ -135,7 +135,10 @@ impl<'a, R: Wait, S: Alter + Drop> Aside for Flusher<'a, R, S> {
 
     ghost goes_on = { λ f g h. flushes_on _ f g h };
 
-    fn turn(&mut self) -> bool {
+    /// One step, as [`Flusher::flush`].
+    fn turn(&mut self) -> bool
+        ensures { Turns (λ conn. state S.Store conn) self.old self.new result }
+    {
         self.flush()
     }
 }

@@ -196,6 +196,8 @@ impl<S: Alter + Drop> Keeper<S> {
         ensures grew { IfOk result (λ n. self.new.rows ≡ self.old.rows + n) }
         ensures page { HasCleanDisk (state S.Store self.new.conn)
             → IfOk result (λ n. n ≡ min max_page (length (leaves pass.new) - self.old.rows)) }
+        ensures stays_open { HasCleanDisk (state S.Store self.new.conn)
+            → OnOk result (IsTrue (state S.Store self.new.conn).is_open) }
         ensures settled { HasCleanDisk (state S.Store self.new.conn)
             → OnOk result (IsSettled (state S.Store self.new.conn)) }
         ensures mark_same { OnErr result (self.new.rows ≡ self.old.rows) }

@@ -1,29 +1,27 @@
 -- What the feeds of a run brought.
-use Rattle.std.proofs.Common.{◌≡◌, ◌≢◌, ◌+◌, ◌≤◌, ℕ, suc, List, [], ◌∷◌, ◌++◌, Bool, true, false, cond, length, map, take, refl, sym, ap, subst, ◌∙◌, append-nil, arith, length-append, Option, None, Some, inl, inr}
+use Rattle.std.proofs.Common.{◌≡◌, ◌+◌, ℕ, List, [], ◌∷◌, ◌++◌, true, false, cond, map, sym, ap, subst, ◌∙◌, append-nil, append_assoc}
 use Rattle.std.specs.Prelude.{Contains}
-use Rattle.std.specs.Option.{option_or}
-use Rattle.std.proofs.lemmas.List.Elements.{filter-append}
+use Rattle.std.proofs.lemmas.List.{append_cancel_left}
 use Rattle.attributes.specs.Event.{EventValue}
 use Rattle.inbox.specs.KeyOrder.{key_cmp}
 use Rattle.inbox.specs.Ordered.{append_new, has}
-use Rattle.site.specs.Machine.{arrivals_after, handled_by}
+use Rattle.inbox.specs.Sets.{set_of}
+use Rattle.site.specs.Delta.{delta}
+use Rattle.site.specs.Machine.{Answers, arrivals_after, call, handled_by}
+use Rattle.site.specs.declared.call.Command.TheVariants as command
+use Rattle.site.specs.declared.call.Reply.TheVariants.{Summed}
 use Rattle.site.specs.declared.call.Call.{Call}
 use Rattle.turn_lock.specs.declared.machine.Entry.{Entry}
 use Rattle.turn_lock.specs.History.{entry, made_by, same_number}
-use Rattle.site_lock.specs.Pass.{Shown, leave}
-use Rattle.event_json.specs.declared.fault.ReadFault.{ReadFault}
-use Rattle.feeds.specs.Pull.{Holds}
-use Rattle.feeds.specs.Report.{Feeds, Tells, end_of, handled, has_number, sequenced}
-use Rattle.feeds.specs.Serve.{EachAt, WorkerFeeds, worker_of}
-use Rattle.feeds.specs.declared.report.Ended.{Ended}
-use Rattle.feeds.specs.declared.report.Ended.TheVariants.{BadInput, Done, GateShut, OutOfMemory}
+use Rattle.site_lock.specs.Pass.{IsHistory, Shown, leave, leaves}
+use Rattle.feeds.specs.Pull.{Brings, Holds}
+use Rattle.feeds.specs.Report.{handled}
+use Rattle.feeds.specs.Serve.{EachAt, HasCalls, WorkerFeeds, WorkerPulls, worker_of}
 use Rattle.feeds.specs.declared.report.Report.{Report}
 use Rattle.feeds.proofs.PullLemmas.{holds_more}
 use Rattle.keeper.proofs.LawLemmas.{leave-append, leave_grows}
-use Rattle.run_command.specs.Fault.{of_end}
-use Rattle.run_command.specs.Run.{AreFed, EachSpells, IsFed, joined}
-use Rattle.run_command.specs.Tally.{first_fault, read_in, refused_in}
-use Rattle.run_command.specs.declared.fault.RunFault.{RunFault}
+use Rattle.run_command.specs.Outcome.{AreReports}
+use Rattle.run_command.specs.Peer.{IsPulled}
 
 abbrev pub IsFound : Type 0
 IsFound = (A : List EventValue) (e : EventValue) → Contains A e → has key_cmp A e ≡ true
@@ -63,14 +61,79 @@ all_there is_found n (e ∷ es) A m is =
       | false ↦ (λ others. all_there is_found n es (arrivals_after A e.call) m others)
     ]) is
 
--- what the workers of feeds handed over is among the arrivals
-pub each_fed : IsFound → (p q : Shown) (later : List (Entry Call)) (place : ℕ) (feeds : List (List ℕ)) (fed behind : List Report) → EachAt (WorkerFeeds p q) place feeds fed
-    → AreFed (leave q.opening (q.seen ++ later)) feeds (fed ++ behind)
-each_fed is_found p q later place [] fed behind each = tt
-each_fed is_found p q later place (b ∷ bs) [] behind each = absurd each
-each_fed is_found p q later place (b ∷ bs) (r ∷ rs) behind each =
-    let w = each.0 in let A = leave q.opening q.seen in let g = leave_grows A later in
-    let is = leave-append q.opening q.seen later ∙ g.1 in (
-      (w.0, w.2, holds_later is_found A (leave q.opening (q.seen ++ later)) (handled w.0) g.0 is (all_there is_found (worker_of p place) q.seen q.opening w.0 w.1)),
-      each_fed is_found p q later (place + 1) bs rs behind each.1,
-    )
+-- what is there at a moment of a history that began with these arrivals: what had come by then, and
+-- behind it what came later
+pub record Moment (A Z : List EventValue) (c : Call) : Type 0 where
+  pub before : List EventValue
+  pub behind : List EventValue
+  pub splits : Z ≡ (A ++ before) ++ behind
+  pub answers : Answers (A ++ before) c
+
+-- the first call of a pass in a history was answered at a moment of it
+pub first_moment : (n : List ℕ) (log : List (Entry Call)) (A : List EventValue) (c : Call) (cs : List Call) → IsHistory A log → made_by n log ≡ map (entry n) (c ∷ cs) → Moment A (leave A log) c
+first_moment n [] A c cs legal is = absurd (cc)
+first_moment n (e ∷ es) A c cs legal is =
+    (elim (same_number e.number n) as (λ b. cond b (e ∷ made_by n es) (made_by n es) ≡ map (entry n) (c ∷ cs) → Moment A (leave A (e ∷ es)) c) [
+      | true ↦ (λ h. let first : e ≡ entry n c = cc in let g = leave_grows A (e ∷ es) in
+          let now : Answers A c = subst (λ (x : Entry Call). Answers A x.call) first legal.0 in
+          record { before = []; behind = g.0; splits = g.1 ∙ ap (λ (z : List EventValue). z ++ g.0) (sym (append-nil A)); answers = subst (λ (z : List EventValue). Answers z c) (sym (append-nil A)) now })
+      | false ↦ (λ h. let B = arrivals_after A e.call in let g = leave_grows A (e ∷ []) in
+          let m = first_moment n es B c cs legal.1 h in
+          let same : B ++ m.before ≡ A ++ (g.0 ++ m.before) = ap (λ (z : List EventValue). z ++ m.before) g.1 ∙ append_assoc A g.0 m.before in
+          record { before = g.0 ++ m.before; behind = m.behind; splits = m.splits ∙ ap (λ (z : List EventValue). z ++ m.behind) same; answers = subst (λ (z : List EventValue). Answers z c) same m.answers })
+    ]) is
+
+-- the beginning of a history is one
+pub legal_front : (A : List EventValue) (xs ys : List (Entry Call)) → IsHistory A (xs ++ ys) → IsHistory A xs
+legal_front A [] ys legal = tt
+legal_front A (e ∷ es) ys legal = (legal.0, legal_front (arrivals_after A e.call) es ys legal.1)
+
+-- what the workers of peers moved is among the arrivals, and what was lacking, where they were done
+module _ (is_found : IsFound) (p q : Shown) (later : List (Entry Call)) (legal : IsHistory q.opening q.seen) (more : List EventValue) (grew : leave q.opening (q.seen ++ later) ≡ q.opening ++ more) where
+  all : List EventValue
+  all = leave q.opening (q.seen ++ later)
+
+  -- what is there by then stays
+  pub stays : (L : List EventValue) → Holds (leaves q) L → Holds (q.opening ++ more) L
+  stays L h = let g = leave_grows (leaves q) later in subst (λ (z : List EventValue). Holds z L) grew (holds_later is_found (leaves q) (leave q.opening (q.seen ++ later)) L g.0 (leave-append q.opening q.seen later ∙ g.1) h)
+
+  pulled_one : (peer : List EventValue) (n : List ℕ) (m : List Call) → HasCalls q.seen n m → Brings peer m (leaves q) → IsPulled q.opening more peer
+  pulled_one peer n m calls b =
+      let c : Call = call command.Summary (Summed b.peer) in
+      let is : made_by n q.seen ≡ map (entry n) (c ∷ b.takes) = calls ∙ ap (λ (z : List Call). map (entry n) z) b.told in
+      let at = first_moment n q.seen q.opening c b.takes legal is in
+      let g = leave_grows (leaves q) later in
+      let whole : q.opening ++ more ≡ q.opening ++ (at.before ++ (at.behind ++ g.0)) =
+      sym grew ∙ (leave-append q.opening q.seen later ∙ (g.1 ∙ (ap (λ (z : List EventValue). z ++ g.0) at.splits ∙ (append_assoc (q.opening ++ at.before) at.behind g.0 ∙ append_assoc q.opening at.before (at.behind ++ g.0))))) in
+      record {
+        before = at.before;
+        behind = at.behind ++ g.0;
+        moment = append_cancel_left q.opening more (at.before ++ (at.behind ++ g.0)) whole;
+        told = b.peer;
+        digests = at.answers;
+        brought = stays (delta (set_of peer) b.peer) b.holds;
+      }
+
+  pub each_pulled : (place : ℕ) (peers : List (List EventValue)) (pulled : List Report) → EachAt (WorkerPulls p q) place peers pulled → AreReports q.opening more [] peers pulled
+  each_pulled place [] [] each = tt
+  each_pulled place [] (r ∷ rs) each = absurd each
+  each_pulled place (x ∷ xs) [] each = absurd each
+  each_pulled place (x ∷ xs) (r ∷ rs) each =
+      let w = each.0 in let n = worker_of p place in (
+        record {
+          calls = w.0;
+          pull = (w.2.0, w.2.1, w.2.2, λ done. let b = w.2.3 done in record { peer = b.peer; takes = b.takes; told = b.told; handled_all = b.handled_all; holds = stays (delta (set_of x) b.peer) b.holds });
+          moved = stays (handled w.0) (all_there is_found n q.seen q.opening w.0 w.1);
+          done = λ done. pulled_one x n w.0 w.1 (w.2.3 done);
+        },
+        each_pulled (place + 1) xs rs each.1,
+      )
+
+  pub each_told : (place : ℕ) (feeds : List (List ℕ)) (peers : List (List EventValue)) (fed pulled : List Report) → EachAt (WorkerFeeds p q) place feeds fed → AreReports q.opening more [] peers pulled
+      → AreReports q.opening more feeds peers (fed ++ pulled)
+  each_told place [] peers [] pulled each rest = rest
+  each_told place [] peers (r ∷ rs) pulled each rest = absurd each
+  each_told place (b ∷ bs) peers [] pulled each rest = absurd each
+  each_told place (b ∷ bs) peers (r ∷ rs) pulled each rest =
+      let w = each.0 in
+      ((w.0, w.2, stays (handled w.0) (all_there is_found (worker_of p place) q.seen q.opening w.0 w.1)), each_told (place + 1) bs peers rs pulled each.1 rest)

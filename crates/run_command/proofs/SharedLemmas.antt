@@ -1,5 +1,5 @@
 -- What is left where the workers of a run have ended.
-use Rattle.std.proofs.Common.{◌≡◌, ◌≤◌, ℕ, List, [], ◌∷◌, ◌++◌, refl, sym, ap, subst, ◌∙◌, append_assoc, Result, Ok, Err, IfOk, IsTrue}
+use Rattle.std.proofs.Common.{◌≡◌, ◌≤◌, ℕ, List, ◌++◌, length, sym, ap, subst, ◌∙◌, append_assoc, Result, Ok, Err, IfOk, IsTrue}
 use Rattle.sqlite.specs.Held.{Held}
 use Rattle.sqlite.specs.State.{State, HasCleanDisk}
 use Rattle.atomic_table.specs.Seated.{TableId}
@@ -7,8 +7,7 @@ use Rattle.attributes.specs.Event.{EventValue}
 use Rattle.inbox_table.specs.Calls.{Kept}
 use Rattle.site.specs.declared.call.Call.{Call}
 use Rattle.turn_lock.specs.declared.machine.Entry.{Entry}
-use Rattle.turn_lock.specs.History.{StartsWith}
-use Rattle.site_lock.specs.Pass.{Closes, IsFirst, IsSame, IsSplitOff, Meets, Shown, Splits, leave, leaves}
+use Rattle.site_lock.specs.Pass.{Closes, IsFirst, IsHistory, IsSame, IsSplitOff, Meets, Shown, Splits, leave, leaves}
 use Rattle.feeds.specs.Serve.{Serves}
 use Rattle.feeds.specs.declared.report.Report.{Report}
 use Rattle.feeds.specs.declared.serving.ServeFault.{ServeFault}
@@ -18,9 +17,9 @@ use Rattle.keeper.specs.Flush.{Flushes, Flushing}
 use Rattle.keeper.specs.Keep.{HasFirst, KeepsUp}
 use Rattle.keeper.specs.Law.{FirstArrivalsStay}
 use Rattle.keeper.proofs.LawLemmas.{leave_grows}
-use Rattle.run_command.specs.Run.{AreFed}
+use Rattle.run_command.specs.Outcome.{AreReports}
 use Rattle.run_command.specs.Shared.{IsClosed}
-use Rattle.run_command.proofs.FedLemmas.{IsFound, each_fed}
+use Rattle.run_command.proofs.FedLemmas.{IsFound, each_pulled, each_told, legal_front}
 
 pub first_leaves : (p : Shown) (t : TableId) (A : List EventValue) → IsFirst p t A → leaves p ≡ A
 first_leaves p t A f = ap (λ (s : List (Entry Call)). leave p.opening s) f.seen ∙ f.opening
@@ -28,13 +27,15 @@ first_leaves p t A f = ap (λ (s : List (Entry Call)). leave p.opening s) f.seen
 pub split_leaves : (p q : Shown) → IsSplitOff p q → leaves q ≡ leaves p
 split_leaves p q s = ap (λ (z : List EventValue). leave z q.seen) s.opening ∙ ap (λ (z : List (Entry Call)). leave p.opening z) s.seen
 
-all_fed : IsFound → (p q : Shown) (later : List (Entry Call)) (feeds : List (List ℕ)) (peers : List (List EventValue)) (asks : List (List Query)) (served : Result Served ServeFault) (A : List EventValue)
-    → A ≡ leave q.opening (q.seen ++ later) → IfOk served (λ s. Serves p q feeds peers asks s) → IfOk served (λ s. AreFed A feeds s.reports.items)
-all_fed is_found p q later feeds peers asks (Ok s) A is h =
-    subst (λ (z : List EventValue). AreFed z feeds s.reports.items) (sym is)
-    (subst (λ (rs : List Report). AreFed (leave q.opening (q.seen ++ later)) feeds rs) (sym h.reports)
-    (each_fed is_found p q later 0 feeds h.fed h.pulled h.each_feed))
-all_fed is_found p q later feeds peers asks (Err e) A is h = tt
+all_told : IsFound → (p q : Shown) (later : List (Entry Call)) (feeds : List (List ℕ)) (peers : List (List EventValue)) (asks : List (List Query)) (served : Result Served ServeFault) (held more : List EventValue)
+    → q.opening ≡ held → IsHistory q.opening q.seen → leave q.opening (q.seen ++ later) ≡ held ++ more → IfOk served (λ s. Serves p q feeds peers asks s) → IfOk served (λ s. AreReports held more feeds peers s.reports.items)
+all_told is_found p q later feeds peers asks (Ok s) held more opening legal grew h =
+    subst (λ (z : List EventValue). AreReports z more feeds peers s.reports.items) opening
+    (subst (λ (rs : List Report). AreReports q.opening more feeds peers rs) (sym h.reports)
+    (let is : leave q.opening (q.seen ++ later) ≡ q.opening ++ more = grew ∙ ap (λ (z : List EventValue). z ++ more) (sym opening) in
+    each_told is_found p q later legal more is 0 feeds peers h.fed h.pulled h.each_feed
+    (each_pulled is_found p q later legal more is (length feeds) peers h.pulled h.each_peer)))
+all_told is_found p q later feeds peers asks (Err e) held more opening legal grew h = tt
 
 module _ {S : Type 0} (state : Held S → State) (stay : FirstArrivalsStay) (is_found : IsFound) (k : Kept S) (A0 A : List EventValue) (feeds : List (List ℕ)) (peers : List (List EventValue)) (asks : List (List Query))
     (t : TableId) (p0 p1 p2 p3 own : Shown) (f g : Flushing S) (served : Result Served ServeFault)
@@ -59,12 +60,23 @@ module _ {S : Type 0} (state : Held S → State) (stay : FirstArrivalsStay) (is_
   still clean is_open = subst (λ (z : List EventValue). HasFirst (state g.keeper.conn).now g.keeper.rows z) (sym of_own)
       (stay (state g.keeper.conn).now g.keeper.rows g.pass.opening g.pass.seen (meets.all_others.0 ++ closes.others) (keeps clean is_open))
 
-  pub closed : IsClosed state k A0 feeds g.keeper A served
-  closed = let grows = leave_grows p3.opening (p3.seen ++ closes.others) in record {
-    first = still;
-    was_clean = λ clean. subst (λ (z : Kept S). HasCleanDisk (state z.conn)) begun (flushes.list.was_clean clean);
-    was_open = λ clean is_open. subst (λ (z : Kept S). IsTrue (state z.conn).is_open) begun (flushes.list.was_open clean is_open);
-    more = grows.0;
-    grew = closes.leaves ∙ (grows.1 ∙ ap (λ (z : List EventValue). z ++ grows.0) opening);
-    fed = all_fed is_found p1 p2 (meets.all_own.0 ++ closes.others) feeds peers asks served A of_workers serves;
-  }
+  history : p3.seen ++ closes.others ≡ p2.seen ++ (meets.all_own.0 ++ closes.others)
+  history = ap (λ (z : List (Entry Call)). z ++ closes.others) meets.all_own.1 ∙ append_assoc p2.seen meets.all_own.0 closes.others
+
+  -- what the workers' pass has seen is the beginning of a history
+  legal : IsHistory p2.opening p2.seen
+  legal = legal_front p2.opening p2.seen (meets.all_own.0 ++ closes.others)
+      (subst (λ (z : List EventValue). IsHistory z (p2.seen ++ (meets.all_own.0 ++ closes.others))) meets.same.opening
+      (subst (λ (z : List (Entry Call)). IsHistory p3.opening z) history closes.legal))
+
+  pub closed : IsClosed state k A0 feeds peers g.keeper A served
+  closed = let grows = leave_grows p3.opening (p3.seen ++ closes.others) in
+      let grew : A ≡ A0 ++ grows.0 = closes.leaves ∙ (grows.1 ∙ ap (λ (z : List EventValue). z ++ grows.0) opening) in record {
+        first = still;
+        mark = subst (λ (z : Kept S). z.rows ≤ g.keeper.rows) begun flushes.mark;
+        was_clean = λ clean. subst (λ (z : Kept S). HasCleanDisk (state z.conn)) begun (flushes.list.was_clean clean);
+        was_open = λ clean is_open. subst (λ (z : Kept S). IsTrue (state z.conn).is_open) begun (flushes.list.was_open clean is_open);
+        more = grows.0;
+        grew = grew;
+        reports = all_told is_found p1 p2 (meets.all_own.0 ++ closes.others) feeds peers asks served A0 grows.0 (sym meets.same.opening ∙ opening) legal (sym of_workers ∙ grew) serves;
+      }

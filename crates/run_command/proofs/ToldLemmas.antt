@@ -1,24 +1,35 @@
 -- What reports without a fault tell of the feeds.
-use Rattle.std.proofs.Common.{◌≡◌, ◌≢◌, ◌+◌, ◌-◌, ◌≤◌, ℕ, zero, suc, slice_get, List, [], ◌∷◌, ◌++◌, length, take, refl, sym, ap, subst, ◌∙◌, arith, length-append, Option, None, Some, inl, inr}
+use Rattle.std.proofs.Common.{◌≡◌, ◌≢◌, ◌+◌, ◌-◌, ℕ, zero, suc, slice_get, List, [], ◌∷◌, ◌++◌, length, take, refl, sym, ap, subst, ◌∙◌, arith, length-append, Option, None, Some, inl, inr}
 use Rattle.std.specs.Option.{option_or}
 use Rattle.std.proofs.lemmas.List.Elements.{filter-append}
 use Rattle.attributes.specs.Event.{EventValue}
 use Rattle.event_json.specs.Reading.{Reads, Refuses}
 use Rattle.event_json.specs.declared.fault.ReadFault.{ReadFault}
 use Rattle.event_json.specs.declared.fault.ReadFault.TheVariants as read
-use Rattle.site.specs.declared.call.Call.{Call}
 use Rattle.feeds.specs.Pull.{Holds}
-use Rattle.feeds.specs.Report.{EndsEarly, Feeds, Tells, end_of, handled, has_number, sequenced, unread}
+use Rattle.feeds.specs.Report.{EndsEarly, Tells, end_of, has_number, sequenced}
 use Rattle.feeds.specs.declared.report.Ended.{Ended}
 use Rattle.feeds.specs.declared.report.Ended.TheVariants.{BadInput, Done, GateShut, OutOfMemory}
 use Rattle.feeds.specs.declared.report.Report.{Report}
 use Rattle.run_command.specs.Fault.{of_end}
-use Rattle.database_commands.specs.declared.fault.CommandFault.TheVariants as command
-use Rattle.run_command.specs.Run.{AreFed, EachSpells, IsFed, joined}
+use Rattle.run_command.specs.Outcome.{AreReports}
+use Rattle.run_command.specs.Peer.{ArePulled}
+use Rattle.run_command.specs.Run.{EachSpells, IsFed, joined}
 use Rattle.run_command.specs.Tally.{first_fault, read_in, refused_in}
 use Rattle.run_command.specs.declared.fault.RunFault.{RunFault}
 use Rattle.run_command.specs.declared.fault.RunFault.TheVariants as run
 use Rattle.run_command.proofs.FedLemmas.{holds_both}
+
+-- the first reports are those of these feeds
+abbrev pub AreFed : List EventValue → List (List ℕ) → List Report → Type 0
+AreFed arrivals [] rs = Unit {0}
+AreFed arrivals (b ∷ bs) [] = ⊥
+AreFed arrivals (b ∷ bs) (r ∷ rs) = IsFed arrivals b r × AreFed arrivals bs rs
+
+pub are_fed : (held more : List EventValue) (bs : List (List ℕ)) (ps : List (List EventValue)) (rs : List Report) → AreReports held more bs ps rs → AreFed (held ++ more) bs rs
+are_fed held more [] ps rs told = tt
+are_fed held more (b ∷ bs) ps [] told = told
+are_fed held more (b ∷ bs) ps (r ∷ rs) told = (told.0, are_fed held more bs ps rs told.1)
 
 -- the feeds were read, all their events that have numbers are among the arrivals, and these are the
 -- counts
@@ -44,7 +55,7 @@ not_done read.NotEvent h = absurd (cc)
 not_done (read.BadEvent i f) h = absurd (cc)
 not_done read.InputTooLarge h = absurd (cc)
 
-no_first : {X : Type 0} → (a b : Option X) → option_or a b ≡ None → (a ≡ None) × (b ≡ None)
+pub no_first : {X : Type 0} → (a b : Option X) → option_or a b ≡ None → (a ≡ None) × (b ≡ None)
 no_first None b h = (refl, h)
 no_first (Some x) b h = absurd (cc)
 
@@ -151,3 +162,17 @@ blamed arrivals (b ∷ bs) [] place i f fed is = absurd fed
 blamed arrivals (b ∷ bs) (r ∷ rs) place i f fed is =
     by_end arrivals b bs r place i f (first_fault (place + 1) (length bs) rs) fed.0 (blamed arrivals bs rs (place + 1) i f fed.1) (of_end place (suc (length bs)) r.ended) refl
     (sym (at_first place (length bs) r rs) ∙ is)
+
+-- where no report has a fault, each peer brought all that was lacking
+pub all_pulled : (held more : List EventValue) (bs : List (List ℕ)) (ps : List (List EventValue)) (rs : List Report) (place : ℕ) → AreReports held more bs ps rs
+    → first_fault place (length bs) rs ≡ None → ArePulled held more ps
+all_pulled held more [] [] [] place told none = tt
+all_pulled held more [] [] (r ∷ rs) place told none = absurd told
+all_pulled held more [] (p ∷ ps) [] place told none = absurd told
+all_pulled held more [] (p ∷ ps) (r ∷ rs) place told none =
+    let n = no_first (of_end place 0 r.ended) (first_fault (place + 1) 0 rs) none in
+    (told.0.done (done_by place 0 r.ended n.0), all_pulled held more [] ps rs (place + 1) told.1 n.1)
+all_pulled held more (b ∷ bs) ps [] place told none = absurd told
+all_pulled held more (b ∷ bs) ps (r ∷ rs) place told none =
+    let n = no_first (of_end place (suc (length bs)) r.ended) (first_fault (place + 1) (length bs) rs) (sym (at_first place (length bs) r rs) ∙ none) in
+    all_pulled held more bs ps rs (place + 1) told.1 n.1

@@ -1,31 +1,34 @@
 -- The end of a run whose workers have ended.
-use Rattle.std.specs.Prelude.{◌≡◌, ◌⊎◌, ℕ, List, take, Option, None, Some, Result, Ok, Err}
+use Rattle.std.specs.Prelude.{◌≡◌, ◌≤◌, List, Option, None, Some, Result, Ok, Err, IsOk, IsTrue}
+use Rattle.sqlite.specs.Held.{Held}
+use Rattle.sqlite.specs.State.{State, HasCleanDisk}
 use Rattle.attributes.specs.Event.{EventValue}
-use Rattle.database_commands.specs.declared.fault.CommandFault.TheVariants.{OutOfMemory}
+use Rattle.feeds.specs.declared.report.Report.{Report}
 use Rattle.feeds.specs.declared.serving.ServeFault.{ServeFault}
 use Rattle.feeds.specs.declared.serving.Served.{Served}
+use Rattle.inbox_table.specs.Calls.{IsSettled, Kept}
+use Rattle.inbox_table.specs.Rows.{IsInbox}
+use Rattle.keeper.specs.Keep.{KeepsUp}
 use Rattle.keeper.specs.declared.fault.KeepFault.{KeepFault}
-use Rattle.run_command.specs.Fault.{of_keep, of_serve}
-use Rattle.run_command.specs.Run.{IsRunText}
-use Rattle.run_command.specs.Tally.{first_fault, read_in, refused_in}
-use Rattle.run_command.specs.declared.fault.RunFault.{RunFault}
-use Rattle.run_command.specs.declared.fault.RunFault.TheVariants.{Database}
 
--- no worker has a fault, and the text counts what the first so many of them read, over these arrivals
-abbrev pub SaysCounts : Result Served ServeFault → ℕ → List EventValue → List ℕ → Type 0
-SaysCounts (Ok s) feeds arrivals text = (first_fault 0 feeds s.reports.items ≡ None)
-    × IsRunText (read_in (take feeds s.reports.items)) (refused_in (take feeds s.reports.items))
-    arrivals text
-SaysCounts (Err fault) feeds arrivals text = ⊥
+-- what the workers reported, or why nothing was reported
+abbrev pub workers_of : Result Served ServeFault → Result (List Report) ServeFault
+workers_of (Ok s) = Ok s.reports.items
+workers_of (Err fault) = Err fault
 
--- the fault is the keeper's, where it stopped; else one of keeping the rest, or want of memory
-abbrev pub IsOfKeeper : Option KeepFault → RunFault → Type 0
-IsOfKeeper (Some stopped) why = why ≡ of_keep stopped
-IsOfKeeper None why = ((fault : KeepFault) × (why ≡ of_keep fault)) ⊎ (why ≡ Database OutOfMemory)
-
--- the fault is the first, in this order: that of the workers as a whole, the first worker's, the
--- keeper's
-abbrev pub IsOfRun : Result Served ServeFault → ℕ → Option KeepFault → RunFault → Type 0
-IsOfRun (Err fault) feeds stopped why = why ≡ of_serve fault
-IsOfRun (Ok s) feeds stopped why = (first_fault 0 feeds s.reports.items ≡ Some why)
-    ⊎ ((first_fault 0 feeds s.reports.items ≡ None) × IsOfKeeper stopped why)
+module _ {S : Type 0} (state : Held S → State) where
+  -- a keeper k came to be l in keeping the rest of these arrivals, where nothing had stopped it
+  -- before and workers reported; else nothing was done
+  pub record KeepsRest (k l : Kept S) (arrivals : List EventValue)
+      (served : Result Served ServeFault) (before stopped : Option KeepFault) : Type 0 where
+    -- the table still has the first of them, as many as before or more
+    pub first : KeepsUp (state l.conn) l.rows arrivals
+    pub mark : HasCleanDisk (state l.conn) → IsTrue (state l.conn).is_open → k.rows ≤ l.rows
+    -- a stop is told
+    pub told : (fault : KeepFault) → before ≡ Some fault → stopped ≡ Some fault
+    -- where there is none, the table has all, and a crash leaves just that
+    pub all : HasCleanDisk (state l.conn) → IsOk served → stopped ≡ None
+        → IsInbox (state l.conn).now arrivals
+    pub settled : HasCleanDisk (state l.conn) → IsOk served → stopped ≡ None
+        → IsSettled (state l.conn)
+    pub was_clean : HasCleanDisk (state l.conn) → HasCleanDisk (state k.conn)

@@ -1,5 +1,6 @@
 -- The faults of the crates below, as those of runs.
 use Rattle.std.specs.Prelude.{ℕ, zero, suc, Option, None, Some}
+use Rattle.database_commands.specs.declared.fault.CommandFault.{CommandFault}
 use Rattle.database_commands.specs.declared.fault.CommandFault.TheVariants as command
 use Rattle.feeds.specs.declared.report.Ended.{Ended}
 use Rattle.feeds.specs.declared.report.Ended.TheVariants.{BadInput, Done, GateShut, OutOfMemory}
@@ -29,3 +30,16 @@ of_end place feeds OutOfMemory = Some (run.Database command.OutOfMemory)
 of_end place feeds GateShut = Some (run.Database command.OutOfMemory)
 of_end place zero (BadInput fault) = Some (run.Database command.OutOfMemory)
 of_end place (suc feeds) (BadInput fault) = Some (run.Feed place fault)
+
+-- the database's fault in a run: want of memory, a refusal of the database, or rows that no inbox has
+abbrev pub IsOfDatabase : CommandFault → Type 0
+IsOfDatabase command.OutOfMemory = Unit {0}
+IsOfDatabase command.Store = Unit {0}
+IsOfDatabase command.Foreign = Unit {0}
+IsOfDatabase _ = ⊥
+
+-- a fault that is told of the database is such a one
+abbrev pub IsRunFault : RunFault → Type 0
+IsRunFault (run.Database why) = IsOfDatabase why
+IsRunFault run.NoThread = Unit {0}
+IsRunFault (run.Feed feed fault) = Unit {0}

@@ -13,6 +13,7 @@ use Rattle.feeds.specs.Pull as pull
 use Rattle.feeds.specs.Report.{Feeds, handled, sequenced}
 use Rattle.feeds.specs.declared.report.Report.{Report}
 use Rattle.inbox_table.specs.Rows.{IsInbox}
+use Rattle.run_command.specs.Peer.{ArePulled}
 use Rattle.run_command.specs.declared.fault.RunFault.{RunFault}
 use Rattle.run_command.specs.declared.fault.RunFault.TheVariants as run
 use Rattle.database_commands.specs.Held as database
@@ -47,20 +48,22 @@ pub record SaysRun (feeds : List (List ℕ)) (arrivals : List EventValue) (text 
   pub counted : refused + length (sequenced (joined lists)) ≡ length (joined lists)
   pub prints : IsRunText (length (joined lists)) refused arrivals text
 
--- the database has these arrivals, which are what was held and more behind it or nothing, and the
--- text tells of them
-pub record IsRun (feeds : List (List ℕ)) (held : List EventValue) (new : Database)
-    (text : List ℕ) : Type 0 where
+-- the database has these arrivals, which are what was held and more behind it or nothing; each peer
+-- brought what it was to bring, and the text tells of the arrivals
+pub record IsRun (feeds : List (List ℕ)) (peers : List (List EventValue))
+    (held : List EventValue) (new : Database) (text : List ℕ) : Type 0 where
   pub arrivals : List EventValue
   pub kept : IsInbox new arrivals
   pub more : List EventValue
   pub first : arrivals ≡ held ++ more
+  pub pulled : ArePulled held more peers
   pub said : SaysRun feeds arrivals text
 
 -- so it is whatever the database held
-abbrev pub RunsInto : List (List ℕ) → Database → Database → List ℕ → Type 0
-RunsInto feeds old new text =
-    (held : List EventValue) → database.Holds old held → IsRun feeds held new text
+abbrev pub RunsInto : List (List ℕ) → List (List EventValue) → Database → Database → List ℕ
+    → Type 0
+RunsInto feeds peers old new text =
+    (held : List EventValue) → database.Holds old held → IsRun feeds peers held new text
 
 -- a feed's fault is that of its bytes
 abbrev pub IsFeedFault : List (List ℕ) → RunFault → Type 0
@@ -73,9 +76,3 @@ IsFeedFault feeds (run.Feed feed fault) =
 -- arrivals
 abbrev pub IsFed : List EventValue → List ℕ → Report → Type 0
 IsFed arrivals b r = (m : List Call) × Feeds b m r × pull.Holds arrivals (handled m)
-
--- the first reports are those of these feeds
-abbrev pub AreFed : List EventValue → List (List ℕ) → List Report → Type 0
-AreFed arrivals [] rs = Unit {0}
-AreFed arrivals (b ∷ bs) [] = ⊥
-AreFed arrivals (b ∷ bs) (r ∷ rs) = IsFed arrivals b r × AreFed arrivals bs rs

@@ -1,13 +1,15 @@
 //! A run, from an open database to the printed text.
-ghost use Rattle.std.specs.Prelude.{◌≡◌, ◌≤◌, ◌+◌, [], length, take, unwrap_or, List, Err, IfErr, IfOk, OnOk};
+ghost use Rattle.std.specs.Prelude.{◌≡◌, ◌⊎◌, ◌≤◌, ◌+◌, ℕ, [], length, take, List, Err, IfErr, IfOk, None, OnOk};
 ghost use Rattle.attributes.specs.Event.{EventValue};
 ghost use Rattle.sqlite.specs.Held.{state};
 ghost use Rattle.sqlite.specs.State.{HasCleanDisk};
 ghost use Rattle.inbox.specs.KeyOrder.{key_cmp};
 ghost use Rattle.inbox.specs.Ordered.{append_new};
-ghost use Rattle.inbox_table.specs.Rows.{IsInbox};
+ghost use Rattle.inbox_table.specs.Calls.{IsSettled};
 ghost use Rattle.keeper.specs.Keep.{KeepsUp};
-ghost use Rattle.run_command.specs.Ending.{IsOfRun, SaysCounts};
+ghost use Rattle.run_command.specs.Ending.{KeepsRest, workers_of};
+ghost use Rattle.run_command.specs.Fault.{IsRunFault};
+ghost use Rattle.run_command.specs.Outcome.{HasRun, RunsTo, Tells, fault_of, reports_in};
 ghost use Rattle.run_command.specs.Run.{IsFeedFault, IsRun, IsRunText, RunsInto, SaysRun};
 ghost use Rattle.run_command.specs.Tally.{read_in, refused_in};
 ghost use Rattle.database_commands.specs.declared.fault.CommandFault.TheVariants.{OutOfMemory};
@@ -22,17 +24,21 @@ use database_commands::{CommandFault, loaded, of_table};
 use feeds::{Jobs, Report, ServeFault, Served};
 use inbox_table::{Loaded, NotMade, Table, Watch};
 use keeper::{KeepFault, Keeper, Kept, NotKept};
-use site::Site;
+use site::{Gate, Site};
 use sqlite::{Alter, Connection};
 use std::alloc::Global;
 use std::sync::Wait;
 use std::thread::Threads;
 
-/// A run that came to its end: the connection, and the text to print or why there is none.
+/// A run that came to its end.
 #[derive(Drop)]
 pub struct RunEnded<S: Alter + Drop> {
+    /// The connection to the database.
     pub conn: Connection<S>,
+    /// The text to print, or why there is none.
     pub outcome: Result<Text, RunFault>,
+    /// Why keeping stopped, if it did. Then the inbox may lack some of what workers handed over.
+    pub stopped: Option<KeepFault>,
 }
 
 /// Takes feeds side by side into the inbox of a database, each in a thread of its own, with the
@@ -45,77 +51,102 @@ pub struct RunEnded<S: Alter + Drop> {
 /// workers in their order, that of keeping beside them, that of keeping the rest. What was taken by
 /// then is kept all the same, but after a fault of the workers as a whole or of keeping.
 ///
+/// The gate is asked before each call of a worker, feeds before peers before those who ask, and told
+/// after it: it may hold them up, while what they handed over is kept. A worker that it stops ends
+/// as one that wants memory.
+///
 /// The watch is told how many events the table has, of how many that the inbox had or that were
 /// handed over; while workers work the latter is some hundred too many.
-pub fn run<R: Threads + Wait + Sync, S: Alter + Drop, W: Watch>(
+pub fn run<R: Threads + Wait + Sync, S: Alter + Drop, G: Gate + Sync, W: Watch>(
     rt: &R,
     alloc: Global,
     conn: Connection<S>,
     jobs: Jobs,
+    gate: &G,
     watch: &W,
 ) -> RunEnded<S>
     requires { length jobs.feeds + length jobs.peers + length jobs.asks ≤ 16 }
-    ensures ran { HasCleanDisk (state S.Store result.conn) → IfOk result.outcome
-        (RunsInto jobs.feeds (state S.Store conn).now (state S.Store result.conn).now) }
+    ensures left { RunsTo jobs.feeds jobs.peers (state S.Store conn) (state S.Store result.conn)
+        result.stopped result.outcome }
+    ensures ran { HasCleanDisk (state S.Store result.conn) → IfOk result.outcome (RunsInto
+        jobs.feeds jobs.peers (state S.Store conn).now (state S.Store result.conn).now) }
+    ensures settled { HasCleanDisk (state S.Store result.conn)
+        → OnOk result.outcome (IsSettled (state S.Store result.conn)) }
     ensures said { IfOk result.outcome (λ text.
         (arrivals : List EventValue) × SaysRun jobs.feeds arrivals text) }
     ensures feed { IfErr result.outcome (IsFeedFault jobs.feeds) }
+    ensures database { IfErr result.outcome IsRunFault }
 {
     match loaded(alloc, conn) {
         Ok(loaded) => {
             let Loaded { table, events } = loaded;
-            run_table(rt, alloc, table, events, jobs, watch)
+            run_table(rt, alloc, table, events, jobs, gate, watch)
         }
         Err(refused) => {
             let NotMade { conn, fault } = refused;
-            let outcome = Err(RunFault::Database(of_table(fault)));
-            RunEnded { conn, outcome }
+            unbegun(conn, of_table(fault))
         }
     }
 }
 
 /// A run over a table whose events are at hand.
-fn run_table<R: Threads + Wait + Sync, S: Alter + Drop, W: Watch>(
+fn run_table<R: Threads + Wait + Sync, S: Alter + Drop, G: Gate + Sync, W: Watch>(
     rt: &R,
     alloc: Global,
     table: Table<S>,
     events: Batch,
     jobs: Jobs,
+    gate: &G,
     watch: &W,
 ) -> RunEnded<S>
     requires first { KeepsUp (state S.Store table.conn) table.rows (append_new key_cmp [] events) }
+    requires count { HasCleanDisk (state S.Store table.conn)
+        → table.rows ≡ length (append_new key_cmp [] events) }
     requires few { length jobs.feeds + length jobs.peers + length jobs.asks ≤ 16 }
-    ensures ran { HasCleanDisk (state S.Store result.conn) → IfOk result.outcome
-        (IsRun jobs.feeds (append_new key_cmp [] events) (state S.Store result.conn).now) }
+    ensures left { (result ≡ record {
+      conn = table.conn;
+      outcome = Err (Database OutOfMemory);
+      stopped = None;
+    }) ⊎ HasRun jobs.feeds jobs.peers (append_new key_cmp [] events)
+        (state S.Store result.conn) result.stopped result.outcome }
+    ensures ran { HasCleanDisk (state S.Store result.conn) → IfOk result.outcome (IsRun jobs.feeds
+        jobs.peers (append_new key_cmp [] events) (state S.Store result.conn).now) }
+    ensures settled { HasCleanDisk (state S.Store result.conn)
+        → OnOk result.outcome (IsSettled (state S.Store result.conn)) }
     ensures said { IfOk result.outcome (λ text.
         (arrivals : List EventValue) × SaysRun jobs.feeds arrivals text) }
     ensures feed { IfErr result.outcome (IsFeedFault jobs.feeds) }
-    ensures was_clean { IfOk result.outcome (λ _. HasCleanDisk (state S.Store result.conn)
-        → HasCleanDisk (state S.Store table.conn)) }
+    ensures database { IfErr result.outcome IsRunFault }
+    ensures was_clean { HasCleanDisk (state S.Store result.conn)
+        → HasCleanDisk (state S.Store table.conn) }
 {
     let feeds = jobs.feeds.len();
     match Keeper::of_loaded(alloc, table, events) {
         Ok(kept) => {
             let Kept { keeper, site } = kept;
-            match share(rt, alloc, keeper, site, jobs, watch) {
+            match share(rt, alloc, keeper, site, jobs, gate, watch) {
                 Ok(closed) => ended(alloc, closed, feeds, watch),
-                Err(keeper) => unbegun(keeper.into_table()),
+                Err(keeper) => unbegun(
+                    keeper.into_table().into_connection(),
+                    CommandFault::OutOfMemory,
+                ),
             }
         }
         Err(refused) => {
             let NotKept { table, fault: _ } = refused;
-            unbegun(table)
+            unbegun(table.into_connection(), CommandFault::OutOfMemory)
         }
     }
 }
 
-/// A run that wasn't begun, for want of memory.
-fn unbegun<S: Alter + Drop>(table: Table<S>) -> RunEnded<S>
-    ensures { result.outcome ≡ Err (Database OutOfMemory) }
+/// A run that wasn't begun.
+fn unbegun<S: Alter + Drop>(conn: Connection<S>, why: CommandFault) -> RunEnded<S>
+    ensures { result ≡ record { conn = conn; outcome = Err (Database why); stopped = None } }
 {
     RunEnded {
-        conn: table.into_connection(),
-        outcome: Err(RunFault::Database(CommandFault::OutOfMemory)),
+        conn,
+        outcome: Err(RunFault::Database(why)),
+        stopped: None,
     }
 }
 
@@ -127,12 +158,11 @@ fn ended<S: Alter + Drop, W: Watch>(
     watch: &W,
 ) -> RunEnded<S>
     requires { KeepsUp (state S.Store closed.keeper.conn) closed.keeper.rows closed.site }
-    ensures kept { HasCleanDisk (state S.Store result.conn) → OnOk result.outcome
-        (IsInbox (state S.Store result.conn).now closed.site) }
-    ensures text { IfOk result.outcome (SaysCounts closed.served feeds closed.site) }
-    ensures fault { IfErr result.outcome (IsOfRun closed.served feeds closed.stopped) }
-    ensures was_clean { HasCleanDisk (state S.Store result.conn)
-        → HasCleanDisk (state S.Store closed.keeper.conn) }
+    ensures kept { (rows : ℕ) × KeepsRest (λ conn. state S.Store conn) closed.keeper
+        record { conn = result.conn; rows = rows } closed.site closed.served closed.stopped
+        result.stopped }
+    ensures told { Tells feeds (reports_in (workers_of closed.served)) closed.site
+        (fault_of feeds (workers_of closed.served) result.stopped) result.outcome }
 {
     let Closed {
         mut keeper,
@@ -140,56 +170,62 @@ fn ended<S: Alter + Drop, W: Watch>(
         served,
         stopped,
     } = closed;
-    let outcome = outcome_of(alloc, &mut keeper, &site, &served, stopped, feeds, watch);
+    let stopped = keep_rest(&mut keeper, &site, &served, stopped, watch);
+    let outcome = outcome_of(alloc, &site, &served, stopped, feeds);
     RunEnded {
         conn: keeper.into_table().into_connection(),
         outcome,
+        stopped,
     }
 }
 
-/// Keeps what is left, and tells the first fault, or else the text.
-fn outcome_of<S: Alter + Drop, W: Watch>(
-    alloc: Global,
+/// Keeps what is left, where workers reported and keeping beside them didn't stop. The answer is
+/// why keeping stopped, if it did.
+fn keep_rest<S: Alter + Drop, W: Watch>(
     keeper: &mut Keeper<S>,
     site: &Site,
     served: &Result<Served, ServeFault>,
     stopped: Option<KeepFault>,
-    feeds: u64,
     watch: &W,
-) -> Result<Text, RunFault>
+) -> Option<KeepFault>
     requires { KeepsUp (state S.Store keeper.old.conn) keeper.old.rows site.now }
-    ensures kept { HasCleanDisk (state S.Store keeper.new.conn) → OnOk result
-        (IsInbox (state S.Store keeper.new.conn).now site.now) }
-    ensures text { IfOk result (SaysCounts served.now feeds site.now) }
-    ensures fault { IfErr result (IsOfRun served.now feeds stopped) }
-    ensures was_clean { HasCleanDisk (state S.Store keeper.new.conn)
-        → HasCleanDisk (state S.Store keeper.old.conn) }
+    ensures { KeepsRest (λ conn. state S.Store conn) keeper.old keeper.new site.now served.now
+        stopped result }
+{
+    if served.is_err() {
+        return stopped;
+    }
+    if stopped.is_some() {
+        return stopped;
+    }
+    match keeper.catch_up(site, watch) {
+        Ok(()) => None,
+        Err(fault) => Some(fault),
+    }
+}
+
+/// The first fault, or else the text.
+fn outcome_of(
+    alloc: Global,
+    site: &Site,
+    served: &Result<Served, ServeFault>,
+    stopped: Option<KeepFault>,
+    feeds: u64,
+) -> Result<Text, RunFault>
+    ensures { Tells feeds (reports_in (workers_of served.now)) site.now
+        (fault_of feeds (workers_of served.now) stopped) result }
 {
     let reports = match served {
         Ok(served) => served.reports.as_slice(),
         Err(fault) => return Err(of_serve(*fault)),
     };
-    let first = first_fault(reports, feeds);
-    if let Some(why) = stopped {
-        return Err(either(first, of_keep(why)));
+    if let Some(fault) = first_fault(reports, feeds) {
+        return Err(fault);
     }
-    match keeper.catch_up(site, watch) {
-        Ok(()) => match first {
-            Some(fault) => Err(fault),
-            None => said(alloc, reports, feeds, site),
-        },
-        Err(why) => Err(either(first, of_keep(why))),
+    if let Some(fault) = stopped {
+        return Err(of_keep(fault));
     }
-}
-
-/// The first of two faults.
-fn either(first: Option<RunFault>, second: RunFault) -> RunFault
-    ensures { result ≡ unwrap_or first second }
-{
-    match first {
-        Some(fault) => fault,
-        None => second,
-    }
+    said(alloc, reports, feeds, site)
 }
 
 /// The first so many reports.

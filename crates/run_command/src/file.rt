@@ -10,6 +10,7 @@ use attributes::Text;
 use database_commands::open;
 use feeds::Jobs;
 use inbox_table::Watch;
+use site::Wide;
 use sqlite_std_file::File;
 use sqlite_store::FileStore;
 use std::alloc::Global;
@@ -47,7 +48,7 @@ impl Runs for HostRuntime {
         watch: &W,
     ) -> Result<Text, RunFault> {
         match open(self, name, growth) {
-            Ok(conn) => closed(run(rt, alloc, conn, jobs, watch)),
+            Ok(conn) => closed(run(rt, alloc, conn, jobs, &Wide, watch)),
             Err(fault) => Err(RunFault::Database(fault)),
         }
     }
@@ -57,7 +58,11 @@ impl Runs for HostRuntime {
 fn closed(ended: RunEnded<FileStore<File>>) -> Result<Text, RunFault>
     ensures { result ≡ ended.outcome }
 {
-    let RunEnded { conn, outcome } = ended;
+    let RunEnded {
+        conn,
+        outcome,
+        stopped: _,
+    } = ended;
     let _closed = conn.close();
     outcome
 }

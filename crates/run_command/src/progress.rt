@@ -11,34 +11,28 @@ use std::sync::atomic::{AtomicU64, Ordering};
 /// The most events that a worker hands over at once.
 const MAX_PAGE: u64 = 100;
 
-/// Counts what workers hand over. As a gate it never shuts.
+/// A gate before which the calls of workers are counted.
 #[derive(Drop)]
-pub struct Handed {
-    calls: AtomicU64,
+pub struct Counting<'a, G> {
+    pub gate: &'a G,
+    pub calls: &'a AtomicU64,
 }
 
-impl Handed {
-    /// Nothing was handed over yet.
-    pub fn nothing() -> Handed {
-        Handed {
-            calls: AtomicU64::new(0),
-        }
+impl<'a, G: Gate> Gate for Counting<'a, G> {
+    fn before(&self, worker: u64, call: u64) -> Result<(), GateShut> {
+        self.gate.before(worker, call)
     }
 
-    /// About how many events were handed over: a worker's last call may have fewer than it counts.
-    fn events(&self) -> u64 {
-        self.calls.load(Ordering::SeqCst).saturating_mul(MAX_PAGE)
-    }
-}
-
-impl Gate for Handed {
-    fn before(&self, _worker: u64, _call: u64) -> Result<(), GateShut> {
-        Ok(())
-    }
-
-    fn after(&self, _worker: u64, _call: u64) {
+    fn after(&self, worker: u64, call: u64) {
+        self.gate.after(worker, call);
         self.calls.fetch_add(1, Ordering::SeqCst);
     }
+}
+
+/// About how many events were handed over: a worker's last call may have fewer than it counts, and
+/// some calls have none.
+fn handed_over(calls: &AtomicU64) -> u64 {
+    calls.load(Ordering::SeqCst).saturating_mul(MAX_PAGE)
 }
 
 /// A flusher that tells after each turn how many events its table has, of about how many that were
@@ -46,14 +40,15 @@ impl Gate for Handed {
 #[derive(Drop)]
 pub struct Told<'a, 'b, R: Wait, S: Alter, W> {
     pub flusher: Flusher<'a, R, S>,
-    pub handed: &'a Handed,
+    pub calls: &'a AtomicU64,
     pub watch: &'b W,
     pub before: u64,
 }
 
 impl<'a, 'b, R: Wait, S: Alter + Drop, W: Watch> Aside for Told<'a, 'b, R, S, W> {
+    ghost use Rattle.std.specs.Prelude.{◌≡◌, ℕ};
     ghost use Rattle.sqlite.specs.Held.{state};
-    ghost use Rattle.keeper.specs.Flush.{Flushes};
+    ghost use Rattle.keeper.specs.Flush.{Flushes, Turns};
     ghost use Rattle.keeper.specs.steps.Flushes.{flushes_none, flushes_on};
 
     ghost moves = { λ a b. Flushes (λ conn. state S.Store conn) a.flusher b.flusher };
@@ -62,9 +57,15 @@ impl<'a, 'b, R: Wait, S: Alter + Drop, W: Watch> Aside for Told<'a, 'b, R, S, W>
 
     ghost goes_on = { λ a b c. flushes_on _ a.flusher b.flusher c.flusher };
 
-    fn turn(&mut self) -> bool {
-        let goes_on = self.flusher.turn();
-        let all = self.before.saturating_add(self.handed.events());
+    /// A turn of the flusher; then the watch is told.
+    fn turn(&mut self) -> bool
+        ensures turned { Turns (λ conn. state S.Store conn)
+            self.old.flusher self.new.flusher result }
+        ensures same { (self.new.watch ≡ self.old.watch) × (self.new.before ≡ self.old.before) }
+        ensures told { (all : ℕ) × W.told self.new.watch.now self.new.flusher.keeper.rows all }
+    {
+        let goes_on = self.flusher.flush();
+        let all = self.before.saturating_add(handed_over(self.calls));
         self.watch.kept(self.flusher.kept(), all);
         goes_on
     }

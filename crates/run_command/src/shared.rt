@@ -4,17 +4,18 @@ ghost use Rattle.sqlite.specs.Held.{state};
 ghost use Rattle.keeper.specs.Keep.{KeepsUp};
 ghost use Rattle.run_command.specs.Shared.{IsClosed};
 
-use crate::progress::{Handed, Told};
+use crate::progress::{Counting, Told};
 use feeds::{Jobs, ServeFault, Served, serve};
 use inbox::laws::sets_are_members;
 use inbox_table::Watch;
 use keeper::laws::first_arrivals_stay;
 use keeper::{Flushed, Flusher, KeepFault, Keeper};
-use site::Site;
+use site::{Gate, Site};
 use site_lock::{Begun, SharedSite};
 use sqlite::Alter;
 use std::alloc::Global;
 use std::sync::Wait;
+use std::sync::atomic::AtomicU64;
 use std::thread::Threads;
 
 /// What is left where workers have ended: the keeper, the site that was shared, what they reported,
@@ -28,20 +29,22 @@ pub struct Closed<S: Alter + Drop> {
 }
 
 /// Shares a site for as long as jobs are done for it, each in a thread of its own, and keeps what
-/// came meanwhile. For want of memory the keeper comes back as it was. The watch is told how far it
-/// came.
-pub fn share<R: Threads + Wait + Sync, S: Alter + Drop, W: Watch>(
+/// came meanwhile. For want of memory the keeper comes back as it was. The gate is asked before each
+/// call of a worker and told after it, and the watch is told how far it came.
+pub fn share<R: Threads + Wait + Sync, S: Alter + Drop, G: Gate + Sync, W: Watch>(
     rt: &R,
     alloc: Global,
     keeper: Keeper<S>,
     site: Site,
     jobs: Jobs,
+    gate: &G,
     watch: &W,
 ) -> Result<Closed<S>, Keeper<S>>
     requires first { KeepsUp (state S.Store keeper.conn) keeper.rows site }
     requires few { length jobs.feeds + length jobs.peers + length jobs.asks ≤ 16 }
     ensures ok { IfOk result (λ c.
-        IsClosed (λ conn. state S.Store conn) keeper site jobs.feeds c.keeper c.site c.served) }
+        IsClosed (λ conn. state S.Store conn) keeper site jobs.feeds jobs.peers
+        c.keeper c.site c.served) }
     ensures err { IfErr result (λ back. back ≡ keeper) }
 {
     first_arrivals_stay();
@@ -55,17 +58,21 @@ pub fn share<R: Threads + Wait + Sync, S: Alter + Drop, W: Watch>(
     };
     let flusher = Flusher::of(rt, &shared, keeper, own);
     let before = flusher.kept();
-    let handed = Handed::nothing();
+    let calls = AtomicU64::new(0);
+    let counting = Counting {
+        gate,
+        calls: &calls,
+    };
     let mut told = Told {
         flusher,
-        handed: &handed,
+        calls: &calls,
         watch,
         before,
     };
-    let served = serve(rt, alloc, &shared, &mut pass, jobs, &handed, &mut told);
+    let served = serve(rt, alloc, &shared, &mut pass, jobs, &counting, &mut told);
     let Told {
         flusher,
-        handed: _,
+        calls: _,
         watch: _,
         before: _,
     } = told;

@@ -2,4 +2,3 @@ mod SeatLemmas
 mod ArrivalLemmas
 mod StepLemmas
 mod LawLemmas
-mod ShareLemmas

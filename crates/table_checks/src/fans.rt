@@ -87,6 +87,70 @@ impl Gate for ShutsAtSecond {
     }
 }
 
+/// Knows of two workers the calls that were let through and those that were made, and whether any
+/// was of another worker or out of order.
+#[derive(Drop)]
+struct Heard {
+    first: Calls,
+    second: Calls,
+    strange: AtomicU64,
+}
+
+/// The number of the last call that a worker asked for, and of the last that it made.
+#[derive(Drop)]
+struct Calls {
+    asked: AtomicU64,
+    made: AtomicU64,
+}
+
+impl Calls {
+    /// None yet.
+    fn none() -> Calls {
+        Calls {
+            asked: AtomicU64::new(0),
+            made: AtomicU64::new(0),
+        }
+    }
+}
+
+impl Heard {
+    /// The calls of a worker; none of a worker that isn't there.
+    fn of(&self, worker: u64) -> Option<&Calls> {
+        match worker {
+            0 => Some(&self.first),
+            1 => Some(&self.second),
+            _ => None,
+        }
+    }
+}
+
+impl Gate for Heard {
+    fn before(&self, worker: u64, call: u64) -> Result<(), GateShut> {
+        let Some(calls) = self.of(worker) else {
+            self.strange.fetch_add(1, Ordering::SeqCst);
+            return Ok(());
+        };
+        // The last call was made, and this is the next.
+        let made = calls.made.load(Ordering::SeqCst);
+        let asked = calls.asked.fetch_add(1, Ordering::SeqCst);
+        if asked != made || asked.checked_add(1) != Some(call) {
+            self.strange.fetch_add(1, Ordering::SeqCst);
+        }
+        Ok(())
+    }
+
+    fn after(&self, worker: u64, call: u64) {
+        let Some(calls) = self.of(worker) else {
+            self.strange.fetch_add(1, Ordering::SeqCst);
+            return;
+        };
+        calls.made.fetch_add(1, Ordering::SeqCst);
+        if calls.asked.load(Ordering::SeqCst) != call || calls.made.load(Ordering::SeqCst) != call {
+            self.strange.fetch_add(1, Ordering::SeqCst);
+        }
+    }
+}
+
 /// A service with so many placed orders.
 pub(crate) fn placed<R: AllocGlobal + Abort>(rt: &R, count: u64) -> Service<MemStore> {
     let at = time(rt);
@@ -178,4 +242,37 @@ fn the_others_go_on_where_one_stops(rt: HostRuntime) {
     let want = [(End::Done, 250, 250), (shut, 100, 100)];
     assert!(rt; ends_as(&rt, &mut service, &gate, &[(0, 0), (0, 0)], &want));
     assert_eq!(rt; gate.made.load(Ordering::SeqCst), 4);
+}
+
+#[test]
+fn the_gate_is_told_each_call_of_each_worker(rt: HostRuntime) {
+    let mut service = placed(&rt, 250);
+    let gate = Heard {
+        first: Calls::none(),
+        second: Calls::none(),
+        strange: AtomicU64::new(0),
+    };
+    let want = [(End::Done, 250, 250), (End::Done, 250, 100)];
+    assert!(rt; ends_as(&rt, &mut service, &gate, &[(0, 0), (150, 0)], &want));
+    assert_eq!(rt; gate.first.made.load(Ordering::SeqCst), 3);
+    assert_eq!(rt; gate.second.made.load(Ordering::SeqCst), 1);
+    assert_eq!(rt; gate.strange.load(Ordering::SeqCst), 0);
+}
+
+#[test]
+fn marks_without_rows_after_them_are_done(rt: HostRuntime) {
+    let mut empty = create(&rt, 0);
+    let want = [(End::Done, 0, 0), (End::Done, 7, 0)];
+    assert!(rt; ends_as(&rt, &mut empty, &Wide, &[(0, 0), (7, 0)], &want));
+    let at = time(&rt);
+    let mut based = create(&rt, 5);
+    assert!(rt; accepts(&mut based, "place", 1, &at));
+    let want = [
+        (End::Done, 6, 1),
+        (End::Done, 6, 1),
+        (End::Done, 6, 0),
+        (End::Done, 9, 0),
+    ];
+    let from = [(0, 0), (5, 0), (6, 0), (9, 0)];
+    assert!(rt; ends_as(&rt, &mut based, &Wide, &from, &want));
 }

@@ -12,11 +12,15 @@ mod fixture;
 #[cfg(test)]
 mod keepers;
 #[cfg(test)]
+mod memory;
+#[cfg(test)]
 mod orders;
 #[cfg(test)]
 mod pages;
 #[cfg(test)]
 mod relays;
+#[cfg(test)]
+mod runs;
 #[cfg(test)]
 mod stops;
 #[cfg(test)]

@@ -14,14 +14,53 @@ use std::sync::atomic::{AtomicU64, Ordering};
 use std::thread;
 use views::{Query, print};
 
-/// How often a gate looks before it is shut.
-const LOOKS: u64 = 100_000_000;
+/// How often a gate looks before it is shut. Whoever looks lets others run.
+const LOOKS: u64 = 1_000_000;
 
-/// It holds workers 0 and 1 up before their first calls until both have come there, and worker 3
-/// until the aside has had three turns.
+/// The calls of one worker that a gate was asked for, and those that it was told of.
+#[derive(Drop)]
+struct Calls {
+    asked: AtomicU64,
+    made: AtomicU64,
+}
+
+impl Calls {
+    /// None yet.
+    fn none() -> Calls {
+        Calls {
+            asked: AtomicU64::new(0),
+            made: AtomicU64::new(0),
+        }
+    }
+
+    /// Notes that a call is asked for, and answers whether it is the next one.
+    fn ask(&self, call: u64) -> bool {
+        let made = self.made.load(Ordering::SeqCst);
+        self.asked.swap(call, Ordering::SeqCst) == made && call == made.wrapping_add(1)
+    }
+
+    /// Notes that a call was made, and answers whether it is the one that was asked for.
+    fn make(&self, call: u64) -> bool {
+        let asked = self.asked.load(Ordering::SeqCst);
+        self.made.swap(call, Ordering::SeqCst) == call.wrapping_sub(1) && call == asked
+    }
+
+    /// Whether so many were asked for and made.
+    fn are(&self, count: u64) -> bool {
+        self.asked.load(Ordering::SeqCst) == count && self.made.load(Ordering::SeqCst) == count
+    }
+}
+
+/// It holds workers 0 and 1 up before their first calls until the other of the two has come there,
+/// and worker 3 until the aside has had three turns. It notes the calls of the four workers.
 #[derive(Drop)]
 struct Meeting {
-    came: AtomicU64,
+    first: Calls,
+    second: Calls,
+    third: Calls,
+    fourth: Calls,
+    // How often a worker that isn't there, or a call out of turn, was named.
+    wrong: AtomicU64,
     turns: AtomicU64,
 }
 
@@ -36,21 +75,62 @@ fn comes_to(count: &AtomicU64, number: u64) -> bool {
     false
 }
 
+impl Meeting {
+    /// Nobody has come.
+    fn nobody() -> Meeting {
+        Meeting {
+            first: Calls::none(),
+            second: Calls::none(),
+            third: Calls::none(),
+            fourth: Calls::none(),
+            wrong: AtomicU64::new(0),
+            turns: AtomicU64::new(0),
+        }
+    }
+
+    /// The calls of a worker.
+    fn of(&self, worker: u64) -> Option<&Calls> {
+        match worker {
+            0 => Some(&self.first),
+            1 => Some(&self.second),
+            2 => Some(&self.third),
+            3 => Some(&self.fourth),
+            _ => None,
+        }
+    }
+
+    /// Counts what isn't so.
+    fn expect(&self, is_so: bool) {
+        if !is_so {
+            self.wrong.fetch_add(1, Ordering::SeqCst);
+        }
+    }
+
+    /// Whether the workers made so many calls each, all of them in turn.
+    fn has_calls(&self, first: u64, second: u64, third: u64, fourth: u64) -> bool {
+        self.wrong.load(Ordering::SeqCst) == 0
+            && self.first.are(first)
+            && self.second.are(second)
+            && self.third.are(third)
+            && self.fourth.are(fourth)
+    }
+}
+
 impl Gate for Meeting {
     fn before(&self, worker: u64, call: u64) -> Result<(), GateShut> {
-        if call != 1 || worker == 2 {
-            return Ok(());
-        }
-        let is_met = if worker == 3 {
-            comes_to(&self.turns, 3)
-        } else {
-            self.came.fetch_add(1, Ordering::SeqCst);
-            comes_to(&self.came, 2)
+        self.expect(self.of(worker).is_some_and(|calls| calls.ask(call)));
+        let is_met = match worker {
+            0 => call != 1 || comes_to(&self.second.asked, 1),
+            1 => call != 1 || comes_to(&self.first.asked, 1),
+            3 => comes_to(&self.turns, 3),
+            _ => true,
         };
         if is_met { Ok(()) } else { Err(GateShut) }
     }
 
-    fn after(&self, _worker: u64, _call: u64) {}
+    fn after(&self, worker: u64, call: u64) {
+        self.expect(self.of(worker).is_some_and(|calls| calls.make(call)));
+    }
 }
 
 /// It counts its turns, for the gate too.
@@ -166,10 +246,7 @@ fn covers<R: Wait>(rt: &R, alloc: Global, shared: &SharedSite, pass: &mut Pass, 
 fn workers_run_at_the_same_time(rt: HostRuntime) {
     let alloc = rt.alloc();
     let Begun { shared, mut pass } = begun(alloc).expect(&rt, "no memory");
-    let gate = Meeting {
-        came: AtomicU64::new(0),
-        turns: AtomicU64::new(0),
-    };
+    let gate = Meeting::nobody();
     let mut aside = Turning {
         count: 0,
         turns: &gate.turns,
@@ -182,6 +259,8 @@ fn workers_run_at_the_same_time(rt: HostRuntime) {
         "no thread",
     );
     assert!(rt; is_done(&served));
+    // The peer is asked for its summary and for two pages, of which the first is handed over.
+    assert!(rt; gate.has_calls(1, 2, 4, 1));
     assert!(rt; aside.count >= 3);
     assert_eq!(rt; shared.turns(&mut pass), 6);
     let lines = "{\"sources\":{\"/orders\":[[1,203]]},\"version\":1}\n";

@@ -11,25 +11,28 @@ use Rattle.site.specs.declared.call.Reply.{Reply}
 use Rattle.site.specs.declared.call.Reply.TheVariants.{Paged, Summed}
 use Rattle.site.specs.declared.desk.DeskFault.{DeskFault}
 use Rattle.feeds.specs.Pull.{ArePages, EndsEmpty, replied}
-use Rattle.feeds.specs.Report.{AreTakes, EndsEarly, Handles, fresh_of, handled, repeated_of}
+use Rattle.feeds.specs.Report.{AreAnswered, AreTakes, EndsEarly, Handles, HasCauseIf, fresh_of}
+use Rattle.feeds.specs.Report.{handled, repeated_of}
 use Rattle.feeds.specs.declared.report.Ended.{Ended}
-use Rattle.feeds.specs.declared.report.Ended.TheVariants.{Done}
+use Rattle.feeds.specs.declared.report.Ended.TheVariants.{Done, GateShut, OutOfMemory}
 use Rattle.feeds.specs.declared.report.Tally.{Tally}
 use Rattle.feeds.specs.steps.Tally.{Counted}
 
--- the call for the summary
+-- the call for the summary: it is told, or the gate was shut before the call, or this was refused
 abbrev pub Sums : List Call → Result Sources Ended → Type 0
 Sums n (Ok peer) = n ≡ call command.Summary (Summed peer) ∷ []
-Sums n (Err ended) = EndsEarly ended
-    × ((n ≡ []) ⊎ ((reply : Reply) × (n ≡ call command.Summary reply ∷ [])))
+Sums n (Err OutOfMemory) = (fault : DeskFault) × (n ≡ call command.Summary (refused fault) ∷ [])
+Sums n (Err GateShut) = n ≡ []
+Sums n (Err _) = ⊥
 
--- the call for a page
+-- the call for a page, in the same way
 abbrev pub Pages : Sources → ℕ → List Call → Result (List EventValue) Ended → Type 0
 Pages peer place m (Ok events) =
     (m ≡ call (command.DeltaPage peer place 100) (Paged events) ∷ []) × (length events ≤ 100)
-Pages peer place m (Err ended) = EndsEarly ended
-    × ((m ≡ []) ⊎ ((fault : DeskFault)
-    × (m ≡ call (command.DeltaPage peer place 100) (refused fault) ∷ [])))
+Pages peer place m (Err OutOfMemory) = (fault : DeskFault)
+    × (m ≡ call (command.DeltaPage peer place 100) (refused fault) ∷ [])
+Pages peer place m (Err GateShut) = m ≡ []
+Pages peer place m (Err _) = ⊥
 
 -- the counts of events are the same
 abbrev pub HasSameCounts : Tally → Tally → Type 0
@@ -43,6 +46,7 @@ pub record Moves (peer : Sources) (m n : List Call) (t u : Tally) (o : Option En
   pub most : length (replied m) ≤ 100
   pub whole : o ≡ None → handled n ≡ replied m
   pub ended : (e : Ended) → o ≡ Some e → (e ≡ Done) ⊎ EndsEarly e
+  pub cause : HasCauseIf m o × HasCauseIf n o
   pub done : o ≡ Some Done → (handled n ≡ replied m) × (replied m ≡ []) × EndsEmpty m
 
 -- after these calls
@@ -54,3 +58,4 @@ pub record Pulling (peer : Sources) (m n : List Call) (t : Tally) : Type 0 where
   pub repeated : t.repeated ≡ repeated_of n
   pub all : fresh_of n + repeated_of n ≡ length (handled n)
   pub refused : t.refused ≡ 0
+  pub answered : AreAnswered m × AreAnswered n

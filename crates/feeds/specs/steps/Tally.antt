@@ -8,9 +8,10 @@ use Rattle.inbox.specs.declared.inbox.Short.{Short}
 use Rattle.site.specs.declared.call.Call.{Call}
 use Rattle.site.specs.declared.desk.DeskFault.{DeskFault}
 use Rattle.site.specs.declared.desk.DeskFault.TheVariants.{OutOfMemory}
-use Rattle.feeds.specs.Report.{AreTakes, EndsEarly, Handles, fresh_of, handled, has_number, repeated_of}
-use Rattle.feeds.specs.Report.{sequenced, unsequenced}
+use Rattle.feeds.specs.Report.{AreAnswered, AreTakes, EndsRefused, Handles, fresh_of, handled}
+use Rattle.feeds.specs.Report.{has_number, repeated_of, sequenced, unsequenced}
 use Rattle.feeds.specs.declared.report.Ended.{Ended}
+use Rattle.feeds.specs.declared.report.Ended.TheVariants as ended
 use Rattle.feeds.specs.declared.report.Tally.{Tally}
 
 -- the tally grew by just these calls
@@ -20,13 +21,21 @@ pub record Counted (m : List Call) (t u : Tally) : Type 0 where
   pub refused : u.refused ≡ t.refused
   pub all : fresh_of m + repeated_of m ≡ length (handled m)
 
+-- what ended a worker at these calls, if anything did: the last of them was refused, or the gate was
+-- shut before the next
+abbrev pub StopsBy : List Call → Option Ended → Type 0
+StopsBy m None = AreAnswered m
+StopsBy m (Some ended.OutOfMemory) = EndsRefused m
+StopsBy m (Some ended.GateShut) = AreAnswered m
+StopsBy m (Some _) = ⊥
+
 -- one batch was handed over, whole if nothing ended it
 pub record Flushed (m : List Call) (batch left : List EventValue) (t u : Tally) (o : Option Ended)
     : Type 0 where
   pub handles : Handles m batch
   pub counted : Counted m t u
   pub whole : o ≡ None → (handled m ≡ batch) × (left ≡ [])
-  pub early : (e : Ended) → o ≡ Some e → EndsEarly e
+  pub stop : StopsBy m o
 
 -- so, or the batch was not full and nothing was done
 abbrev pub FlushedIfFull : List Call → List EventValue → List EventValue → Tally → Tally
@@ -48,6 +57,7 @@ pub record Going (passed : List EventValue) (m : List Call) (batch : List EventV
   pub repeated : t.repeated ≡ repeated_of m
   pub all : fresh_of m + repeated_of m ≡ length (handled m)
   pub refused : t.refused ≡ length (unsequenced passed)
+  pub answered : AreAnswered m
 
 -- how far a refused call came
 abbrev pub short_of : DeskFault → Short

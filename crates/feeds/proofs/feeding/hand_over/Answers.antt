@@ -33,8 +33,8 @@ returns-in-Some-flush_full g c = let i = c.loop-event.invariant in let f = c.in-
 pub returns-then-is_empty : goal.returns-then-is_empty
 returns-then-is_empty g c = let i = c.loop-event.invariant in (i.1, i.3, ends _ _ _ _ _ _ _ i.2 (empty_is _ (sym c.loop-event.event-iterator.rest.ok.0 ∙ c.in-None.ensures.steps.0)) i.4 (search rules) refl)
 
-pub flush-requires : goal.flush-requires
-flush-requires g c = let i = c.loop-event.invariant in let r = room _ _ _ _ _ _ i.4 i.2 in omega (arith, r.0, c.len-len.ensures, c.len-len.type_inv)
+pub flush-requires-clause-room : goal.flush-requires-clause-room
+flush-requires-clause-room g c = let i = c.loop-event.invariant in let r = room _ _ _ _ _ _ i.4 i.2 in omega (arith, r.0, c.len-len.ensures, c.len-len.type_inv)
 
 pub returns-in-None-flush : goal.returns-in-None-flush
 returns-in-None-flush g c = let i = c.loop-event.invariant in let f = c.in-None-flush.ensures.flushed in

@@ -1,5 +1,6 @@
 use Rattle.std.proofs.Common.{[], refl, sym, subst, rules}
 use Rattle.feeds.specs.steps.Tally.{Gains}
+use Rattle.feeds.proofs.CauseLemmas.{early_if}
 use Rattle.feeds.proofs.PullLemmas.{moved, moved_last, moved_not, replied_page}
 use Rattle.feeds.proofs.pulling.move_page.Goals as goal
 
@@ -19,5 +20,5 @@ returns g c = let p = c.in-Ok.ensures.page in let f = c.flush.ensures.flushed in
   f.1,
   moved _ _ _ _ _ _ _ _ _ p.2 c.in-Ok.ensures.same f.2,
   (λ none. subst (λ z. Gains (g.E.Desk.arrivals c.args.to.now) z (g.E.Desk.arrivals c.flush.new.desk)) (sym (replied_page _ _ _ _ p.2)) (c.flush.ensures.gains none)),
-  (λ done. absurd (f.2.early _ done)),
+  (λ done. absurd (early_if _ _ _ done f.2.stop)),
 )

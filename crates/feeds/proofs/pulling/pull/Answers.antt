@@ -1,7 +1,7 @@
 use Rattle.std.proofs.Common.{◌++◌, [], sym, ap, ◌∙◌, subst, inl, inr}
 use Rattle.feeds.specs.Pull.{Pulled}
 use Rattle.feeds.specs.Report.{EndsEarly}
-use Rattle.feeds.proofs.PullLemmas.{unbegun}
+use Rattle.feeds.proofs.PullLemmas.{early_sum, unbegun}
 use Rattle.feeds.proofs.pulling.pull.Goals as goal
 
 pub returns-in-Ok : goal.returns-in-Ok
@@ -20,6 +20,6 @@ returns-in-Err g c = let s = c.in-Err.ensures in (
   s.0,
   g.met.D.Desk.stays _,
   s.1,
-  inl (unbegun s.0 _ _ _ s.2.0 s.2.1 c.start-tally.ensures c.report-in-Err.ensures),
-  (λ d. absurd (subst EndsEarly (sym (ap (λ z. z.ended) c.report-in-Err.ensures) ∙ d) s.2.0)),
+  inl (unbegun s.0 _ _ _ s.2 c.start-tally.ensures c.report-in-Err.ensures),
+  (λ d. absurd (subst EndsEarly (sym (ap (λ z. z.ended) c.report-in-Err.ensures) ∙ d) (early_sum s.0 _ s.2))),
 )

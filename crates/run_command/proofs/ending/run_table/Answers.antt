@@ -1,33 +1,95 @@
-use Rattle.std.proofs.Common.{◌++◌, ap, ◌∙◌}
-use Rattle.std.proofs.lemmas.Result.{IfErr-weaker, IfOk-weaker}
+use Rattle.std.proofs.Common.{◌≡◌, ◌∙◌, List, [], length, ap, subst, inr}
+use Rattle.std.proofs.lemmas.Result.{IfErr-weaker}
+use Rattle.sqlite.specs.Held.{Held, state}
+use Rattle.sqlite.specs.State.{HasCleanDisk, State}
 use Rattle.attributes.specs.Event.{EventValue}
-use Rattle.run_command.proofs.EndLemmas.{both_ok, run_blames, run_says}
+use Rattle.inbox.specs.KeyOrder.{key_cmp}
+use Rattle.inbox.specs.Ordered.{append_new}
+use Rattle.inbox_table.specs.Calls.{Kept}
+use Rattle.run_command.specs.Shared.{IsClosed}
+use Rattle.run_command.proofs.EndLemmas.{blame, has_run, ran, says, settles, was_clean}
 use Rattle.run_command.proofs.ending.run_table.Goals as goal
+
+pub returns-in-Ok-share-clause-left : goal.returns-in-Ok-share-clause-left
+returns-in-Ok-share-clause-left g c =
+    let closed = c.in-Ok-share.closed in
+    let held : List EventValue = append_new key_cmp [] c.args.events in
+    let at : Held _ → State = λ conn. state g.S.Store conn in
+    let is : IsClosed at c.in-Ok.kept.keeper held c.args.jobs.feeds c.args.jobs.peers closed.keeper closed.site closed.served =
+    subst (λ (z : List EventValue). IsClosed at c.in-Ok.kept.keeper z c.args.jobs.feeds c.args.jobs.peers closed.keeper closed.site closed.served) c.in-Ok.ensures.site c.in-Ok-share.ensures.ok in
+    let count : (HasCleanDisk (at c.in-Ok.kept.keeper.conn) → c.in-Ok.kept.keeper.rows ≡ length held) = λ clean.
+    ap (λ (k : Kept _). k.rows) c.in-Ok.ensures.keeper ∙ c.requires.count (subst (λ (k : Kept _). HasCleanDisk (at k.conn)) c.in-Ok.ensures.keeper clean) in
+    let last : Kept _ = record { conn = c.ended.result.conn; rows = c.ended.ensures.kept.0 } in
+    inr (has_run at c.args.jobs.feeds c.args.jobs.peers held closed.site c.in-Ok.kept.keeper closed.keeper last closed.served closed.stopped c.ended.result.stopped c.len-feeds.result c.ended.result.outcome is c.ended.ensures.kept.1 count c.len-feeds.ensures c.ended.ensures.told)
 
 pub returns-in-Ok-share-clause-ran : goal.returns-in-Ok-share-clause-ran
 returns-in-Ok-share-clause-ran g c clean =
-    let closed = c.in-Ok-share.ensures.ok in
-    IfOk-weaker c.ended.result.outcome _ _
-    (λ text h. record {
-      arrivals = c.in-Ok-share.closed.site;
-      kept = h.1;
-      more = closed.more;
-      first = closed.grew ∙ ap (λ z. z ++ closed.more) c.in-Ok.ensures.site;
-      said = run_says c.in-Ok-share.closed.served c.len-feeds.result c.in-Ok-share.closed.site c.args.jobs.feeds text c.len-feeds.ensures closed.fed h.0;
-    })
-    (both_ok c.ended.result.outcome _ _ c.ended.ensures.text (c.ended.ensures.kept clean))
+    let closed = c.in-Ok-share.closed in
+    let held : List EventValue = append_new key_cmp [] c.args.events in
+    let at : Held _ → State = λ conn. state g.S.Store conn in
+    let is : IsClosed at c.in-Ok.kept.keeper held c.args.jobs.feeds c.args.jobs.peers closed.keeper closed.site closed.served =
+    subst (λ (z : List EventValue). IsClosed at c.in-Ok.kept.keeper z c.args.jobs.feeds c.args.jobs.peers closed.keeper closed.site closed.served) c.in-Ok.ensures.site c.in-Ok-share.ensures.ok in
+    let count : (HasCleanDisk (at c.in-Ok.kept.keeper.conn) → c.in-Ok.kept.keeper.rows ≡ length held) = λ clean.
+    ap (λ (k : Kept _). k.rows) c.in-Ok.ensures.keeper ∙ c.requires.count (subst (λ (k : Kept _). HasCleanDisk (at k.conn)) c.in-Ok.ensures.keeper clean) in
+    let last : Kept _ = record { conn = c.ended.result.conn; rows = c.ended.ensures.kept.0 } in
+    ran at c.args.jobs.feeds c.args.jobs.peers held closed.site c.in-Ok.kept.keeper closed.keeper last closed.served closed.stopped c.ended.result.stopped c.len-feeds.result c.ended.result.outcome is c.ended.ensures.kept.1 count c.len-feeds.ensures c.ended.ensures.told clean
+
+pub returns-in-Ok-share-clause-settled : goal.returns-in-Ok-share-clause-settled
+returns-in-Ok-share-clause-settled g c clean =
+    let closed = c.in-Ok-share.closed in
+    let held : List EventValue = append_new key_cmp [] c.args.events in
+    let at : Held _ → State = λ conn. state g.S.Store conn in
+    let is : IsClosed at c.in-Ok.kept.keeper held c.args.jobs.feeds c.args.jobs.peers closed.keeper closed.site closed.served =
+    subst (λ (z : List EventValue). IsClosed at c.in-Ok.kept.keeper z c.args.jobs.feeds c.args.jobs.peers closed.keeper closed.site closed.served) c.in-Ok.ensures.site c.in-Ok-share.ensures.ok in
+    let count : (HasCleanDisk (at c.in-Ok.kept.keeper.conn) → c.in-Ok.kept.keeper.rows ≡ length held) = λ clean.
+    ap (λ (k : Kept _). k.rows) c.in-Ok.ensures.keeper ∙ c.requires.count (subst (λ (k : Kept _). HasCleanDisk (at k.conn)) c.in-Ok.ensures.keeper clean) in
+    let last : Kept _ = record { conn = c.ended.result.conn; rows = c.ended.ensures.kept.0 } in
+    settles at c.args.jobs.feeds c.args.jobs.peers held closed.site c.in-Ok.kept.keeper closed.keeper last closed.served closed.stopped c.ended.result.stopped c.len-feeds.result c.ended.result.outcome is c.ended.ensures.kept.1 count c.len-feeds.ensures c.ended.ensures.told clean
 
 pub returns-in-Ok-share-clause-said : goal.returns-in-Ok-share-clause-said
 returns-in-Ok-share-clause-said g c =
-    IfOk-weaker c.ended.result.outcome _ _
-    (λ text says. (
-      c.in-Ok-share.closed.site,
-      run_says c.in-Ok-share.closed.served c.len-feeds.result c.in-Ok-share.closed.site c.args.jobs.feeds text c.len-feeds.ensures c.in-Ok-share.ensures.ok.fed says,
-    ))
-    c.ended.ensures.text
+    let closed = c.in-Ok-share.closed in
+    let held : List EventValue = append_new key_cmp [] c.args.events in
+    let at : Held _ → State = λ conn. state g.S.Store conn in
+    let is : IsClosed at c.in-Ok.kept.keeper held c.args.jobs.feeds c.args.jobs.peers closed.keeper closed.site closed.served =
+    subst (λ (z : List EventValue). IsClosed at c.in-Ok.kept.keeper z c.args.jobs.feeds c.args.jobs.peers closed.keeper closed.site closed.served) c.in-Ok.ensures.site c.in-Ok-share.ensures.ok in
+    let count : (HasCleanDisk (at c.in-Ok.kept.keeper.conn) → c.in-Ok.kept.keeper.rows ≡ length held) = λ clean.
+    ap (λ (k : Kept _). k.rows) c.in-Ok.ensures.keeper ∙ c.requires.count (subst (λ (k : Kept _). HasCleanDisk (at k.conn)) c.in-Ok.ensures.keeper clean) in
+    let last : Kept _ = record { conn = c.ended.result.conn; rows = c.ended.ensures.kept.0 } in
+    says at c.args.jobs.feeds c.args.jobs.peers held closed.site c.in-Ok.kept.keeper closed.keeper last closed.served closed.stopped c.ended.result.stopped c.len-feeds.result c.ended.result.outcome is c.ended.ensures.kept.1 count c.len-feeds.ensures c.ended.ensures.told
 
 pub returns-in-Ok-share-clause-feed : goal.returns-in-Ok-share-clause-feed
 returns-in-Ok-share-clause-feed g c =
-    IfErr-weaker c.ended.result.outcome _ _
-    (λ why of. run_blames c.in-Ok-share.closed.served c.len-feeds.result c.in-Ok-share.closed.site c.args.jobs.feeds c.in-Ok-share.closed.stopped why c.len-feeds.ensures c.in-Ok-share.ensures.ok.fed of)
-    c.ended.ensures.fault
+    let closed = c.in-Ok-share.closed in
+    let held : List EventValue = append_new key_cmp [] c.args.events in
+    let at : Held _ → State = λ conn. state g.S.Store conn in
+    let is : IsClosed at c.in-Ok.kept.keeper held c.args.jobs.feeds c.args.jobs.peers closed.keeper closed.site closed.served =
+    subst (λ (z : List EventValue). IsClosed at c.in-Ok.kept.keeper z c.args.jobs.feeds c.args.jobs.peers closed.keeper closed.site closed.served) c.in-Ok.ensures.site c.in-Ok-share.ensures.ok in
+    let count : (HasCleanDisk (at c.in-Ok.kept.keeper.conn) → c.in-Ok.kept.keeper.rows ≡ length held) = λ clean.
+    ap (λ (k : Kept _). k.rows) c.in-Ok.ensures.keeper ∙ c.requires.count (subst (λ (k : Kept _). HasCleanDisk (at k.conn)) c.in-Ok.ensures.keeper clean) in
+    let last : Kept _ = record { conn = c.ended.result.conn; rows = c.ended.ensures.kept.0 } in
+    IfErr-weaker c.ended.result.outcome _ _ (λ why h. h.0) (blame at c.args.jobs.feeds c.args.jobs.peers held closed.site c.in-Ok.kept.keeper closed.keeper last closed.served closed.stopped c.ended.result.stopped c.len-feeds.result c.ended.result.outcome is c.ended.ensures.kept.1 count c.len-feeds.ensures c.ended.ensures.told)
+
+pub returns-in-Ok-share-clause-database : goal.returns-in-Ok-share-clause-database
+returns-in-Ok-share-clause-database g c =
+    let closed = c.in-Ok-share.closed in
+    let held : List EventValue = append_new key_cmp [] c.args.events in
+    let at : Held _ → State = λ conn. state g.S.Store conn in
+    let is : IsClosed at c.in-Ok.kept.keeper held c.args.jobs.feeds c.args.jobs.peers closed.keeper closed.site closed.served =
+    subst (λ (z : List EventValue). IsClosed at c.in-Ok.kept.keeper z c.args.jobs.feeds c.args.jobs.peers closed.keeper closed.site closed.served) c.in-Ok.ensures.site c.in-Ok-share.ensures.ok in
+    let count : (HasCleanDisk (at c.in-Ok.kept.keeper.conn) → c.in-Ok.kept.keeper.rows ≡ length held) = λ clean.
+    ap (λ (k : Kept _). k.rows) c.in-Ok.ensures.keeper ∙ c.requires.count (subst (λ (k : Kept _). HasCleanDisk (at k.conn)) c.in-Ok.ensures.keeper clean) in
+    let last : Kept _ = record { conn = c.ended.result.conn; rows = c.ended.ensures.kept.0 } in
+    IfErr-weaker c.ended.result.outcome _ _ (λ why h. h.1) (blame at c.args.jobs.feeds c.args.jobs.peers held closed.site c.in-Ok.kept.keeper closed.keeper last closed.served closed.stopped c.ended.result.stopped c.len-feeds.result c.ended.result.outcome is c.ended.ensures.kept.1 count c.len-feeds.ensures c.ended.ensures.told)
+
+pub returns-in-Ok-share-clause-was_clean : goal.returns-in-Ok-share-clause-was_clean
+returns-in-Ok-share-clause-was_clean g c clean =
+    let closed = c.in-Ok-share.closed in
+    let held : List EventValue = append_new key_cmp [] c.args.events in
+    let at : Held _ → State = λ conn. state g.S.Store conn in
+    let is : IsClosed at c.in-Ok.kept.keeper held c.args.jobs.feeds c.args.jobs.peers closed.keeper closed.site closed.served =
+    subst (λ (z : List EventValue). IsClosed at c.in-Ok.kept.keeper z c.args.jobs.feeds c.args.jobs.peers closed.keeper closed.site closed.served) c.in-Ok.ensures.site c.in-Ok-share.ensures.ok in
+    let count : (HasCleanDisk (at c.in-Ok.kept.keeper.conn) → c.in-Ok.kept.keeper.rows ≡ length held) = λ clean.
+    ap (λ (k : Kept _). k.rows) c.in-Ok.ensures.keeper ∙ c.requires.count (subst (λ (k : Kept _). HasCleanDisk (at k.conn)) c.in-Ok.ensures.keeper clean) in
+    let last : Kept _ = record { conn = c.ended.result.conn; rows = c.ended.ensures.kept.0 } in
+    subst (λ (k : Kept _). HasCleanDisk (at k.conn)) c.in-Ok.ensures.keeper (was_clean at c.args.jobs.feeds c.args.jobs.peers held closed.site c.in-Ok.kept.keeper closed.keeper last closed.served closed.stopped c.ended.result.stopped c.len-feeds.result c.ended.result.outcome is c.ended.ensures.kept.1 count c.len-feeds.ensures c.ended.ensures.told clean)

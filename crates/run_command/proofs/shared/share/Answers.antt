@@ -13,7 +13,7 @@ returns-clause-ok g c =
     let own = c.end-keeper.ensures.pass in
     let flusher = c.serve-served.new.aside.flusher in
     let last = c.end-keeper.result in
-    subst (λ (z : Kept _). IsClosed (λ conn. state g.S.Store conn) c.args.keeper c.args.site c.args.jobs.feeds z c.close-site.result c.serve-served.result) (sym keeper)
+    subst (λ (z : Kept _). IsClosed (λ conn. state g.S.Store conn) c.args.keeper c.args.site c.args.jobs.feeds c.args.jobs.peers z c.close-site.result c.serve-served.result) (sym keeper)
     (closed (λ conn. state g.S.Store conn) c.first_arrivals_stay.ensures c.sets_are_members.ensures.is_found c.args.keeper c.args.site c.close-site.result
     c.args.jobs.feeds c.args.jobs.peers c.args.jobs.asks c.in-Ok.begun.shared c.in-Ok.begun.pass c.split.new.pass c.serve-served.new.pass c.meet.new.me c.in-Ok-split.own
     c.of-flusher.result flusher c.serve-served.result c.in-Ok.ensures.begun c.in-Ok-split.ensures.old c.in-Ok-split.ensures.new c.of-flusher.ensures.keeper c.of-flusher.ensures.pass

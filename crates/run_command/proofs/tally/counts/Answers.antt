@@ -1,4 +1,4 @@
-use Rattle.std.proofs.Common.{rules, ◌≡◌, ◌+◌, arith, ap, take}
+use Rattle.std.proofs.Common.{rules, arith, ap, take}
 use Rattle.std.specs.Prelude.{slice_index_or}
 use Rattle.std.proofs.lemmas.List.{take_more}
 use Rattle.feeds.specs.declared.report.Ended.TheVariants.{Done}

@@ -26,7 +26,7 @@ returns-clause-list g c =
     let rest = drop c.rest_of-rest.result.n c.rest_of-rest.result.site.now in
     let was_clean : (HasCleanDisk new → HasCleanDisk old) = λ clean. omega (arith, c.in-Ok.ensures.crash.clean, clean) in
     subst (λ (k : Kept _). Grows (state g.S.Store k.conn) new) c.self.view_is
-    (taken_grows old new rest was_clean (λ clean. (c.in-Ok.ensures.effect clean).was_open) (λ clean. (c.in-Ok.ensures.effect clean).takes))
+    (taken_grows old new rest was_clean (λ clean. (c.in-Ok.ensures.effect clean).was_open) (λ clean. (c.in-Ok.ensures.effect clean).takes) c.in-Ok.ensures.crash)
 
 pub returns-in-Err-clause-list : goal.returns-in-Err-clause-list
 returns-in-Err-clause-list g c =
@@ -34,7 +34,7 @@ returns-in-Err-clause-list g c =
     let old = state g.S.Store table.conn in
     let new = state g.S.Store c.keep_watched.new.self.conn in
     let was_clean : (HasCleanDisk new → HasCleanDisk old) = λ clean. omega (arith, c.in-Err.ensures.crash.clean, clean) in
-    subst (λ (k : Kept _). Grows (state g.S.Store k.conn) new) c.self.view_is (still_grows old new was_clean (λ clean. (c.in-Err.ensures.effect clean).was_open) (λ clean. (c.in-Err.ensures.effect clean).same))
+    subst (λ (k : Kept _). Grows (state g.S.Store k.conn) new) c.self.view_is (still_grows old new was_clean (λ clean. (c.in-Err.ensures.effect clean).was_open) (λ clean. (c.in-Err.ensures.effect clean).same) (drop c.rest_of-rest.result.n c.rest_of-rest.result.site.now) c.in-Err.ensures.crash)
 
 pub returns-clause-crash : goal.returns-clause-crash
 returns-clause-crash g c =

@@ -9,6 +9,7 @@ use Rattle.site_lock.specs.Pass.{leaves}
 use Rattle.keeper.proofs.PageLemmas.{page_count, page_crash, page_first, page_grows, still_first, still_grows, survives_same}
 use Rattle.keeper.proofs.keeper.Keeper.step.Goals as goal
 use Rattle.keeper.specs.Keep.{Grows, KeepsUp, MayKeep, max_page}
+use Rattle.keeper.specs.steps.Flushes.{grows_none}
 
 pub returns-in-Ok-keep-clause-first : goal.returns-in-Ok-keep-clause-first
 returns-in-Ok-keep-clause-first g c =
@@ -46,7 +47,7 @@ returns-in-Ok-keep-clause-list g c =
     let was_clean : (HasCleanDisk new → HasCleanDisk old) = λ clean. omega (arith, c.in-Ok-keep.ensures.crash.clean, clean) in
     subst (λ (k : Kept _). Grows (state g.S.Store k.conn) new) c.self.view_is
     (page_grows old new c.rows-mark.result c.keep.new.self.rows c.in-Ok-keep.fresh A (leaves c.fresh.new.pass) c.in-Ok.page (c.calls_follow.ensures _ _ _ c.in-Ok.ensures.made) c.stands.ensures.distinct first was_clean
-    (λ clean. (c.in-Ok-keep.ensures.effect clean).was_open) (λ clean. (c.in-Ok-keep.ensures.effect clean).stays_open) (λ clean. (c.in-Ok-keep.ensures.effect clean).takes) (λ clean. (c.in-Ok-keep.ensures.effect clean).fresh) (c.in-Ok-keep.ensures.call.counted ∙ ap (λ n. n + c.in-Ok-keep.fresh) (sym mark)))
+    (λ clean. (c.in-Ok-keep.ensures.effect clean).was_open) (λ clean. (c.in-Ok-keep.ensures.effect clean).stays_open) (λ clean. (c.in-Ok-keep.ensures.effect clean).takes) (λ clean. (c.in-Ok-keep.ensures.effect clean).fresh) (c.in-Ok-keep.ensures.call.counted ∙ ap (λ n. n + c.in-Ok-keep.fresh) (sym mark)) c.in-Ok-keep.ensures.crash)
 
 pub returns-in-Ok-clause-first : goal.returns-in-Ok-clause-first
 returns-in-Ok-clause-first g c =
@@ -66,7 +67,7 @@ returns-in-Ok-clause-list g c =
     let old = state g.S.Store table.conn in
     let new = state g.S.Store c.keep.new.self.conn in
     let was_clean : (HasCleanDisk new → HasCleanDisk old) = λ clean. omega (arith, c.in-Err-keep.ensures.crash.clean, clean) in
-    subst (λ (k : Kept _). Grows (state g.S.Store k.conn) new) c.self.view_is (still_grows old new was_clean (λ clean. (c.in-Err-keep.ensures.effect clean).was_open) (λ clean. (c.in-Err-keep.ensures.effect clean).same))
+    subst (λ (k : Kept _). Grows (state g.S.Store k.conn) new) c.self.view_is (still_grows old new was_clean (λ clean. (c.in-Err-keep.ensures.effect clean).was_open) (λ clean. (c.in-Err-keep.ensures.effect clean).same) c.in-Ok.page c.in-Err-keep.ensures.crash)
 
 pub returns-clause-first : goal.returns-clause-first
 returns-clause-first g c =
@@ -104,3 +105,6 @@ returns-in-Ok-clause-crash g c =
 
 pub returns-clause-crash : goal.returns-clause-crash
 returns-clause-crash g c = survives_same (state g.S.Store c.args.self.now.conn) _
+
+pub returns-clause-list : goal.returns-clause-list
+returns-clause-list g c = grows_none (state g.S.Store c.args.self.now.conn)

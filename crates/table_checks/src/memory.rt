@@ -1,0 +1,41 @@
+//! What the contract of a command says of a service in memory. A disk there gives back what was
+//! written, so that the premise of the clauses holds and none is left.
+
+ghost use Rattle.std.specs.Prelude.{◌≤◌, length};
+ghost use Rattle.attributes.specs.Sequence.{max_sequence};
+ghost use Rattle.outbox.specs.Call.{CommandEffect};
+ghost use Rattle.outbox.specs.declared.status.Status.TheVariants.{Placed};
+ghost use Rattle.sqlite.specs.Held.{state};
+ghost use Rattle.sqlite.specs.Steps.{over_memory};
+
+use crate::orders::{create, time};
+use attributes::{Moment, Sequenced};
+use outbox::{OutboxFault, Service};
+use sqlite::MemStore;
+
+/// [`Service::place`], whose effect is promised without a premise.
+fn place(service: &mut Service<MemStore>, order: u64, at: &Moment) -> Result<Sequenced, OutboxFault>
+    requires order { (1 ≤ order) × (order ≤ max_sequence) }
+    requires short { length at.now ≤ 64 }
+    ensures { CommandEffect (record { status = Placed; order = order; at = at.now }) service.old
+        (state over_memory service.old.conn) (state over_memory service.new.conn) result }
+{
+    service.place(order, at)
+}
+
+/// Whether the first order of a service is accepted, and refused when it is placed again.
+fn is_placed_once(service: &mut Service<MemStore>, at: &Moment) -> bool {
+    if at.as_str().len() > 64 {
+        return false;
+    }
+    let first = place(service, 7, at);
+    let again = place(service, 7, at);
+    first.is_ok() && matches!(again, Err(OutboxFault::OrderExists))
+}
+
+#[test]
+fn a_service_in_memory_needs_no_premise(rt: HostRuntime) {
+    let mut service = create(&rt, 0);
+    let at = time(&rt);
+    assert!(rt; is_placed_once(&mut service, &at));
+}
