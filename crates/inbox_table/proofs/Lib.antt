@@ -13,3 +13,4 @@ pub mod LoadLemmas
 pub mod AdoptLemmas
 pub mod OnceLemmas
 pub mod LawLemmas
+pub mod ListsLemmas

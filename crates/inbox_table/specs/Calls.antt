@@ -1,5 +1,6 @@
 -- What calls do to a table.
-use Rattle.std.specs.Prelude.{◌≡◌, ◌≢◌, ◌≤◌, ◌*◌, ℕ, ◌+◌, Bool, false, ◌&&◌, List, [], length, codes, Err, Result, IfErr, IfOk, IsTrue, OnErr, OnOk}
+use Rattle.std.specs.Prelude.{◌≡◌, ◌≢◌, ◌≤◌, ◌*◌, ℕ, ◌+◌, Bool, false, ◌&&◌, List, [], ◌∷◌, length, sum, codes, Err, Result, IfErr, IfOk, IsTrue, OnErr, OnOk}
+use Rattle.std.specs.List.{flat_map}
 use Rattle.sqlite_schema.specs.declared.schema.Schema.{Schema}
 use Rattle.sqlite_trees.specs.Tree.{Trees}
 use Rattle.sqlite.specs.Effect.{Database, IsDatabase}
@@ -136,6 +137,42 @@ pub record KeepEffect (L : List EventValue) (old new : State) (result : Result �
   -- the events are in, so many of them were not there, and a crash leaves them
   pub takes : OnOk result (Takes L old.now new.now)
   pub fresh : IfOk result (AreFresh L old.now)
+  pub beside : OnOk result (KeepsService old.now new.now)
+  pub stays_open : OnOk result (IsTrue new.is_open)
+  pub settled : OnOk result (IsSettled new)
+  -- refused, the database is as it was
+  pub same : IsTrue new.is_open → OnErr result (new.now ≡ old.now)
+  pub was_open : IsTrue new.is_open → IsTrue old.is_open
+
+-- ---- several lists of events are kept
+
+-- the events of all lists, one list behind the other
+abbrev pub joined : List (List EventValue) → List EventValue
+joined lists = flat_map (λ L. L) lists
+
+-- the lists come one after the other behind what was there, and of each so many events were not
+-- there by then
+abbrev pub AreFreshEach : List EventValue → List (List EventValue) → List ℕ → Type 0
+AreFreshEach events [] [] = Unit {0}
+AreFreshEach events (L ∷ lists) (fresh ∷ each) =
+    (length events + fresh ≡ length (append_new key_cmp events L))
+    × AreFreshEach (append_new key_cmp events L) lists each
+AreFreshEach events _ _ = ⊥
+
+-- lists were given to a table with so many events: how many it has then
+pub record KeepEachCall (was is : ℕ) (result : Result (List ℕ) TableFault) : Type 0 where
+  pub counted : IfOk result (λ each. is ≡ was + sum each)
+  -- refused, as many as before; for want of memory, or another refusal of the store
+  pub back : OnErr result (is ≡ was)
+  pub fault : IfErr result IsOfStore
+
+-- and what that does to the database, while the disk gives back what was written
+pub record KeepEachEffect (lists : List (List EventValue)) (old new : State)
+    (result : Result (List ℕ) TableFault) : Type 0 where
+  -- the events are in, so many of each list were not there by then, and a crash leaves them
+  pub takes : OnOk result (Takes (joined lists) old.now new.now)
+  pub fresh : IfOk result (λ each. (events : List EventValue) → IsInbox old.now events
+      → AreFreshEach events lists each)
   pub beside : OnOk result (KeepsService old.now new.now)
   pub stays_open : OnOk result (IsTrue new.is_open)
   pub settled : OnOk result (IsSettled new)

@@ -6,6 +6,7 @@ mod creation;
 mod fault;
 pub mod laws;
 mod listed;
+mod lists;
 mod reading;
 mod row;
 mod statement;

@@ -5,7 +5,7 @@ ghost use Rattle.sqlite.specs.Held.{state};
 ghost use Rattle.sqlite.specs.State.{HasCleanDisk, Survives};
 ghost use Rattle.attributes.specs.Event.{EventValue};
 ghost use Rattle.database_layout.specs.Layout.{has_inbox};
-ghost use Rattle.inbox_table.specs.Calls.{Adopts, Creates, IsAsItWas, IsTold, KeepCall, KeepEffect, MayMake, MayTake, MayUpgrade, ReadEffect, Rejects, StandsFor, has_both};
+ghost use Rattle.inbox_table.specs.Calls.{Adopts, Creates, IsAsItWas, IsTold, KeepCall, KeepEachCall, KeepEachEffect, KeepEffect, MayMake, MayTake, MayUpgrade, ReadEffect, Rejects, StandsFor, has_both, joined};
 ghost use Rattle.inbox_table.specs.Rows.{block_of};
 ghost use Rattle.inbox_table.specs.declared.fault.TableFault.TheVariants.{Foreign};
 
@@ -13,11 +13,12 @@ use crate::adoption::{found_in, listed_in};
 use crate::creation::create;
 use crate::fault::TableFault;
 use crate::listed::Listed;
+use crate::lists::{keep_lists, length_of, total};
 use crate::reading::Found;
 use crate::statement::keep;
 use crate::wanted::{Each, OfBlock};
 use crate::watch::{Unwatched, Watch};
-use attributes::Batch;
+use attributes::{Batch, List};
 use sqlite::{Alter, Connection};
 use std::alloc::Global;
 use std::marker::Model;
@@ -214,6 +215,33 @@ impl<S: Alter> Table<S> {
             Ok(fresh) => {
                 self.rows = self.rows + fresh;
                 Ok(fresh)
+            }
+            Err(fault) => Err(fault),
+        }
+    }
+
+    /// Adds in one transaction the events of the lists that aren't there, one list after the other,
+    /// each event in its turn behind the last, and answers of each list how many were not there by
+    /// then. The time is that of [`Table::keep`] for all of them.
+    ///
+    /// It is refused as [`Table::keep`] is, and then nothing of any list is added.
+    pub fn keep_each(&mut self, lists: &List<Batch>) -> Result<List<u64>, TableFault>
+        ensures call { KeepEachCall self.old.rows self.new.rows result }
+        ensures one_each { IfOk result (λ each. length each ≡ length lists.now) }
+        ensures effect { HasCleanDisk (state S.Store self.new.conn) → KeepEachEffect lists.now
+            (state S.Store self.old.conn) (state S.Store self.new.conn) result }
+        ensures crash { Survives (state S.Store self.old.conn) (state S.Store self.new.conn)
+            (λ trees. IsTrue (state S.Store self.old.conn).is_open
+            → MayTake (joined lists.now) (state S.Store self.old.conn).now trees) }
+    {
+        let length = length_of(lists);
+        if self.rows > MAX_PLACE || length > MAX_PLACE - self.rows {
+            return Err(TableFault::Store);
+        }
+        match keep_lists(self.alloc, &mut self.conn, self.rows, lists) {
+            Ok(each) => {
+                self.rows = self.rows + total(&each);
+                Ok(each)
             }
             Err(fault) => Err(fault),
         }

@@ -1,5 +1,5 @@
 -- The turns of a transaction that takes events.
-use Rattle.std.specs.Prelude.{◌≡◌, ◌≢◌, ℕ, suc, ◌+◌, Bool, not, List, [], ◌∷◌, length, IsPermutation, IsTrue}
+use Rattle.std.specs.Prelude.{◌≡◌, ◌≢◌, ℕ, suc, ◌+◌, Bool, not, List, [], ◌∷◌, ◌++◌, length, IsPermutation, IsTrue}
 use Rattle.std.specs.List.{AllByRecursion}
 use Rattle.sqlite_schema.specs.declared.schema.Schema.{Schema}
 use Rattle.sqlite_schema.specs.declared.schema.Table.{Table}
@@ -12,6 +12,7 @@ use Rattle.database_layout.specs.Making.{both_in, upgraded}
 use Rattle.database_layout.specs.declared.layout.Layout.{Layout}
 use Rattle.inbox.specs.KeyOrder.{key_cmp}
 use Rattle.inbox.specs.Ordered.{append_new, has}
+use Rattle.inbox_table.specs.Calls.{AreFreshEach, joined}
 use Rattle.inbox_table.specs.Rows.{AreNumbered, IsEachOnce, rows_from}
 use Rattle.inbox_table.specs.declared.version.Version.TheVariants.{Two}
 
@@ -75,6 +76,27 @@ pub record IsKeeping (rows : ℕ) (all left : List EventValue) (old now : State)
     : Type 0 where
   pub table : (h : Home) (events : List EventValue) → IsFilled h old.now events
       → rows ≡ length events → IsTaking h rows all left events old.now now.now fresh
+  pub was_open : IsTrue now.is_open → IsTrue old.is_open
+  pub committed : now.committed ≡ old.committed
+  pub mode : IsTrue now.in_transaction
+
+-- what is there once the events of lists were put in behind so many rows, and these lists are left
+pub record IsTakingEach (h : Home) (rows : ℕ) (all left : List (List EventValue))
+    (events : List EventValue) (old now : Database) (fresh : ℕ) (each : List ℕ) : Type 0 where
+  pub held : List EventValue
+  pub table : IsFilled h now held
+  pub rest : append_new key_cmp held (joined left) ≡ append_new key_cmp events (joined all)
+  pub count : length held ≡ rows + fresh
+  -- so many of each were new, and those of the lists that are left are told behind them
+  pub counted : (more : List ℕ) → AreFreshEach held left more → AreFreshEach events all (each ++ more)
+  pub sound : IsDatabase old → IsDatabase now
+  pub others : KeepsOthers (schema_at h).tables (tree_at h) old.trees now.trees
+
+-- since the transaction began, the events of lists were put in, and these lists are left
+pub record IsKeepingEach (rows : ℕ) (all left : List (List EventValue)) (old now : State) (fresh : ℕ)
+    (each : List ℕ) : Type 0 where
+  pub table : (h : Home) (events : List EventValue) → IsFilled h old.now events
+      → rows ≡ length events → IsTakingEach h rows all left events old.now now.now fresh each
   pub was_open : IsTrue now.is_open → IsTrue old.is_open
   pub committed : now.committed ≡ old.committed
   pub mode : IsTrue now.in_transaction

@@ -1,0 +1,103 @@
+-- A stream, one turn more.
+use Rattle.std.proofs.Common.{◌≡◌, ◌≤◌, ◌+◌, ◌++◌, ℕ, suc, List, [], ◌∷◌, length, cond, Option, Bool, true, false, refl, sym, ap, subst, arith}
+use Rattle.std.specs.Prelude.{is_some}
+use Rattle.std.specs.Io.KnownBytes.{Appends, IsAtEnd}
+use Rattle.std.proofs.lemmas.List.Sums.{sum_by-append, sum_by-cons}
+use Rattle.sqlite.specs.State.{State, HasCleanDisk}
+use Rattle.attributes.specs.Event.{EventValue}
+use Rattle.inbox.specs.KeyOrder.{key_cmp}
+use Rattle.inbox.specs.Ordered.{append_new}
+use Rattle.inbox_table.specs.Calls.{AreFreshEach, joined}
+use Rattle.line_intake.specs.Answers.{answers}
+use Rattle.line_intake.specs.Follow.{AreKept, AreTurns, IsFollowed, IsKept, IsTurn, KeepsTurns, Place, StopsStream, StopsTurn, Turn, faults_of}
+use Rattle.line_intake.specs.Judged.{AreJudged, IsGathered, faults_in}
+use Rattle.line_intake.specs.declared.answer.Told.{Told}
+use Rattle.line_intake.specs.declared.line.LineFault.{LineFault}
+use Rattle.line_intake.specs.declared.step.FollowFault.{FollowFault}
+use Rattle.line_intake.specs.declared.step.FollowFault.TheVariants.{Input, Table, Unwritten}
+
+turns_more : (a b c : Place) (turns : List Turn) (t : Turn) → AreTurns a turns b → IsTurn b t c → AreTurns a (turns ++ t ∷ []) c
+turns_more a b c [] t same it = (c, subst (λ p. IsTurn p t c) (sym same) it, refl)
+turns_more a b c (u ∷ turns) t (mid, first, later) it = (mid, first, turns_more mid b c turns t later it)
+
+kept_more : (held events : List EventValue) (turns : List Turn) (t : Turn) → AreKept held turns events → AreFreshEach events t.lists t.each → AreKept held (turns ++ t ∷ []) (append_new key_cmp events (joined t.lists))
+kept_more held events [] t same fresh = (subst (λ h. AreFreshEach h t.lists t.each) same fresh, ap (λ h. append_new key_cmp h (joined t.lists)) same)
+kept_more held events (u ∷ turns) t (first, later) fresh = (first, kept_more (append_new key_cmp held (joined u.lists)) events turns t later fresh)
+
+-- so far the stream has had these turns
+pub record IsFollowing (start : Place) (lines : ℕ) (left out : Option (List ℕ)) (old now : State) (faults : ℕ) : Type 0 where
+  pub turns : List Turn
+  pub are : AreTurns start turns (record { lines = lines; left = left; out = out })
+  pub kept : HasCleanDisk now → KeepsTurns turns old.now now.now
+  pub faulty : faults ≡ faults_of turns
+  pub few : faults ≤ lines
+
+pub following_start : (left out : Option (List ℕ)) (s : State) → IsFollowing (record { lines = 0; left = left; out = out }) 0 left out s s 0
+following_start left out s = record { turns = []; are = refl; kept = λ _ held box. (held, box, refl); faulty = refl; few = omega arith }
+
+abbrev one_if : Bool → ℕ
+one_if b = cond b 1 0
+
+few_one : (b : Bool) → cond b 1 0 ≤ 1
+few_one true = omega arith
+few_one false = omega arith
+
+few_judged : (before : ℕ) (lines : List (List ℕ)) (tells : List Told) (lists : List (List EventValue)) → AreJudged before lines tells lists → faults_in tells ≤ length lines
+few_judged before [] [] [] so_far = omega arith
+few_judged before [] (t ∷ tells) lists so_far = absurd so_far
+few_judged before [] [] (M ∷ lists) so_far = absurd so_far
+few_judged before ([] ∷ lines) tells lists so_far = (let more = few_judged (suc before) lines tells lists so_far in omega (arith, more))
+few_judged before ((x ∷ xs) ∷ lines) [] lists so_far = absurd so_far
+few_judged before ((x ∷ xs) ∷ lines) (t ∷ tells) [] so_far = absurd so_far
+few_judged before ((x ∷ xs) ∷ lines) (t ∷ tells) (M ∷ lists) so_far =
+    let more = few_judged (suc before) lines tells lists so_far.2 in
+    let one : one_if (is_some t.fault) ≤ 1 = few_one (is_some t.fault) in
+    omega (arith, more, one, sum_by-cons (λ (t : Told). one_if (is_some t.fault)) t tells)
+
+-- the lines of a turn at fault are no more than its lines
+pub few_gathered : (before now : ℕ) (a b : Option (List ℕ)) (tells : List Told) (lists : List (List EventValue)) → IsGathered before now a b tells lists → before + faults_in tells ≤ now
+few_gathered before now a b tells lists g = (let few = few_judged before g.lines tells lists g.judged in omega (arith, few, g.count))
+
+pub following_more : (start : Place) (lines next : ℕ) (left left' out out' : Option (List ℕ)) (old mid now : State) (faults : ℕ) (tells : List Told) (lists : List (List EventValue)) → IsFollowing start lines left out old mid faults → IsGathered lines next left left' tells lists
+    → ((each : List ℕ) × Appends out out' (answers tells lists each) × (HasCleanDisk now → IsKept lists each mid.now now.now)) → (HasCleanDisk now → HasCleanDisk mid) → IsFollowing start next left' out' old now (faults + faults_in tells)
+following_more start lines next left left' out out' old mid now faults tells lists f g (each, grown, kept) cleaner =
+    let t : Turn = record { tells = tells; lists = lists; each = each } in
+    record {
+      turns = f.turns ++ t ∷ [];
+      are = turns_more start (record { lines = lines; left = left; out = out }) (record { lines = next; left = left'; out = out' }) f.turns t f.are (record { lines = g; answered = grown });
+      kept = λ clean held box.
+          let was = f.kept (cleaner clean) held box in
+          let took = kept clean in
+          (append_new key_cmp was.0 (joined lists), took.takes was.0 was.1, kept_more held was.0 f.turns t was.2 (took.fresh was.0 was.1));
+      faulty = (let e : faults + faults_in tells ≡ faults_of (f.turns ++ t ∷ []) = omega (arith, f.faulty, sum_by-append (λ (t : Turn). faults_in t.tells) f.turns (t ∷ []), sum_by-cons (λ (t : Turn). faults_in t.tells) t []) in e);
+      few = (let few = few_gathered lines next left left' tells lists g in omega (arith, few, f.few));
+    }
+
+pub following_done : (start : Place) (lines : ℕ) (left out : Option (List ℕ)) (old now : State) (faults : ℕ) → IsFollowing start lines left out old now faults → IsAtEnd left → IsFollowed start out old now faults
+following_done start lines left out old now faults f over = record {
+  turns = f.turns;
+  last = record { lines = lines; left = left; out = out };
+  are = f.are;
+  over = over;
+  out_is = refl;
+  kept = f.kept;
+  faulty = f.faulty;
+}
+
+pub following_unread : (start : Place) (lines : ℕ) (left out : Option (List ℕ)) (old now : State) (faults : ℕ) (why : LineFault) → IsFollowing start lines left out old now faults → StopsStream start out old now (Input why)
+following_unread start lines left out old now faults why f = record {
+  turns = f.turns;
+  last = record { lines = lines; left = left; out = out };
+  are = f.are;
+  mid = now.now;
+  kept = f.kept;
+  stop = (refl, refl);
+}
+
+pub following_stops : (start : Place) (lines next : ℕ) (left left' out out' : Option (List ℕ)) (old mid now : State) (faults : ℕ) (tells : List Told) (lists : List (List EventValue)) (why : FollowFault) → IsFollowing start lines left out old mid faults → IsGathered lines next left left' tells lists
+    → StopsTurn why tells lists mid.now now out out' → (HasCleanDisk now → HasCleanDisk mid) → StopsStream start out' old now why
+following_stops start lines next left left' out out' old mid now faults tells lists (Input fault) f g stop cleaner = absurd stop
+following_stops start lines next left left' out out' old mid now faults tells lists (Table fault) f g stop cleaner =
+    record { turns = f.turns; last = record { lines = lines; left = left; out = out }; are = f.are; mid = mid.now; kept = λ clean. f.kept (cleaner clean); stop = (next, left', tells, lists, g, stop) }
+following_stops start lines next left left' out out' old mid now faults tells lists Unwritten f g stop cleaner =
+    record { turns = f.turns; last = record { lines = lines; left = left; out = out }; are = f.are; mid = mid.now; kept = λ clean. f.kept (cleaner clean); stop = (next, left', tells, lists, g, stop) }

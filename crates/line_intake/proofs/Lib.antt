@@ -1,0 +1,5 @@
+pub mod LineLemmas
+pub mod WrittenLemmas
+pub mod AnswerLemmas
+pub mod GatherLemmas
+pub mod FollowLemmas

@@ -1,0 +1,108 @@
+-- A stream of lines that are kept and acknowledged, turn by turn.
+use Rattle.std.specs.Prelude.{◌≡◌, ◌⊎◌, ℕ, List, [], ◌∷◌, Option, IsTrue, sum_by}
+use Rattle.std.specs.Io.KnownBytes.{Appends, IsAtEnd, Keeps}
+use Rattle.sqlite.specs.Effect.{Database}
+use Rattle.sqlite.specs.State.{State, HasCleanDisk}
+use Rattle.attributes.specs.Event.{EventValue}
+use Rattle.inbox.specs.KeyOrder.{key_cmp}
+use Rattle.inbox.specs.Ordered.{append_new}
+use Rattle.inbox_table.specs.Calls.{AreFreshEach, Takes, joined}
+use Rattle.inbox_table.specs.Rows.{IsInbox}
+use Rattle.inbox_table.specs.declared.fault.TableFault.TheVariants.{OutOfMemory}
+use Rattle.line_intake.specs.Answers.{answers}
+use Rattle.line_intake.specs.Judged.{IsGathered, faults_in}
+use Rattle.line_intake.specs.Written.{Wrote}
+use Rattle.line_intake.specs.declared.answer.Told.{Told}
+use Rattle.line_intake.specs.declared.step.FollowFault.{FollowFault}
+use Rattle.line_intake.specs.declared.step.FollowFault.TheVariants as fault
+
+-- the events of lines are in, each behind what was there, and of each line so many were not there by
+-- then
+pub record IsKept (lists : List (List EventValue)) (each : List ℕ) (old new : Database) : Type 0 where
+  pub takes : Takes (joined lists) old new
+  pub fresh : (events : List EventValue) → IsInbox old events → AreFreshEach events lists each
+
+-- ---- one turn that stops
+
+-- the table refused it: nothing was written, and the table is as it was, or, where memory for the
+-- answers is wanted, has the events; or a write failed: the events are in, and a front of the answers
+-- was written
+abbrev pub StopsTurn : FollowFault → List Told → List (List EventValue) → Database → State
+    → Option (List ℕ) → Option (List ℕ) → Type 0
+StopsTurn (fault.Input why) tells lists old new out out' = ⊥
+StopsTurn (fault.Table why) tells lists old new out out' = Keeps out out'
+    × (HasCleanDisk new → IsTrue new.is_open → (new.now ≡ old)
+    ⊎ ((why ≡ OutOfMemory) × (each : List ℕ) × IsKept lists each old new.now))
+StopsTurn fault.Unwritten tells lists old new out out' = (each : List ℕ)
+    × ((rest : List ℕ) × Wrote out out' (answers tells lists each) rest)
+    × (HasCleanDisk new → IsKept lists each old new.now)
+
+-- ---- a stream, turn by turn
+
+-- a turn: what is told of its lines, their events, and how many of each line's were new
+pub record Turn : Type 0 where
+  pub tells : List Told
+  pub lists : List (List EventValue)
+  pub each : List ℕ
+
+-- where a stream stands: how many lines it has had, what is left of its input, and what was written
+pub record Place : Type 0 where
+  pub lines : ℕ
+  pub left : Option (List ℕ)
+  pub out : Option (List ℕ)
+
+-- in a turn lines are taken from the input, and their answers are written
+pub record IsTurn (old : Place) (turn : Turn) (new : Place) : Type 0 where
+  pub lines : IsGathered old.lines new.lines old.left new.left turn.tells turn.lists
+  pub answered : Appends old.out new.out (answers turn.tells turn.lists turn.each)
+
+-- turns, one after the other
+abbrev pub AreTurns : Place → List Turn → Place → Type 0
+AreTurns old [] new = old ≡ new
+AreTurns old (turn ∷ turns) new = (mid : Place) × IsTurn old turn mid × AreTurns mid turns new
+
+-- turns kept these events behind those that were held: of each line so many were new
+abbrev pub AreKept : List EventValue → List Turn → List EventValue → Type 0
+AreKept held [] events = events ≡ held
+AreKept held (turn ∷ turns) events = AreFreshEach held turn.lists turn.each
+    × AreKept (append_new key_cmp held (joined turn.lists)) turns events
+
+-- the database has what it had, and behind it the events of turns
+abbrev pub KeepsTurns : List Turn → Database → Database → Type 0
+KeepsTurns turns old new = (held : List EventValue) → IsInbox old held
+    → (events : List EventValue) × IsInbox new events × AreKept held turns events
+
+-- how many lines were at fault
+abbrev pub faults_of : List Turn → ℕ
+faults_of turns = sum_by (λ t. faults_in t.tells) turns
+
+-- the stream came to the end of its input: each turn was kept and answered, and so many lines were
+-- at fault
+pub record IsFollowed (start : Place) (out : Option (List ℕ)) (old new : State) (faults : ℕ)
+    : Type 0 where
+  pub turns : List Turn
+  pub last : Place
+  pub are : AreTurns start turns last
+  pub over : IsAtEnd last.left
+  pub out_is : last.out ≡ out
+  pub kept : HasCleanDisk new → KeepsTurns turns old.now new.now
+  pub faulty : faults ≡ faults_of turns
+
+-- the input couldn't be read on: nothing more was written, and the table is as it was then; or lines
+-- were read behind those of the turns, and their turn stopped
+abbrev pub StopsBehind : FollowFault → Place → Database → State → Option (List ℕ) → Type 0
+StopsBehind (fault.Input why) last mid new out = (mid ≡ new.now) × (last.out ≡ out)
+StopsBehind why last mid new out = (lines : ℕ) × (left : Option (List ℕ)) × (tells : List Told)
+    × (lists : List (List EventValue)) × IsGathered last.lines lines last.left left tells lists
+    × StopsTurn why tells lists mid new last.out out
+
+-- it stopped before that: each turn before was kept and answered, and what came of the last lines
+-- that were read is told by the fault
+pub record StopsStream (start : Place) (out : Option (List ℕ)) (old new : State) (why : FollowFault)
+    : Type 0 where
+  pub turns : List Turn
+  pub last : Place
+  pub are : AreTurns start turns last
+  pub mid : Database
+  pub kept : HasCleanDisk new → KeepsTurns turns old.now mid
+  pub stop : StopsBehind why last mid new out

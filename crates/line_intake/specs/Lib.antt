@@ -1,0 +1,6 @@
+pub mod Lines
+pub mod Words
+pub mod Answers
+pub mod Judged
+pub mod Written
+pub mod Follow
