@@ -40,23 +40,41 @@ int posix_memalign(void **p, size_t a, size_t n) { return refuses() ? ENOMEM : N
 """
 
 
+class Refuser:
+    """Runs commands with one allocation refused."""
+
+    def __enter__(self):
+        self.room = tempfile.TemporaryDirectory()
+        with open(f"{self.room.name}/shim.c", "w") as out:
+            out.write(SHIM)
+        self.shim = f"{self.room.name}/shim.so"
+        subprocess.run(["cc", "-O1", "-shared", "-fPIC", "-o", self.shim, f"{self.room.name}/shim.c", "-ldl"], check=True)
+        return self
+
+    def __exit__(self, *why):
+        self.room.cleanup()
+
+    def ran(self, words, at, **how):
+        """The run of the words whose allocation of this number, from 1, is refused, and whether it came so far."""
+        mark = f"{self.room.name}/mark-{at}"
+        env = {**os.environ, "LD_PRELOAD": self.shim, "REFUSE_AT": str(at), "REFUSE_MARK": mark}
+        ran = subprocess.run(words, capture_output=True, env=env, stdin=subprocess.DEVNULL, timeout=60, **how)
+        was_met = os.path.exists(mark)
+        if was_met:
+            os.remove(mark)
+        return ran, was_met
+
+
 def main():
     program, words = os.path.abspath(sys.argv[1]), sys.argv[2:]
     whole = subprocess.run([program, *words], capture_output=True)
-    with tempfile.TemporaryDirectory() as room:
-        with open(f"{room}/shim.c", "w") as out:
-            out.write(SHIM)
-        subprocess.run(["cc", "-O1", "-shared", "-fPIC", "-o", f"{room}/shim.so", f"{room}/shim.c", "-ldl"], check=True)
-        bad, refused, at = 0, 0, 0
+    bad, refused, at = 0, 0, 0
+    with Refuser() as refuser:
         while True:
             at += 1
-            mark = f"{room}/mark"
-            if os.path.exists(mark):
-                os.remove(mark)
-            env = {**os.environ, "LD_PRELOAD": f"{room}/shim.so", "REFUSE_AT": str(at), "REFUSE_MARK": mark}
-            ran = subprocess.run([program, *words], capture_output=True, env=env, timeout=60)
+            ran, was_met = refuser.ran([program, *words], at)
             said = (ran.returncode, ran.stdout, ran.stderr)
-            if not os.path.exists(mark):
+            if not was_met:
                 break
             out_of_memory = said == (1, b"", b"site: out of memory\n")
             refused += out_of_memory
@@ -67,4 +85,5 @@ def main():
     return 1 if bad else 0
 
 
-sys.exit(main())
+if __name__ == "__main__":
+    sys.exit(main())

@@ -4,8 +4,10 @@ file of about its size, and prints how much more processor time a byte of it cos
 
 usage: tools/shapes.py PROGRAM [--size BYTES] [--runs N] [--limit RATIO] [--only WORD] [--commands COMMAND ..]
 
-The commands are `cover` and `shown` where none is named. The exit status is 1 where a shape costs more than RATIO times
-its friendly file. The shapes are the same for everybody.
+The commands are `cover` and `shown` where none is named. `take`, `summary`, `delta` and `scrub` go over databases: `take`
+brings the file into a new one; the others, and `delta` of the empty summary, read what such a `take` left, all pages at
+once. The exit status is 1 where a shape costs more than RATIO times its friendly file. The shapes are the same for
+everybody.
 """
 import argparse
 import datetime
@@ -121,14 +123,42 @@ def shapes(size):
     yield "a day of its own", ordered(size, "shuffled", by_day(its_own)), ordered(size, "ascending", by_day(of_ten))
     yield "keys that begin alike", batch(size, lambda place: event(place, key="k" * 180 + str(place))), plain
     yield "a name repeated", batch(size, lambda place: event(place, ',"x":1' * 30)), few
+    yield "bodies of 262,000 bytes", batch(size, lambda place: event(place, ',"x":"' + "b" * 261_800 + '"')), plain
+    ids = ordered(size, "ascending", lambda place: event(place, number=1))
+    yield "ids shuffled", ordered(size, "shuffled", lambda place: event(place, key=f"e{place:07d}", number=1)), ids
+    yield "each number in a block of its own", ordered(size, "shuffled", lambda place: event(place, number=1024 * place + 1)), numbers
+
+
+# Commands over the database that a `take` of the file leaves.
+READERS = {"summary": [], "scrub": ["--all"], "delta": ["--all", "empty.summary"]}
+
+
+def words(command, path):
+    """The words of a command about a file, or about its database."""
+    if command == "take":
+        return [command, "--db", f"{path}.db", path]
+    if command in READERS:
+        return [command, "--db", f"{path}.db", *READERS[command]]
+    return [command, path]
+
+
+def forget(path):
+    """Removes the database of a file."""
+    for end in (".db", ".db-wal", ".db-shm", ".db-journal"):
+        if os.path.exists(path + end):
+            os.remove(path + end)
 
 
 def seconds(program, command, path, runs):
     """The least processor time of the runs."""
-    least = None
+    least, where = None, os.path.dirname(path)
     for _ in range(runs):
+        if command == "take":
+            forget(path)
+        elif command in READERS and not os.path.exists(f"{path}.db"):
+            subprocess.run([program, *words("take", path)], cwd=where, stdout=subprocess.DEVNULL, check=True)
         before = resource.getrusage(resource.RUSAGE_CHILDREN)
-        subprocess.run([program, command, path], stdout=subprocess.DEVNULL, check=True)
+        subprocess.run([program, *words(command, path)], cwd=where, stdout=subprocess.DEVNULL, check=True)
         after = resource.getrusage(resource.RUSAGE_CHILDREN)
         spent = after.ru_utime + after.ru_stime - before.ru_utime - before.ru_stime
         least = spent if least is None else min(least, spent)
@@ -145,12 +175,16 @@ def main():
     parser.add_argument("--commands", nargs="+", default=["cover", "shown"])
     options = parser.parse_args()
     dear = 0
+    options.program = os.path.abspath(options.program)
     with tempfile.TemporaryDirectory() as folder:
+        with open(f"{folder}/empty.summary", "w", encoding="utf-8") as file:
+            file.write('{"sources":{},"version":1}')
         odd, friendly = os.path.join(folder, "odd.json"), os.path.join(folder, "friendly.json")
         for name, text, other in shapes(options.size):
             if options.only not in name:
                 continue
             for path, content in ((odd, text), (friendly, other)):
+                forget(path)
                 with open(path, "w", encoding="utf-8") as file:
                     file.write(content)
             scale = os.path.getsize(odd) / os.path.getsize(friendly)

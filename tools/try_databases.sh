@@ -401,15 +401,6 @@ status=0
 : >got.err
 is 'faulty words make no file' 0 '' ''
 
-# Want of memory at each place: the whole answer, or that line. What is there is not touched.
-for words in 'scrub --db s.db' 'take --db s.db three.json' 'summary --db s.db' 'scrub --db s.db --all' 'kinds --db s.db'; do
-    # shellcheck disable=SC2086
-    "$here/tools/refuse_allocations.py" "$program" $words >told 2>got.err
-    status=$?
-    [ "$status" = 0 ] || cat told
-    : >got.out
-    is "each allocation of $words refused in turn" 0 '' ''
-done
 run scrub --db s.db
 is 'all events are there yet' 0 "[$e1,$e2,$e3]$lf" ''
 tell

@@ -120,4 +120,13 @@ tells out 'Files of CloudEvents' shown --help
 tells out 'cover' --help
 tells out 'site 0.1.0' --version
 
+# A batch that is cut anywhere is no JSON text.
+whole="[$e1,$e2]"
+cut=0
+while [ "$cut" -lt "${#whole}" ]; do
+    printf %s "$whole" | head -c "$cut" >cut.json
+    run cover cut.json
+    is "the first $cut bytes of a batch" 1 '' "site: cut.json: not JSON$lf"
+    cut=$((cut + 1))
+done
 tell

@@ -1,0 +1,171 @@
+#!/usr/bin/env python3
+"""Runs every command of the built program with its first, second, .. allocation refused, until a run meets no refusal.
+
+    tools/try_refusals.py [--program FILE] [--jobs N] [COMMAND..]
+
+Each run has to end with the answer of the run that meets no refusal, or with status 1, `site: out of memory` and
+nothing on standard output (`run` with `site: no thread` too, where a thread's start was refused). A command that
+writes is given once more after each refused run, with memory: it then has to answer as it does the first time, or as it
+does when it was done already, and its database to hold what it holds after the run that meets no refusal. So nothing
+that was refused was half done, and nothing that was done is refused for good. The last line is 'N passed, M failed',
+of the refused allocations.
+"""
+import argparse
+import collections
+import json
+import os
+import shutil
+import subprocess
+import sys
+import tempfile
+import threading
+
+from refuse_allocations import Refuser
+
+TOP = os.path.dirname(os.path.dirname(os.path.realpath(__file__)))
+REFUSED = (1, b"", b"site: out of memory\n")
+NO_THREAD = (1, b"", b"site: no thread\n")
+AT = "2024-02-29T10:00:00Z"
+
+
+def event(name, number, kind, subject, **more):
+    members = {"id": name, "sequence": f"{number:020d}", "source": "/orders", "specversion": "1.0", "subject": subject}
+    return {**members, "type": kind, **more}
+
+
+E1, E2, E3, E4 = (event(*it) for it in [("a1", 1, "t.a", "x"), ("a2", 2, "t.b", "x"), ("a3", 3, "t.a", "y"), ("a4", 4, "t.a", "y")])
+OTHER = event("a1", 1, "t.c", "x", time=AT, data={"lines": [1, "two"]})
+FILES = {
+    "asked.json": [E1, E2, E4, OTHER],
+    "two.json": [E1, E2],
+    "three.json": [E1, E2, E3],
+    "more.json": [E2, E4],
+    "peer.json": [E3, E4],
+}
+# How a command's database is made, and how what it holds is told.
+HELD = ["scrub", "--db", "s.db", "--from", "0"]
+ROWS = ["relay", "--db", "o.db", "--after", "0"]
+THREE = [["take", "--db", "s.db", "three.json"]]
+PLACED = [["order", "--db", "o.db", "--at", AT, "place", "7"]]
+# A command: its words, the commands before it, how what its database then holds is told where it writes, and what it
+# answers where it was done already, if that is another answer.
+Row = collections.namedtuple("Row", "words before told again", defaults=([], None, None))
+ROWS_OF_ALL = [
+    *[Row([it, "asked.json"]) for it in ("cover", "gaps", "shown", "latest", "kinds", "days", "conflicts")],
+    *[Row([it, "--db", "s.db", "asked.json"], THREE) for it in ("latest", "conflicts")],
+    Row(["take", "--db", "n.db", "three.json"], [], ["scrub", "--db", "n.db"], b"read 3 new 0 repeated 3\n"),
+    Row(["take", "--db", "s.db", "more.json"], THREE, HELD, b"read 2 new 0 repeated 2\n"),
+    Row(["summary", "--db", "s.db"], THREE),
+    Row(["delta", "--db", "s.db", "asked.summary"], THREE),
+    Row(["delta", "--db", "s.db", "--all", "asked.summary"], THREE),
+    Row(["scrub", "--db", "s.db"], THREE),
+    Row(["scrub", "--db", "s.db", "--all"], THREE),
+    Row(["order", "--db", "n.db", "--source", "/north", "--at", AT, "place", "7"], [], ["relay", "--db", "n.db", "--after", "0"]),
+    Row(["order", "--db", "o.db", "--at", AT, "place", "8"], PLACED, ROWS),
+    Row(["order", "--db", "o.db", "--at", AT, "ship", "7"], PLACED, ROWS),
+    Row(["order", "--db", "o.db", "--at", AT, "cancel", "7"], PLACED, ROWS),
+    Row(["order", "--db", "o.db", "--at", AT, "place", "7"], PLACED, ROWS),
+    Row(["relay", "--db", "o.db", "--after", "0"], PLACED),
+    Row(["run", "--db", "s.db", "--peer", "peer.json", "two.json", "more.json"], THREE, HELD),
+]
+
+
+class Trial:
+    """One command, its allocations refused in turn by several workers."""
+
+    def __init__(self, program, row, refuser):
+        self.program, self.row, self.refuser = program, row, refuser
+        self.lock, self.next, self.end, self.refused, self.wrong = threading.Lock(), 1, None, 0, []
+        self.start = tempfile.mkdtemp(prefix="refusals-")
+        for name, events in FILES.items():
+            with open(f"{self.start}/{name}", "w", encoding="utf-8") as it:
+                json.dump(events, it, separators=(",", ":"))
+        with open(f"{self.start}/asked.summary", "w", encoding="utf-8") as it:
+            it.write('{"sources":{"/orders":[[2,2]]},"version":1}')
+        for words in row.before:
+            self.ran(words, self.start, check=True)
+        with self.room() as room:
+            self.whole = self.said(self.ran(row.words, room))
+            self.holds = row.told and self.said(self.ran(row.told, room))
+
+    def ran(self, words, room, **more):
+        return subprocess.run([self.program, *words], cwd=room, capture_output=True, stdin=subprocess.DEVNULL, timeout=60, **more)
+
+    @staticmethod
+    def said(ran):
+        return ran.returncode, ran.stdout, ran.stderr
+
+    def room(self):
+        """A folder of its own, as the command finds it."""
+        room = tempfile.TemporaryDirectory(prefix="refusal-")
+        shutil.copytree(self.start, room.name, dirs_exist_ok=True)
+        return room
+
+    def tried(self, at):
+        """What is wrong with the run whose allocation of this number is refused, if anything; None where it met none."""
+        with self.room() as room:
+            ran, was_met = self.refuser.ran([self.program, *self.row.words], at, cwd=room)
+            if not was_met:
+                return None
+            said = self.said(ran)
+            if said == self.whole:
+                return []
+            with self.lock:
+                self.refused += 1
+            if said != REFUSED and not (said == NO_THREAD and self.row.words[0] == "run"):
+                return [f"allocation {at}: {said}"]
+            if not self.row.told:
+                return []
+            again = self.said(self.ran(self.row.words, room))
+            if again != self.whole and again != (0, self.row.again, b""):
+                return [f"allocation {at}, given again: {again}"]
+            holds = self.said(self.ran(self.row.told, room))
+            return [] if holds == self.holds else [f"allocation {at}, given again, then holds: {holds}"]
+
+    def work(self):
+        while True:
+            with self.lock:
+                at = self.next
+                self.next += 1
+            if self.end is not None and at >= self.end:
+                return
+            wrong = self.tried(at)
+            with self.lock:
+                if wrong is None:
+                    self.end = min(at, self.end or at)
+                    return
+                self.wrong += wrong
+
+    def run(self, jobs):
+        workers = [threading.Thread(target=self.work) for _ in range(jobs)]
+        for it in workers:
+            it.start()
+        for it in workers:
+            it.join()
+        shutil.rmtree(self.start)
+        return self.end - 1
+
+
+def main():
+    words = argparse.ArgumentParser(description=__doc__, formatter_class=argparse.RawDescriptionHelpFormatter)
+    words.add_argument("--program", default=f"{TOP}/crates/site_cli/out/site_cli")
+    words.add_argument("--jobs", type=int, default=len(os.sched_getaffinity(0)))
+    words.add_argument("commands", nargs="*")
+    given = words.parse_args()
+    passed = failed = 0
+    with Refuser() as refuser:
+        for row in ROWS_OF_ALL:
+            if given.commands and row.words[0] not in given.commands:
+                continue
+            trial = Trial(os.path.abspath(given.program), row, refuser)
+            every = trial.run(given.jobs)
+            passed, failed = passed + every - len(trial.wrong), failed + len(trial.wrong)
+            print(f"{' '.join(row.words)}: {every} allocations, {trial.refused} refusals told, {len(trial.wrong)} wrong", flush=True)
+            for line in trial.wrong[:5]:
+                print(f"wrong: {line}")
+    print(f"{passed} passed, {failed} failed")
+    return 1 if failed else 0
+
+
+if __name__ == "__main__":
+    sys.exit(main())
