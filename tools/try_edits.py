@@ -1,7 +1,7 @@
 #!/usr/bin/env python3
 """Tries the wrong bodies in crates/NAME/edits/*.edit: each must be refused at the clause that it names.
 
-    tools/try_edits.py [--jobs N] [CRATE..]      by default every crate that has edits
+    tools/try_edits.py [--jobs N] [--after-ci] [CRATE..]      by default every crate that has edits
 
 An edit is a file of lines: 'only: PATH', the function whose proof is to refuse it; 'clause: NAME', the clause at
 which ('ensures' for a contract of one clause without a name), or another goal by the name that a check gives it
@@ -236,10 +236,12 @@ def untold(files):
     return lacking + [f"ERROR: its table names {it}, which isn't there" for it in sorted(rows - names)]
 
 
-def built_in(below):
+def built_in(below, is_after_ci):
     """The folder of out/ where the libraries are as their sources are: where `rt ci` has left them, or where
-    tools/build.py puts them. None where they can't be built."""
-    if all(is_made(it, f"{OF_RT}/{it}.rlib/format") for it in below):
+    tools/build.py puts them. None where they can't be built. What `rt ci` took from an earlier run of the same files
+    is older than a new clone's sources; right after it, whatever it left is taken."""
+    made = [f"{OF_RT}/{it}.rlib/format" for it in below]
+    if all(os.path.exists(f"{TOP}/crates/{it}/out/{file}") if is_after_ci else is_made(it, file) for it, file in zip(below, made)):
         return OF_RT
     return None if below and subprocess.run([f"{TOP}/tools/build.py", *below]).returncode else BUILT
 
@@ -247,13 +249,14 @@ def built_in(below):
 def main():
     words = argparse.ArgumentParser(description=__doc__, formatter_class=argparse.RawDescriptionHelpFormatter)
     words.add_argument("--jobs", type=int, default=0)
+    words.add_argument("--after-ci", action="store_true", help="over the libraries that `rt ci` has just left here")
     words.add_argument("crates", nargs="*")
     given = words.parse_args()
     crates = crates_listed()
     edits = {it: sorted(glob.glob(f"{TOP}/crates/{it}/edits/*.edit")) for it in given.crates or crates}
     edits = {name: files for name, files in edits.items() if files}
     below = reached(crates, [it for name in edits for it in crates[name][0]])
-    folder = built_in(below)
+    folder = built_in(below, given.after_ci)
     if folder is None:
         print("0 passed, 1 failed")
         return 1
