@@ -4,7 +4,8 @@
     tools/try_refusals.py [--program FILE] [--jobs N] [COMMAND..]
 
 Each run has to end with the answer of the run that meets no refusal, or with status 1, `site: out of memory` and
-nothing on standard output (`run` with `site: no thread` too, where a thread's start was refused). A command that
+nothing on standard output (`run` with `site: no thread` too, where a thread's start was refused; `relay` with
+`site: route failed`, since its route goes into memory and fails for want of that alone). A command that
 writes is given once more after each refused run, with memory: it then has to answer as it does the first time, or as it
 does when it was done already, and its database to hold what it holds after the run that meets no refusal. So nothing
 that was refused was half done, and nothing that was done is refused for good. The last line is 'N passed, M failed',
@@ -24,7 +25,8 @@ from refuse_allocations import Refuser
 
 TOP = os.path.dirname(os.path.dirname(os.path.realpath(__file__)))
 REFUSED = (1, b"", b"site: out of memory\n")
-NO_THREAD = (1, b"", b"site: no thread\n")
+# What a command may say beside it, for want of memory too.
+OTHER_WORDS = {"run": (1, b"", b"site: no thread\n"), "relay": (1, b"", b"site: route failed\n")}
 AT = "2024-02-29T10:00:00Z"
 
 
@@ -112,7 +114,7 @@ class Trial:
                 return []
             with self.lock:
                 self.refused += 1
-            if said != REFUSED and not (said == NO_THREAD and self.row.words[0] == "run"):
+            if said not in (REFUSED, OTHER_WORDS.get(self.row.words[0])):
                 return [f"allocation {at}: {said}"]
             if not self.row.told:
                 return []
