@@ -43,7 +43,7 @@ class Help:
 def read(program):
     """The help of the program, and that of each command by its word, in the order in which help lists them."""
     def asked(*words):
-        return Help(subprocess.run([program, *words, "--help"], capture_output=True, text=True, check=True).stdout)
+        return Help(subprocess.run([program, *words, "--help"], capture_output=True, text=True).stdout)
 
     whole = asked()
     return whole, {word: asked(word) for word, _ in whole.commands if word != "help"}
