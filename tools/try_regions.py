@@ -88,7 +88,7 @@ def main():
             if given.by == "follow":
                 clock += runs.run(f"{asked} | ./site follow --db {to}.db >{to}.told")
             else:
-                clock += runs.run(f"{asked} | split -l 1 -a 4 - {to}. && ./site take --db {to}.db {to}.???? && rm {to}.????")
+                clock += runs.run(f"{asked} | split -l 1 -a 4 - for-{to}. && ./site take --db {to}.db for-{to}.* && rm for-{to}.*")
         clock += runs.run("cmp <(./site summary --db north.db) <(./site summary --db south.db)")
         print(f"from two regions to one view, and seen to be one: {clock:.1f} s by the clock")
         for question in QUESTIONS:
