@@ -5,6 +5,7 @@ pub mod DigestLemmas
 pub mod GrowthLemmas
 pub mod RowLemmas
 pub mod PlaceLemmas
+pub mod RiseLemmas
 pub mod GatherLemmas
 pub mod IndexLemmas
 pub mod KeptLemmas

@@ -5,13 +5,14 @@ use Rattle.std.specs.BTreeSet.{insert_key}
 use Rattle.std.proofs.lemmas.List.{map-append, take_more}
 use mathlib.Core.Bool.{true≢false}
 use Rattle.sha2.specs.Sha256.{sha256}
-use Rattle.attributes.specs.Event.{EventValue}
+use Rattle.attributes.specs.Event.{EventValue, text}
 use Rattle.inbox.specs.Ordered.{in_order}
 use Rattle.block_digests.specs.Block.{has_block, is_in_block, line_cmp, lines}
 use Rattle.block_digests.specs.Digest.{digest_in}
 use Rattle.block_digests.specs.Kept.{places_from, places_of}
 use Rattle.block_digests.specs.steps.Mended.{digest_at, digest_over, events_at, rows_at}
 use Rattle.block_digests.specs.steps.Rows.{row_cmp, row_of}
+use Rattle.block_digests.proofs.DigestLemmas.{lines-append}
 use Rattle.block_digests.proofs.RowLemmas.{push_row}
 
 -- ---- the events at places
@@ -29,19 +30,40 @@ one_place A p o h = ap (λ q. option_map_or (λ e. e ∷ []) q []) h
 take_place : (ps : List ℕ) (i : ℕ) → i < length ps → take (i + 1) ps ≡ take i ps ++ slice_index ps i ∷ []
 take_place ps i h = take_more ps i 0 h
 
+-- the event at one place more
+events_placed : (A : List EventValue) (ps : List ℕ) (i : ℕ) (o : Option EventValue) → i < length ps → slice_get A (slice_index ps i) ≡ o
+    → events_at A (take (i + 1) ps) ≡ events_at A (take i ps) ++ option_map_or (λ e. e ∷ []) o []
+events_placed A ps i o h k = ap (events_at A) (take_place ps i h) ∙ events_at-append A (take i ps) (slice_index ps i ∷ []) ∙ ap (λ l. events_at A (take i ps) ++ l) (one_place A (slice_index ps i) o k)
+
 -- the row of the event at one place more
 pub row_placed : (A : List EventValue) (ps : List ℕ) (i : ℕ) (e : EventValue) → i < length ps → slice_get A (slice_index ps i) ≡ Some e
     → insert_key row_cmp (rows_at A (take i ps)) (row_of e) ≡ rows_at A (take (i + 1) ps)
 row_placed A ps i e h k =
-    sym (ap (λ l. in_order row_cmp (map row_of l)) (ap (events_at A) (take_place ps i h) ∙ events_at-append A (take i ps) (slice_index ps i ∷ []) ∙ ap (λ l. events_at A (take i ps) ++ l) (one_place A (slice_index ps i) (Some e) k))
+    sym (ap (λ l. in_order row_cmp (map row_of l)) (events_placed A ps i (Some e) h k)
     ∙ ap (in_order row_cmp) (map-append row_of (events_at A (take i ps)) (e ∷ []))
     ∙ push_row [] (map row_of (events_at A (take i ps))) (row_of e))
 
+-- its line
+pub line_placed : (A : List EventValue) (ps : List ℕ) (i : ℕ) (e : EventValue) → i < length ps → slice_get A (slice_index ps i) ≡ Some e
+    → (lines (events_at A (take i ps)) ++ text e) ++ 10 ∷ [] ≡ lines (events_at A (take (i + 1) ps))
+unfolding lines
+line_placed A ps i e h k =
+    append_assoc (lines (events_at A (take i ps))) (text e) (10 ∷ [])
+    ∙ sym (lines-append (events_at A (take i ps)) (e ∷ []))
+    ∙ ap lines (sym (events_placed A ps i (Some e) h k))
+
+pub no_lines : [] ≡ lines []
+unfolding lines
+no_lines = refl
+
 -- no event stands at one place more
+pub events_missing : (A : List EventValue) (ps : List ℕ) (i : ℕ) → i < length ps → slice_get A (slice_index ps i) ≡ None
+    → events_at A (take i ps) ≡ events_at A (take (i + 1) ps)
+events_missing A ps i h k = sym (events_placed A ps i None h k ∙ append-nil (events_at A (take i ps)))
+
 pub row_missing : (A : List EventValue) (ps : List ℕ) (i : ℕ) → i < length ps → slice_get A (slice_index ps i) ≡ None
     → rows_at A (take i ps) ≡ rows_at A (take (i + 1) ps)
-row_missing A ps i h k =
-    sym (ap (λ l. in_order row_cmp (map row_of l)) (ap (events_at A) (take_place ps i h) ∙ events_at-append A (take i ps) (slice_index ps i ∷ []) ∙ ap (λ l. events_at A (take i ps) ++ l) (one_place A (slice_index ps i) None k) ∙ append-nil (events_at A (take i ps))))
+row_missing A ps i h k = ap (λ l. in_order row_cmp (map row_of l)) (events_missing A ps i h k)
 
 -- ---- the places of a block
 item_behind : (P : List EventValue) (e : EventValue) (A : List EventValue) → slice_get (P ++ e ∷ A) (length P) ≡ Some e

@@ -1,6 +1,6 @@
 //! Blocks of events that come one after another, with digests that are kept.
 
-ghost use Rattle.std.specs.Prelude.{◌≡◌, ◌≢◌, ◌++◌, ◌∷◌, ◌-◌, ◌+◌, ◌<◌, ◌&&◌, ◌==◌, ℕ, List, [], length, map, take, IfOk, OnOk, OnErr, Some, None, false, bytes_eq, slice_get, vec_len, if◌then◌else◌};
+ghost use Rattle.std.specs.Prelude.{◌≡◌, ◌≢◌, ◌++◌, ◌∷◌, ◌-◌, ◌+◌, ◌<◌, ◌&&◌, ◌==◌, ℕ, List, [], length, map, take, IfOk, OnOk, OnErr, Some, None, true, false, bytes_eq, slice_get, vec_len, if◌then◌else◌};
 ghost use Rattle.std.specs.List.{AllByRecursion};
 ghost use Rattle.std.specs.List.Sorted.{IsStrictlySortedBy};
 ghost use Rattle.std.specs.Map.{keys_of};
@@ -12,14 +12,17 @@ ghost use Rattle.attributes.specs.Fault.{IsEvent};
 ghost use Rattle.inbox.specs.KeyOrder.{key_cmp};
 ghost use Rattle.inbox.specs.Ordered.{append_new, has};
 ghost use Rattle.inbox.specs.Sets.{AreEvents};
+ghost use Rattle.sha2.specs.Sha256.{sha256};
+ghost use Rattle.block_digests.specs.Block.{line_cmp, lines};
 ghost use Rattle.block_digests.specs.Kept.{AreAlike, AreDigestsOf, AreOfSource, HasDigestsOf, IsForgotten, IsKeptOf, IsNoted, digest_mapped, places_at};
 ghost use Rattle.block_digests.specs.steps.Index.{IsIndex, kept_in, position};
-ghost use Rattle.block_digests.specs.steps.Mended.{AreMended, AreMendedOrSame, digest_among, fresh_digest, mended, rows_at};
+ghost use Rattle.block_digests.specs.steps.Mended.{AreMended, AreMendedOrSame, digest_among, events_at, fresh_digest, is_rise, mended, rows_at};
 
 use crate::arrivals::Arrivals;
 use crate::block::{block_of, digest_of_rows};
 use crate::laws::blocks_change_by_events;
 use attributes::Sequenced;
+use sha2::{Digest, Sha256};
 use std::alloc::{AllocError, Global};
 use std::collections::{BTreeMap, BTreeSet};
 use std::marker::Model;
@@ -80,6 +83,48 @@ fn rows_at<'a, E: Arrivals>(
     Ok(set)
 }
 
+/// Whether events stand at both places, the first before the second by number and then text.
+fn is_rise<E: Arrivals>(events: &E, first: u64, second: u64) -> bool
+    ensures { result ≡ is_rise (E.arrivals events.now) first second }
+{
+    let Some(lower) = events.arrival(first) else {
+        return false;
+    };
+    let Some(upper) = events.arrival(second) else {
+        return false;
+    };
+    let (low, high) = (lower.number().number(), upper.number().number());
+    low < high || low == high && lower.event().text() < upper.event().text()
+}
+
+/// Whether the events at places rise by number and then text, as those do that come as their
+/// producer wrote them. It takes no memory; most events cost a look at their number.
+fn are_rising<E: Arrivals>(events: &E, places: &[u64]) -> bool
+    ensures { result ≡ true → IsStrictlySortedBy line_cmp
+        (events_at (E.arrivals events.now) places.now) }
+{
+    for i in 0..places.len() {
+        if i + 1 < places.len() && !is_rise(events, places[i], places[i + 1]) {
+            return false;
+        }
+    }
+    true
+}
+
+/// The SHA-256 of the texts of the events at places, each followed by a line feed. Takes no memory.
+fn digest_as_they_stand<E: Arrivals>(events: &E, places: &[u64]) -> [u8; 32]
+    ensures { result ≡ sha256 (lines (events_at (E.arrivals events.now) places.now)) }
+{
+    let mut hasher = Sha256::new();
+    for i in 0..places.len() {
+        if let Some(event) = events.arrival(places[i]) {
+            hasher.update(event.event().text());
+            hasher.update("\n");
+        }
+    }
+    hasher.finalize()
+}
+
 impl Block {
     /// No places.
     fn empty(alloc: Global) -> Block
@@ -122,6 +167,9 @@ impl Block {
         }
         if self.places.is_empty() {
             return Ok(None);
+        }
+        if are_rising(events, &self.places) {
+            return Ok(Some(digest_as_they_stand(events, &self.places)));
         }
         let rows = rows_at(alloc, events, &self.places)?;
         Ok(Some(digest_of_rows(&rows)))
@@ -329,8 +377,9 @@ impl Blocks {
     }
 
     /// Makes the digest of each stale block, of the events as they came. On an error some may have
-    /// been made. Time linear in the blocks, and for each stale one a sort of its events and the
-    /// hashing of their texts; memory for their places.
+    /// been made. Time linear in the blocks, and for each stale one the hashing of its texts; where
+    /// its events didn't come by number and then text, a sort of them and memory for their places
+    /// too.
     pub fn mend<E: Arrivals>(&mut self, events: &E) -> Result<(), AllocError>
         ensures places { (source : List ℕ) (k : ℕ)
             → places_at self.new source k ≡ places_at self.old source k }

@@ -20,16 +20,16 @@ pub record StandsFor (host : Hosted) (place : Place) : Type 0 where
 abbrev pub Stands : List Hosted → List Place → Type 0
 Stands hosts w = AllZip StandsFor hosts w
 
--- a run of n sites that was stopped in a step: so many were done, and the next one was stopped
--- after its first events
-abbrev pub StoppedIn : ℕ → List Step → List Hosted → ℕ → ℕ → Type 0
-StoppedIn n steps hosts done part =
+-- a run from the places w that was stopped in a step: so many were done, and the next one was
+-- stopped after its first events
+abbrev pub StoppedIn : List Place → List Step → List Hosted → ℕ → ℕ → Type 0
+StoppedIn w steps hosts done part =
     (step : Step) × (slice_get steps done ≡ Some step)
-    × StopsAt part step (world_after (take done steps) (start n))
-    × Stands hosts (after_part part step (world_after (take done steps) (start n)))
+    × StopsAt part step (world_after (take done steps) w)
+    × Stands hosts (after_part part step (world_after (take done steps) w))
 
 -- a run of n sites that was stopped: the list of sites couldn't be made, of which there was to be
 -- one at least; or in a step
 abbrev pub StoppedAt : ℕ → List Step → List Hosted → ℕ → ℕ → Type 0
 StoppedAt n steps hosts done part =
-    ((n ≢ 0) × (hosts ≡ []) × (done ≡ 0) × (part ≡ 0)) ⊎ StoppedIn n steps hosts done part
+    ((n ≢ 0) × (hosts ≡ []) × (done ≡ 0) × (part ≡ 0)) ⊎ StoppedIn (start n) steps hosts done part

@@ -7,7 +7,7 @@ mod step;
 mod transfer;
 mod world;
 
-pub use machine::{Stopped, run};
+pub use machine::{Stop, Stopped, run};
 pub use step::{Step, Steps};
 pub use transfer::{gossip, scrub};
 pub use world::{Hosted, World};

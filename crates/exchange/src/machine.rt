@@ -20,6 +20,14 @@ use site::Site;
 use std::alloc::{AllocError, Global};
 use std::mem;
 
+/// Where want of memory stopped a run: how many steps were done, and how many events of its list the
+/// next step took.
+#[derive(Clone, Copy, PartialEq, Eq, Debug)]
+pub struct Stop {
+    pub done: u64,
+    pub part: u64,
+}
+
 /// A run that was stopped for want of memory: the world as it then was, how many steps were done,
 /// and how many events of its list the next step took.
 #[derive(Drop)]
@@ -192,43 +200,72 @@ fn empty_sites(alloc: Global, sites: u32) -> Result<Vec<Hosted>, AllocError>
     Ok(hosts)
 }
 
-/// Runs a schedule from so many sites that have nothing, which there are.
-fn run_steps(
-    alloc: Global,
-    mut hosts: Vec<Hosted>,
-    sites: u32,
-    steps: &Steps,
-) -> Result<World, Stopped>
-    requires fits { AllByRecursion (FitsIn sites) steps.now }
-    requires stands { Stands hosts.items (start sites) }
-    ensures done { IfOk result (λ world. Stands world (world_after steps.now (start sites))) }
-    ensures stopped { IfErr result (λ s. StoppedIn sites steps.now s.world s.done s.part) }
+/// Runs a schedule among sites. After want of memory the answer is where it stopped.
+fn run_steps(alloc: Global, hosts: &mut Vec<Hosted>, steps: &Steps) -> Result<(), Stop>
+    requires { AllByRecursion (FitsIn (vec_len hosts.old)) steps.now }
+    ensures sites { vec_len hosts.new ≡ vec_len hosts.old }
+    ensures done { OnOk result ((w : List Place) → Stands hosts.old.items w
+        → Stands hosts.new.items (world_after steps.now w)) }
+    ensures stopped { IfErr result (λ s. (w : List Place) → Stands hosts.old.items w
+        → StoppedIn w steps.now hosts.new.items s.done s.part) }
 {
     for done in 0..steps.len() {
-        if let Err(part) = make_step(alloc, &mut hosts, steps.at(done)) {
-            let world = World { hosts };
-            return Err(Stopped { world, done, part });
+        if let Err(part) = make_step(alloc, hosts, steps.at(done)) {
+            return Err(Stop { done, part });
         }
     }
-    Ok(World { hosts })
+    Ok(())
+}
+
+impl World {
+    /// So many sites that have nothing. `AllocError` where there is no memory for the list of them,
+    /// of which there is to be one at least.
+    pub fn begin(alloc: Global, sites: u32) -> Result<World, AllocError>
+        ensures ok { IfOk result (λ world. Stands world (start sites)) }
+        ensures err { OnErr result (sites ≢ 0) }
+    {
+        let hosts = empty_sites(alloc, sites)?;
+        Ok(World { hosts })
+    }
+
+    /// Runs a schedule on. Where want of memory stops it, the sites stand after the steps that were
+    /// done and the first events of the next one. The time is that of the steps.
+    pub fn run(&mut self, alloc: Global, steps: &Steps) -> Result<(), Stop>
+        requires { AllByRecursion (FitsIn (length self.old)) steps.now }
+        ensures sites { length self.new ≡ length self.old }
+        ensures done { OnOk result ((w : List Place) → Stands self.old w
+            → Stands self.new (world_after steps.now w)) }
+        ensures stopped { IfErr result (λ s. (w : List Place) → Stands self.old w
+            → StoppedIn w steps.now self.new s.done s.part) }
+    {
+        run_steps(alloc, &mut self.hosts, steps)
+    }
 }
 
 /// Runs a schedule from so many sites that have nothing. Where want of memory stops it, the world
 /// stands after the steps that were done and the first events of the next one; where not even the
-/// sites could be made, of which there was to be one at least, it has none.
+/// sites could be made, of which there was to be one at least, it has none. `World::begin` and
+/// `World::run` tell the two apart.
 pub fn run(alloc: Global, sites: u32, steps: &Steps) -> Result<World, Stopped>
     requires { AllByRecursion (FitsIn sites) steps.now }
     ensures done { IfOk result (λ world. Stands world (world_after steps.now (start sites))) }
     ensures stopped { IfErr result (λ s. StoppedAt sites steps.now s.world s.done s.part) }
 {
-    match empty_sites(alloc, sites) {
-        Ok(hosts) => run_steps(alloc, hosts, sites, steps),
-        Err(_) => Err(Stopped {
+    let Ok(mut world) = World::begin(alloc, sites) else {
+        return Err(Stopped {
             world: World {
                 hosts: Vec::new(alloc),
             },
             done: 0,
             part: 0,
+        });
+    };
+    match world.run(alloc, steps) {
+        Ok(()) => Ok(world),
+        Err(stop) => Err(Stopped {
+            world,
+            done: stop.done,
+            part: stop.part,
         }),
     }
 }

@@ -162,7 +162,8 @@ impl Inbox {
     }
 
     /// Adds an event, if there is memory for it, unless it is there; that is found without memory.
-    /// The time is that of `put`, and where the inbox grows, a copy of all positions.
+    /// Memory is wanted only where there is no room that was made before. The time is that of
+    /// `put`, and where the inbox grows, a copy of all positions.
     pub fn take(&mut self, event: Sequenced) -> Result<Taken, Back>
         ensures arrivals { OnOk result (HaveCome (event ∷ []) self.old self.new) }
         ensures set { OnOk result (Adds (event ∷ []) self.old self.new) }
@@ -173,6 +174,7 @@ impl Inbox {
         ensures again { Holds self.old event → (result ≡ Ok Again) × (self.new ≡ self.old) }
 
         ensures same { OnErr result (self.new.arrivals ≡ self.old.arrivals) }
+        ensures spare { OnErr result (self.old.spare ≡ 0) }
         ensures back { IfErr result (λ back. back.event ≡ event) }
     {
         if self.spare() == 0 {
@@ -224,9 +226,10 @@ impl Inbox {
         first_of(&self.arrivals, &self.places, source, id)
     }
 
-    /// The shown events, in key order.
+    /// Copies of the shown events, in key order. Memory is wanted only where there are events.
     pub fn shown(&self) -> Result<Batch, AllocError>
-        ensures { IfOk result (λ batch. batch ≡ shown (events self.now)) }
+        ensures ok { IfOk result (λ batch. batch ≡ shown (events self.now)) }
+        ensures err { OnErr result (0 < length (events self.now)) }
     {
         let mut batch = Batch::empty(*self.arrivals.allocator());
         for i in 0..self.len() {
@@ -237,9 +240,10 @@ impl Inbox {
         Ok(batch)
     }
 
-    /// All events, in key order.
+    /// Copies of all events, in key order. Memory is wanted only where there are events.
     pub fn events(&self) -> Result<Batch, AllocError>
-        ensures { IfOk result (λ batch. batch ≡ events self.now) }
+        ensures ok { IfOk result (λ batch. batch ≡ events self.now) }
+        ensures err { OnErr result (0 < length (events self.now)) }
     {
         let mut batch = Batch::empty(*self.arrivals.allocator());
         for i in 0..self.len() {

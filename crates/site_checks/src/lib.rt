@@ -17,4 +17,6 @@ mod schedules;
 #[cfg(test)]
 mod sites;
 #[cfg(test)]
+mod stops;
+#[cfg(test)]
 mod worlds;

@@ -1,6 +1,7 @@
 -- Blocks whose digests are made over places among arrivals.
-use Rattle.std.specs.Prelude.{◌≡◌, ◌⊎◌, ℕ, List, [], ◌∷◌, Option, Some, None, map, slice_get}
+use Rattle.std.specs.Prelude.{◌≡◌, ◌⊎◌, ℕ, Bool, false, List, [], ◌∷◌, Option, Some, None, map, slice_get}
 use Rattle.std.specs.Option.{option_and_then, option_map, option_map_or}
+use Rattle.std.specs.Ordering.{is_lt}
 use Rattle.sha2.specs.Sha256.{sha256}
 use Rattle.attributes.specs.Event.{EventValue}
 use Rattle.inbox.specs.Ordered.{in_order}
@@ -12,6 +13,11 @@ use Rattle.block_digests.specs.steps.Rows.{Row, row_cmp, row_of}
 abbrev pub events_at : List EventValue → List ℕ → List EventValue
 events_at A [] = []
 events_at A (p ∷ ps) = option_map_or (λ e. e ∷ events_at A ps) (slice_get A p) (events_at A ps)
+
+-- whether events stand at both places, the first below the second
+abbrev pub is_rise : List EventValue → ℕ → ℕ → Bool
+is_rise A p q = option_map_or
+    (λ e. option_map_or (λ f. is_lt (line_cmp e f)) (slice_get A q) false) (slice_get A p) false
 
 -- their rows, in order
 abbrev pub rows_at : List EventValue → List ℕ → List Row

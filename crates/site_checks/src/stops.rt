@@ -1,0 +1,77 @@
+//! What a schedule leaves where memory is refused. With ample memory it ends whole;
+//! tools/try_refusals.py runs the first test with each allocation refused.
+
+use crate::event::{A1, A2, A3};
+use crate::schedules::{then, then_deliver};
+use exchange::{Step, Steps, World};
+use std::alloc::Global;
+
+/// Adds two deliveries and a step of each other kind, and answers whether it did.
+fn add_each_kind(alloc: Global, steps: &mut Steps) -> bool {
+    then_deliver(alloc, steps, 0, &[A1, A2])
+        && then_deliver(alloc, steps, 1, &[A3])
+        && then(steps, Step::Gossip { from: 0, to: 1 })
+        && then(steps, Step::Flush { site: 0 })
+        && then(steps, Step::Scrub { from: 1, to: 0 })
+        && then(steps, Step::Restart { site: 0 })
+}
+
+/// Whether the events that came to a site have these numbers, in this order. Takes no memory.
+fn has(world: &World, i: u64, wanted: &[u64]) -> bool {
+    if i >= world.sites() || world.site(i).arrived() != wanted.len() as u64 {
+        return false;
+    }
+    let site = world.site(i);
+    for k in 0..wanted.len() {
+        if (k as u64) < site.arrived()
+            && site.arrived_at(k as u64).number().number() != wanted[k]
+        {
+            return false;
+        }
+    }
+    true
+}
+
+/// Whether two sites have what the schedule gives them by so many steps and the first events of the
+/// next one. It never stops in the flush, or where the scrub is at an event that is there.
+fn stand_after(world: &World, done: u64, part: u64) -> bool {
+    match (done, part) {
+        (0, 0) => has(world, 0, &[]) && has(world, 1, &[]),
+        (0, 1) => has(world, 0, &[1]) && has(world, 1, &[]),
+        (1, 0) => has(world, 0, &[1, 2]) && has(world, 1, &[]),
+        (2, 0) => has(world, 0, &[1, 2]) && has(world, 1, &[3]),
+        (2, 1) => has(world, 0, &[1, 2]) && has(world, 1, &[3, 1]),
+        (4, 2) => has(world, 0, &[1, 2]) && has(world, 1, &[3, 1, 2]),
+        (5, 0) => has(world, 0, &[1, 2, 3]) && has(world, 1, &[3, 1, 2]),
+        (6, 0) => has(world, 0, &[1, 2]) && has(world, 1, &[3, 1, 2]),
+        _ => false,
+    }
+}
+
+/// Where a run of the schedule among two sites ended, which they have to stand after: all steps, or
+/// none of it where there was no memory for the schedule or the sites.
+fn ended(alloc: Global) -> Option<bool> {
+    let mut steps = Steps::empty(alloc);
+    if !add_each_kind(alloc, &mut steps) {
+        return None;
+    }
+    let mut world = World::begin(alloc, 2).ok()?;
+    if world.sites() != 2 || !steps.fits(2) {
+        return Some(false);
+    }
+    let (done, part) = match world.run(alloc, &steps) {
+        Ok(()) => (6, 0),
+        Err(stop) => (stop.done, stop.part),
+    };
+    Some(stand_after(&world, done, part))
+}
+
+#[test]
+fn a_schedule_stands_where_it_stopped(rt: HostRuntime) {
+    assert!(rt; ended(rt.alloc()) != Some(false));
+}
+
+#[test]
+fn a_schedule_ends_whole(rt: HostRuntime) {
+    assert!(rt; ended(rt.alloc()) == Some(true));
+}
