@@ -1,15 +1,17 @@
 #!/usr/bin/env python3
 """Runs every command of the built program with its first, second, .. allocation refused, until a run meets no refusal.
 
-    tools/try_refusals.py [--program FILE] [--jobs N] [COMMAND..]
+    tools/try_refusals.py [--program FILE] [--jobs N] [COMMAND..|TEST..]
 
 Each run has to end with the answer of the run that meets no refusal, or with status 1, `site: out of memory` and
 nothing on standard output (`run` with `site: no thread` too, where a thread's start was refused; `relay` with
 `site: route failed`, since its route goes into memory and fails for want of that alone). A command that
 writes is given once more after each refused run, with memory: it then has to answer as it does the first time, or as it
 does when it was done already, and its database to hold what it holds after the run that meets no refusal. So nothing
-that was refused was half done, and nothing that was done is refused for good. The last line is 'N passed, M failed',
-of the refused allocations.
+that was refused was half done, and nothing that was done is refused for good.
+
+Tests of libraries that hold whichever allocation is refused run so too, where the gate has built them: what a schedule
+of steps among sites leaves where it stops. The last line is 'N passed, M failed', of the refused allocations.
 """
 import argparse
 import collections
@@ -70,6 +72,10 @@ ROWS_OF_ALL = [
     Row(["relay", "--db", "o.db", "--after", "0"], PLACED),
     Row(["run", "--db", "s.db", "--peer", "peer.json", "two.json", "more.json"], THREE, HELD),
 ]
+
+
+# Tests that have to pass whichever allocation is refused, by their crate.
+TESTS = {"site_checks": ["stops::a_schedule_stands_where_it_stopped"]}
 
 
 class Trial:
@@ -148,6 +154,33 @@ class Trial:
         return self.end - 1
 
 
+def tests_built():
+    """The built tests of TESTS; whoever gives no gate's folder has none."""
+    for crate, tests in TESTS.items():
+        program = f"{TOP}/crates/{crate}/out/{crate}_tests"
+        if not os.path.exists(program):
+            print(f"{crate}: its tests aren't built here, so they are left out", flush=True)
+            continue
+        yield from ((program, test) for test in tests)
+
+
+class TestTrial:
+    """One test, its allocations refused in turn."""
+
+    def __init__(self, program, test, refuser):
+        self.words, self.refuser, self.wrong = [program, test], refuser, []
+
+    def run(self):
+        at = 1
+        while True:
+            ran, was_met = self.refuser.ran(self.words, at, cwd="/")
+            if ran.returncode:
+                self.wrong.append(f"allocation {at}: {ran.stdout[-300:]} {ran.stderr[-300:]}")
+            if not was_met:
+                return at - 1
+            at += 1
+
+
 def main():
     words = argparse.ArgumentParser(description=__doc__, formatter_class=argparse.RawDescriptionHelpFormatter)
     words.add_argument("--program", default=f"{TOP}/crates/site_cli/out/site_cli")
@@ -163,6 +196,15 @@ def main():
             every = trial.run(given.jobs)
             passed, failed = passed + every - len(trial.wrong), failed + len(trial.wrong)
             print(f"{' '.join(row.words)}: {every} allocations, {trial.refused} refusals told, {len(trial.wrong)} wrong", flush=True)
+            for line in trial.wrong[:5]:
+                print(f"wrong: {line}")
+        for program, test in tests_built():
+            if given.commands and test not in given.commands:
+                continue
+            trial = TestTrial(program, test, refuser)
+            every = trial.run()
+            passed, failed = passed + every - len(trial.wrong), failed + len(trial.wrong)
+            print(f"{test}: {every} allocations, {len(trial.wrong)} wrong", flush=True)
             for line in trial.wrong[:5]:
                 print(f"wrong: {line}")
     print(f"{passed} passed, {failed} failed")
