@@ -23,9 +23,7 @@ fn has(world: &World, i: u64, wanted: &[u64]) -> bool {
     }
     let site = world.site(i);
     for k in 0..wanted.len() {
-        if (k as u64) < site.arrived()
-            && site.arrived_at(k as u64).number().number() != wanted[k]
-        {
+        if (k as u64) < site.arrived() && site.arrived_at(k as u64).number().number() != wanted[k] {
             return false;
         }
     }

@@ -19,22 +19,20 @@ loop-i-preserved g c =
     elim c.match-arrival.branch [
       | in-Some w ↦
           let e = w.in-Some.event.now in
-          let own : w.text.result.now ≡ text e = w.text.ensures.text ∙ ap text w.event.ensures in
-          (
+          let own : w.text.result.now ≡ text e = w.text.ensures.text ∙ ap text w.event.ensures in (
             (m ++ w.text.result.now) ++ 10 ∷ [],
             (
               subst (λ h. Holds256 h ((m ++ w.text.result.now) ++ 10 ∷ [])) (sym w.hasher-is) (w.update-in-Some.ensures (m ++ w.text.result.now) (w.update.ensures m c.loop-i.invariant.1.0)),
               ap₂ (λ x t. (x ++ t) ++ 10 ∷ []) c.loop-i.invariant.1.1 own ∙ line_placed A c.args.places.now c.loop-i.i e c.loop-i-test.true (sym w.in-Some.ensures),
             ),
           )
-      | in_default w ↦
-          (
-            m,
-            (
-              subst (λ h. Holds256 h m) (sym w.hasher-is) c.loop-i.invariant.1.0,
-              c.loop-i.invariant.1.1 ∙ ap lines (events_missing A c.args.places.now c.loop-i.i c.loop-i-test.true (sym w.in_default.ensures)),
-            ),
-          )
+      | in_default w ↦ (
+        m,
+        (
+          subst (λ h. Holds256 h m) (sym w.hasher-is) c.loop-i.invariant.1.0,
+          c.loop-i.invariant.1.1 ∙ ap lines (events_missing A c.args.places.now c.loop-i.i c.loop-i-test.true (sym w.in_default.ensures)),
+        ),
+      )
     ]
 
 pub returns : goal.returns
