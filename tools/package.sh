@@ -4,8 +4,8 @@
 #   tools/package.sh [FOLDER]       by default out/package
 #
 # The archive is site-COMMIT-x86_64-linux.tar.gz: the program, its SHA-256, docs/GUIDE.md and docs/FORMATS.md,
-# the examples, and ABOUT, which says the commit, the kit, and what the gate said last. The program wants Linux on
-# x86-64 with the C library of GNU. It is refused where ./gate hasn't passed whole for this very commit and program.
+# the examples, completions for bash, zsh and fish and a man page in complete/, and ABOUT, which says the commit, the
+# kit, and what the gate said last. The program wants Linux on x86-64 with the C library of GNU. It is refused where ./gate hasn't passed whole for this very commit and program.
 top=$(CDPATH='' cd -- "$(dirname -- "$(readlink -f -- "$0")")/.." && pwd) || exit 1
 cd "$top" || exit 1
 passed=out/gate/passed
@@ -26,6 +26,7 @@ room=$(mktemp -d) || exit 1
 trap 'rm -rf "$room"' EXIT
 mkdir "$room/$name" && cp "$program" "$room/$name/site" || exit 1
 cp -r docs/GUIDE.md docs/FORMATS.md examples "$room/$name/" || exit 1
+tools/completions.py --program "$room/$name/site" --all "$room/$name/complete" || exit 1
 printf '%s  site\n' "$sum" >"$room/$name/site.sha256"
 {
     echo 'The program site of Jumbetai, for Linux on x86-64: ./site --help says what it does, GUIDE.md shows it.'
