@@ -10,8 +10,8 @@ writes is given once more after each refused run, with memory: it then has to an
 does when it was done already, and its database to hold what it holds after the run that meets no refusal. So nothing
 that was refused was half done, and nothing that was done is refused for good.
 
-Tests of libraries that hold whichever allocation is refused run so too, where the gate has built them: what a schedule
-of steps among sites leaves where it stops. The last line is 'N passed, M failed', of the refused allocations.
+Tests of libraries that hold whichever allocation is refused run so too, where the gate has built them: a site that
+takes a batch or merges another, and what a schedule of steps among sites leaves where it stops. The last line is 'N passed, M failed', of the refused allocations.
 """
 import argparse
 import collections
@@ -75,7 +75,13 @@ ROWS_OF_ALL = [
 
 
 # Tests that have to pass whichever allocation is refused, by their crate.
-TESTS = {"site_checks": ["stops::a_schedule_stands_where_it_stopped"]}
+TESTS = {
+    "site_checks": [
+        "refused::a_batch_is_taken_or_its_front",
+        "refused::a_site_is_merged_or_its_front",
+        "stops::a_schedule_stands_where_it_stopped",
+    ],
+}
 
 
 class Trial:

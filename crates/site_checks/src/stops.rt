@@ -2,6 +2,7 @@
 //! tools/try_refusals.py runs the first test with each allocation refused.
 
 use crate::event::{A1, A2, A3};
+use crate::refused::came;
 use crate::schedules::{then, then_deliver};
 use exchange::{Step, Steps, World};
 use std::alloc::Global;
@@ -16,18 +17,10 @@ fn add_each_kind(alloc: Global, steps: &mut Steps) -> bool {
         && then(steps, Step::Restart { site: 0 })
 }
 
-/// Whether the events that came to a site have these numbers, in this order. Takes no memory.
+/// Whether the events that came to a site of a world have these numbers, in this order. Takes no
+/// memory.
 fn has(world: &World, i: u64, wanted: &[u64]) -> bool {
-    if i >= world.sites() || world.site(i).arrived() != wanted.len() as u64 {
-        return false;
-    }
-    let site = world.site(i);
-    for k in 0..wanted.len() {
-        if (k as u64) < site.arrived() && site.arrived_at(k as u64).number().number() != wanted[k] {
-            return false;
-        }
-    }
-    true
+    i < world.sites() && came(world.site(i), wanted, wanted.len() as u64)
 }
 
 /// Whether two sites have what the schedule gives them by so many steps and the first events of the
