@@ -2,7 +2,7 @@
 //! given, and the same as ever once there is memory. tools/try_refusals.py runs these tests with each
 //! allocation refused; with ample memory they compare the whole answers.
 
-use crate::event::{A1, A2, A3, fill};
+use crate::event::{A1, A2, A3, fill, take};
 use attributes::Batch;
 use inbox::Short;
 use site::Site;
@@ -33,50 +33,53 @@ fn took_a_front(site: &Site, batch: &Batch, short: &Short) -> bool {
         && came(site, &[2, 1, 3], fresh)
 }
 
-/// Whether a site takes a batch, or its front and later the rest.
-fn takes(alloc: Global) -> bool {
-    let mut batch = Batch::empty(alloc);
-    if !fill(alloc, &mut batch, &[A2, A1, A2, A3]) {
-        return true;
-    }
-    let mut site = Site::empty(alloc);
-    if let Err(short) = site.take_batch(&mut batch) {
-        if !took_a_front(&site, &batch, &short) {
-            return false;
-        }
-        return site.take_batch(&mut batch).is_ok() && came(&site, &[2, 1, 3], 3);
-    }
-    batch.is_empty() && came(&site, &[2, 1, 3], 3)
+/// Whether a site takes a batch of the numbers 2, 1, 2 and 3, or its front and later the rest.
+fn takes(site: &mut Site, batch: &mut Batch) -> bool {
+    let is_well = match site.take_batch(batch) {
+        Ok(_) => true,
+        Err(short) => took_a_front(site, batch, &short) && site.take_batch(batch).is_ok(),
+    };
+    is_well && batch.is_empty() && came(site, &[2, 1, 3], 3)
 }
 
-/// Whether a site with the number 2 takes what another has, or its front in key order and later all.
-fn merges(alloc: Global) -> bool {
-    let mut own = Batch::empty(alloc);
-    let mut others = Batch::empty(alloc);
-    if !fill(alloc, &mut own, &[A2]) || !fill(alloc, &mut others, &[A3, A1, A2]) {
-        return true;
-    }
+/// The same of a new site; true where there is no memory for the batch.
+fn takes_from_nothing(alloc: Global) -> bool {
+    let mut batch = Batch::empty(alloc);
+    let mut site = Site::empty(alloc);
+    !fill(alloc, &mut batch, &[A2, A1, A2, A3]) || takes(&mut site, &mut batch)
+}
+
+/// Whether a site of the number 2 that was stopped as it merged the numbers 3, 1 and 2 took their
+/// front in key order.
+fn merged_a_front(site: &Site, short: &Short) -> bool {
+    short.taken == 0 && short.fresh == 0 && came(site, &[2], 1)
+        || short.taken == 2 && short.fresh == 1 && came(site, &[2, 1], 2)
+}
+
+/// Whether a site of the number 2 takes what another has, or its front in key order and later all.
+fn merges(site: &mut Site, other: &Site) -> bool {
+    let is_well = match site.merge(other) {
+        Ok(_) => true,
+        Err(short) => merged_a_front(site, &short) && site.merge(other).is_ok(),
+    };
+    is_well && came(site, &[2, 1, 3], 3) && came(other, &[3, 1, 2], 3)
+}
+
+/// The same of two new sites; true where there is no memory for what they have before.
+fn merges_from_nothing(alloc: Global) -> bool {
     let mut site = Site::empty(alloc);
     let mut other = Site::empty(alloc);
-    if site.take_batch(&mut own).is_err() || other.take_batch(&mut others).is_err() {
-        return true;
-    }
-    if let Err(short) = site.merge(&other) {
-        let is_front = short.taken == 0 && short.fresh == 0 && came(&site, &[2], 1)
-            || short.taken == 2 && short.fresh == 1 && came(&site, &[2, 1], 2);
-        if !is_front || site.merge(&other).is_err() {
-            return false;
-        }
-    }
-    came(&site, &[2, 1, 3], 3) && came(&other, &[3, 1, 2], 3)
+    let is_ready = take(alloc, &mut site, &[A2]).is_some()
+        && take(alloc, &mut other, &[A3, A1, A2]).is_some();
+    !is_ready || merges(&mut site, &other)
 }
 
 #[test]
 fn a_batch_is_taken_or_its_front(rt: HostRuntime) {
-    assert!(rt; takes(rt.alloc()));
+    assert!(rt; takes_from_nothing(rt.alloc()));
 }
 
 #[test]
 fn a_site_is_merged_or_its_front(rt: HostRuntime) {
-    assert!(rt; merges(rt.alloc()));
+    assert!(rt; merges_from_nothing(rt.alloc()));
 }

@@ -39,22 +39,33 @@ fn stand_after(world: &World, done: u64, part: u64) -> bool {
     }
 }
 
-/// Where a run of the schedule among two sites ended, which they have to stand after: all steps, or
-/// none of it where there was no memory for the schedule or the sites.
+/// Whether two sites stand where a run of the schedule ended: after all steps, or where it stopped.
+fn stands(alloc: Global, world: &mut World, steps: &Steps) -> bool {
+    if world.sites() != 2 || !steps.fits(2) {
+        return false;
+    }
+    match world.run(alloc, steps) {
+        Ok(()) => stand_after(world, 6, 0),
+        Err(stop) => stand_after(world, stop.done, stop.part),
+    }
+}
+
+/// The same of sites that are made for it; none where there is no memory for them.
+fn stands_from_nothing(alloc: Global, steps: &Steps) -> Option<bool> {
+    match World::begin(alloc, 2) {
+        Ok(mut world) => Some(stands(alloc, &mut world, steps)),
+        Err(_) => None,
+    }
+}
+
+/// The same of the schedule with each kind of step; none where there is no memory for it either.
 fn ended(alloc: Global) -> Option<bool> {
     let mut steps = Steps::empty(alloc);
-    if !add_each_kind(alloc, &mut steps) {
-        return None;
+    if add_each_kind(alloc, &mut steps) {
+        stands_from_nothing(alloc, &steps)
+    } else {
+        None
     }
-    let mut world = World::begin(alloc, 2).ok()?;
-    if world.sites() != 2 || !steps.fits(2) {
-        return Some(false);
-    }
-    let (done, part) = match world.run(alloc, &steps) {
-        Ok(()) => (6, 0),
-        Err(stop) => (stop.done, stop.part),
-    };
-    Some(stand_after(&world, done, part))
 }
 
 #[test]
