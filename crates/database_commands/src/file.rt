@@ -10,6 +10,7 @@ ghost use Rattle.database_commands.specs.Print.{batch_line, counts_line};
 
 use crate::Ended;
 use crate::fault::{CommandFault, of_kind, of_store};
+use crate::follow::{StreamFault, Streamed, follow};
 use crate::intake::take;
 use crate::page::{Contents, Paged, delta, delta_pages, held, scrub, scrub_pages, summary};
 use crate::pages::EventPages;
@@ -26,10 +27,12 @@ use sqlite_store::FileStore;
 use std::alloc::Global;
 use std::fs;
 use std::hash::{BuildHasher, RandomState};
-use std::io::ErrorKind;
+use std::io::{ErrorKind, Read, Write};
 
 /// The bytes of a database's page.
 const PAGE: u64 = 4_096;
+/// About how many bytes a stream may add, for the size of the cache alone: all that a cache may have.
+const STREAM_GROWTH: u64 = 268_435_456;
 /// The fewest pages that are kept in memory.
 const LEAST_PAGES: u64 = 200;
 /// The most pages that are kept in memory, 256 MiB. The cache is made once the first page is found
@@ -52,6 +55,15 @@ pub trait Databases {
         watch: &W,
     ) -> Result<Text, CommandFault>
         ensures { IfOk result (λ text. (fresh : ℕ) × (text ≡ counts_line (length events.now) fresh)) };
+
+    /// As [`crate::follow`].
+    fn follow<R: Read, W: Write>(
+        &self,
+        alloc: Global,
+        name: &str,
+        input: &mut R,
+        out: &mut W,
+    ) -> Result<u64, StreamFault>;
 
     /// The events that a database holds, as [`crate::held`]. A file that isn't there is not made:
     /// `CannotRead`.
@@ -130,6 +142,23 @@ impl Databases for HostRuntime {
         match open(self, name, growth) {
             Ok(conn) => closed(take(alloc, conn, events, watch)),
             Err(fault) => Err(fault),
+        }
+    }
+
+    fn follow<R: Read, W: Write>(
+        &self,
+        alloc: Global,
+        name: &str,
+        input: &mut R,
+        out: &mut W,
+    ) -> Result<u64, StreamFault> {
+        match open(self, name, STREAM_GROWTH) {
+            Ok(conn) => {
+                let Streamed { conn, outcome } = follow(alloc, conn, input, out);
+                let _closed = conn.close();
+                outcome
+            }
+            Err(fault) => Err(StreamFault::Database(fault)),
         }
     }
 

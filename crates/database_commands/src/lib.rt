@@ -3,6 +3,7 @@
 
 mod fault;
 mod file;
+mod follow;
 mod intake;
 mod page;
 mod pages;
@@ -11,6 +12,7 @@ mod text;
 
 use attributes::Text;
 pub use fault::{CommandFault, of_table};
+pub use follow::{StreamFault, Streamed, follow};
 pub use file::{Databases, open};
 pub use intake::{loaded, take};
 pub use outbox::Status;

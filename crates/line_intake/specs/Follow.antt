@@ -1,5 +1,5 @@
 -- A stream of lines that are kept and acknowledged, turn by turn.
-use Rattle.std.specs.Prelude.{◌≡◌, ◌⊎◌, ℕ, List, [], ◌∷◌, Option, IsTrue, sum_by}
+use Rattle.std.specs.Prelude.{◌≡◌, ◌⊎◌, ℕ, List, [], ◌∷◌, length, Option, IsTrue, sum_by}
 use Rattle.std.specs.Io.KnownBytes.{Appends, IsAtEnd, Keeps}
 use Rattle.sqlite.specs.Effect.{Database}
 use Rattle.sqlite.specs.State.{State, HasCleanDisk}
@@ -34,6 +34,7 @@ StopsTurn (fault.Table why) tells lists old new out out' = Keeps out out'
     × (HasCleanDisk new → IsTrue new.is_open → (new.now ≡ old)
     ⊎ ((why ≡ OutOfMemory) × (each : List ℕ) × IsKept lists each old new.now))
 StopsTurn fault.Unwritten tells lists old new out out' = (each : List ℕ)
+    × (length each ≡ length lists)
     × ((rest : List ℕ) × Wrote out out' (answers tells lists each) rest)
     × (HasCleanDisk new → IsKept lists each old new.now)
 
@@ -51,9 +52,10 @@ pub record Place : Type 0 where
   pub left : Option (List ℕ)
   pub out : Option (List ℕ)
 
--- in a turn lines are taken from the input, and their answers are written
+-- in a turn lines are taken from the input, and their answers are written, one for each
 pub record IsTurn (old : Place) (turn : Turn) (new : Place) : Type 0 where
   pub lines : IsGathered old.lines new.lines old.left new.left turn.tells turn.lists
+  pub one_each : length turn.each ≡ length turn.lists
   pub answered : Appends old.out new.out (answers turn.tells turn.lists turn.each)
 
 -- turns, one after the other

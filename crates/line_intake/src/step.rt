@@ -43,6 +43,7 @@ pub fn keep_lines<S: Alter>(
 ) -> Result<Text, TableFault>
     requires { length gathered.now.tells ≡ length gathered.now.lists }
     ensures kept { IfOk result (λ text. (each : List ℕ)
+        × (length each ≡ length gathered.now.lists)
         × (text ≡ answers gathered.now.tells gathered.now.lists each)
         × (HasCleanDisk (state S.Store table.new.conn) → IsKept gathered.now.lists each
         (state S.Store table.old.conn).now (state S.Store table.new.conn).now)) }
@@ -72,7 +73,8 @@ pub fn acknowledge<S: Alter, W: Write>(
     out: &mut W,
 ) -> Result<(), FollowFault>
     requires { length gathered.now.tells ≡ length gathered.now.lists }
-    ensures kept { OnOk result ((each : List ℕ) × Appends (W.contents out.old) (W.contents out.new)
+    ensures kept { OnOk result ((each : List ℕ) × (length each ≡ length gathered.now.lists)
+        × Appends (W.contents out.old) (W.contents out.new)
         (answers gathered.now.tells gathered.now.lists each)
         × (HasCleanDisk (state S.Store table.new.conn) → IsKept gathered.now.lists each
         (state S.Store table.old.conn).now (state S.Store table.new.conn).now)) }

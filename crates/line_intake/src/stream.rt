@@ -2,6 +2,7 @@
 
 ghost use Rattle.std.specs.Prelude.{IfErr, IfOk};
 ghost use Rattle.sqlite.specs.Held.{state};
+ghost use Rattle.line_intake.specs.Acknowledged.{TellsAll, TellsUntil};
 ghost use Rattle.line_intake.specs.Follow.{IsFollowed, StopsStream};
 
 use crate::line::{LineFault, Pending};
@@ -31,6 +32,10 @@ pub fn follow<S: Alter, R: Read, W: Write>(
     ensures stops { IfErr result (StopsStream
         (record { lines = 0; left = R.remaining input.old; out = W.contents out.old })
         (W.contents out.new) (state S.Store table.old.conn) (state S.Store table.new.conn)) }
+    ensures told { IfOk result
+        (TellsAll (R.remaining input.old) (W.contents out.old) (W.contents out.new)) }
+    ensures until { IfErr result (λ f.
+        TellsUntil f (R.remaining input.old) (W.contents out.old) (W.contents out.new)) }
 {
     let mut pending = Pending::empty(alloc);
     let mut lines = 0u64;

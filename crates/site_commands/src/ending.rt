@@ -26,6 +26,10 @@ pub enum Ending {
     /// The answer in pages, each a line that is made when it is written, for standard output: status
     /// 0. Memory that runs out between two pages ends it with 1 and a line on standard error.
     Pages(EventPages),
+    /// What was to be written is written: status 0.
+    Silent,
+    /// Writing failed, and nothing more is written: status 1.
+    Unwritten,
     /// Help or the version, asked for, for standard output: status 2.
     Help(Text),
     /// What is said of faulty words, for standard error: status 2.
@@ -54,6 +58,8 @@ pub fn finish<O: Write, E: Write>(ending: Ending, out: &mut O, err: &mut E) -> u
             mem::forget(pages);
             status
         }
+        Ending::Silent => DONE,
+        Ending::Unwritten => REFUSED,
         Ending::Help(text) => print(out, text.as_str(), FAULTY),
         Ending::Faulty(text) => print(err, text.as_str(), FAULTY),
         Ending::Refused(text) => print(err, text.as_str(), REFUSED),

@@ -14,6 +14,7 @@ use crate::line::{Refusal, line_of};
 use crate::printed::Printed;
 use crate::progress::Progress;
 use crate::query::ask;
+use crate::stream::follow;
 use crate::workers::run;
 use attributes::Text;
 use command_words::{Faulty, Plan, plan};
@@ -71,15 +72,16 @@ pub fn perform<
     ensures runs { RunsWords (λ _ _. Unit {0}) (λ _ _. Unit {0}) words.now result
         (O.contents out.old) (O.contents out.new) (E.contents err.old) (E.contents err.new) }
 {
-    let ending = outcome(rt, words, progress);
+    let ending = outcome(rt, words, out, progress);
     progress.over();
     finish(ending, out, err)
 }
 
 /// What the words come to, before anything is written.
-fn outcome<R: AllocGlobal + Files + Databases + Runs + Threads + Wait + Sync, P: Progress>(
+fn outcome<R: AllocGlobal + Files + Databases + Runs + Threads + Wait + Sync, O: Write, P: Progress>(
     rt: &R,
     words: &[Text],
+    out: &mut O,
     progress: &P,
 ) -> Ending
     ensures { IsEnding (λ _ _. Unit {0}) (λ _ _. Unit {0}) words.now result }
@@ -88,6 +90,9 @@ fn outcome<R: AllocGlobal + Files + Databases + Runs + Threads + Wait + Sync, P:
         Ok(plan) => {
             let left = Cell::new(long_files(&plan));
             let shelf = SystemFiles { rt, progress, left };
+            if matches!(plan, Plan::Follow { .. }) {
+                return follow(rt, rt.alloc(), rt, &plan, out);
+            }
             if is_run(&plan) {
                 ending_of_run(rt, rt.alloc(), &shelf, rt, &plan, progress)
             } else {
@@ -216,6 +221,7 @@ fn carried_out<S: Shelf, D: Databases, P: Progress>(
         ),
         Plan::Scrub { db, pages } => scrub(alloc, databases, db.as_str(), *pages),
         Plan::Run { .. } => unreachable!(),
+        Plan::Follow { .. } => unreachable!(),
         Plan::Order(request) => lined(order(alloc, databases, request)),
         Plan::Relay { db, after } => lined(relay(alloc, databases, db.as_str(), *after)),
     }

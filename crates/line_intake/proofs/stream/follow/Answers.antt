@@ -1,7 +1,7 @@
 use Rattle.std.proofs.Common.{◌≤◌, ◌+◌, ◌*◌, arith, subst, sym}
 use Rattle.std.specs.Io.KnownBytes.{prepend_known}
 use Rattle.sqlite.specs.Held.{state}
-use Rattle.line_intake.proofs.FollowLemmas.{IsFollowing, following_done, following_more, following_stops}
+use Rattle.line_intake.proofs.FollowLemmas.{IsFollowing, following_done, following_more, following_some, following_stops, following_told, following_until}
 use Rattle.line_intake.proofs.GatherLemmas.{even_gathered}
 use Rattle.line_intake.proofs.stream.follow.Goals as goal
 
@@ -13,6 +13,17 @@ returns-in-Err-acknowledge-clause-stops g c =
     following_stops _ c.loop.lines c.in-Ok.part.gathered.lines _ _ _ _ _ (state g.S.Store c.loop.table.conn) (state g.S.Store c.acknowledge.new.table.conn) c.loop.faults c.in-Ok.part.gathered.tells c.in-Ok.part.gathered.lists c.in-Err-acknowledge.fault
     c.loop.invariant.0 c.in-Ok.ensures.gathered c.in-Err-acknowledge.ensures.stops (λ clean. omega (arith, c.acknowledge.ensures.crash.clean, clean))
 
+pub returns-in-Err-acknowledge-clause-until : goal.returns-in-Err-acknowledge-clause-until
+returns-in-Err-acknowledge-clause-until g c =
+    following_until _ c.loop.lines c.in-Ok.part.gathered.lines _ _ _ _ _ (state g.S.Store c.loop.table.conn) (state g.S.Store c.acknowledge.new.table.conn) c.loop.faults c.in-Ok.part.gathered.tells c.in-Ok.part.gathered.lists c.in-Err-acknowledge.fault
+    c.loop.invariant.0 c.in-Ok.ensures.gathered c.in-Err-acknowledge.ensures.stops
+
+pub returns-in-Err-clause-until : goal.returns-in-Err-clause-until
+returns-in-Err-clause-until g c = following_some _ c.loop.lines _ _ _ _ c.loop.faults c.loop.invariant.0
+
+pub returns-clause-until : goal.returns-clause-until
+returns-clause-until g c = following_some _ c.loop.lines _ _ _ _ c.loop.faults c.loop.invariant.0
+
 pub returns-then-part-clause-followed : goal.returns-then-part-clause-followed
 returns-then-part-clause-followed g c =
     let more : IsFollowing (record { lines = 0; left = g.R.Read.remaining c.args.input.now; out = g.W.Write.contents c.args.out.now }) c.in-Ok.part.gathered.lines (prepend_known c.gather.new.pending (g.R.Read.remaining c.gather.new.input))
@@ -22,6 +33,16 @@ returns-then-part-clause-followed g c =
     (following_more _ c.loop.lines c.in-Ok.part.gathered.lines _ _ _ _ _ (state g.S.Store c.loop.table.conn) (state g.S.Store c.acknowledge.new.table.conn) c.loop.faults c.in-Ok.part.gathered.tells c.in-Ok.part.gathered.lists
     c.loop.invariant.0 c.in-Ok.ensures.gathered c.in-Ok-acknowledge.ensures.kept (λ clean. omega (arith, c.acknowledge.ensures.crash.clean, clean))) in
     following_done _ _ _ _ _ _ _ more (c.in-Ok.ensures.over c.if-part.true)
+
+pub returns-then-part-clause-told : goal.returns-then-part-clause-told
+returns-then-part-clause-told g c =
+    let more : IsFollowing (record { lines = 0; left = g.R.Read.remaining c.args.input.now; out = g.W.Write.contents c.args.out.now }) c.in-Ok.part.gathered.lines (prepend_known c.gather.new.pending (g.R.Read.remaining c.gather.new.input))
+    (g.W.Write.contents c.acknowledge.new.out) (state g.S.Store c.args.table.now.conn) (state g.S.Store c.acknowledge.new.table.conn) (c.loop.faults + c.faults-faults.result) =
+    subst (λ n. IsFollowing (record { lines = 0; left = g.R.Read.remaining c.args.input.now; out = g.W.Write.contents c.args.out.now }) c.in-Ok.part.gathered.lines (prepend_known c.gather.new.pending (g.R.Read.remaining c.gather.new.input))
+    (g.W.Write.contents c.acknowledge.new.out) (state g.S.Store c.args.table.now.conn) (state g.S.Store c.acknowledge.new.table.conn) (c.loop.faults + n)) (sym c.faults-faults.ensures)
+    (following_more _ c.loop.lines c.in-Ok.part.gathered.lines _ _ _ _ _ (state g.S.Store c.loop.table.conn) (state g.S.Store c.acknowledge.new.table.conn) c.loop.faults c.in-Ok.part.gathered.tells c.in-Ok.part.gathered.lists
+    c.loop.invariant.0 c.in-Ok.ensures.gathered c.in-Ok-acknowledge.ensures.kept (λ clean. omega (arith, c.acknowledge.ensures.crash.clean, clean))) in
+    following_told _ _ _ _ _ _ _ more (c.in-Ok.ensures.over c.if-part.true)
 
 pub loop-preserved : goal.loop-preserved
 loop-preserved g c = (
