@@ -1,12 +1,14 @@
 //! Databases by the names of their files.
-ghost use Rattle.std.specs.Prelude.{◌≡◌, ◌≤◌, ◌↔◌, ℕ, List, length, true, IfOk, IsErrOf, IsTrue};
+ghost use Rattle.std.specs.Prelude.{◌≡◌, ◌≤◌, ◌↔◌, ℕ, List, length, true, IfErr, IfOk, IsErrOf, IsTrue};
 ghost use Rattle.attributes.specs.Character.{is_filled};
 ghost use Rattle.attributes.specs.Event.{EventValue};
 ghost use Rattle.attributes.specs.Sequence.{max_sequence};
+ghost use Rattle.line_intake.specs.Acknowledged.{TellsAll};
 ghost use Rattle.database_commands.specs.Held.{HasDelta, HasEvents, SaysDelta, SaysOrder, SaysPage, SaysSummary};
 ghost use Rattle.database_commands.specs.Name.{IsNoFile};
 ghost use Rattle.database_commands.specs.declared.fault.CommandFault.TheVariants as CommandFault;
 ghost use Rattle.database_commands.specs.Print.{batch_line, counts_line};
+ghost use Rattle.database_commands.specs.Streams.{AcknowledgesUntil};
 
 use crate::Ended;
 use crate::fault::{CommandFault, of_kind, of_store};
@@ -63,7 +65,11 @@ pub trait Databases {
         name: &str,
         input: &mut R,
         out: &mut W,
-    ) -> Result<u64, StreamFault>;
+    ) -> Result<u64, StreamFault>
+        ensures told { IfOk result
+            (TellsAll (R.remaining input.old) (W.contents out.old) (W.contents out.new)) }
+        ensures until { IfErr result (λ f. AcknowledgesUntil f
+            (R.remaining input.old) (W.contents out.old) (W.contents out.new)) };
 
     /// The events that a database holds, as [`crate::held`]. A file that isn't there is not made:
     /// `CannotRead`.

@@ -12,8 +12,8 @@ mod text;
 
 use attributes::Text;
 pub use fault::{CommandFault, of_table};
-pub use follow::{StreamFault, Streamed, follow};
 pub use file::{Databases, open};
+pub use follow::{StreamFault, Streamed, follow};
 pub use intake::{loaded, take};
 pub use outbox::Status;
 pub use page::{Contents, Paged, delta, delta_pages, held, scrub, scrub_pages, summary};

@@ -1,9 +1,19 @@
 use Rattle.std.proofs.Common.{◌≤◌, ◌+◌, ◌*◌, arith, subst, sym}
 use Rattle.std.specs.Io.KnownBytes.{prepend_known}
 use Rattle.sqlite.specs.Held.{state}
-use Rattle.line_intake.proofs.FollowLemmas.{IsFollowing, following_done, following_more, following_some, following_stops, following_told, following_until}
+use Rattle.line_intake.proofs.FollowLemmas.{IsFollowing, following_done, following_more, following_some, following_start, following_stops, following_told, following_unread, following_until, prepend_none}
 use Rattle.line_intake.proofs.GatherLemmas.{even_gathered}
 use Rattle.line_intake.proofs.stream.follow.Goals as goal
+
+pub loop-init : goal.loop-init
+loop-init g c =
+    let left = g.R.Read.remaining c.args.input.now in
+    let out = g.W.Write.contents c.args.out.now in
+    let s = state g.S.Store c.args.table.now.conn in (
+      subst (λ l. IsFollowing (record { lines = 0; left = left; out = out }) 0 l out s s 0)
+          (sym (prepend_none c.empty-pending.result left c.empty-pending.ensures)) (following_start left out s),
+      omega arith,
+    )
 
 pub acknowledge-requires : goal.acknowledge-requires
 acknowledge-requires g c = even_gathered _ _ _ _ _ _ c.in-Ok.ensures.gathered
@@ -52,3 +62,18 @@ loop-preserved g c = (
       c.loop.invariant.0 c.in-Ok.ensures.gathered c.in-Ok-acknowledge.ensures.kept (λ clean. omega (arith, c.acknowledge.ensures.crash.clean, clean))),
   (let n : c.in-Ok.part.gathered.lines ≤ (c.loop.counter + 1) * 65536 = omega (arith, c.in-Ok.ensures.few, c.loop.invariant.1) in n),
 )
+
+pub returns-then-part-clause-settled : goal.returns-then-part-clause-settled
+returns-then-part-clause-settled g c clean = (c.in-Ok-acknowledge.ensures.kept.3 clean).settled
+
+pub returns-then-part-clause-clean : goal.returns-then-part-clause-clean
+returns-then-part-clause-clean g c clean = c.loop.invariant.0.clean (omega (arith, c.acknowledge.ensures.crash.clean, clean))
+
+pub returns-in-Err-acknowledge-clause-clean : goal.returns-in-Err-acknowledge-clause-clean
+returns-in-Err-acknowledge-clause-clean g c clean = c.loop.invariant.0.clean (omega (arith, c.acknowledge.ensures.crash.clean, clean))
+
+pub returns-in-Err-clause-stops : goal.returns-in-Err-clause-stops
+returns-in-Err-clause-stops g c = following_unread _ c.loop.lines _ _ _ _ c.loop.faults _ c.loop.invariant.0
+
+pub returns-clause-stops : goal.returns-clause-stops
+returns-clause-stops g c = following_unread _ c.loop.lines _ _ _ _ c.loop.faults _ c.loop.invariant.0
