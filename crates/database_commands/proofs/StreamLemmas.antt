@@ -17,8 +17,8 @@ use Rattle.line_intake.specs.declared.step.FollowFault.TheVariants.{Input, Table
 use Rattle.database_commands.specs.Fault.{of_follow, of_table}
 use Rattle.database_commands.specs.Held.{Holds}
 use Rattle.database_commands.specs.Streams.{AcknowledgesUntil, HoldsTurns, StaysUnread, StopsInto}
-use Rattle.database_commands.specs.declared.follow.StreamFault.{StreamFault}
-use Rattle.database_commands.specs.declared.follow.StreamFault.TheVariants as stream
+use Rattle.database_commands.specs.declared.stream.StreamFault.{StreamFault}
+use Rattle.database_commands.specs.declared.stream.StreamFault.TheVariants as stream
 
 abbrev Outcome : Result ℕ FollowFault → Result ℕ StreamFault → Type 0
 Outcome ended outcome = MatchResult ended (λ n. outcome ≡ Ok n) (λ f. outcome ≡ Err (of_follow f))

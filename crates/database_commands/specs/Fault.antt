@@ -14,8 +14,8 @@ use Rattle.line_intake.specs.declared.step.FollowFault.{FollowFault}
 use Rattle.line_intake.specs.declared.step.FollowFault.TheVariants as follow
 use Rattle.database_commands.specs.declared.fault.CommandFault.{CommandFault}
 use Rattle.database_commands.specs.declared.fault.CommandFault.TheVariants as command
-use Rattle.database_commands.specs.declared.follow.StreamFault.{StreamFault}
-use Rattle.database_commands.specs.declared.follow.StreamFault.TheVariants as stream
+use Rattle.database_commands.specs.declared.stream.StreamFault.{StreamFault}
+use Rattle.database_commands.specs.declared.stream.StreamFault.TheVariants as stream
 
 -- the fault that one of an inbox's table is
 abbrev pub of_table : TableFault → CommandFault

@@ -12,8 +12,8 @@ use Rattle.line_intake.specs.Follow.{AreKept, Place, StopsStream, Turn}
 use Rattle.line_intake.specs.declared.step.FollowFault.{FollowFault}
 use Rattle.database_commands.specs.Fault.{of_follow, of_table}
 use Rattle.database_commands.specs.Held.{Holds}
-use Rattle.database_commands.specs.declared.follow.StreamFault.{StreamFault}
-use Rattle.database_commands.specs.declared.follow.StreamFault.TheVariants as stream
+use Rattle.database_commands.specs.declared.stream.StreamFault.{StreamFault}
+use Rattle.database_commands.specs.declared.stream.StreamFault.TheVariants as stream
 
 -- the database has what the old one held, and behind it the events of turns, of each line so many new
 abbrev pub HoldsTurns : List Turn → Database → Database → Type 0

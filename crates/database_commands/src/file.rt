@@ -12,7 +12,7 @@ ghost use Rattle.database_commands.specs.Streams.{AcknowledgesUntil};
 
 use crate::Ended;
 use crate::fault::{CommandFault, of_kind, of_store};
-use crate::follow::{StreamFault, Streamed, follow};
+use crate::stream::{StreamFault, Streamed, follow};
 use crate::intake::take;
 use crate::page::{Contents, Paged, delta, delta_pages, held, scrub, scrub_pages, summary};
 use crate::pages::EventPages;

@@ -3,23 +3,23 @@
 
 mod fault;
 mod file;
-mod follow;
 mod intake;
 mod page;
 mod pages;
 mod service;
+mod stream;
 mod text;
 
 use attributes::Text;
 pub use fault::{CommandFault, of_table};
 pub use file::{Databases, open};
-pub use follow::{StreamFault, Streamed, follow};
 pub use intake::{loaded, take};
 pub use outbox::Status;
 pub use page::{Contents, Paged, delta, delta_pages, held, scrub, scrub_pages, summary};
 pub use pages::EventPages;
 pub use service::{order, relay};
 use sqlite::{Alter, Connection};
+pub use stream::{StreamFault, Streamed, follow};
 pub use text::summary_of;
 
 /// A command that came to its end: the connection, and the text to print or why there is none.

@@ -2,7 +2,7 @@ use Rattle.std.proofs.Common.{ap, inl, subst, sym}
 use Rattle.sqlite.specs.Held.{state}
 use Rattle.database_commands.specs.Streams.{StaysUnread}
 use Rattle.database_commands.proofs.StreamLemmas.{stays_unread, stream_followed, stream_settled, stream_stops, stream_told, stream_until, tells_none}
-use Rattle.database_commands.proofs.follow.follow.Goals as goal
+use Rattle.database_commands.proofs.stream.follow.Goals as goal
 
 pub returns-in-Ok-clause-followed : goal.returns-in-Ok-clause-followed
 returns-in-Ok-clause-followed g c =
