@@ -17,6 +17,7 @@ use Rattle.line_intake.specs.declared.step.FollowFault.TheVariants.{Input, Table
 use Rattle.database_commands.specs.Fault.{of_follow, of_table}
 use Rattle.database_commands.specs.Held.{Holds}
 use Rattle.database_commands.specs.Streams.{AcknowledgesUntil, HoldsTurns, StaysUnread, StopsInto}
+use Rattle.database_commands.specs.declared.fault.CommandFault.{CommandFault}
 use Rattle.database_commands.specs.declared.stream.StreamFault.{StreamFault}
 use Rattle.database_commands.specs.declared.stream.StreamFault.TheVariants as stream
 
@@ -101,5 +102,5 @@ tells_none left out = record {
   written = Appends-nil out;
 }
 
-pub stays_unread : (left out : Option (List ℕ)) (old new : State) (why : TableFault) → IsAsItWas old new → StaysUnread left left out out old new (stream.Database (of_table why))
-stays_unread left out old new why same = record { why = why; is = refl; unread = Keeps-refl left; unwritten = Keeps-refl out; same = same }
+pub stays_unread : (left out : Option (List ℕ)) (old new : State) (why : TableFault) (f : CommandFault) → f ≡ of_table why → IsAsItWas old new → StaysUnread left left out out old new (stream.Database f)
+stays_unread left out old new why f is same = record { why = why; is = ap (λ x. stream.Database x) is; unread = Keeps-refl left; unwritten = Keeps-refl out; same = same }

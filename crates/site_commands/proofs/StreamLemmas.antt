@@ -11,7 +11,9 @@ use Rattle.line_intake.specs.declared.line.LineFault.TheVariants as line
 use Rattle.database_commands.specs.Streams.{AcknowledgesUntil}
 use Rattle.database_commands.specs.declared.stream.StreamFault.{StreamFault}
 use Rattle.database_commands.specs.declared.stream.StreamFault.TheVariants as stream
-use Rattle.site_commands.specs.Streams.{EndsSo, end_at, end_of}
+use Rattle.site_commands.specs.Endings.{EndsStream, SaysRefusal}
+use Rattle.site_commands.specs.Streams.{EndsSo, RefusesFollow, end_at, end_of}
+use Rattle.site_commands.specs.declared.line.Refusal.{Refusal}
 use Rattle.site_commands.specs.declared.line.Refusal.TheVariants as refusal
 use Rattle.site_commands.specs.declared.stream.StreamEnd.{StreamEnd}
 use Rattle.site_commands.specs.declared.stream.StreamEnd.TheVariants as end
@@ -38,3 +40,10 @@ pub ends_so : (C : List ℕ → List ℕ → Type 0) (U : List ℕ → Unread �
     → MatchResult ended (λ faults. so ≡ end_of faults) (λ why. so ≡ end_at why) → EndsSo C U file so out out'
 ends_so C U file known out out' (Ok faults) so of all until is = subst (λ e. EndsSo C U file e out out') (sym is) (ends_all C U file known out out' faults of all)
 ends_so C U file known out out' (Err why) so of all until is = subst (λ e. EndsSo C U file e out out') (sym is) (ends_until C U file known out out' why of until)
+
+-- what is refused is said
+pub refused_stream : (C : List ℕ → List ℕ → Type 0) (U : List ℕ → Unread → Type 0) (p : Plan) (db file name : List ℕ) (why : Refusal) (r : ℕ) (out out' err err' : Option (List ℕ)) → p ≡ plan.Follow db file → name ≡ file → RefusesFollow C U name why out out' → SaysRefusal p why r err err'
+    → EndsStream C U p r out out' err err'
+refused_stream C U p db file name why r out out' err err' is same refuses says =
+    subst (λ q. EndsStream C U q r out out' err err') (sym is)
+    (inr (inl (why, subst (λ f. RefusesFollow C U f why out out') same refuses, subst (λ q. SaysRefusal q why r err err') is says)))

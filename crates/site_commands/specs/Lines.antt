@@ -76,7 +76,7 @@ fault_line name why = file_line name (words_of why)
 
 -- so many lines of an input were at fault
 abbrev pub lines_line : ℕ → List ℕ
-lines_line faults = codes "site: " ++ decimal faults ++ codes " lines refused" ++ 10 ∷ []
+lines_line faults = codes "site: " ++ decimal faults ++ (codes " lines refused" ++ 10 ∷ [])
 
 -- the summary in a file of this name is at fault
 abbrev pub summary_line : List ℕ → SummaryFault → List ℕ

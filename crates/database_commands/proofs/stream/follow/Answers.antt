@@ -1,6 +1,5 @@
-use Rattle.std.proofs.Common.{ap, inl, subst, sym}
+use Rattle.std.proofs.Common.{ap, inl}
 use Rattle.sqlite.specs.Held.{state}
-use Rattle.database_commands.specs.Streams.{StaysUnread}
 use Rattle.database_commands.proofs.StreamLemmas.{stays_unread, stream_followed, stream_settled, stream_stops, stream_told, stream_until, tells_none}
 use Rattle.database_commands.proofs.stream.follow.Goals as goal
 
@@ -26,7 +25,7 @@ pub returns-in-Ok-clause-until : goal.returns-in-Ok-clause-until
 returns-in-Ok-clause-until g c = stream_until c.follow-ended.result c.outcome_of-outcome.result _ _ _ c.outcome_of-outcome.ensures c.follow-ended.ensures.until
 
 pub returns-in-Err-clause-stops : goal.returns-in-Err-clause-stops
-returns-in-Err-clause-stops g c = inl (stays_unread _ _ _ _ c.in-Err.refused.fault c.in-Err.ensures.back)
+returns-in-Err-clause-stops g c = inl (stays_unread _ _ _ _ c.in-Err.refused.fault c.of_table.result c.of_table.ensures c.in-Err.ensures.back)
 
 pub returns-in-Err-clause-until : goal.returns-in-Err-clause-until
 returns-in-Err-clause-until g c = tells_none _ _
