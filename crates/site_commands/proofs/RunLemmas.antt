@@ -90,7 +90,7 @@ module _ (C : List ℕ → List ℕ → Type 0) (U : List ℕ → Unread → Typ
         record {
           plan = plan.Follow db file;
           planned = p;
-          answered = record { known = w.1.known; of_file = w.1.of_file; left = all.left; over = all.over; tells = all.tells; told = all.told; faultless = sym all.faulty };
+          answered = record { bytes = w.1.bytes; of_file = w.1.of_file; left = all.left; over = all.over; tells = all.tells; told = all.told; faultless = sym all.faulty };
         },
         all.written,
       )

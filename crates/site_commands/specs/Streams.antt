@@ -1,6 +1,6 @@
 -- A file whose lines are kept and acknowledged as they come. C says what a name is read as, U why a name
 -- isn't read.
-use Rattle.std.specs.Prelude.{◌≡◌, ◌≢◌, ◌⊎◌, ℕ, zero, suc, List, Option, IfSome}
+use Rattle.std.specs.Prelude.{◌≡◌, ◌≢◌, ◌⊎◌, ℕ, zero, suc, List, Option, Some}
 use Rattle.std.specs.Io.KnownBytes.{IsAtEnd, Keeps}
 use Rattle.file_reports.specs.declared.input.Unread.{Unread}
 use Rattle.file_reports.specs.declared.input.Unread.TheVariants as unread
@@ -17,38 +17,38 @@ use Rattle.site_commands.specs.declared.line.Refusal.TheVariants as refusal
 use Rattle.site_commands.specs.declared.stream.StreamEnd.{StreamEnd}
 use Rattle.site_commands.specs.declared.stream.StreamEnd.TheVariants as end
 
--- ---- what is written of the lines of a file; where their bytes are known, the name is read as them
+-- ---- what is written of the lines of a file
 
 -- the text acknowledges every line, and none is at fault
 pub record AnswersFollow (C : List ℕ → List ℕ → Type 0) (file text : List ℕ) : Type 0 where
-  pub known : Option (List ℕ)
-  pub of_file : IfSome known (C file)
+  pub bytes : List ℕ
+  pub of_file : C file bytes
   pub left : Option (List ℕ)
   pub over : IsAtEnd left
   pub tells : List Told
-  pub told : AreTold known left tells text
+  pub told : AreTold (Some bytes) left tells text
   pub faultless : faults_in tells ≡ 0
 
 -- every line is acknowledged, and so many are at fault
 pub record FollowsAll (C : List ℕ → List ℕ → Type 0) (file : List ℕ) (out out' : Option (List ℕ))
     (faults : ℕ) : Type 0 where
-  pub known : Option (List ℕ)
-  pub of_file : IfSome known (C file)
-  pub tells : TellsAll known out out' faults
+  pub bytes : List ℕ
+  pub of_file : C file bytes
+  pub tells : TellsAll (Some bytes) out out' faults
 
 -- some lines are acknowledged, from the first on
 pub record FollowsSome (C : List ℕ → List ℕ → Type 0) (file : List ℕ) (out out' : Option (List ℕ))
     : Type 0 where
-  pub known : Option (List ℕ)
-  pub of_file : IfSome known (C file)
-  pub tells : TellsSome known out out'
+  pub bytes : List ℕ
+  pub of_file : C file bytes
+  pub tells : TellsSome (Some bytes) out out'
 
 -- so they are but for the rest of their acknowledgements, which couldn't be written
 pub record FollowsPart (C : List ℕ → List ℕ → Type 0) (file : List ℕ) (out out' : Option (List ℕ))
     : Type 0 where
-  pub known : Option (List ℕ)
-  pub of_file : IfSome known (C file)
-  pub tells : TellsPart known out out'
+  pub bytes : List ℕ
+  pub of_file : C file bytes
+  pub tells : TellsPart (Some bytes) out out'
 
 -- ---- why a file isn't followed to its end, or not all of its lines are taken
 

@@ -1,5 +1,6 @@
 //! The files of the operating system, by their names.
-ghost use Rattle.std.specs.Prelude.{IfErr, IfOk, IfSome};
+ghost use Rattle.std.specs.Prelude.{IfErr, IfOk, List, ℕ};
+ghost use Rattle.site_commands.specs.Inputs.{MayGive};
 
 use crate::progress::Progress;
 use attributes::Octets;
@@ -15,10 +16,11 @@ pub trait Streams: Shelf {
     /// A file that was opened.
     type Input: Read + Drop;
 
-    /// Opens the file of that name. Where the bytes that are to come are known, they are its content.
+    /// Opens the file of that name, to be read from its beginning.
     fn open(&self, name: &str) -> Result<Self::Input, Unread>
-        ensures input { IfOk result (λ input.
-            IfSome (Self.Input.remaining input) (Self.is_content self.now name.now)) }
+        ensures input { IfOk result (λ input. (bytes : List ℕ)
+            → MayGive (Self.Input.remaining input) bytes
+            → Self.is_content self.now name.now bytes) }
         ensures unread { IfErr result (λ why. Self.is_unread self.now name.now why) };
 }
 
