@@ -5,8 +5,8 @@ ghost use Rattle.command_words.specs.Commands.{app_for, needed_rule, place_rule,
 ghost use Rattle.command_words.specs.declared.command.Command.{Command};
 
 use crate::argument::{
-    action, after, all, at, db, files, from, lines, order, peer, question_db, question_files, read_db,
-    source, summary,
+    action, after, all, at, db, files, from, lines, order, peer, question_db, question_files,
+    read_db, source, summary,
 };
 use std::alloc::{AllocError, Global};
 use views::Query;

@@ -46,13 +46,16 @@ told_none a = (record { lines = []; lists = []; each = []; taken = Consumes-nil 
 -- lines that were gathered are acknowledged too
 pub told_more : (a b c : Option (List ℕ)) (before next : ℕ) (tells tells' : List Told) (text : List ℕ) (lists' : List (List EventValue)) (each' : List ℕ) (told : AreTold a b tells text) → before ≡ length told.lines → IsGathered before next b c tells' lists'
     → length each' ≡ length lists' → (more : AreTold a c (tells ++ tells') (text ++ answers tells' lists' each')) × (next ≡ length more.lines)
-told_more a b c before next tells tells' text lists' each' told count g even = (record {
-  lines = told.lines ++ g.lines;
-  lists = told.lists ++ lists';
-  each = told.each ++ each';
-  taken = takes_join a b c told.lines g.lines told.taken g.taken;
-  judged = judged_join 0 before told.lines g.lines tells tells' told.lists lists' (omega (arith, count)) told.judged g.judged;
-  one_each = (let e : length (told.each ++ each') ≡ length (told.lists ++ lists') = omega (arith, even, told.one_each, length-append told.each each', length-append told.lists lists') in e);
-  are = ap (λ l. l ++ answers tells' lists' each') told.are
-      ∙ sym (answers_join tells tells' told.lists lists' told.each each' (even_judged 0 told.lines tells told.lists told.judged) told.one_each);
-}, (let e : next ≡ length (told.lines ++ g.lines) = omega (arith, count, g.count, length-append told.lines g.lines) in e))
+told_more a b c before next tells tells' text lists' each' told count g even = (
+  record {
+    lines = told.lines ++ g.lines;
+    lists = told.lists ++ lists';
+    each = told.each ++ each';
+    taken = takes_join a b c told.lines g.lines told.taken g.taken;
+    judged = judged_join 0 before told.lines g.lines tells tells' told.lists lists' (omega (arith, count)) told.judged g.judged;
+    one_each = (let e : length (told.each ++ each') ≡ length (told.lists ++ lists') = omega (arith, even, told.one_each, length-append told.each each', length-append told.lists lists') in e);
+    are = ap (λ l. l ++ answers tells' lists' each') told.are
+        ∙ sym (answers_join tells tells' told.lists lists' told.each each' (even_judged 0 told.lines tells told.lists told.judged) told.one_each);
+  },
+  (let e : next ≡ length (told.lines ++ g.lines) = omega (arith, count, g.count, length-append told.lines g.lines) in e),
+)

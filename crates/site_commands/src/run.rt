@@ -117,11 +117,12 @@ fn carry_out<
 }
 
 /// What a plan that is no stream comes to, before anything is written.
-fn outcome<
-    R: AllocGlobal + Databases + Runs + Threads + Wait + Sync,
-    S: Shelf,
-    P: Progress,
->(rt: &R, shelf: &S, plan: &Plan, progress: &P) -> Ending
+fn outcome<R: AllocGlobal + Databases + Runs + Threads + Wait + Sync, S: Shelf, P: Progress>(
+    rt: &R,
+    shelf: &S,
+    plan: &Plan,
+    progress: &P,
+) -> Ending
     requires whole { is_stream plan.now ≡ false }
     requires allowed { IsAllowed plan.now }
     ensures { IsPlanEnding (S.is_content shelf.now) (S.is_unread shelf.now) plan.now result }
