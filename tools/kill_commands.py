@@ -1,14 +1,15 @@
 #!/usr/bin/env python3
-"""Ends `take` and `order` by a signal at random moments, and looks at what their databases then hold.
+"""Ends `take`, `order` and `follow` by a signal at random moments, and looks at what their databases then hold.
 
-    tools/kill_commands.py [--rounds N] [--program FILE] [--seed N] [take|order ..]
+    tools/kill_commands.py [--rounds N] [--program FILE] [--seed N] [take|order|follow ..]
 
 Each round gives one command and kills it (SIGKILL) at a moment drawn between its start and a little more than its usual
-end. `order` places an order of its own in each round; `take` brings fifty events of its own. An answer that was read
-whole is noted as acknowledged. After each round the file is opened by SQLite: it must be sound (`PRAGMA
-integrity_check`), what was acknowledged must be there, once, what was not is there whole or not at all, and the rows
-are numbered from 1 without a gap. A round that was not acknowledged is given again, and has to be answered: as the
-first time, or as what was done already.
+end. `order` places an order of its own in each round; `take` brings fifty events of its own; `follow` 2,500 lines, an
+event each, through a pipe, in pieces of a size that is drawn. An answer that was read whole is noted as acknowledged, of
+`follow` each line's. After each round the file is opened by SQLite: it must be sound (`PRAGMA integrity_check`), what
+was acknowledged must be there, once, what was not is there whole or not at all (of `follow` each line), and the rows are
+numbered from 1 without a gap. A round that was not acknowledged is given again, and has to be answered: as the first
+time, or as what was done already.
 """
 import argparse
 import json
@@ -18,6 +19,7 @@ import sqlite3
 import subprocess
 import sys
 import tempfile
+import threading
 import time
 
 TOP = os.path.dirname(os.path.dirname(os.path.realpath(__file__)))
@@ -25,14 +27,32 @@ AT = "2024-02-29T10:00:00Z"
 FEW = 50
 
 
-class Place:
+class Kind:
+    """A command that is given once a round."""
+
+    # How much each round leaves.
+    whole = 1
+
+    def prepare(self, number):
+        pass
+
+    def feed(self, number, to):
+        """Writes what the command reads from its standard input, a pipe."""
+
+    def lost(self, number, out, base):
+        """What stands acknowledged on standard output by the part and isn't in the database."""
+        return []
+
+    def is_part(self, count):
+        """Whether a round may have left so much."""
+        return count == self.whole
+
+
+class Place(Kind):
     """Orders that are placed, one a round."""
 
     def words(self, number):
         return ["order", "--db", "k.db", "--at", AT, "place", str(number)]
-
-    def prepare(self, number):
-        pass
 
     def is_answer(self, number, status, out, err):
         return status == 0 and out.endswith(b"}\n") and f'"subject":"{number}"'.encode() in out
@@ -49,10 +69,8 @@ class Place:
             held[order] = held.get(order, 0) + 1
         return held, [it[0] for it in rows] == list(range(1, len(rows) + 1)) and states == len(rows)
 
-    whole = 1
 
-
-class Take:
+class Take(Kind):
     """Files that are taken, fifty events a round."""
 
     whole = FEW
@@ -83,6 +101,76 @@ class Take:
         return held, [it[0] for it in rows] == list(range(1, len(rows) + 1)) and all(it[1] // 1024 == it[2] for it in rows)
 
 
+class Follow(Take):
+    """Lines that come through a pipe, 2,500 a round; the first line of a round is the one behind the last's."""
+
+    whole = 2_500
+
+    def __init__(self, draw):
+        self.draw = draw
+
+    def words(self, number):
+        return ["follow", "--db", "k.db"]
+
+    def prepare(self, number):
+        self.low = self.whole * (number - 1) + 1
+        lines = [json.dumps(self.event(n), separators=(",", ":")) + "\n" for n in range(self.low, self.low + self.whole)]
+        step = self.draw.choice([1, 7, 100, self.whole])
+        self.pieces = ["".join(lines[at : at + step]).encode() for at in range(0, self.whole, step)]
+
+    def feed(self, number, to):
+        try:
+            for piece in self.pieces:
+                to.write(piece)
+                to.flush()
+            to.close()
+        except OSError:
+            pass
+
+    def answers(self, out):
+        """The acknowledgements that stand whole: of each line how many events were new."""
+        return [(it["line"], it["new"] + it["repeated"], it["new"]) for it in map(json.loads, out.split(b"\n")[:-1])]
+
+    def are_all(self, out, new):
+        return self.answers(out) == [(line, 1, new) for line in range(1, self.whole + 1)]
+
+    def is_answer(self, number, status, out, err):
+        return status == 0 and self.are_all(out, 1)
+
+    def was_done(self, number, status, out, err):
+        told = self.answers(out)
+        return status == 0 and [it[:2] for it in told] == [(line, 1) for line in range(1, self.whole + 1)]
+
+    def lost(self, number, out, base):
+        held = {it[0] for it in base.execute("SELECT number FROM inbox2 WHERE number >= ?", (self.low,))}
+        return [line for line, _, _ in self.answers(out) if self.low + line - 1 not in held]
+
+    def is_part(self, count):
+        return count <= self.whole
+
+    def held(self, base):
+        rows = base.execute("SELECT place, number, block FROM inbox2 ORDER BY place").fetchall()
+        held = {}
+        for _, number, _ in rows:
+            held[(number - 1) // self.whole + 1] = held.get((number - 1) // self.whole + 1, 0) + 1
+        return held, [it[0] for it in rows] == list(range(1, len(rows) + 1)) and len({it[1] for it in rows}) == len(rows)
+
+
+def given(program, kind, number, **more):
+    """The command of a round, begun, with what it reads written by a thread."""
+    ran = subprocess.Popen([program, *kind.words(number)], stdin=subprocess.PIPE, **more)
+    feeder = threading.Thread(target=lambda: (kind.feed(number, ran.stdin), closed(ran.stdin)))
+    feeder.start()
+    return ran, feeder
+
+
+def closed(stream):
+    try:
+        stream.close()
+    except OSError:
+        pass
+
+
 def tried(program, kind, rounds, draw):
     """How many rounds were killed, how many ended before, and what was wrong."""
     usual, killed, ended, wrong, acknowledged = 0.02, 0, 0, [], []
@@ -90,7 +178,7 @@ def tried(program, kind, rounds, draw):
         kind.prepare(number)
         began = time.monotonic()
         with open("out", "wb") as out, open("err", "wb") as err:
-            ran = subprocess.Popen([program, *kind.words(number)], stdout=out, stderr=err, stdin=subprocess.DEVNULL)
+            ran, feeder = given(program, kind, number, stdout=out, stderr=err)
             try:
                 ran.wait(draw.uniform(0, usual * 1.1))
                 ended += 1
@@ -99,6 +187,7 @@ def tried(program, kind, rounds, draw):
                 ran.kill()
                 ran.wait()
                 killed += 1
+            feeder.join()
         with open("out", "rb") as out, open("err", "rb") as err:
             said = out.read(), err.read()
         # An answer that stands whole on standard output was given, whatever became of the process.
@@ -108,19 +197,22 @@ def tried(program, kind, rounds, draw):
             try:
                 sound = base.execute("PRAGMA integrity_check").fetchone()[0]
                 held, is_numbered = kind.held(base)
+                unkept = kind.lost(number, said[0], base)
             except sqlite3.OperationalError:
                 # Nothing was committed yet, so there is no table.
-                sound, held, is_numbered = "ok", {}, True
+                sound, held, is_numbered, unkept = "ok", {}, True, list(said[0].splitlines())
             base.close()
-            lost = [it for it in acknowledged + [number] * is_told if held.get(it) != kind.whole]
-            halves = [it for it, count in held.items() if count != kind.whole]
+            lost = [it for it in acknowledged + [number] * is_told if held.get(it) != kind.whole] + unkept
+            halves = [it for it, count in held.items() if not kind.is_part(count)]
             if sound != "ok" or not is_numbered or lost or halves:
                 wrong.append(f"round {number}: {sound}, numbered {is_numbered}, lost {lost[:3]}, halves {halves[:3]}")
         elif is_told:
             wrong.append(f"round {number}: no file")
         if not is_told:
-            again = subprocess.run([program, *kind.words(number)], capture_output=True, stdin=subprocess.DEVNULL)
-            said = again.returncode, again.stdout, again.stderr
+            again, feeder = given(program, kind, number, stdout=subprocess.PIPE, stderr=subprocess.PIPE)
+            said = again.stdout.read(), again.stderr.read()
+            said = (again.wait(), *said)
+            feeder.join()
             if not kind.is_answer(number, *said) and not kind.was_done(number, *said):
                 wrong.append(f"round {number}, given again: {said}")
         acknowledged.append(number)
@@ -132,15 +224,17 @@ def main():
     words.add_argument("--rounds", type=int, default=100)
     words.add_argument("--program", default=f"{TOP}/crates/site_cli/out/site_cli")
     words.add_argument("--seed", type=int, default=1)
-    words.add_argument("kinds", nargs="*", choices=["take", "order", []])
-    given = words.parse_args()
-    program, failed = os.path.abspath(given.program), 0
-    for name in given.kinds or ["take", "order"]:
+    words.add_argument("kinds", nargs="*", choices=["take", "order", "follow", []])
+    words = words.parse_args()
+    program, failed = os.path.abspath(words.program), 0
+    for name in words.kinds or ["take", "order", "follow"]:
+        draw = random.Random(words.seed)
+        kind = {"take": Take, "order": Place, "follow": lambda: Follow(draw)}[name]()
         with tempfile.TemporaryDirectory() as room:
             os.chdir(room)
-            killed, ended, wrong = tried(program, Take() if name == "take" else Place(), given.rounds, random.Random(given.seed))
+            killed, ended, wrong = tried(program, kind, words.rounds, draw)
             os.chdir("/")
-        print(f"{name}: {given.rounds} rounds: {killed} killed, {ended} ended before; {len(wrong)} wrong", flush=True)
+        print(f"{name}: {words.rounds} rounds: {killed} killed, {ended} ended before; {len(wrong)} wrong", flush=True)
         for line in wrong[:10]:
             print(f"wrong: {line}")
         failed += len(wrong)

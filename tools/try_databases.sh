@@ -147,6 +147,71 @@ is 'taking with standard output closed' 1 '' ''
 run take --db closed.db three.json
 is 'it was kept all the same' 0 "read 3 new 0 repeated 3$lf" ''
 
+# Lines that are kept as they come.
+printf '%s\n[%s,%s]\n' "$e1" "$e1" "$e2" >two.lines
+run follow --db f.db two.lines
+is 'lines' 0 "{\"line\":1,\"new\":1,\"repeated\":0}$lf{\"line\":2,\"new\":1,\"repeated\":1}$lf" ''
+run follow --db f.db two.lines
+is 'lines that are there' 0 "{\"line\":1,\"new\":0,\"repeated\":1}$lf{\"line\":2,\"new\":0,\"repeated\":2}$lf" ''
+run scrub --db f.db
+is 'each of their events once' 0 "[$e1,$e2]$lf" ''
+none='{"id":"a","source":"/","specversion":"1.0","type":"t"}'
+{
+    printf '%s\r\n\n[{}]\nhalf a li\n3\n%s\n[%s,{}]\n[]\n' "$e3" "$none" "$e4"
+    printf '[%s,%s]\n\357\273\277%s\n\n%s' "$e4" "$e4" "$e1" "$e2"
+} >odd.lines
+run follow --db f.db odd.lines
+cat >want.odd <<'END'
+{"line":1,"new":1,"repeated":0}
+{"line":3,"fault":"event 0: SpecVersion"}
+{"line":4,"fault":"not JSON"}
+{"line":5,"fault":"not an event or a batch"}
+{"line":6,"fault":"event 0: NoSequence"}
+{"line":7,"fault":"event 1: SpecVersion"}
+{"line":8,"new":0,"repeated":0}
+{"line":9,"new":1,"repeated":1}
+{"line":10,"fault":"not JSON"}
+{"line":12,"new":0,"repeated":1}
+END
+is 'lines at fault among others' 1 "$(cat want.odd)$lf" "site: 6 lines refused$lf"
+run scrub --db f.db
+is 'the others were kept' 0 "[$e1,$e2,$e3,$e4]$lf" ''
+{ head -c 33554433 /dev/zero | tr '\0' ' '; printf '\n%s\n' "$e1"; } >long.lines
+run follow --db f.db long.lines
+is 'a line that is too long' 1 "{\"line\":1,\"fault\":\"too large\"}$lf{\"line\":2,\"new\":0,\"repeated\":1}$lf" "site: 1 lines refused$lf"
+rm long.lines
+run follow --db unmade.db missing.lines
+is 'a file of lines that is not there' 1 '' "site: missing.lines: cannot read$lf"
+[ ! -e unmade.db ]
+status=$?
+: >got.out
+: >got.err
+is 'it makes no database' 0 '' ''
+"$program" scrub --db many.db --all | "$program" follow --db far.db >got.out 2>got.err
+status=$?
+is 'all pages of a site through a pipe' 0 "{\"line\":1,\"new\":100,\"repeated\":0}$lf{\"line\":2,\"new\":100,\"repeated\":0}$lf{\"line\":3,\"new\":50,\"repeated\":0}$lf" ''
+run summary --db many.db
+mv got.out many.summary
+run summary --db far.db
+cmp -s got.out many.summary || status='other bytes'
+: >got.out
+is 'then both have the same' 0 '' ''
+ask f.db 'PRAGMA integrity_check'
+is 'the file of lines as SQLite tests it' 0 "ok$lf" ''
+# A producer that waits for each acknowledgement before it sends the next line, and ends there.
+python3 - "$program" "$e1" "$e2" "$e3" >got.out 2>got.err <<'END'
+import subprocess, sys
+ran = subprocess.Popen([sys.argv[1], "follow", "--db", "waits.db"], stdin=subprocess.PIPE, stdout=subprocess.PIPE)
+for line in sys.argv[2:]:
+    ran.stdin.write(line.encode() + b"\n")
+    ran.stdin.flush()
+    print(ran.stdout.readline().decode(), end="")
+ran.stdin.close()
+sys.exit(ran.wait(30))
+END
+status=$?
+is 'a producer that waits' 0 "{\"line\":1,\"new\":1,\"repeated\":0}$lf{\"line\":2,\"new\":1,\"repeated\":0}$lf{\"line\":3,\"new\":1,\"repeated\":0}$lf" ''
+
 # Orders and their events.
 order() { run order --db o.db --at 2024-02-29T10:00:00Z "$@"; }
 row() {
@@ -221,6 +286,8 @@ run_over text.db take --db text.db three.json
 is 'a text' 1 '' "site: text.db: Store$lf"
 run_over text.db relay --db text.db --after 0
 is 'a text as an outbox' 1 '' "site: text.db: Store$lf"
+run_over text.db follow --db text.db two.lines
+is 'a text for lines' 1 '' "site: text.db: Store$lf"
 mkdir folder.db
 run scrub --db folder.db
 is 'a folder' 1 '' "site: folder.db: Store$lf"
@@ -229,6 +296,8 @@ is 'a folder that is not there' 1 '' "site: none/s.db: Store$lf"
 ask strange.db 'CREATE TABLE strange (a INTEGER)'
 run_over strange.db take --db strange.db three.json
 is 'tables of another program' 1 '' "site: strange.db: Store$lf"
+run_over strange.db follow --db strange.db two.lines
+is 'tables of another program, for lines' 1 '' "site: strange.db: Store$lf"
 run_over strange.db order --db strange.db --at 2024-02-29T10:00:00Z place 1
 is 'orders beside them' 1 '' "site: strange.db: Store$lf"
 ask loose.db 'CREATE TABLE inbox (place INTEGER PRIMARY KEY, body TEXT)'

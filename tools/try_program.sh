@@ -128,6 +128,69 @@ is 'a file that is named -' 0 "$nothing" ''
 status=$?
 is 'standard input closed' 0 "$line" ''
 
+# Lines from standard input, and where they are acknowledged.
+ack='{"line":1,"new":1,"repeated":0}
+'
+again='{"line":1,"new":0,"repeated":1}
+'
+printf '%s\n' "$event" >lines
+"$program" follow --db stream.db <lines >got.out 2>got.err
+status=$?
+is 'lines of standard input' 0 "$ack" ''
+for name in - /dev/stdin; do
+    "$program" follow --db stream.db "$name" <lines >got.out 2>got.err
+    status=$?
+    is "lines of $name" 0 "$again" ''
+done
+cat lines | "$program" follow --db stream.db >got.out 2>got.err
+status=$?
+is 'lines of a pipe' 0 "$again" ''
+rm ./-
+cp lines -
+run follow --db stream.db ./-
+is 'lines of a file that is named -' 0 "$again" ''
+run follow --db stream.db -- -x.json
+is 'lines of a name with a dash in front' 0 "$again" ''
+run follow --db stream.db "a${lf}b"
+is 'lines of a name with a line feed' 1 '' "site: a\\nb: cannot read$lf"
+run follow --db stream.db folder
+is 'lines of a folder' 1 '' "site: folder: cannot read$lf"
+run follow --db stream.db
+is 'no lines' 0 '' ''
+"$program" follow --db stream.db <&- >got.out 2>got.err
+status=$?
+is 'lines of a standard input that is closed' 0 '' ''
+run follow --db stream.db lines lines
+is 'more than one file' 2 '' '*'
+run follow lines
+is 'lines without a database' 2 '' '*'
+run follow --help
+is 'help of follow' 2 '*' ''
+: >got.out
+"$program" follow --db closed.db lines 2>got.err >&-
+status=$?
+is 'acknowledgements to a closed stream' 1 '' ''
+run follow --db closed.db lines
+is 'the line was kept all the same' 0 "$again" ''
+: >got.out
+"$program" follow --db full.db lines >/dev/full 2>got.err
+status=$?
+is 'acknowledgements to a full device' 1 '' ''
+printf '3\n' >bad.lines
+: >got.err
+"$program" follow --db stream.db bad.lines >got.out 2>&-
+status=$?
+is 'refused lines, standard error closed' 1 "{\"line\":1,\"fault\":\"not an event or a batch\"}$lf" ''
+awk -v n=20000 'BEGIN { for (i = 1; i <= n; i++) printf "{\"id\":\"%d\",\"sequence\":\"%020d\",\"source\":\"/\",\"specversion\":\"1.0\",\"type\":\"t\"}\n", i, i }' >many.lines
+{ "$program" follow --db cut.db many.lines 2>got.err; echo $? >got.status; } | head -n 1 >got.out
+status=$(cat got.status)
+is 'a reader of acknowledgements that leaves' 1 '*' ''
+run follow --db whole.db many.lines
+wc -l <got.out >count
+tail -n 1 got.out >>count
+tr -d ' ' <count >got.out
+is 'a line for each of many' 0 "20000$lf{\"line\":20000,\"new\":1,\"repeated\":0}$lf" ''
+
 # Streams that are closed, full or cut.
 : >got.out
 "$program" cover f.json 2>got.err >&-

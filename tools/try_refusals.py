@@ -5,13 +5,15 @@
 
 Each run has to end with the answer of the run that meets no refusal, or with status 1, `site: out of memory` and
 nothing on standard output (`run` with `site: no thread` too, where a thread's start was refused; `relay` with
-`site: route failed`, since its route goes into memory and fails for want of that alone). A command that
-writes is given once more after each refused run, with memory: it then has to answer as it does the first time, or as it
-does when it was done already, and its database to hold what it holds after the run that meets no refusal. So nothing
-that was refused was half done, and nothing that was done is refused for good.
+`site: route failed`, since its route goes into memory and fails for want of that alone; `follow` with a front of its
+acknowledgements on standard output). A command that writes is given once more after each refused run, with memory: it
+then has to answer as it does the first time, or as it does when it was done already, and its database to hold what it
+holds after the run that meets no refusal. So nothing that was refused was half done, and nothing that was done is
+refused for good.
 
 Tests of libraries that hold whichever allocation is refused run so too, where the gate has built them: a site that
-takes a batch or merges another, and what a schedule of steps among sites leaves where it stops. The last line is 'N passed, M failed', of the refused allocations.
+takes a batch or merges another, and what a schedule of steps among sites leaves where it stops. The last line is
+'N passed, M failed', of the refused allocations.
 """
 import argparse
 import collections
@@ -46,11 +48,15 @@ FILES = {
     "more.json": [E2, E4],
     "peer.json": [E3, E4],
 }
+# Lines of an event or a batch each.
+LINES = [[E1], E2, [E2, E3]]
 # How a command's database is made, and how what it holds is told.
 HELD = ["scrub", "--db", "s.db", "--from", "0"]
 ROWS = ["relay", "--db", "o.db", "--after", "0"]
 THREE = [["take", "--db", "s.db", "three.json"]]
 PLACED = [["order", "--db", "o.db", "--at", AT, "place", "7"]]
+# What is said of lines that are there.
+ACKNOWLEDGED = b"".join(b'{"line":%d,"new":0,"repeated":%d}\n' % it for it in ((1, 1), (2, 1), (3, 2)))
 # A command: its words, the commands before it, how what its database then holds is told where it writes, and what it
 # answers where it was done already, if that is another answer.
 Row = collections.namedtuple("Row", "words before told again", defaults=([], None, None))
@@ -59,6 +65,8 @@ ROWS_OF_ALL = [
     *[Row([it, "--db", "s.db", "asked.json"], THREE) for it in ("latest", "conflicts")],
     Row(["take", "--db", "n.db", "three.json"], [], ["scrub", "--db", "n.db"], b"read 3 new 0 repeated 3\n"),
     Row(["take", "--db", "s.db", "more.json"], THREE, HELD, b"read 2 new 0 repeated 2\n"),
+    Row(["follow", "--db", "n.db", "lines"], [], ["scrub", "--db", "n.db"], ACKNOWLEDGED),
+    Row(["follow", "--db", "s.db", "lines"], THREE, HELD, ACKNOWLEDGED),
     Row(["summary", "--db", "s.db"], THREE),
     Row(["delta", "--db", "s.db", "asked.summary"], THREE),
     Row(["delta", "--db", "s.db", "--all", "asked.summary"], THREE),
@@ -94,6 +102,8 @@ class Trial:
         for name, events in FILES.items():
             with open(f"{self.start}/{name}", "w", encoding="utf-8") as it:
                 json.dump(events, it, separators=(",", ":"))
+        with open(f"{self.start}/lines", "w", encoding="utf-8") as it:
+            it.writelines(json.dumps(line, separators=(",", ":")) + "\n" for line in LINES)
         with open(f"{self.start}/asked.summary", "w", encoding="utf-8") as it:
             it.write('{"sources":{"/orders":[[2,2]]},"version":1}')
         for words in row.before:
@@ -126,6 +136,10 @@ class Trial:
                 return []
             with self.lock:
                 self.refused += 1
+            if self.row.words[0] == "follow":
+                # What was acknowledged before the refusal is written, in whole lines.
+                is_front = self.whole[1].startswith(said[1]) and said[1][-1:] in (b"", b"\n")
+                said = (said[0], b"" if is_front else said[1], said[2])
             if said not in (REFUSED, OTHER_WORDS.get(self.row.words[0])):
                 return [f"allocation {at}: {said}"]
             if not self.row.told:

@@ -72,6 +72,17 @@ fn scrubs(alloc: Global, words: &[&str], want: Pages) -> bool {
     }
 }
 
+/// Whether the words are a plan that follows the lines of this file.
+fn follows(alloc: Global, words: &[&str], want: &str) -> bool {
+    let Some(words) = words_of(alloc, words) else {
+        return false;
+    };
+    match plan(alloc, words.as_slice()) {
+        Ok(Plan::Follow { db, file }) => db.as_str() == "d" && file.as_str() == want,
+        _ => false,
+    }
+}
+
 /// Whether the words are no plan.
 fn is_faulty(alloc: Global, words: &[&str]) -> bool {
     let Some(words) = words_of(alloc, words) else {
@@ -114,4 +125,13 @@ fn a_plan_holds_one_page_or_all(rt: HostRuntime) {
     );
     assert!(rt; scrubs(alloc, &["scrub", "--db", "d", "--all"], Pages::All));
     assert!(rt; is_faulty(alloc, &["scrub", "--db", "d", "--all", "--from", "0"]));
+}
+
+#[test]
+fn lines_come_from_standard_input_where_no_file_is_named(rt: HostRuntime) {
+    let alloc = rt.alloc();
+    assert!(rt; follows(alloc, &["follow", "--db", "d"], "-"));
+    assert!(rt; follows(alloc, &["follow", "f", "--db", "d"], "f"));
+    assert!(rt; is_faulty(alloc, &["follow", "--db", "d", "f", "g"]));
+    assert!(rt; is_faulty(alloc, &["follow", "f"]));
 }

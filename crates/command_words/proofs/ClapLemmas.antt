@@ -11,7 +11,7 @@ use Rattle.command_words.specs.declared.fault.Faulty.TheVariants.{OutOfMemory, W
 use Rattle.command_words.specs.Commands.{app_for, word_of}
 use Rattle.command_words.specs.Plans.{Blames}
 use Rattle.command_words.specs.declared.command.Command.{Command}
-use Rattle.command_words.specs.declared.command.Command.TheVariants.{Ask, Delta, Order, Relay, Run, Scrub, Summary, Take}
+use Rattle.command_words.specs.declared.command.Command.TheVariants.{Ask, Delta, Follow, Order, Relay, Run, Scrub, Summary, Take}
 use Rattle.views.specs.declared.query.Query.TheVariants.{Conflicts, Cover, Days, Gaps, Kinds, Latest, Shown}
 
 -- what a command that is b matched at the words
@@ -41,6 +41,7 @@ pub app_for-simple : (command : Command) → is_simple_and_free (app_for command
 app_for-simple (Ask query) = refl
 app_for-simple Summary = refl
 app_for-simple Take = refl
+app_for-simple Follow = refl
 app_for-simple Delta = refl
 app_for-simple Scrub = refl
 app_for-simple Run = refl
@@ -54,6 +55,7 @@ of_word word =
     else if bytes_eq word (codes "shown") then Ask Shown else if bytes_eq word (codes "latest") then Ask Latest
     else if bytes_eq word (codes "kinds") then Ask Kinds else if bytes_eq word (codes "days") then Ask Days
     else if bytes_eq word (codes "conflicts") then Ask Conflicts else if bytes_eq word (codes "take") then Take
+    else if bytes_eq word (codes "follow") then Follow
     else if bytes_eq word (codes "summary") then Summary
     else if bytes_eq word (codes "delta") then Delta else if bytes_eq word (codes "scrub") then Scrub
     else if bytes_eq word (codes "order") then Order
@@ -69,6 +71,7 @@ of_word_back (Ask Days) = refl
 of_word_back (Ask Conflicts) = refl
 of_word_back Summary = refl
 of_word_back Take = refl
+of_word_back Follow = refl
 of_word_back Delta = refl
 of_word_back Scrub = refl
 of_word_back Run = refl

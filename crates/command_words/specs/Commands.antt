@@ -3,7 +3,7 @@ use Rattle.std.specs.Prelude.{List, ℕ, [], ◌∷◌, codes, true, Some}
 use Rattle.clap.specs.Words.{App, Rule, new_app, new_rule, with_rule}
 use Rattle.clap.specs.declared.builder.action.ArgAction.TheVariants.{Append, SetTrue}
 use Rattle.command_words.specs.declared.command.Command.{Command}
-use Rattle.command_words.specs.declared.command.Command.TheVariants.{Ask, Delta, Order, Relay, Run, Scrub, Summary, Take}
+use Rattle.command_words.specs.declared.command.Command.TheVariants.{Ask, Delta, Follow, Order, Relay, Run, Scrub, Summary, Take}
 use Rattle.views.specs.declared.query.Query.TheVariants.{Conflicts, Cover, Days, Gaps, Kinds, Latest, Shown}
 
 -- the word of a command
@@ -17,6 +17,7 @@ word_of (Ask Days) = codes "days"
 word_of (Ask Conflicts) = codes "conflicts"
 word_of Summary = codes "summary"
 word_of Take = codes "take"
+word_of Follow = codes "follow"
 word_of Delta = codes "delta"
 word_of Scrub = codes "scrub"
 word_of Run = codes "run"
@@ -36,6 +37,10 @@ files_rule = record (place_rule (codes "file")) { action = Some Append }
 -- `FILE..`, or none
 abbrev pub question_files_rule : Rule
 question_files_rule = record (new_rule (codes "file")) { value_names = 1; action = Some Append }
+
+-- `FILE`, standard input where it isn't given
+abbrev pub lines_rule : Rule
+lines_rule = record (new_rule (codes "file")) { value_names = 1; defaults = codes "-" ∷ [] }
 
 -- `--NAME VALUE`
 abbrev pub option_rule : List ℕ → Rule
@@ -69,6 +74,7 @@ app_for (Ask query) = with_rule (with_rule (new_app (word_of (Ask query)))
     (option_rule (codes "db"))) question_files_rule
 app_for Summary = with_db Summary
 app_for Take = with_rule (with_db Take) files_rule
+app_for Follow = with_rule (with_db Follow) lines_rule
 app_for Delta = with_rule (with_rule (with_rule (with_db Delta) from_rule)
     (flag_rule (codes "all"))) (place_rule (codes "summary"))
 app_for Scrub = with_rule (with_rule (with_db Scrub) from_rule) (flag_rule (codes "all"))

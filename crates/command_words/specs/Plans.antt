@@ -27,6 +27,7 @@ abbrev pub command_of : Plan → Command
 command_of (plan.Ask query db files) = command.Ask query
 command_of (plan.Summary db) = command.Summary
 command_of (plan.Take db files) = command.Take
+command_of (plan.Follow db file) = command.Follow
 command_of (plan.Delta db which summary) = command.Delta
 command_of (plan.Scrub db which) = command.Scrub
 command_of (plan.Run db peer files) = command.Run
@@ -118,6 +119,8 @@ HasTextsOf rows (plan.Ask query db files) = (db ≡ first_of (codes "db") rows)
 HasTextsOf rows (plan.Summary db) = db ≡ text_in rows (codes "db")
 HasTextsOf rows (plan.Take db files) =
     (db ≡ text_in rows (codes "db")) × (files ≡ texts_in rows (codes "file"))
+HasTextsOf rows (plan.Follow db file) =
+    (db ≡ text_in rows (codes "db")) × (file ≡ text_in rows (codes "file"))
 HasTextsOf rows (plan.Delta db which summary) = (db ≡ text_in rows (codes "db"))
     × HasPages rows which × (summary ≡ text_in rows (codes "summary"))
 HasTextsOf rows (plan.Scrub db which) =

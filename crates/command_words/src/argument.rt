@@ -1,7 +1,7 @@
 //! The arguments of the commands, as clap declares them.
 ghost use Rattle.std.specs.Prelude.{◌≡◌, false, codes};
 ghost use Rattle.clap.specs.Words.{rule_of};
-ghost use Rattle.command_words.specs.Commands.{default_rule, files_rule, flag_rule, from_rule, needed_rule, option_rule, place_rule, question_files_rule};
+ghost use Rattle.command_words.specs.Commands.{default_rule, files_rule, flag_rule, from_rule, lines_rule, needed_rule, option_rule, place_rule, question_files_rule};
 
 use clap::{Arg, ArgAction};
 use std::alloc::Global;
@@ -27,6 +27,17 @@ pub fn question_files<'a>(alloc: Global) -> Arg<'a>
         .value_name("FILE")
         .help("Files of CloudEvents in JSON, an event or a batch each; - is standard input")
         .action(ArgAction::Append)
+}
+
+/// `FILE`, standard input where it isn't given.
+pub fn lines<'a>(alloc: Global) -> Arg<'a>
+    ensures rule { rule_of result ≡ lines_rule }
+    ensures local { result.global ≡ false }
+{
+    Arg::new(alloc, "file")
+        .value_name("FILE")
+        .help("A file of lines, an event or a batch each; - is standard input")
+        .default_value("-")
 }
 
 /// `--db DB` of a command that only reads.

@@ -5,8 +5,8 @@ ghost use Rattle.command_words.specs.Commands.{app_for, needed_rule, place_rule,
 ghost use Rattle.command_words.specs.declared.command.Command.{Command};
 
 use crate::argument::{
-    action, after, all, at, db, files, from, order, peer, question_db, question_files, read_db,
-    source, summary,
+    action, after, all, at, db, files, from, lines, order, peer, question_db, question_files,
+    read_db, source, summary,
 };
 use std::alloc::{AllocError, Global};
 use views::Query;
@@ -21,6 +21,8 @@ pub enum Command {
     Summary,
     /// `take --db DB FILE..`: adds the files' events to a database.
     Take,
+    /// `follow --db DB [FILE]`: keeps lines in a database, and acknowledges each.
+    Follow,
     /// `delta --db DB [--from N | --all] SUMMARY`: the events that a summary lacks.
     Delta,
     /// `scrub --db DB [--from N | --all]`: all events.
@@ -46,7 +48,7 @@ pub struct Row<'a> {
 }
 
 /// The words of all commands, in the order in which help lists them.
-pub const WORDS: [&str; 14] = [
+pub const WORDS: [&str; 15] = [
     "cover",
     "gaps",
     "shown",
@@ -55,6 +57,7 @@ pub const WORDS: [&str; 14] = [
     "days",
     "conflicts",
     "take",
+    "follow",
     "summary",
     "delta",
     "scrub",
@@ -118,6 +121,12 @@ pub fn row_of<'a>(word: &str) -> Option<Row<'a>>
             full_name: "site take",
             about: "Adds the files' events to a database, each once, and prints how many were new",
         }),
+        "follow" => Some(Row {
+            command: Command::Follow,
+            word: "follow",
+            full_name: "site follow",
+            about: "Keeps lines of events in a database, and acknowledges each once it is kept",
+        }),
         "summary" => Some(Row {
             command: Command::Summary,
             word: "summary",
@@ -179,6 +188,7 @@ impl<'a> Row<'a> {
             Command::Ask(_) => bare.arg(question_db(alloc))?.arg(question_files(alloc)),
             Command::Summary => bare.arg(read_db(alloc)),
             Command::Take => bare.arg(db(alloc))?.arg(files(alloc)),
+            Command::Follow => bare.arg(db(alloc))?.arg(lines(alloc)),
             Command::Delta => {
                 let begun = bare.arg(db(alloc))?.arg(from(alloc))?;
                 begun.arg(all(alloc))?.arg(summary(alloc))

@@ -21,6 +21,11 @@ pub enum Plan {
         db: Text,
         files: Texts,
     },
+    /// The lines of a file into a database, each acknowledged when it is kept.
+    Follow {
+        db: Text,
+        file: Text,
+    },
     /// The events of a database that a summary lacks.
     Delta {
         db: Text,

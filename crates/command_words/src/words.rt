@@ -73,6 +73,11 @@ fn matched(alloc: Global, command: Command, matches: &ArgMatches<'_>) -> Result<
             let files = texts_of(alloc, matches, "file")?;
             Ok(Plan::Take { db, files })
         }
+        Command::Follow => {
+            let db = text_of(alloc, matches, "db")?;
+            let file = text_of(alloc, matches, "file")?;
+            Ok(Plan::Follow { db, file })
+        }
         Command::Delta => {
             let db = text_of(alloc, matches, "db")?;
             let summary = text_of(alloc, matches, "summary")?;

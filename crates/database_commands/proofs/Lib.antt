@@ -1,3 +1,4 @@
 mod HeldLemmas
+mod StreamLemmas
 mod PageLemmas
 mod ServedLemmas

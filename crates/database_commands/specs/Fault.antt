@@ -10,8 +10,12 @@ use Rattle.outbox.specs.declared.fault.OutboxFault.{OutboxFault}
 use Rattle.outbox.specs.declared.fault.OutboxFault.TheVariants as outbox
 use Rattle.relay.specs.declared.fault.RelayFault.{RelayFault}
 use Rattle.relay.specs.declared.fault.RelayFault.TheVariants as relay
+use Rattle.line_intake.specs.declared.step.FollowFault.{FollowFault}
+use Rattle.line_intake.specs.declared.step.FollowFault.TheVariants as follow
 use Rattle.database_commands.specs.declared.fault.CommandFault.{CommandFault}
 use Rattle.database_commands.specs.declared.fault.CommandFault.TheVariants as command
+use Rattle.database_commands.specs.declared.stream.StreamFault.{StreamFault}
+use Rattle.database_commands.specs.declared.stream.StreamFault.TheVariants as stream
 
 -- the fault that one of an inbox's table is
 abbrev pub of_table : TableFault → CommandFault
@@ -44,3 +48,9 @@ of_store _ = command.Store
 abbrev pub of_kind : ErrorKind → CommandFault
 of_kind kind.OutOfMemory = command.OutOfMemory
 of_kind _ = command.Store
+
+-- the fault that one of a stream over a table is
+abbrev pub of_follow : FollowFault → StreamFault
+of_follow (follow.Input why) = stream.Input why
+of_follow (follow.Table why) = stream.Database (of_table why)
+of_follow follow.Unwritten = stream.Unwritten

@@ -3,4 +3,5 @@ pub mod Name
 pub mod Print
 pub mod Pages
 pub mod Held
+pub mod Streams
 pub mod steps

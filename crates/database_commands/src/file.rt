@@ -1,12 +1,14 @@
 //! Databases by the names of their files.
-ghost use Rattle.std.specs.Prelude.{◌≡◌, ◌≤◌, ◌↔◌, ℕ, List, length, true, IfOk, IsErrOf, IsTrue};
+ghost use Rattle.std.specs.Prelude.{◌≡◌, ◌≤◌, ◌↔◌, ℕ, List, length, true, IfErr, IfOk, IsErrOf, IsTrue};
 ghost use Rattle.attributes.specs.Character.{is_filled};
 ghost use Rattle.attributes.specs.Event.{EventValue};
 ghost use Rattle.attributes.specs.Sequence.{max_sequence};
+ghost use Rattle.line_intake.specs.Acknowledged.{TellsAll};
 ghost use Rattle.database_commands.specs.Held.{HasDelta, HasEvents, SaysDelta, SaysOrder, SaysPage, SaysSummary};
 ghost use Rattle.database_commands.specs.Name.{IsNoFile};
 ghost use Rattle.database_commands.specs.declared.fault.CommandFault.TheVariants as CommandFault;
 ghost use Rattle.database_commands.specs.Print.{batch_line, counts_line};
+ghost use Rattle.database_commands.specs.Streams.{AcknowledgesUntil};
 
 use crate::Ended;
 use crate::fault::{CommandFault, of_kind, of_store};
@@ -14,6 +16,7 @@ use crate::intake::take;
 use crate::page::{Contents, Paged, delta, delta_pages, held, scrub, scrub_pages, summary};
 use crate::pages::EventPages;
 use crate::service::{order, relay};
+use crate::stream::{StreamFault, Streamed, follow};
 use attributes::{Batch, Moment, Text};
 use coverage::Summary;
 use inbox_table::Watch;
@@ -26,10 +29,13 @@ use sqlite_store::FileStore;
 use std::alloc::Global;
 use std::fs;
 use std::hash::{BuildHasher, RandomState};
-use std::io::ErrorKind;
+use std::io::{ErrorKind, Read, Write};
 
 /// The bytes of a database's page.
 const PAGE: u64 = 4_096;
+/// About how many bytes a stream may add, for the size of the cache alone: all that a cache may
+/// have.
+const STREAM_GROWTH: u64 = 268_435_456;
 /// The fewest pages that are kept in memory.
 const LEAST_PAGES: u64 = 200;
 /// The most pages that are kept in memory, 256 MiB. The cache is made once the first page is found
@@ -39,9 +45,10 @@ const MOST_PAGES: u64 = 65_536;
 
 /// The commands over databases, by the names of their files. Each opens the database, makes its
 /// file where there is none unless it says otherwise, and closes it in the end; what was committed
-/// stays, also where the closing fails. What a file of the operating system holds no clause can say: those of the commands
-/// over a connection do. The clauses here say of which form an answer is, for some events or some
-/// service: the page from that place, what the summary lacks, the command that was given.
+/// stays, also where the closing fails. What a file of the operating system holds no clause can say:
+/// those of the commands over a connection do. The clauses here say of which form an answer is, for
+/// some events or some service: the page from that place, what the summary lacks, the command that
+/// was given.
 pub trait Databases {
     /// As [`crate::take`].
     fn take<W: Watch>(
@@ -52,6 +59,19 @@ pub trait Databases {
         watch: &W,
     ) -> Result<Text, CommandFault>
         ensures { IfOk result (λ text. (fresh : ℕ) × (text ≡ counts_line (length events.now) fresh)) };
+
+    /// As [`crate::follow`].
+    fn follow<R: Read, W: Write>(
+        &self,
+        alloc: Global,
+        name: &str,
+        input: &mut R,
+        out: &mut W,
+    ) -> Result<u64, StreamFault>
+        ensures told { IfOk result
+            (TellsAll (R.remaining input.old) (W.contents out.old) (W.contents out.new)) }
+        ensures until { IfErr result (λ f. AcknowledgesUntil f
+            (R.remaining input.old) (W.contents out.old) (W.contents out.new)) };
 
     /// The events that a database holds, as [`crate::held`]. A file that isn't there is not made:
     /// `CannotRead`.
@@ -130,6 +150,23 @@ impl Databases for HostRuntime {
         match open(self, name, growth) {
             Ok(conn) => closed(take(alloc, conn, events, watch)),
             Err(fault) => Err(fault),
+        }
+    }
+
+    fn follow<R: Read, W: Write>(
+        &self,
+        alloc: Global,
+        name: &str,
+        input: &mut R,
+        out: &mut W,
+    ) -> Result<u64, StreamFault> {
+        match open(self, name, STREAM_GROWTH) {
+            Ok(conn) => {
+                let Streamed { conn, outcome } = follow(alloc, conn, input, out);
+                let _closed = conn.close();
+                outcome
+            }
+            Err(fault) => Err(StreamFault::Database(fault)),
         }
     }
 

@@ -74,7 +74,10 @@ pub fn take<S: Alter + Drop, W: Watch>(
 }
 
 /// The table of a database, made where there is none. Its events are read once and not kept.
-fn adopted<S: Alter + Drop>(alloc: Global, conn: Connection<S>) -> Result<Table<S>, NotMade<S>>
+pub(crate) fn adopted<S: Alter + Drop>(
+    alloc: Global,
+    conn: Connection<S>,
+) -> Result<Table<S>, NotMade<S>>
     ensures held { IfOk result (λ t. HasCleanDisk (state S.Store t.conn)
         → (held : List EventValue) → Holds (state S.Store conn).now held
         → IsInbox (state S.Store t.conn).now held) }

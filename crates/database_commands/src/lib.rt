@@ -7,6 +7,7 @@ mod intake;
 mod page;
 mod pages;
 mod service;
+mod stream;
 mod text;
 
 use attributes::Text;
@@ -18,6 +19,7 @@ pub use page::{Contents, Paged, delta, delta_pages, held, scrub, scrub_pages, su
 pub use pages::EventPages;
 pub use service::{order, relay};
 use sqlite::{Alter, Connection};
+pub use stream::{StreamFault, Streamed, follow};
 pub use text::summary_of;
 
 /// A command that came to its end: the connection, and the text to print or why there is none.

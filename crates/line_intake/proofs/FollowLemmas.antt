@@ -1,13 +1,15 @@
 -- A stream, one turn more.
-use Rattle.std.proofs.Common.{◌≡◌, ◌≤◌, ◌+◌, ◌++◌, ℕ, suc, List, [], ◌∷◌, length, cond, Option, Bool, true, false, refl, sym, ap, subst, arith}
+use Rattle.std.proofs.Common.{◌≡◌, ◌≤◌, ◌+◌, ◌++◌, ℕ, suc, List, [], ◌∷◌, length, cond, Option, None, Some, Bool, true, false, Result, Ok, Err, OnOk, refl, sym, ap, subst, arith}
 use Rattle.std.specs.Prelude.{is_some}
-use Rattle.std.specs.Io.KnownBytes.{Appends, IsAtEnd}
+use Rattle.std.specs.Io.KnownBytes.{Appends, IsAtEnd, prepend_known}
+use Rattle.std.proofs.KnownBytes.{Appends-nil, Appends-trans}
 use Rattle.std.proofs.lemmas.List.Sums.{sum_by-append, sum_by-cons}
 use Rattle.sqlite.specs.State.{State, HasCleanDisk}
 use Rattle.attributes.specs.Event.{EventValue}
 use Rattle.inbox.specs.KeyOrder.{key_cmp}
 use Rattle.inbox.specs.Ordered.{append_new}
 use Rattle.inbox_table.specs.Calls.{AreFreshEach, joined}
+use Rattle.line_intake.specs.Acknowledged.{AreTold, TellsAll, TellsSome, TellsUntil}
 use Rattle.line_intake.specs.Answers.{answers}
 use Rattle.line_intake.specs.Follow.{AreKept, AreTurns, IsFollowed, IsKept, IsTurn, KeepsTurns, Place, StopsStream, StopsTurn, Turn, faults_of}
 use Rattle.line_intake.specs.Judged.{AreJudged, IsGathered, faults_in}
@@ -15,6 +17,8 @@ use Rattle.line_intake.specs.declared.answer.Told.{Told}
 use Rattle.line_intake.specs.declared.line.LineFault.{LineFault}
 use Rattle.line_intake.specs.declared.step.FollowFault.{FollowFault}
 use Rattle.line_intake.specs.declared.step.FollowFault.TheVariants.{Input, Table, Unwritten}
+use Rattle.line_intake.proofs.ToldLemmas.{told_more, told_none}
+use Rattle.line_intake.proofs.WrittenLemmas.{Appends-kept, Wrote-behind}
 
 turns_more : (a b c : Place) (turns : List Turn) (t : Turn) → AreTurns a turns b → IsTurn b t c → AreTurns a (turns ++ t ∷ []) c
 turns_more a b c [] t same it = (c, subst (λ p. IsTurn p t c) (sym same) it, refl)
@@ -24,6 +28,11 @@ kept_more : (held events : List EventValue) (turns : List Turn) (t : Turn) → A
 kept_more held events [] t same fresh = (subst (λ h. AreFreshEach h t.lists t.each) same fresh, ap (λ h. append_new key_cmp h (joined t.lists)) same)
 kept_more held events (u ∷ turns) t (first, later) fresh = (first, kept_more (append_new key_cmp held (joined u.lists)) events turns t later fresh)
 
+pub prepend_none : (bs : List ℕ) (known : Option (List ℕ)) → bs ≡ [] → prepend_known bs known ≡ known
+prepend_none [] None e = refl
+prepend_none [] (Some x) e = refl
+prepend_none (b ∷ bs) known e = absurd (cc)
+
 -- so far the stream has had these turns
 pub record IsFollowing (start : Place) (lines : ℕ) (left out : Option (List ℕ)) (old now : State) (faults : ℕ) : Type 0 where
   pub turns : List Turn
@@ -31,9 +40,29 @@ pub record IsFollowing (start : Place) (lines : ℕ) (left out : Option (List �
   pub kept : HasCleanDisk now → KeepsTurns turns old.now now.now
   pub faulty : faults ≡ faults_of turns
   pub few : faults ≤ lines
+  pub clean : HasCleanDisk now → HasCleanDisk old
+  pub tells : List Told
+  pub text : List ℕ
+  pub told : AreTold start.left left tells text
+  pub count : lines ≡ length told.lines
+  pub written : Appends start.out out text
+  pub told_faulty : faults ≡ faults_in tells
 
 pub following_start : (left out : Option (List ℕ)) (s : State) → IsFollowing (record { lines = 0; left = left; out = out }) 0 left out s s 0
-following_start left out s = record { turns = []; are = refl; kept = λ _ held box. (held, box, refl); faulty = refl; few = omega arith }
+following_start left out s = (let none = told_none left in record {
+  turns = [];
+  are = refl;
+  kept = λ _ held box. (held, box, refl);
+  faulty = refl;
+  few = omega arith;
+  clean = λ clean. clean;
+  tells = [];
+  text = [];
+  told = none.0;
+  count = none.1;
+  written = Appends-nil out;
+  told_faulty = refl;
+})
 
 abbrev one_if : Bool → ℕ
 one_if b = cond b 1 0
@@ -59,21 +88,29 @@ pub few_gathered : (before now : ℕ) (a b : Option (List ℕ)) (tells : List To
 few_gathered before now a b tells lists g = (let few = few_judged before g.lines tells lists g.judged in omega (arith, few, g.count))
 
 pub following_more : (start : Place) (lines next : ℕ) (left left' out out' : Option (List ℕ)) (old mid now : State) (faults : ℕ) (tells : List Told) (lists : List (List EventValue)) → IsFollowing start lines left out old mid faults → IsGathered lines next left left' tells lists
-    → ((each : List ℕ) × Appends out out' (answers tells lists each) × (HasCleanDisk now → IsKept lists each mid.now now.now)) → (HasCleanDisk now → HasCleanDisk mid) → IsFollowing start next left' out' old now (faults + faults_in tells)
-following_more start lines next left left' out out' old mid now faults tells lists f g (each, grown, kept) cleaner =
+    → ((each : List ℕ) × (length each ≡ length lists) × Appends out out' (answers tells lists each) × (HasCleanDisk now → IsKept lists each mid.now now)) → (HasCleanDisk now → HasCleanDisk mid) → IsFollowing start next left' out' old now (faults + faults_in tells)
+following_more start lines next left left' out out' old mid now faults tells lists f g (each, even, grown, kept) cleaner =
     let t : Turn = record { tells = tells; lists = lists; each = each } in
+    let told = told_more start.left left left' lines next f.tells tells f.text lists each f.told f.count g even in
     record {
       turns = f.turns ++ t ∷ [];
-      are = turns_more start (record { lines = lines; left = left; out = out }) (record { lines = next; left = left'; out = out' }) f.turns t f.are (record { lines = g; answered = grown });
+      are = turns_more start (record { lines = lines; left = left; out = out }) (record { lines = next; left = left'; out = out' }) f.turns t f.are (record { lines = g; one_each = even; answered = grown });
       kept = λ clean held box.
           let was = f.kept (cleaner clean) held box in
           let took = kept clean in
           (append_new key_cmp was.0 (joined lists), took.takes was.0 was.1, kept_more held was.0 f.turns t was.2 (took.fresh was.0 was.1));
       faulty = (let e : faults + faults_in tells ≡ faults_of (f.turns ++ t ∷ []) = omega (arith, f.faulty, sum_by-append (λ (t : Turn). faults_in t.tells) f.turns (t ∷ []), sum_by-cons (λ (t : Turn). faults_in t.tells) t []) in e);
       few = (let few = few_gathered lines next left left' tells lists g in omega (arith, few, f.few));
+      clean = λ clean. f.clean (cleaner clean);
+      tells = f.tells ++ tells;
+      text = f.text ++ answers tells lists each;
+      told = told.0;
+      count = told.1;
+      written = Appends-trans start.out out out' f.text (answers tells lists each) f.written grown;
+      told_faulty = (let e : faults + faults_in tells ≡ faults_in (f.tells ++ tells) = omega (arith, f.told_faulty, sum_by-append (λ (t : Told). one_if (is_some t.fault)) f.tells tells) in e);
     }
 
-pub following_done : (start : Place) (lines : ℕ) (left out : Option (List ℕ)) (old now : State) (faults : ℕ) → IsFollowing start lines left out old now faults → IsAtEnd left → IsFollowed start out old now faults
+pub following_done : (start : Place) (lines : ℕ) (left out : Option (List ℕ)) (old now : State) (faults : ℕ) → IsFollowing start lines left out old now faults → IsAtEnd left → IsFollowed start out faults (λ turns. HasCleanDisk now → KeepsTurns turns old.now now.now)
 following_done start lines left out old now faults f over = record {
   turns = f.turns;
   last = record { lines = lines; left = left; out = out };
@@ -84,7 +121,11 @@ following_done start lines left out old now faults f over = record {
   faulty = f.faulty;
 }
 
-pub following_unread : (start : Place) (lines : ℕ) (left out : Option (List ℕ)) (old now : State) (faults : ℕ) (why : LineFault) → IsFollowing start lines left out old now faults → StopsStream start out old now (Input why)
+-- the database that the turns left, as a fault behind them tells it
+abbrev Stops : Place → Option (List ℕ) → State → State → FollowFault → Type 0
+Stops start out old now why = StopsStream start out now why (λ turns mid. HasCleanDisk now → KeepsTurns turns old.now mid)
+
+pub following_unread : (start : Place) (lines : ℕ) (left out : Option (List ℕ)) (old now : State) (faults : ℕ) (why : LineFault) → IsFollowing start lines left out old now faults → Stops start out old now (Input why)
 following_unread start lines left out old now faults why f = record {
   turns = f.turns;
   last = record { lines = lines; left = left; out = out };
@@ -95,9 +136,35 @@ following_unread start lines left out old now faults why f = record {
 }
 
 pub following_stops : (start : Place) (lines next : ℕ) (left left' out out' : Option (List ℕ)) (old mid now : State) (faults : ℕ) (tells : List Told) (lists : List (List EventValue)) (why : FollowFault) → IsFollowing start lines left out old mid faults → IsGathered lines next left left' tells lists
-    → StopsTurn why tells lists mid.now now out out' → (HasCleanDisk now → HasCleanDisk mid) → StopsStream start out' old now why
+    → StopsTurn why tells lists mid.now now out out' → (HasCleanDisk now → HasCleanDisk mid) → Stops start out' old now why
 following_stops start lines next left left' out out' old mid now faults tells lists (Input fault) f g stop cleaner = absurd stop
 following_stops start lines next left left' out out' old mid now faults tells lists (Table fault) f g stop cleaner =
     record { turns = f.turns; last = record { lines = lines; left = left; out = out }; are = f.are; mid = mid.now; kept = λ clean. f.kept (cleaner clean); stop = (next, left', tells, lists, g, stop) }
 following_stops start lines next left left' out out' old mid now faults tells lists Unwritten f g stop cleaner =
     record { turns = f.turns; last = record { lines = lines; left = left; out = out }; are = f.are; mid = mid.now; kept = λ clean. f.kept (cleaner clean); stop = (next, left', tells, lists, g, stop) }
+
+pub on_kept : {T E : Type 0} (r : Result T E) (P Q : Type 0) → (P → Q) → OnOk r P → OnOk r Q
+on_kept (Ok x) P Q f p = f p
+on_kept (Err y) P Q f p = tt
+
+pub following_told : (start : Place) (lines : ℕ) (left out : Option (List ℕ)) (old now : State) (faults : ℕ) → IsFollowing start lines left out old now faults → IsAtEnd left → TellsAll start.left start.out out faults
+following_told start lines left out old now faults f over = record { left = left; over = over; tells = f.tells; text = f.text; told = f.told; written = f.written; faulty = f.told_faulty }
+
+pub following_some : (start : Place) (lines : ℕ) (left out : Option (List ℕ)) (old now : State) (faults : ℕ) → IsFollowing start lines left out old now faults → TellsSome start.left start.out out
+following_some start lines left out old now faults f = record { left = left; tells = f.tells; text = f.text; told = f.told; written = f.written }
+
+pub following_until : (start : Place) (lines next : ℕ) (left left' out out' : Option (List ℕ)) (old mid now : State) (faults : ℕ) (tells : List Told) (lists : List (List EventValue)) (why : FollowFault) → IsFollowing start lines left out old mid faults → IsGathered lines next left left' tells lists
+    → StopsTurn why tells lists mid.now now out out' → TellsUntil why start.left start.out out'
+following_until start lines next left left' out out' old mid now faults tells lists (Input fault) f g stop = absurd stop
+following_until start lines next left left' out out' old mid now faults tells lists (Table fault) f g stop =
+    record { left = left; tells = f.tells; text = f.text; told = f.told; written = Appends-kept start.out out out' f.text f.written stop.0 }
+following_until start lines next left left' out out' old mid now faults tells lists Unwritten f g (each, even, (rest, wrote), kept) =
+    let told = told_more start.left left left' lines next f.tells tells f.text lists each f.told f.count g even in
+    record {
+      left = left';
+      tells = f.tells ++ tells;
+      text = f.text ++ answers tells lists each;
+      told = told.0;
+      rest = rest;
+      written = Wrote-behind start.out out out' f.text (answers tells lists each) rest f.written wrote;
+    }

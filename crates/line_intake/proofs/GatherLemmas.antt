@@ -35,7 +35,7 @@ refuses_one line refused why is other (inr at) = subst (λ f. IsFault line f) is
 
 -- ---- lines
 
-takes_same : (a b c : Option (List ℕ)) (line : List ℕ) → Consumes a b [] → TakesLine b c line → TakesLine a c line
+pub takes_same : (a b c : Option (List ℕ)) (line : List ℕ) → Consumes a b [] → TakesLine b c line → TakesLine a c line
 takes_same a b c line none it = record {
   plain = it.plain;
   taken = elim it.taken [

@@ -6,7 +6,7 @@ use Rattle.std.proofs.lemmas.List.{take_rest}
 use Rattle.std.proofs.KnownBytes.{Appends-nil, Appends-trans}
 use Rattle.line_intake.specs.Written.{Wrote}
 
-Appends-kept : (a b c : Option (List ℕ)) (bs : List ℕ) → Appends a b bs → Keeps b c → Appends a c bs
+pub Appends-kept : (a b c : Option (List ℕ)) (bs : List ℕ) → Appends a b bs → Keeps b c → Appends a c bs
 Appends-kept None b c bs p q = tt
 Appends-kept (Some x) None c bs p q = absurd p
 Appends-kept (Some x) (Some y) None bs p q = absurd q
@@ -31,3 +31,11 @@ Wrote-kept a b c text rest w kept = record { front = w.front; split = w.split; g
 -- nothing of the text is left
 pub Wrote-all : (a b : Option (List ℕ)) (text rest : List ℕ) → Wrote a b text rest → rest ≡ [] → Appends a b text
 Wrote-all a b text rest w none = subst (Appends a b) (sym (w.split ∙ ap (λ (l : List ℕ). w.front ++ l) none ∙ append-nil w.front)) w.grown
+
+-- a front of a text behind one that was written whole
+pub Wrote-behind : (a b c : Option (List ℕ)) (before text rest : List ℕ) → Appends a b before → Wrote b c text rest → Wrote a c (before ++ text) rest
+Wrote-behind a b c before text rest grown w = record {
+  front = before ++ w.front;
+  split = ap (λ (l : List ℕ). before ++ l) w.split ∙ sym (append_assoc before w.front rest);
+  grown = Appends-trans a b c before w.front grown w.grown;
+}

@@ -1,12 +1,12 @@
 -- A stream of lines that are kept and acknowledged, turn by turn.
-use Rattle.std.specs.Prelude.{◌≡◌, ◌⊎◌, ℕ, List, [], ◌∷◌, Option, IsTrue, sum_by}
+use Rattle.std.specs.Prelude.{◌≡◌, ◌⊎◌, ℕ, List, [], ◌∷◌, length, Option, IsTrue, sum_by}
 use Rattle.std.specs.Io.KnownBytes.{Appends, IsAtEnd, Keeps}
 use Rattle.sqlite.specs.Effect.{Database}
 use Rattle.sqlite.specs.State.{State, HasCleanDisk}
 use Rattle.attributes.specs.Event.{EventValue}
 use Rattle.inbox.specs.KeyOrder.{key_cmp}
 use Rattle.inbox.specs.Ordered.{append_new}
-use Rattle.inbox_table.specs.Calls.{AreFreshEach, Takes, joined}
+use Rattle.inbox_table.specs.Calls.{AreFreshEach, IsSettled, Takes, joined}
 use Rattle.inbox_table.specs.Rows.{IsInbox}
 use Rattle.inbox_table.specs.declared.fault.TableFault.TheVariants.{OutOfMemory}
 use Rattle.line_intake.specs.Answers.{answers}
@@ -16,11 +16,13 @@ use Rattle.line_intake.specs.declared.answer.Told.{Told}
 use Rattle.line_intake.specs.declared.step.FollowFault.{FollowFault}
 use Rattle.line_intake.specs.declared.step.FollowFault.TheVariants as fault
 
--- the events of lines are in, each behind what was there, and of each line so many were not there by
--- then
-pub record IsKept (lists : List (List EventValue)) (each : List ℕ) (old new : Database) : Type 0 where
-  pub takes : Takes (joined lists) old new
+-- the events of lines are in, each behind what was there, so many of each line were not there by
+-- then, and a crash leaves them
+pub record IsKept (lists : List (List EventValue)) (each : List ℕ) (old : Database) (new : State)
+    : Type 0 where
+  pub takes : Takes (joined lists) old new.now
   pub fresh : (events : List EventValue) → IsInbox old events → AreFreshEach events lists each
+  pub settled : IsSettled new
 
 -- ---- one turn that stops
 
@@ -32,10 +34,11 @@ abbrev pub StopsTurn : FollowFault → List Told → List (List EventValue) → 
 StopsTurn (fault.Input why) tells lists old new out out' = ⊥
 StopsTurn (fault.Table why) tells lists old new out out' = Keeps out out'
     × (HasCleanDisk new → IsTrue new.is_open → (new.now ≡ old)
-    ⊎ ((why ≡ OutOfMemory) × (each : List ℕ) × IsKept lists each old new.now))
+    ⊎ ((why ≡ OutOfMemory) × (each : List ℕ) × IsKept lists each old new))
 StopsTurn fault.Unwritten tells lists old new out out' = (each : List ℕ)
+    × (length each ≡ length lists)
     × ((rest : List ℕ) × Wrote out out' (answers tells lists each) rest)
-    × (HasCleanDisk new → IsKept lists each old new.now)
+    × (HasCleanDisk new → IsKept lists each old new)
 
 -- ---- a stream, turn by turn
 
@@ -51,9 +54,10 @@ pub record Place : Type 0 where
   pub left : Option (List ℕ)
   pub out : Option (List ℕ)
 
--- in a turn lines are taken from the input, and their answers are written
+-- in a turn lines are taken from the input, and their answers are written, one for each
 pub record IsTurn (old : Place) (turn : Turn) (new : Place) : Type 0 where
   pub lines : IsGathered old.lines new.lines old.left new.left turn.tells turn.lists
+  pub one_each : length turn.each ≡ length turn.lists
   pub answered : Appends old.out new.out (answers turn.tells turn.lists turn.each)
 
 -- turns, one after the other
@@ -76,16 +80,16 @@ KeepsTurns turns old new = (held : List EventValue) → IsInbox old held
 abbrev pub faults_of : List Turn → ℕ
 faults_of turns = sum_by (λ t. faults_in t.tells) turns
 
--- the stream came to the end of its input: each turn was kept and answered, and so many lines were
--- at fault
-pub record IsFollowed (start : Place) (out : Option (List ℕ)) (old new : State) (faults : ℕ)
+-- the stream came to the end of its input: each turn was answered, so many lines were at fault, and
+-- the turns are kept as K says
+pub record IsFollowed (start : Place) (out : Option (List ℕ)) (faults : ℕ) (K : List Turn → Type 0)
     : Type 0 where
   pub turns : List Turn
   pub last : Place
   pub are : AreTurns start turns last
   pub over : IsAtEnd last.left
   pub out_is : last.out ≡ out
-  pub kept : HasCleanDisk new → KeepsTurns turns old.now new.now
+  pub kept : K turns
   pub faulty : faults ≡ faults_of turns
 
 -- the input couldn't be read on: nothing more was written, and the table is as it was then; or lines
@@ -96,13 +100,13 @@ StopsBehind why last mid new out = (lines : ℕ) × (left : Option (List ℕ)) �
     × (lists : List (List EventValue)) × IsGathered last.lines lines last.left left tells lists
     × StopsTurn why tells lists mid new last.out out
 
--- it stopped before that: each turn before was kept and answered, and what came of the last lines
--- that were read is told by the fault
-pub record StopsStream (start : Place) (out : Option (List ℕ)) (old new : State) (why : FollowFault)
-    : Type 0 where
+-- it stopped before that: each turn before was answered, the database that these turns left is as K
+-- says, and what came of the last lines that were read is told by the fault
+pub record StopsStream (start : Place) (out : Option (List ℕ)) (new : State) (why : FollowFault)
+    (K : List Turn → Database → Type 0) : Type 0 where
   pub turns : List Turn
   pub last : Place
   pub are : AreTurns start turns last
   pub mid : Database
-  pub kept : HasCleanDisk new → KeepsTurns turns old.now mid
+  pub kept : K turns mid
   pub stop : StopsBehind why last mid new out

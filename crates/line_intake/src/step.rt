@@ -43,14 +43,15 @@ pub fn keep_lines<S: Alter>(
 ) -> Result<Text, TableFault>
     requires { length gathered.now.tells ≡ length gathered.now.lists }
     ensures kept { IfOk result (λ text. (each : List ℕ)
+        × (length each ≡ length gathered.now.lists)
         × (text ≡ answers gathered.now.tells gathered.now.lists each)
         × (HasCleanDisk (state S.Store table.new.conn) → IsKept gathered.now.lists each
-        (state S.Store table.old.conn).now (state S.Store table.new.conn).now)) }
+        (state S.Store table.old.conn).now (state S.Store table.new.conn))) }
     ensures left { HasCleanDisk (state S.Store table.new.conn)
         → IsTrue (state S.Store table.new.conn).is_open → IfErr result (λ f.
         ((state S.Store table.new.conn).now ≡ (state S.Store table.old.conn).now)
         ⊎ ((f ≡ OutOfMemory) × (each : List ℕ) × IsKept gathered.now.lists each
-        (state S.Store table.old.conn).now (state S.Store table.new.conn).now)) }
+        (state S.Store table.old.conn).now (state S.Store table.new.conn))) }
     ensures crash { Survives (state S.Store table.old.conn) (state S.Store table.new.conn)
         (λ trees. IsTrue (state S.Store table.old.conn).is_open
         → MayTake (joined gathered.now.lists) (state S.Store table.old.conn).now trees) }
@@ -72,10 +73,11 @@ pub fn acknowledge<S: Alter, W: Write>(
     out: &mut W,
 ) -> Result<(), FollowFault>
     requires { length gathered.now.tells ≡ length gathered.now.lists }
-    ensures kept { OnOk result ((each : List ℕ) × Appends (W.contents out.old) (W.contents out.new)
+    ensures kept { OnOk result ((each : List ℕ) × (length each ≡ length gathered.now.lists)
+        × Appends (W.contents out.old) (W.contents out.new)
         (answers gathered.now.tells gathered.now.lists each)
         × (HasCleanDisk (state S.Store table.new.conn) → IsKept gathered.now.lists each
-        (state S.Store table.old.conn).now (state S.Store table.new.conn).now)) }
+        (state S.Store table.old.conn).now (state S.Store table.new.conn))) }
     ensures stops { IfErr result (λ f. StopsTurn f gathered.now.tells gathered.now.lists
         (state S.Store table.old.conn).now (state S.Store table.new.conn)
         (W.contents out.old) (W.contents out.new)) }

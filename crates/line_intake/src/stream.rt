@@ -1,8 +1,11 @@
 //! A stream of lines, kept and acknowledged turn by turn.
 
-ghost use Rattle.std.specs.Prelude.{IfErr, IfOk};
+ghost use Rattle.std.specs.Prelude.{IfErr, IfOk, OnOk};
 ghost use Rattle.sqlite.specs.Held.{state};
-ghost use Rattle.line_intake.specs.Follow.{IsFollowed, StopsStream};
+ghost use Rattle.sqlite.specs.State.{HasCleanDisk};
+ghost use Rattle.inbox_table.specs.Calls.{IsSettled};
+ghost use Rattle.line_intake.specs.Acknowledged.{TellsAll, TellsUntil};
+ghost use Rattle.line_intake.specs.Follow.{IsFollowed, KeepsTurns, StopsStream};
 
 use crate::line::{LineFault, Pending};
 use crate::step::{FollowFault, acknowledge};
@@ -25,12 +28,23 @@ pub fn follow<S: Alter, R: Read, W: Write>(
     input: &mut R,
     out: &mut W,
 ) -> Result<u64, FollowFault>
-    ensures followed { IfOk result (IsFollowed
+    ensures followed { IfOk result (λ faults. IsFollowed
         (record { lines = 0; left = R.remaining input.old; out = W.contents out.old })
-        (W.contents out.new) (state S.Store table.old.conn) (state S.Store table.new.conn)) }
-    ensures stops { IfErr result (StopsStream
+        (W.contents out.new) faults (λ turns. HasCleanDisk (state S.Store table.new.conn)
+        → KeepsTurns turns (state S.Store table.old.conn).now (state S.Store table.new.conn).now)) }
+    ensures settled { HasCleanDisk (state S.Store table.new.conn)
+        → OnOk result (IsSettled (state S.Store table.new.conn)) }
+    ensures stops { IfErr result (λ f. StopsStream
         (record { lines = 0; left = R.remaining input.old; out = W.contents out.old })
-        (W.contents out.new) (state S.Store table.old.conn) (state S.Store table.new.conn)) }
+        (W.contents out.new) (state S.Store table.new.conn) f
+        (λ turns mid. HasCleanDisk (state S.Store table.new.conn)
+        → KeepsTurns turns (state S.Store table.old.conn).now mid)) }
+    ensures clean { HasCleanDisk (state S.Store table.new.conn)
+        → HasCleanDisk (state S.Store table.old.conn) }
+    ensures told { IfOk result
+        (TellsAll (R.remaining input.old) (W.contents out.old) (W.contents out.new)) }
+    ensures until { IfErr result (λ f.
+        TellsUntil f (R.remaining input.old) (W.contents out.old) (W.contents out.new)) }
 {
     let mut pending = Pending::empty(alloc);
     let mut lines = 0u64;

@@ -1,4 +1,5 @@
 mod EndingLemmas
 mod LineLemmas
 mod RunLemmas
+mod StreamLemmas
 mod WorkerLemmas

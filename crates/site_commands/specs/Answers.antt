@@ -31,6 +31,7 @@ use Rattle.file_reports.specs.declared.refusal.ReportFault.TheVariants as report
 use Rattle.run_command.specs.Run.{SaysRun}
 use Rattle.views.specs.declared.query.Query.{Query}
 use Rattle.site_commands.specs.Names.{names_of}
+use Rattle.site_commands.specs.Streams.{AnswersFollow}
 use Rattle.site_commands.specs.declared.line.Refusal.{Refusal}
 use Rattle.site_commands.specs.declared.line.Refusal.TheVariants as refusal
 
@@ -55,6 +56,7 @@ RefusesQuery C U (Some db) files (refusal.Database why) =
     (contents : List (List ℕ)) × AreContents C files contents
     × (lists : List (List EventValue)) × EachReads contents lists
 RefusesQuery C U db files refusal.NoThread = ⊥
+RefusesQuery C U db files (refusal.Lines faults) = ⊥
 
 -- the text is a batch, as one line
 abbrev pub PrintsBatch : List ℕ → Type 0
@@ -98,6 +100,7 @@ RefusesTake C U files (refusal.Database why) =
     (contents : List (List ℕ)) × AreContents C files contents
     × (events : List EventValue) × SpellAll contents events
 RefusesTake C U files refusal.NoThread = ⊥
+RefusesTake C U files (refusal.Lines faults) = ⊥
 
 -- the file's bytes, but for one LF at their end, are the text of this summary
 abbrev pub HasSummary : (List ℕ → List ℕ → Type 0) → List ℕ → Sources → Type 0
@@ -129,6 +132,7 @@ RefusesDelta C U file (refusal.Summary why) = (bytes : List ℕ) × C file bytes
     × (words : List ℕ) × WithoutLineEnd bytes words × summaries.Refuses words why
 RefusesDelta C U file (refusal.Database why) = (s : Sources) × HasSummary C file s
 RefusesDelta C U file refusal.NoThread = ⊥
+RefusesDelta C U file (refusal.Lines faults) = ⊥
 
 -- the database is the cause
 abbrev pub IsOfDatabase : Refusal → Type 0
@@ -137,6 +141,7 @@ IsOfDatabase (refusal.File refused) = ⊥
 IsOfDatabase (refusal.Summary why) = ⊥
 IsOfDatabase (refusal.Database why) = Unit {0}
 IsOfDatabase refusal.NoThread = ⊥
+IsOfDatabase (refusal.Lines faults) = ⊥
 
 -- the first content is the peer's, where there is one, and spells events, all of them with numbers
 abbrev pub PeerSpells : Bool → List (List ℕ) → Type 0
@@ -176,6 +181,7 @@ RefusesJobs has_peer contents (refusal.File refused) = RefusesFile has_peer cont
 RefusesJobs has_peer contents (refusal.Summary why) = ⊥
 RefusesJobs has_peer contents (refusal.Database why) = PeerSpells has_peer contents
 RefusesJobs has_peer contents refusal.NoThread = PeerSpells has_peer contents
+RefusesJobs has_peer contents (refusal.Lines faults) = ⊥
 
 -- all files were read, and the text tells of a run of the feeds
 abbrev pub AnswersRun : (List ℕ → List ℕ → Type 0) → Option (List ℕ) → List (List ℕ) → List ℕ
@@ -195,18 +201,20 @@ abbrev pub AnswersPlan : (List ℕ → List ℕ → Type 0) → Plan → List �
 AnswersPlan C (plan.Ask query db files) text = AnswersQuery C query db files text
 AnswersPlan C (plan.Summary db) text = SaysSummary text
 AnswersPlan C (plan.Take db files) text = AnswersTake C files text
+AnswersPlan C (plan.Follow db file) text = AnswersFollow C file text
 AnswersPlan C (plan.Delta db which summary) text = AnswersDelta C which summary text
 AnswersPlan C (plan.Scrub db which) text = SaysPages which text
 AnswersPlan C (plan.Run db peer files) text = AnswersRun C peer files text
 AnswersPlan C (plan.Order request) text = AnswersOrder request text
 AnswersPlan C (plan.Relay db after) text = PrintsBatch text
 
--- this is why the plan has no answer
+-- this is why the plan, which is no stream, has no answer
 abbrev pub RefusesPlan : (List ℕ → List ℕ → Type 0) → (List ℕ → Unread → Type 0)
     → Plan → Refusal → Type 0
 RefusesPlan C U (plan.Ask query db files) refusal = RefusesQuery C U db files refusal
 RefusesPlan C U (plan.Summary db) refusal = IsOfDatabase refusal
 RefusesPlan C U (plan.Take db files) refusal = RefusesTake C U files refusal
+RefusesPlan C U (plan.Follow db file) refusal = ⊥
 RefusesPlan C U (plan.Delta db which summary) refusal = RefusesDelta C U summary refusal
 RefusesPlan C U (plan.Scrub db which) refusal = IsOfDatabase refusal
 RefusesPlan C U (plan.Run db peer files) refusal = RefusesRun C U peer files refusal
@@ -218,17 +226,24 @@ abbrev pub is_run : Plan → Bool
 is_run (plan.Ask query db files) = false
 is_run (plan.Summary db) = false
 is_run (plan.Take db files) = false
+is_run (plan.Follow db file) = false
 is_run (plan.Delta db which summary) = false
 is_run (plan.Scrub db which) = false
 is_run (plan.Run db peer files) = true
 is_run (plan.Order request) = false
 is_run (plan.Relay db after) = false
 
+-- whether the plan is a stream, which is answered line by line
+abbrev pub is_stream : Plan → Bool
+is_stream (plan.Follow db file) = true
+is_stream _ = false
+
 -- what is asked of an order is within what a service allows, and of a run within what workers do
 abbrev pub IsAllowed : Plan → Type 0
 IsAllowed (plan.Ask query db files) = Unit {0}
 IsAllowed (plan.Summary db) = Unit {0}
 IsAllowed (plan.Take db files) = Unit {0}
+IsAllowed (plan.Follow db file) = Unit {0}
 IsAllowed (plan.Delta db which summary) = Unit {0}
 IsAllowed (plan.Scrub db which) = Unit {0}
 IsAllowed (plan.Run db peer files) = AreFew (is_some peer) (length files)

@@ -1,17 +1,17 @@
 -- What each ending writes, to which stream, with which status.
-use Rattle.std.specs.Prelude.{◌≡◌, ◌⊎◌, ◌++◌, ℕ, List, Option}
+use Rattle.std.specs.Prelude.{◌≡◌, ◌⊎◌, ℕ, List, Option}
 use Rattle.attributes.specs.Event.{EventValue}
 use Rattle.database_commands.specs.Pages.{pages_text}
 use Rattle.std.specs.Io.KnownBytes.{Appends, Keeps}
 use Rattle.site_commands.specs.declared.ending.Ending.{Ending}
 use Rattle.site_commands.specs.declared.ending.Ending.TheVariants as ending
-use Rattle.site_commands.specs.Lines.{memory_line}
-
--- the stream grew by the front of the text that comes before the rest
-pub record Wrote (old new : Option (List ℕ)) (text rest : List ℕ) : Type 0 where
-  pub front : List ℕ
-  pub split : text ≡ front ++ rest
-  pub grown : Appends old new front
+use Rattle.command_words.specs.declared.request.Plan.{Plan}
+use Rattle.command_words.specs.declared.request.Plan.TheVariants as plan
+use Rattle.file_reports.specs.declared.input.Unread.{Unread}
+use Rattle.line_intake.specs.Written.{Wrote}
+use Rattle.site_commands.specs.Lines.{line_of, memory_line}
+use Rattle.site_commands.specs.Streams.{FollowsAll, FollowsPart, RefusesFollow}
+use Rattle.site_commands.specs.declared.line.Refusal.{Refusal}
 
 -- the stream grew by the text and the status is this one, or the writing failed: the stream grew
 -- by a front of the text, and the status is 1
@@ -38,3 +38,21 @@ Ends (ending.Faulty text) result out out' err err' = Writes result 2 err err' te
 Ends (ending.Refused text) result out out' err err' = Writes result 1 err err' text × Keeps out out'
 Ends ending.NoMemory result out out' err err' =
     Writes result 1 err err' memory_line × Keeps out out'
+
+-- standard error grew by the line of the plan's refusal, or, where memory was wanted for it, by the
+-- line that says so; or by a front of it
+abbrev pub SaysRefusal : Plan → Refusal → ℕ → Option (List ℕ) → Option (List ℕ) → Type 0
+SaysRefusal plan refusal status err err' = Writes status 1 err err' (line_of plan refusal)
+    ⊎ Writes status 1 err err' memory_line
+
+-- how a stream ends. The streams are standard output, then standard error, before and after: every line
+-- of the file is acknowledged and none at fault, or it is refused and the line of the refusal said, or
+-- an acknowledgement couldn't be written, and then nothing is said
+abbrev pub EndsStream : (List ℕ → List ℕ → Type 0) → (List ℕ → Unread → Type 0) → Plan → ℕ
+    → Option (List ℕ) → Option (List ℕ) → Option (List ℕ) → Option (List ℕ) → Type 0
+EndsStream C U (plan.Follow db file) result out out' err err' =
+    ((result ≡ 0) × FollowsAll C file out out' 0 × Keeps err err')
+    ⊎ (((refusal : Refusal) × RefusesFollow C U file refusal out out'
+    × SaysRefusal (plan.Follow db file) refusal result err err')
+    ⊎ ((result ≡ 1) × FollowsPart C file out out' × Keeps err err'))
+EndsStream C U _ result out out' err err' = ⊥

@@ -1,5 +1,7 @@
 pub mod Names
 pub mod Lines
+pub mod Inputs
+pub mod Streams
 pub mod Answers
 pub mod Printed
 pub mod Endings

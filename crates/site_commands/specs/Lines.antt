@@ -4,13 +4,12 @@ use Rattle.std.specs.Char.{digit_char, encode_utf8, is_control}
 use Rattle.std.specs.Fmt.{decimal}
 use Rattle.std.specs.List.{flat_map}
 use Rattle.std.specs.Str.{chars}
-use Rattle.attributes.specs.declared.fault.Fault.{Fault}
-use Rattle.attributes.specs.declared.fault.Fault.TheVariants as fault
 use Rattle.event_json.specs.declared.fault.ReadFault.TheVariants as read
 use Rattle.file_reports.specs.declared.input.Unread.{Unread}
 use Rattle.file_reports.specs.declared.input.Unread.TheVariants as unread
 use Rattle.file_reports.specs.declared.refusal.ReportFault.{ReportFault}
 use Rattle.file_reports.specs.declared.refusal.ReportFault.TheVariants as report
+use Rattle.line_intake.specs.Words.{words_of}
 use Rattle.coverage.specs.declared.fault.SummaryFault.{SummaryFault}
 use Rattle.coverage.specs.declared.fault.SummaryFault.TheVariants as summary
 use Rattle.command_words.specs.declared.request.Plan.{Plan}
@@ -49,32 +48,6 @@ printed_name name = flat_map name_char (chars name)
 abbrev pub name_at : List (List ℕ) → ℕ → List ℕ
 name_at names file = unwrap_or (slice_get names file) []
 
--- ---- the words of faults
-
-abbrev pub fault_name : Fault → List ℕ
-fault_name fault.OutOfMemory = codes "OutOfMemory"
-fault_name fault.SpecVersion = codes "SpecVersion"
-fault_name fault.Id = codes "Id"
-fault_name fault.Source = codes "Source"
-fault_name fault.Kind = codes "Kind"
-fault_name fault.Subject = codes "Subject"
-fault_name fault.Time = codes "Time"
-fault_name fault.ContentType = codes "ContentType"
-fault_name fault.Schema = codes "Schema"
-fault_name fault.ExtensionName = codes "ExtensionName"
-fault_name fault.ExtensionValue = codes "ExtensionValue"
-fault_name fault.TwoData = codes "TwoData"
-fault_name fault.Base64 = codes "Base64"
-fault_name fault.DataNumber = codes "DataNumber"
-fault_name fault.TooDeep = codes "TooDeep"
-fault_name fault.TooLarge = codes "TooLarge"
-fault_name fault.NoSequence = codes "NoSequence"
-fault_name fault.BadSequence = codes "BadSequence"
-
--- `event I: NAME`
-abbrev pub event_words : ℕ → Fault → List ℕ
-event_words index why = codes "event " ++ decimal index ++ codes ": " ++ fault_name why
-
 -- ---- the lines
 
 -- `site: FILE: WORDS`
@@ -99,11 +72,11 @@ unread_line name unread.TooLarge = file_line name (codes "too large")
 abbrev pub fault_line : List ℕ → ReportFault → List ℕ
 fault_line name report.OutOfMemory = memory_line
 fault_line name (report.Read read.OutOfMemory) = memory_line
-fault_line name (report.Read read.NotJson) = file_line name (codes "not JSON")
-fault_line name (report.Read read.NotEvent) = file_line name (codes "not an event or a batch")
-fault_line name (report.Read (read.BadEvent index why)) = file_line name (event_words index why)
-fault_line name (report.Read read.InputTooLarge) = file_line name (codes "too large")
-fault_line name (report.Event index why) = file_line name (event_words index why)
+fault_line name why = file_line name (words_of why)
+
+-- so many lines of an input were at fault
+abbrev pub lines_line : ℕ → List ℕ
+lines_line faults = codes "site: " ++ decimal faults ++ (codes " lines refused" ++ 10 ∷ [])
 
 -- the summary in a file of this name is at fault
 abbrev pub summary_line : List ℕ → SummaryFault → List ℕ
@@ -137,6 +110,7 @@ abbrev pub name_in : Plan → ℕ → List ℕ
 name_in (plan.Ask query db files) file = name_at files file
 name_in (plan.Summary db) file = []
 name_in (plan.Take db files) file = name_at files file
+name_in (plan.Follow db name) file = name
 name_in (plan.Delta db which name) file = name
 name_in (plan.Scrub db which) file = []
 name_in (plan.Run db peer files) file = name_at (names_of peer files) file
@@ -148,6 +122,7 @@ abbrev pub db_in : Plan → List ℕ
 db_in (plan.Ask query db files) = unwrap_or db []
 db_in (plan.Summary db) = db
 db_in (plan.Take db files) = db
+db_in (plan.Follow db name) = db
 db_in (plan.Delta db which name) = db
 db_in (plan.Scrub db which) = db
 db_in (plan.Run db peer files) = db
@@ -159,6 +134,7 @@ abbrev pub order_in : Plan → ℕ
 order_in (plan.Ask query db files) = 0
 order_in (plan.Summary db) = 0
 order_in (plan.Take db files) = 0
+order_in (plan.Follow db name) = 0
 order_in (plan.Delta db which name) = 0
 order_in (plan.Scrub db which) = 0
 order_in (plan.Run db peer files) = 0
@@ -172,3 +148,4 @@ line_of plan (refusal.File refused) = fault_line (name_in plan refused.file) ref
 line_of plan (refusal.Summary why) = summary_line (name_in plan 0) why
 line_of plan (refusal.Database why) = database_line (db_in plan) (order_in plan) why
 line_of plan refusal.NoThread = codes "site: no thread" ++ 10 ∷ []
+line_of plan (refusal.Lines faults) = lines_line faults

@@ -1,12 +1,14 @@
 -- What the words after the program's name come to.
-use Rattle.std.specs.Prelude.{◌≡◌, ℕ, List, Option}
+use Rattle.std.specs.Prelude.{◌≡◌, ◌⊎◌, ℕ, List, Option, false, true}
 use Rattle.std.specs.Io.KnownBytes.{Appends}
 use Rattle.command_words.specs.Plans.{AreFaulty, IsPlan}
+use Rattle.command_words.specs.declared.fault.Faulty.{Faulty}
+use Rattle.command_words.specs.declared.fault.Faulty.TheVariants as faulty
 use Rattle.command_words.specs.declared.request.Plan.{Plan}
 use Rattle.database_commands.specs.Pages.{pages_text}
 use Rattle.file_reports.specs.declared.input.Unread.{Unread}
 use Rattle.site_commands.specs.Answers.{AnswersPlan, RefusesPlan}
-use Rattle.site_commands.specs.Endings.{Ends}
+use Rattle.site_commands.specs.Endings.{Ends, EndsStream}
 use Rattle.site_commands.specs.Lines.{arguments_line, line_of}
 use Rattle.site_commands.specs.declared.ending.Ending.{Ending}
 use Rattle.site_commands.specs.declared.ending.Ending.TheVariants as ending
@@ -58,13 +60,40 @@ IsEnding C U words (ending.Faulty text) = AreFaulty words
 IsEnding C U words (ending.Refused text) = RefusesWords C U words text
 IsEnding C U words ending.NoMemory = Unit {0}
 
--- the run ended as the words come to; the streams are standard output, then standard error, before
--- and after
-pub record RunsWords (C : List ℕ → List ℕ → Type 0) (U : List ℕ → Unread → Type 0)
+-- what is said of faulty words
+abbrev pub said : Faulty → Ending
+said (faulty.Words text true) = ending.Help text
+said (faulty.Words text false) = ending.Faulty text
+said faulty.OutOfMemory = ending.NoMemory
+
+-- the plan comes to an ending, and it is written; or it is a stream, which is written as it goes
+abbrev pub RunsPlan : (List ℕ → List ℕ → Type 0) → (List ℕ → Unread → Type 0) → Plan → ℕ
+    → Option (List ℕ) → Option (List ℕ) → Option (List ℕ) → Option (List ℕ) → Type 0
+RunsPlan C U plan status out out' err err' =
+    ((ending : Ending) × IsPlanEnding C U plan ending × Ends ending status out out' err err')
+    ⊎ EndsStream C U plan status out out' err err'
+
+-- the words come to an ending, and it is written; the streams are standard output, then standard error,
+-- before and after
+pub record EndsWords (C : List ℕ → List ℕ → Type 0) (U : List ℕ → Unread → Type 0)
     (words : List (List ℕ)) (status : ℕ) (out out' err err' : Option (List ℕ)) : Type 0 where
   pub ending : Ending
   pub is_ending : IsEnding C U words ending
   pub ends : Ends ending status out out' err err'
+
+-- the words are a stream, which is written as it goes
+pub record StreamsWords (C : List ℕ → List ℕ → Type 0) (U : List ℕ → Unread → Type 0)
+    (words : List (List ℕ)) (status : ℕ) (out out' err err' : Option (List ℕ)) : Type 0 where
+  pub plan : Plan
+  pub planned : IsPlan words plan
+  pub ends : EndsStream C U plan status out out' err err'
+
+-- the run ended as the words come to
+abbrev pub RunsWords : (List ℕ → List ℕ → Type 0) → (List ℕ → Unread → Type 0)
+    → List (List ℕ) → ℕ → Option (List ℕ) → Option (List ℕ) → Option (List ℕ) → Option (List ℕ)
+    → Type 0
+RunsWords C U words status out out' err err' = EndsWords C U words status out out' err err'
+    ⊎ StreamsWords C U words status out out' err err'
 
 -- what is said where the words couldn't be had
 abbrev pub IsUnheard : Ending → Type 0

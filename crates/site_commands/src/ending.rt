@@ -1,17 +1,19 @@
 //! How a run ends, as a value, and the one place that writes it.
-ghost use Rattle.std.specs.Prelude.{List, ℕ, OnErr, OnOk};
-ghost use Rattle.std.specs.Io.KnownBytes.{Appends};
-ghost use Rattle.site_commands.specs.Endings.{Ends, EndsPages, Writes, Wrote};
+ghost use Rattle.site_commands.specs.Endings.{Ends, EndsPages, SaysRefusal, Writes};
 
+use crate::line::{Refusal, line_of};
 use attributes::Text;
+use command_words::Plan;
 use database_commands::EventPages;
+use line_intake::put;
+use std::alloc::Global;
 use std::io::Write;
 use std::mem;
 
 /// The status of a run that printed a result.
-const DONE: u8 = 0;
+pub const DONE: u8 = 0;
 /// The status of a run that was refused, or whose output could not be written.
-const REFUSED: u8 = 1;
+pub const REFUSED: u8 = 1;
 /// The status of words that are at fault, or ask for help or the version.
 const FAULTY: u8 = 2;
 
@@ -35,10 +37,6 @@ pub enum Ending {
     /// Memory ran out, which a line on standard error says: status 1.
     NoMemory,
 }
-
-/// The writing of a text failed.
-#[derive(Clone, Copy)]
-struct Unwritten;
 
 /// Writes the ending to the one stream that it is for, and answers the status. A write that fails
 /// ends with 1, and nothing more is written.
@@ -90,24 +88,12 @@ fn print<W: Write>(to: &mut W, text: &str, status: u8) -> u8
     }
 }
 
-/// Writes the bytes whole, or a front of them where the writing fails; no write is tried again.
-fn put<W: Write>(to: &mut W, bytes: &[u8]) -> Result<(), Unwritten>
-    ensures ok { OnOk result (Appends (W.contents to.old) (W.contents to.new) bytes.now) }
-    ensures err { OnErr result ((rest : List ℕ)
-        × Wrote (W.contents to.old) (W.contents to.new) bytes.now rest) }
+/// Writes the line of a plan's refusal, or, where memory is wanted for it, the line that says so.
+pub fn say<E: Write>(alloc: Global, plan: &Plan, refusal: Refusal, err: &mut E) -> u8
+    ensures { SaysRefusal plan.now refusal result (E.contents err.old) (E.contents err.new) }
 {
-    let mut rest = bytes;
-    for _ in 0..bytes.len() {
-        if rest.is_empty() {
-            break;
-        }
-        match to.write(rest) {
-            Ok(count) => rest = &rest[count..],
-            Err(_) => return Err(Unwritten),
-        }
+    match line_of(alloc, plan, refusal) {
+        Ok(line) => print(err, line.as_str(), REFUSED),
+        Err(_) => print(err, NO_MEMORY, REFUSED),
     }
-    if !rest.is_empty() || to.flush().is_err() {
-        return Err(Unwritten);
-    }
-    Ok(())
 }

@@ -1,11 +1,28 @@
 //! The files of the operating system, by their names.
+ghost use Rattle.std.specs.Prelude.{IfErr, IfOk, List, ℕ};
+ghost use Rattle.site_commands.specs.Inputs.{MayGive};
+
 use crate::progress::Progress;
 use attributes::Octets;
 use file_reports::{Shelf, Unread, read_all};
 use std::alloc::Global;
 use std::cell::Cell;
 use std::fs::File;
+use std::io::Read;
 use std::rt::Files;
+
+/// A shelf whose files can be read as they come.
+pub trait Streams: Shelf {
+    /// A file that was opened.
+    type Input: Read + Drop;
+
+    /// Opens the file of that name, to be read from its beginning.
+    fn open(&self, name: &str) -> Result<Self::Input, Unread>
+        ensures input { IfOk result (λ input. (bytes : List ℕ)
+            → MayGive (Self.Input.remaining input) bytes
+            → Self.is_content self.now name.now bytes) }
+        ensures unread { IfErr result (λ why. Self.is_unread self.now name.now why) };
+}
 
 /// The files of the operating system; `-` is standard input. Before a file is read, it is told how
 /// many of so many are left.
@@ -27,10 +44,25 @@ impl<'a, R: AllocGlobal + Files, P: Progress> Shelf for SystemFiles<'a, R, P> {
             self.progress.left(left);
             self.left.set(left - 1);
         }
-        let path = if name == "-" { "/dev/stdin" } else { name };
-        match File::open(self.rt, path) {
+        match File::open(self.rt, path_of(name)) {
             Ok(mut file) => read_all(alloc, &mut file),
             Err(_) => Err(Unread::CannotRead),
         }
     }
+}
+
+impl<'a, R: AllocGlobal + Files, P: Progress> Streams for SystemFiles<'a, R, P> {
+    type Input = R::File;
+
+    fn open(&self, name: &str) -> Result<R::File, Unread> {
+        match File::open(self.rt, path_of(name)) {
+            Ok(file) => Ok(file),
+            Err(_) => Err(Unread::CannotRead),
+        }
+    }
+}
+
+/// The path of a file: `-` is standard input.
+fn path_of(name: &str) -> &str {
+    if name == "-" { "/dev/stdin" } else { name }
 }

@@ -10,6 +10,7 @@ mod printed;
 mod progress;
 mod query;
 mod run;
+mod stream;
 mod workers;
 
 pub use ending::Ending;

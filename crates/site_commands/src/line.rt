@@ -1,15 +1,17 @@
 //! The lines of refusals on standard error.
 ghost use Rattle.std.specs.Prelude.{◌≡◌, ◌<◌, ◌++◌, [], ◌∷◌, IfOk, OnOk, string_bytes, unwrap_or};
 ghost use Rattle.std.specs.Char.{digit_char};
+ghost use Rattle.line_intake.specs.Words.{words_of};
 ghost use Rattle.site_commands.specs.Names.{names_of};
-ghost use Rattle.site_commands.specs.Lines.{database_line, db_in, event_words, fault_line, fault_name, file_line, line_of, name_at, name_char, name_in, order_in, order_line, other_char, printed_name, summary_line, unread_line};
+ghost use Rattle.site_commands.specs.Lines.{database_line, db_in, fault_line, file_line, line_of, lines_line, name_at, name_char, name_in, order_in, order_line, other_char, printed_name, summary_line, unread_line};
 
-use attributes::{Fault, Text};
+use attributes::Text;
 use command_words::Plan;
 use coverage::SummaryFault;
 use database_commands::CommandFault;
 use event_json::ReadFault;
 use file_reports::{Refused, ReportFault, Unread, UnreadAt};
+use line_intake::words_of;
 use std::alloc::{AllocError, Global};
 
 /// Why there is no answer.
@@ -25,6 +27,8 @@ pub enum Refusal {
     Database(CommandFault),
     /// A thread couldn't be started.
     NoThread,
+    /// So many lines of an input were at fault; the others are kept.
+    Lines(u64),
 }
 
 /// The line of a plan's refusal.
@@ -37,6 +41,7 @@ pub fn line_of(alloc: Global, plan: &Plan, refusal: Refusal) -> Result<Text, All
         Refusal::Summary(why) => summary_line(alloc, name_in(plan, 0), why),
         Refusal::Database(why) => database_line(alloc, db_in(plan), order_in(plan), why),
         Refusal::NoThread => Text::of(alloc, "site: no thread\n"),
+        Refusal::Lines(faults) => lines_line(alloc, faults),
     }
 }
 
@@ -48,6 +53,7 @@ fn name_in(plan: &Plan, file: u64) -> &str
         Plan::Ask { files, .. } => name_at(files.as_slice(), file),
         Plan::Summary { .. } => "",
         Plan::Take { files, .. } => name_at(files.as_slice(), file),
+        Plan::Follow { file, .. } => file.as_str(),
         Plan::Delta { summary, .. } => summary.as_str(),
         Plan::Scrub { .. } => "",
         Plan::Run { peer, files, .. } => name_beside(peer, files.as_slice(), file),
@@ -64,6 +70,7 @@ fn db_in(plan: &Plan) -> &str
         Plan::Ask { db, .. } => given_name(db),
         Plan::Summary { db } => db.as_str(),
         Plan::Take { db, .. } => db.as_str(),
+        Plan::Follow { db, .. } => db.as_str(),
         Plan::Delta { db, .. } => db.as_str(),
         Plan::Scrub { db, .. } => db.as_str(),
         Plan::Run { db, .. } => db.as_str(),
@@ -131,14 +138,28 @@ fn fault_line(alloc: Global, name: &str, fault: ReportFault) -> Result<Text, All
     match fault {
         ReportFault::OutOfMemory => Text::of(alloc, "site: out of memory\n"),
         ReportFault::Read(ReadFault::OutOfMemory) => Text::of(alloc, "site: out of memory\n"),
-        ReportFault::Read(ReadFault::NotJson) => file_line(alloc, name, "not JSON"),
-        ReportFault::Read(ReadFault::NotEvent) => file_line(alloc, name, "not an event or a batch"),
-        ReportFault::Read(ReadFault::InputTooLarge) => file_line(alloc, name, "too large"),
-        ReportFault::Read(ReadFault::BadEvent { index, fault }) => event_line(
-            alloc, name, index, fault,
-        ),
-        ReportFault::Event { index, fault } => event_line(alloc, name, index, fault),
+        ReportFault::Read(ReadFault::NotJson) => words_line(alloc, name, fault),
+        ReportFault::Read(ReadFault::NotEvent) => words_line(alloc, name, fault),
+        ReportFault::Read(ReadFault::InputTooLarge) => words_line(alloc, name, fault),
+        ReportFault::Read(ReadFault::BadEvent { .. }) => words_line(alloc, name, fault),
+        ReportFault::Event { .. } => words_line(alloc, name, fault),
     }
+}
+
+/// The line of a file with the words of its fault.
+fn words_line(alloc: Global, name: &str, fault: ReportFault) -> Result<Text, AllocError>
+    ensures { IfOk result (λ text. text ≡ file_line name.now (words_of fault)) }
+{
+    let words = words_of(alloc, fault)?;
+    file_line(alloc, name, words.as_str())
+}
+
+/// `site: N lines refused`
+fn lines_line(alloc: Global, faults: u64) -> Result<Text, AllocError>
+    ensures { IfOk result (λ text. text ≡ lines_line faults) }
+{
+    let line = format!(in alloc; "site: {faults} lines refused\n")?;
+    Ok(Text::from_string(line))
 }
 
 /// The line of a summary at fault.
@@ -189,27 +210,6 @@ fn order_line(alloc: Global, number: u64, name: &str) -> Result<Text, AllocError
     line.push_str(name)?;
     line.push_str("\n")?;
     Ok(Text::from_string(line))
-}
-
-/// The line of the event that is at fault.
-fn event_line(alloc: Global, name: &str, index: u64, fault: Fault) -> Result<Text, AllocError>
-    ensures { IfOk result (λ text. text ≡ file_line name.now (event_words index fault)) }
-{
-    let words = event_words(alloc, index, fault)?;
-    file_line(alloc, name, words.as_str())
-}
-
-/// `event I: NAME`
-fn event_words(alloc: Global, index: u64, fault: Fault) -> Result<String, AllocError>
-    ensures { IfOk result (λ words. string_bytes words ≡ event_words index fault) }
-{
-    let number = format!(in alloc; "{index}")?;
-    let mut words = String::new(alloc);
-    words.push_str("event ")?;
-    words.push_str(number.as_str())?;
-    words.push_str(": ")?;
-    words.push_str(fault_name(fault))?;
-    Ok(words)
 }
 
 /// `site: FILE: WORDS`, ended with LF.
@@ -272,31 +272,5 @@ fn push_hex(line: &mut String, digit: u32) -> Result<(), AllocError>
     match char::from_digit(digit, 16) {
         Some(c) => line.push(c),
         None => Ok(()),
-    }
-}
-
-/// The name of a fault, as it is printed.
-fn fault_name<'a>(fault: Fault) -> &'a str
-    ensures { result.now ≡ fault_name fault }
-{
-    match fault {
-        Fault::OutOfMemory => "OutOfMemory",
-        Fault::SpecVersion => "SpecVersion",
-        Fault::Id => "Id",
-        Fault::Source => "Source",
-        Fault::Kind => "Kind",
-        Fault::Subject => "Subject",
-        Fault::Time => "Time",
-        Fault::ContentType => "ContentType",
-        Fault::Schema => "Schema",
-        Fault::ExtensionName => "ExtensionName",
-        Fault::ExtensionValue => "ExtensionValue",
-        Fault::TwoData => "TwoData",
-        Fault::Base64 => "Base64",
-        Fault::DataNumber => "DataNumber",
-        Fault::TooDeep => "TooDeep",
-        Fault::TooLarge => "TooLarge",
-        Fault::NoSequence => "NoSequence",
-        Fault::BadSequence => "BadSequence",
     }
 }

@@ -2,10 +2,10 @@
 ghost use Rattle.std.specs.Prelude.{◌≡◌, ◌≤◌, false, true, Err, IfErr, IfOk, MatchResult, Ok};
 ghost use Rattle.std.specs.Process.{exit_status};
 ghost use Rattle.command_words.specs.Plans.{AreFaulty};
-ghost use Rattle.site_commands.specs.Answers.{AnswersPlan, IsAllowed, RefusesPlan, is_run};
+ghost use Rattle.site_commands.specs.Answers.{AnswersPlan, IsAllowed, RefusesPlan, is_run, is_stream};
 ghost use Rattle.site_commands.specs.Printed.{printed};
 ghost use Rattle.site_commands.specs.declared.printed.Printed.TheVariants as Printed;
-ghost use Rattle.site_commands.specs.Runs.{EndsUnheard, IsEnding, IsLine, IsPlanEnding, IsUnheard, PrintsAnswer, RunsWords};
+ghost use Rattle.site_commands.specs.Runs.{EndsUnheard, IsLine, IsPlanEnding, IsUnheard, PrintsAnswer, RunsPlan, RunsWords, said};
 
 use crate::database::{delta, order, relay, scrub, summary, take};
 use crate::ending::{Ending, finish};
@@ -14,6 +14,7 @@ use crate::line::{Refusal, line_of};
 use crate::printed::Printed;
 use crate::progress::Progress;
 use crate::query::ask;
+use crate::stream::follow;
 use crate::workers::run;
 use attributes::Text;
 use command_words::{Faulty, Plan, plan};
@@ -53,8 +54,8 @@ pub fn exit<
 /// a refusal and for output that can't be written, 2 for faulty words and for help.
 ///
 /// All files are read before any is judged, and judged before a database is opened, but for the
-/// feeds of `run`, which their workers judge. A result is written to `out` in one piece, a refusal
-/// as one line to `err`. Help that was asked for goes to `out`, what is said of faulty words to
+/// feeds of `run`, which their workers judge, and for `follow`, whose lines are taken, kept and
+/// acknowledged as they come. A result is written to `out` in one piece, a refusal as one line to `err`. Help that was asked for goes to `out`, what is said of faulty words to
 /// `err`. After a write that fails nothing more is written. It waits where `run` does.
 ///
 /// How far `take` and `run` came is told by `progress` alone, before anything is written.
@@ -71,38 +72,72 @@ pub fn perform<
     ensures runs { RunsWords (λ _ _. Unit {0}) (λ _ _. Unit {0}) words.now result
         (O.contents out.old) (O.contents out.new) (E.contents err.old) (E.contents err.new) }
 {
-    let ending = outcome(rt, words, progress);
-    progress.over();
-    finish(ending, out, err)
+    match plan(rt.alloc(), words) {
+        Ok(plan) => carry_out(rt, &plan, out, err, progress),
+        Err(faulty) => finish(said(faulty), out, err),
+    }
 }
 
-/// What the words come to, before anything is written.
-fn outcome<R: AllocGlobal + Files + Databases + Runs + Threads + Wait + Sync, P: Progress>(
-    rt: &R,
-    words: &[Text],
-    progress: &P,
-) -> Ending
-    ensures { IsEnding (λ _ _. Unit {0}) (λ _ _. Unit {0}) words.now result }
+/// What is said of faulty words.
+fn said(faulty: Faulty) -> Ending
+    ensures { result ≡ said faulty }
 {
-    match plan(rt.alloc(), words) {
-        Ok(plan) => {
-            let left = Cell::new(long_files(&plan));
-            let shelf = SystemFiles { rt, progress, left };
-            if is_run(&plan) {
-                ending_of_run(rt, rt.alloc(), &shelf, rt, &plan, progress)
-            } else {
-                ending_of(rt.alloc(), &shelf, rt, &plan, progress)
-            }
-        }
-        Err(Faulty::Words { text, is_help }) => {
+    match faulty {
+        Faulty::Words { text, is_help } => {
             if is_help {
                 Ending::Help(text)
             } else {
                 Ending::Faulty(text)
             }
         }
-        Err(Faulty::OutOfMemory) => Ending::NoMemory,
+        Faulty::OutOfMemory => Ending::NoMemory,
     }
+}
+
+/// Carries a plan out, and answers the exit status. A stream is written as it goes; of every other plan
+/// it is known what it comes to before anything is written.
+fn carry_out<
+    R: AllocGlobal + Files + Databases + Runs + Threads + Wait + Sync,
+    O: Write,
+    E: Write,
+    P: Progress,
+>(rt: &R, plan: &Plan, out: &mut O, err: &mut E, progress: &P) -> u8
+    requires { IsAllowed plan.now }
+    ensures { RunsPlan (λ _ _. Unit {0}) (λ _ _. Unit {0}) plan.now result
+        (O.contents out.old) (O.contents out.new) (E.contents err.old) (E.contents err.new) }
+{
+    let left = Cell::new(long_files(plan));
+    let shelf = SystemFiles { rt, progress, left };
+    if is_stream(plan) {
+        return follow(rt.alloc(), &shelf, rt, plan, out, err);
+    }
+    let ending = outcome(rt, &shelf, plan, progress);
+    progress.over();
+    finish(ending, out, err)
+}
+
+/// What a plan that is no stream comes to, before anything is written.
+fn outcome<R: AllocGlobal + Databases + Runs + Threads + Wait + Sync, S: Shelf, P: Progress>(
+    rt: &R,
+    shelf: &S,
+    plan: &Plan,
+    progress: &P,
+) -> Ending
+    requires whole { is_stream plan.now ≡ false }
+    requires allowed { IsAllowed plan.now }
+    ensures { IsPlanEnding (S.is_content shelf.now) (S.is_unread shelf.now) plan.now result }
+{
+    if is_run(plan) {
+        return ending_of_run(rt, rt.alloc(), shelf, rt, plan, progress);
+    }
+    ending_of(rt.alloc(), shelf, rt, plan, progress)
+}
+
+/// Whether the plan is a stream, which is answered line by line.
+fn is_stream(plan: &Plan) -> bool
+    ensures { result ≡ is_stream plan.now }
+{
+    matches!(plan, Plan::Follow { .. })
 }
 
 /// How many files are read by a plan that may take long, so that it is worth while to tell how many
@@ -122,7 +157,7 @@ fn is_run(plan: &Plan) -> bool
     matches!(plan, Plan::Run { .. })
 }
 
-/// What a plan that isn't a run comes to over a shelf of files.
+/// What a plan that is neither a run nor a stream comes to over a shelf of files.
 fn ending_of<S: Shelf, D: Databases, P: Progress>(
     alloc: Global,
     shelf: &S,
@@ -131,6 +166,7 @@ fn ending_of<S: Shelf, D: Databases, P: Progress>(
     progress: &P,
 ) -> Ending
     requires alone { is_run plan.now ≡ false }
+    requires whole { is_stream plan.now ≡ false }
     requires allowed { IsAllowed plan.now }
     ensures { IsPlanEnding (S.is_content shelf.now) (S.is_unread shelf.now) plan.now result }
 {
@@ -174,7 +210,7 @@ fn ending_of_run<R: Threads + Wait + Sync, S: Shelf, D: Runs, P: Progress>(
     }
 }
 
-/// The answer to a plan that isn't a run.
+/// The answer to a plan that is neither a run nor a stream.
 fn carried_out<S: Shelf, D: Databases, P: Progress>(
     alloc: Global,
     shelf: &S,
@@ -183,6 +219,7 @@ fn carried_out<S: Shelf, D: Databases, P: Progress>(
     progress: &P,
 ) -> Result<Printed, Refusal>
     requires alone { is_run plan.now ≡ false }
+    requires whole { is_stream plan.now ≡ false }
     requires allowed { IsAllowed plan.now }
     ensures ok { IfOk result (λ p. AnswersPlan (S.is_content shelf.now) plan.now (printed p)) }
     ensures err { IfErr result
@@ -216,6 +253,7 @@ fn carried_out<S: Shelf, D: Databases, P: Progress>(
         ),
         Plan::Scrub { db, pages } => scrub(alloc, databases, db.as_str(), *pages),
         Plan::Run { .. } => unreachable!(),
+        Plan::Follow { .. } => unreachable!(),
         Plan::Order(request) => lined(order(alloc, databases, request)),
         Plan::Relay { db, after } => lined(relay(alloc, databases, db.as_str(), *after)),
     }

@@ -11,3 +11,4 @@ RefusesFeeds first feeds (refusal.File refused) = RefusesFeed first feeds refuse
 RefusesFeeds first feeds (refusal.Summary why) = ⊥
 RefusesFeeds first feeds (refusal.Database why) = Unit {0}
 RefusesFeeds first feeds refusal.NoThread = Unit {0}
+RefusesFeeds first feeds (refusal.Lines faults) = ⊥

@@ -1,0 +1,106 @@
+-- What is said of a stream over a table, said of the database and the outcome of its command.
+use Rattle.std.proofs.Common.{◌≡◌, ◌⊎◌, ℕ, List, [], Ok, Err, Result, IfOk, MatchResult, inl, inr, refl, sym, ap, subst}
+use Rattle.std.specs.Prelude.{Option}
+use Rattle.std.specs.Result.{IfErr, OnOk}
+use Rattle.std.specs.Io.KnownBytes.{Keeps}
+use Rattle.std.proofs.KnownBytes.{Appends-nil, Consumes-nil, Keeps-refl}
+use Rattle.sqlite.specs.Effect.{Database}
+use Rattle.sqlite.specs.State.{State, HasCleanDisk}
+use Rattle.attributes.specs.Event.{EventValue}
+use Rattle.inbox_table.specs.Calls.{IsAsItWas, IsSettled}
+use Rattle.inbox_table.specs.Rows.{IsInbox}
+use Rattle.inbox_table.specs.declared.fault.TableFault.{TableFault}
+use Rattle.line_intake.specs.Acknowledged.{TellsAll, TellsSome, TellsUntil}
+use Rattle.line_intake.specs.Follow.{AreKept, IsFollowed, KeepsTurns, Place, StopsStream, Turn}
+use Rattle.line_intake.specs.declared.step.FollowFault.{FollowFault}
+use Rattle.line_intake.specs.declared.step.FollowFault.TheVariants.{Input, Table, Unwritten}
+use Rattle.database_commands.specs.Fault.{of_follow, of_table}
+use Rattle.database_commands.specs.Held.{Holds}
+use Rattle.database_commands.specs.Streams.{AcknowledgesUntil, HoldsTurns, StaysUnread, StopsInto}
+use Rattle.database_commands.specs.declared.fault.CommandFault.{CommandFault}
+use Rattle.database_commands.specs.declared.stream.StreamFault.{StreamFault}
+use Rattle.database_commands.specs.declared.stream.StreamFault.TheVariants as stream
+
+abbrev Outcome : Result ℕ FollowFault → Result ℕ StreamFault → Type 0
+Outcome ended outcome = MatchResult ended (λ n. outcome ≡ Ok n) (λ f. outcome ≡ Err (of_follow f))
+
+ok_outcome : (ended : Result ℕ FollowFault) (outcome : Result ℕ StreamFault) (P Q : ℕ → Type 0) → Outcome ended outcome → ((n : ℕ) → P n → Q n) → IfOk ended P → IfOk outcome Q
+ok_outcome (Ok n) outcome P Q is to p = subst (λ r. IfOk r Q) (sym is) (to n p)
+ok_outcome (Err f) outcome P Q is to p = subst (λ r. IfOk r Q) (sym is) tt
+
+err_outcome : (ended : Result ℕ FollowFault) (outcome : Result ℕ StreamFault) (P : FollowFault → Type 0) (Q : StreamFault → Type 0) → Outcome ended outcome → ((f : FollowFault) → P f → Q (of_follow f)) → IfErr ended P → IfErr outcome Q
+err_outcome (Ok n) outcome P Q is to p = subst (λ r. IfErr r Q) (sym is) tt
+err_outcome (Err f) outcome P Q is to p = subst (λ r. IfErr r Q) (sym is) (to f p)
+
+on_outcome : (ended : Result ℕ FollowFault) (outcome : Result ℕ StreamFault) (P Q : Type 0) → Outcome ended outcome → (P → Q) → OnOk ended P → OnOk outcome Q
+on_outcome (Ok n) outcome P Q is to p = subst (λ r. OnOk r Q) (sym is) (to p)
+on_outcome (Err f) outcome P Q is to p = subst (λ r. OnOk r Q) (sym is) tt
+
+-- behind a table that has what the database held
+holds_turns : (old mid new : Database) (turns : List Turn) → ((held : List EventValue) → Holds old held → IsInbox mid held) → KeepsTurns turns mid new → HoldsTurns turns old new
+holds_turns old mid new turns box kept held holds = kept held (box held holds)
+
+pub stream_followed : (ended : Result ℕ FollowFault) (outcome : Result ℕ StreamFault) (start : Place) (out : Option (List ℕ)) (old : Database) (mid last conn : State) → conn ≡ last → Outcome ended outcome
+    → (HasCleanDisk mid → (held : List EventValue) → Holds old held → IsInbox mid.now held) → (HasCleanDisk last → HasCleanDisk mid) → IfOk ended (λ n. IsFollowed start out n (λ turns. HasCleanDisk last → KeepsTurns turns mid.now last.now))
+    → IfOk outcome (λ n. IsFollowed start out n (λ turns. HasCleanDisk conn → HoldsTurns turns old conn.now))
+stream_followed ended outcome start out old mid last conn same is box cleaner followed =
+    subst (λ (s : State). IfOk outcome (λ n. IsFollowed start out n (λ turns. HasCleanDisk s → HoldsTurns turns old s.now))) (sym same)
+    (ok_outcome ended outcome (λ n. IsFollowed start out n (λ turns. HasCleanDisk last → KeepsTurns turns mid.now last.now)) (λ n. IsFollowed start out n (λ turns. HasCleanDisk last → HoldsTurns turns old last.now)) is
+    (λ n f. record {
+      turns = f.turns;
+      last = f.last;
+      are = f.are;
+      over = f.over;
+      out_is = f.out_is;
+      kept = λ clean. holds_turns old mid.now last.now f.turns (box (cleaner clean)) (f.kept clean);
+      faulty = f.faulty;
+    }) followed)
+
+pub stream_stops : (ended : Result ℕ FollowFault) (outcome : Result ℕ StreamFault) (start : Place) (left left' out : Option (List ℕ)) (before mid last conn : State) → conn ≡ last → Outcome ended outcome
+    → (HasCleanDisk mid → (held : List EventValue) → Holds before.now held → IsInbox mid.now held) → (HasCleanDisk last → HasCleanDisk mid)
+    → IfErr ended (λ f. StopsStream start out last f (λ turns now. HasCleanDisk last → KeepsTurns turns mid.now now))
+    → IfErr outcome (λ f. StaysUnread left left' start.out out before conn f ⊎ StopsInto start out before conn f)
+stream_stops ended outcome start left left' out before mid last conn same is box cleaner stops =
+    subst (λ (s : State). IfErr outcome (λ f. StaysUnread left left' start.out out before s f ⊎ StopsInto start out before s f)) (sym same)
+    (err_outcome ended outcome (λ f. StopsStream start out last f (λ turns now. HasCleanDisk last → KeepsTurns turns mid.now now)) (λ f. StaysUnread left left' start.out out before last f ⊎ StopsInto start out before last f) is
+    (λ f s. inr (record {
+      why = f;
+      is = refl;
+      stops = record {
+        turns = s.turns;
+        last = s.last;
+        are = s.are;
+        mid = s.mid;
+        kept = λ clean. holds_turns before.now mid.now s.mid s.turns (box (cleaner clean)) (s.kept clean);
+        stop = s.stop;
+      };
+    })) stops)
+
+pub stream_settled : (ended : Result ℕ FollowFault) (outcome : Result ℕ StreamFault) (last conn : State) → conn ≡ last → Outcome ended outcome → (HasCleanDisk last → OnOk ended (IsSettled last)) → HasCleanDisk conn → OnOk outcome (IsSettled conn)
+stream_settled ended outcome last conn same is settled =
+    subst (λ (s : State). HasCleanDisk s → OnOk outcome (IsSettled s)) (sym same)
+    (λ clean. on_outcome ended outcome (IsSettled last) (IsSettled last) is (λ s. s) (settled clean))
+
+pub stream_told : (ended : Result ℕ FollowFault) (outcome : Result ℕ StreamFault) (left out out' : Option (List ℕ)) → Outcome ended outcome → IfOk ended (TellsAll left out out') → IfOk outcome (TellsAll left out out')
+stream_told ended outcome left out out' is told = ok_outcome ended outcome (TellsAll left out out') (TellsAll left out out') is (λ n t. t) told
+
+until_of : (left out out' : Option (List ℕ)) (f : FollowFault) → TellsUntil f left out out' → AcknowledgesUntil (of_follow f) left out out'
+until_of left out out' (Input why) it = it
+until_of left out out' (Table why) it = it
+until_of left out out' Unwritten it = it
+
+pub stream_until : (ended : Result ℕ FollowFault) (outcome : Result ℕ StreamFault) (left out out' : Option (List ℕ)) → Outcome ended outcome → IfErr ended (λ f. TellsUntil f left out out') → IfErr outcome (λ f. AcknowledgesUntil f left out out')
+stream_until ended outcome left out out' is until = err_outcome ended outcome (λ f. TellsUntil f left out out') (λ f. AcknowledgesUntil f left out out') is (until_of left out out') until
+
+-- nothing was read and nothing written
+pub tells_none : (left out : Option (List ℕ)) → TellsSome left out out
+tells_none left out = record {
+  left = left;
+  tells = [];
+  text = [];
+  told = record { lines = []; lists = []; each = []; taken = Consumes-nil left; judged = tt; one_each = refl; are = refl };
+  written = Appends-nil out;
+}
+
+pub stays_unread : (left out : Option (List ℕ)) (old new : State) (why : TableFault) (f : CommandFault) → f ≡ of_table why → IsAsItWas old new → StaysUnread left left out out old new (stream.Database f)
+stays_unread left out old new why f is same = record { why = why; is = ap (λ x. stream.Database x) is; unread = Keeps-refl left; unwritten = Keeps-refl out; same = same }

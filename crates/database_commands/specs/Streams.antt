@@ -1,0 +1,46 @@
+-- A stream of lines into a database.
+use Rattle.std.specs.Prelude.{◌≡◌, ◌⊎◌, ℕ, List, Option}
+use Rattle.std.specs.Io.KnownBytes.{Keeps}
+use Rattle.sqlite.specs.Effect.{Database}
+use Rattle.sqlite.specs.State.{State, HasCleanDisk}
+use Rattle.attributes.specs.Event.{EventValue}
+use Rattle.inbox_table.specs.Calls.{IsAsItWas}
+use Rattle.inbox_table.specs.Rows.{IsInbox}
+use Rattle.inbox_table.specs.declared.fault.TableFault.{TableFault}
+use Rattle.line_intake.specs.Acknowledged.{TellsPart, TellsSome}
+use Rattle.line_intake.specs.Follow.{AreKept, Place, StopsStream, Turn}
+use Rattle.line_intake.specs.declared.step.FollowFault.{FollowFault}
+use Rattle.database_commands.specs.Fault.{of_follow, of_table}
+use Rattle.database_commands.specs.Held.{Holds}
+use Rattle.database_commands.specs.declared.stream.StreamFault.{StreamFault}
+use Rattle.database_commands.specs.declared.stream.StreamFault.TheVariants as stream
+
+-- the database has what the old one held, and behind it the events of turns, of each line so many new
+abbrev pub HoldsTurns : List Turn → Database → Database → Type 0
+HoldsTurns turns old new = (held : List EventValue) → Holds old held
+    → (events : List EventValue) × IsInbox new events × AreKept held turns events
+
+-- the inbox couldn't be had: nothing was read and nothing written, and the database is as it was
+pub record StaysUnread (left left' out out' : Option (List ℕ)) (old new : State) (f : StreamFault)
+    : Type 0 where
+  pub why : TableFault
+  pub is : f ≡ stream.Database (of_table why)
+  pub unread : Keeps left left'
+  pub unwritten : Keeps out out'
+  pub same : IsAsItWas old new
+
+-- the stream stopped for this fault: what the turns before it brought is in behind what the database
+-- held
+pub record StopsInto (start : Place) (out : Option (List ℕ)) (old new : State) (f : StreamFault)
+    : Type 0 where
+  pub why : FollowFault
+  pub is : f ≡ of_follow why
+  pub stops : StopsStream start out new why
+      (λ turns mid. HasCleanDisk new → HoldsTurns turns old.now mid)
+
+-- what of the input is acknowledged where the stream ends for this fault
+abbrev pub AcknowledgesUntil : StreamFault → Option (List ℕ) → Option (List ℕ) → Option (List ℕ)
+    → Type 0
+AcknowledgesUntil (stream.Input why) old out out' = TellsSome old out out'
+AcknowledgesUntil (stream.Database why) old out out' = TellsSome old out out'
+AcknowledgesUntil stream.Unwritten old out out' = TellsPart old out out'

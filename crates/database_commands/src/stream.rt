@@ -1,0 +1,102 @@
+//! Lines that come into a database, each acknowledged when it is kept.
+ghost use Rattle.std.specs.Prelude.{◌≡◌, ◌⊎◌, Err, IfErr, IfOk, MatchResult, Ok, OnOk};
+ghost use Rattle.sqlite.specs.Held.{state};
+ghost use Rattle.sqlite.specs.State.{HasCleanDisk};
+ghost use Rattle.inbox_table.specs.Calls.{IsSettled};
+ghost use Rattle.line_intake.specs.Acknowledged.{TellsAll};
+ghost use Rattle.line_intake.specs.Follow.{IsFollowed};
+ghost use Rattle.database_commands.specs.Fault.{of_follow};
+ghost use Rattle.database_commands.specs.Streams.{AcknowledgesUntil, HoldsTurns, StaysUnread, StopsInto};
+
+use crate::fault::{CommandFault, of_table};
+use crate::intake::adopted;
+use inbox_table::NotMade;
+use line_intake::{FollowFault, LineFault};
+use sqlite::{Alter, Connection};
+use std::alloc::Global;
+use std::io::{Read, Write};
+use thiserror::Error;
+
+/// Why a stream ended before its input.
+#[derive(Clone, Copy, PartialEq, Eq, Debug, Drop, Error)]
+pub enum StreamFault {
+    /// The input couldn't be read on.
+    #[error("{0}")]
+    Input(LineFault),
+    /// The database refused lines, or memory for their acknowledgements was refused.
+    #[error("{0}")]
+    Database(CommandFault),
+    /// An acknowledgement couldn't be written.
+    #[error("unwritten")]
+    Unwritten,
+}
+
+/// A stream that came to its end: the connection, and how many lines were at fault, or why it ended
+/// before its input.
+#[derive(Drop)]
+pub struct Streamed<S: Alter + Drop> {
+    pub conn: Connection<S>,
+    pub outcome: Result<u64, StreamFault>,
+}
+
+/// The fault that one of a stream over a table is.
+fn of_follow(fault: FollowFault) -> StreamFault
+    ensures { result ≡ of_follow fault }
+{
+    match fault {
+        FollowFault::Input(why) => StreamFault::Input(why),
+        FollowFault::Table(why) => StreamFault::Database(of_table(why)),
+        FollowFault::Unwritten => StreamFault::Unwritten,
+    }
+}
+
+/// What a stream over a table came to, as that of a command.
+fn outcome_of(ended: Result<u64, FollowFault>) -> Result<u64, StreamFault>
+    ensures { MatchResult ended (λ faults. result ≡ Ok faults) (λ f. result ≡ Err (of_follow f)) }
+{
+    match ended {
+        Ok(faults) => Ok(faults),
+        Err(fault) => Err(of_follow(fault)),
+    }
+}
+
+/// Takes the lines of an input into a database to the input's end, and acknowledges each on `out` once
+/// its events are kept, as [`line_intake::follow`]. The table is made where there is none, before
+/// anything is read; where it isn't to be had, nothing is read or written. Memory for the lines of one
+/// transaction.
+pub fn follow<S: Alter + Drop, R: Read, W: Write>(
+    alloc: Global,
+    conn: Connection<S>,
+    input: &mut R,
+    out: &mut W,
+) -> Streamed<S>
+    ensures followed { IfOk result.outcome (λ faults. IsFollowed
+        (record { lines = 0; left = R.remaining input.old; out = W.contents out.old })
+        (W.contents out.new) faults (λ turns. HasCleanDisk (state S.Store result.conn)
+        → HoldsTurns turns (state S.Store conn).now (state S.Store result.conn).now)) }
+    ensures settled { HasCleanDisk (state S.Store result.conn)
+        → OnOk result.outcome (IsSettled (state S.Store result.conn)) }
+    ensures stops { IfErr result.outcome (λ f. StaysUnread (R.remaining input.old)
+        (R.remaining input.new) (W.contents out.old) (W.contents out.new)
+        (state S.Store conn) (state S.Store result.conn) f ⊎ StopsInto
+        (record { lines = 0; left = R.remaining input.old; out = W.contents out.old })
+        (W.contents out.new) (state S.Store conn) (state S.Store result.conn) f) }
+    ensures told { IfOk result.outcome
+        (TellsAll (R.remaining input.old) (W.contents out.old) (W.contents out.new)) }
+    ensures until { IfErr result.outcome (λ f. AcknowledgesUntil f
+        (R.remaining input.old) (W.contents out.old) (W.contents out.new)) }
+{
+    match adopted(alloc, conn) {
+        Ok(mut table) => {
+            let ended = line_intake::follow(alloc, &mut table, input, out);
+            let conn = table.into_connection();
+            let outcome = outcome_of(ended);
+            Streamed { conn, outcome }
+        }
+        Err(refused) => {
+            let NotMade { conn, fault } = refused;
+            let outcome = Err(StreamFault::Database(of_table(fault)));
+            Streamed { conn, outcome }
+        }
+    }
+}

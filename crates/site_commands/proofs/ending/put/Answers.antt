@@ -1,5 +1,0 @@
-use Rattle.site_commands.proofs.EndingLemmas.{Wrote-more}
-use Rattle.site_commands.proofs.ending.put.Goals as goal
-
-pub loop-preserved : goal.loop-preserved
-loop-preserved g c = Wrote-more _ _ _ c.args.bytes.now c.loop.rest.now c.in-Ok.count c.loop.invariant c.in-Ok.ensures.bytes

@@ -1,0 +1,113 @@
+//! The command that keeps lines as they come, and acknowledges each.
+ghost use Rattle.std.specs.Prelude.{◌≡◌, true, MatchResult};
+ghost use Rattle.site_commands.specs.Answers.{is_stream};
+ghost use Rattle.site_commands.specs.Endings.{EndsStream};
+ghost use Rattle.site_commands.specs.Streams.{EndsSo, end_at, end_of, unread_of};
+
+use crate::ending::{DONE, REFUSED, say};
+use crate::files::Streams;
+use crate::line::Refusal;
+use command_words::Plan;
+use database_commands::{Databases, StreamFault};
+use file_reports::{Unread, UnreadAt};
+use line_intake::LineFault;
+use std::alloc::Global;
+use std::io::Write;
+
+/// How a stream ended.
+#[derive(Clone, Copy, PartialEq, Eq, Debug)]
+pub enum StreamEnd {
+    /// At the end of its input, and no line was at fault.
+    Done,
+    /// So that a line on standard error says it.
+    Refused(Refusal),
+    /// An acknowledgement couldn't be written, and nothing more is.
+    Unwritten,
+}
+
+/// Keeps the lines of a file in a database as they come, and acknowledges each on `out` once it is
+/// kept; answers the status. What is wrong is said on `err`, once nothing more is acknowledged.
+pub fn follow<S: Streams, D: Databases, O: Write, E: Write>(
+    alloc: Global,
+    shelf: &S,
+    databases: &D,
+    plan: &Plan,
+    out: &mut O,
+    err: &mut E,
+) -> u8
+    requires { is_stream plan.now ≡ true }
+    ensures { EndsStream (S.is_content shelf.now) (S.is_unread shelf.now) plan.now result
+        (O.contents out.old) (O.contents out.new) (E.contents err.old) (E.contents err.new) }
+{
+    match plan {
+        Plan::Follow { db, file } => {
+            match kept(alloc, shelf, databases, db.as_str(), file.as_str(), out) {
+                StreamEnd::Done => DONE,
+                StreamEnd::Refused(refusal) => say(alloc, plan, refusal, err),
+                StreamEnd::Unwritten => REFUSED,
+            }
+        }
+        _ => unreachable!(),
+    }
+}
+
+/// Keeps the lines of a file in a database, and acknowledges each on `out`. The file is opened before
+/// the database is.
+fn kept<S: Streams, D: Databases, O: Write>(
+    alloc: Global,
+    shelf: &S,
+    databases: &D,
+    db: &str,
+    file: &str,
+    out: &mut O,
+) -> StreamEnd
+    ensures { EndsSo (S.is_content shelf.now) (S.is_unread shelf.now) file.now result
+        (O.contents out.old) (O.contents out.new) }
+{
+    match shelf.open(file) {
+        Ok(mut input) => {
+            let ended = databases.follow(alloc, db, &mut input, out);
+            end(ended)
+        }
+        Err(why) => StreamEnd::Refused(Refusal::Unread(UnreadAt { file: 0, why })),
+    }
+}
+
+/// How a stream ended for the command: lines at fault are a refusal.
+fn end(ended: Result<u64, StreamFault>) -> StreamEnd
+    ensures { MatchResult ended (λ faults. result ≡ end_of faults) (λ why. result ≡ end_at why) }
+{
+    match ended {
+        Ok(faults) => end_of(faults),
+        Err(StreamFault::Input(why)) => StreamEnd::Refused(Refusal::Unread(unread_of(why))),
+        Err(StreamFault::Database(why)) => StreamEnd::Refused(Refusal::Database(why)),
+        Err(StreamFault::Unwritten) => StreamEnd::Unwritten,
+    }
+}
+
+/// How a stream ended that came to the end of its input, with so many lines at fault.
+#[tactic(auto, using(crate::proofs::StreamLemmas::end_of_some))]
+fn end_of(faults: u64) -> StreamEnd
+    ensures { result ≡ end_of faults }
+{
+    if faults == 0 {
+        return StreamEnd::Done;
+    }
+    StreamEnd::Refused(Refusal::Lines(faults))
+}
+
+/// An input that couldn't be read on, as a file that wasn't read.
+fn unread_of(why: LineFault) -> UnreadAt
+    ensures { result ≡ unread_of why }
+{
+    match why {
+        LineFault::OutOfMemory => UnreadAt {
+            file: 0,
+            why: Unread::OutOfMemory,
+        },
+        LineFault::CannotRead => UnreadAt {
+            file: 0,
+            why: Unread::CannotRead,
+        },
+    }
+}
