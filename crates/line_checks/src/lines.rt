@@ -2,7 +2,7 @@
 //! acknowledgements look like, and that lines that stand whole in what was read share a turn.
 
 use crate::fixture::{E1, E2, E3, F1, batch, created, holds};
-use attributes::List;
+use attributes::{Batch, List};
 use inbox_table::Table;
 use line_intake::{FollowFault, LineFault, Next, Part, Pending, follow, gather, next_line};
 use sqlite::MemStore;
@@ -194,12 +194,16 @@ fn is_followed<R: AllocGlobal + Abort>(rt: &R, table: &mut Table<MemStore>, step
     }
 }
 
+/// Whether a new table that takes the stream has its events.
+fn is_kept<R: AllocGlobal + Abort>(rt: &R, step: usize) -> bool {
+    let mut table = created(rt);
+    is_followed(rt, &mut table, step) && holds(&mut table, &[E1, E2, E3])
+}
+
 #[test]
 fn lines_are_kept_and_acknowledged(rt: HostRuntime) {
     for step in [1usize, 100, 1000] {
-        let mut table = created(&rt);
-        assert!(rt; is_followed(&rt, &mut table, step));
-        assert!(rt; holds(&mut table, &[E1, E2, E3]));
+        assert!(rt; is_kept(&rt, step));
     }
 }
 
@@ -219,11 +223,15 @@ fn is_unwritten<R: AllocGlobal + Abort>(rt: &R, table: &mut Table<MemStore>) -> 
         && out.bytes.as_slice() == b"{\"line\":1,\"new\":1,\"repeated\":0}\n".as_slice()
 }
 
+/// Whether a new table has the first turn's event then, and no other.
+fn is_cut_short<R: AllocGlobal + Abort>(rt: &R) -> bool {
+    let mut table = created(rt);
+    is_unwritten(rt, &mut table) && holds(&mut table, &[E1])
+}
+
 #[test]
 fn a_reader_that_goes_away_ends_a_stream(rt: HostRuntime) {
-    let mut table = created(&rt);
-    assert!(rt; is_unwritten(&rt, &mut table));
-    assert!(rt; holds(&mut table, &[E1]));
+    assert!(rt; is_cut_short(&rt));
 }
 
 /// How many lines a turn has where so many stand whole in what is read at once; 0 where it fails.
@@ -258,36 +266,45 @@ fn lines_that_stand_there_share_a_turn(rt: HostRuntime) {
     assert_eq!(rt; gathered(&rt, 10, line * 3 + 7), 3);
 }
 
-/// How many events of each list a table keeps that has E1.
+/// Lists of the events of texts, each of which there has to be memory for.
+fn lists_of<R: AllocGlobal + Abort>(rt: &R, texts: &[&[&str]]) -> List<Batch> {
+    let mut all = List::empty(rt.alloc());
+    for each in texts {
+        let _kept = all.push(batch(rt, each));
+    }
+    all
+}
+
+/// Whether a table keeps lists and counts so many new events of each.
 fn counts<R: AllocGlobal + Abort>(
     rt: &R,
     table: &mut Table<MemStore>,
-    lists: &[&[&str]],
-) -> Option<List<u64>> {
-    let mut all = List::empty(rt.alloc());
-    for texts in lists {
-        assert!(rt; all.push(batch(rt, texts)).is_ok());
+    texts: &[&[&str]],
+    numbers: &[u64],
+) -> bool {
+    let lists = lists_of(rt, texts);
+    match table.keep_each(&lists) {
+        Ok(counts) => counts.as_slice() == numbers,
+        Err(_) => false,
     }
-    table.keep_each(&all).ok()
 }
 
-/// Whether these are the numbers.
-fn are<R: AllocGlobal + Abort>(rt: &R, counts: &Option<List<u64>>, numbers: &[u64]) -> bool {
-    match counts {
-        Some(counts) => counts.as_slice() == numbers,
-        None => false,
-    }
+/// Whether a table counts each list for itself, what came before it and in the lists before it too.
+fn counts_each<R: AllocGlobal + Abort>(rt: &R, table: &mut Table<MemStore>) -> bool {
+    counts(rt, table, &[&[E1], &[], &[E1, E2, E2]], &[1, 0, 1])
+        && counts(rt, table, &[&[E2], &[F1, E3], &[F1]], &[0, 2, 0])
+        && holds(table, &[E1, E2, F1, E3])
+        && counts(rt, table, &[], &[])
+        && table.rows() == 4
+}
+
+/// The same of a new table.
+fn is_counted<R: AllocGlobal + Abort>(rt: &R) -> bool {
+    let mut table = created(rt);
+    counts_each(rt, &mut table)
 }
 
 #[test]
 fn lists_are_counted_one_by_one(rt: HostRuntime) {
-    let mut table = created(&rt);
-    let first = counts(&rt, &mut table, &[&[E1], &[], &[E1, E2, E2]]);
-    assert!(rt; are(&rt, &first, &[1, 0, 1]));
-    let second = counts(&rt, &mut table, &[&[E2], &[F1, E3], &[F1]]);
-    assert!(rt; are(&rt, &second, &[0, 2, 0]));
-    assert!(rt; holds(&mut table, &[E1, E2, F1, E3]));
-    let third = counts(&rt, &mut table, &[]);
-    assert!(rt; are(&rt, &third, &[]));
-    assert_eq!(rt; table.rows(), 4);
+    assert!(rt; is_counted(&rt));
 }
