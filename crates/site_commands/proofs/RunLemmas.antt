@@ -2,7 +2,7 @@
 use Rattle.std.proofs.Common.{◌≡◌, ◌≤◌, ℕ, List, inl, inr, arith, refl, sym, subst, ◌∙◌, true, false}
 use Rattle.std.specs.Prelude.{Option}
 use Rattle.command_words.specs.Plans.{AreFaulty, Blames}
-use Rattle.command_words.specs.declared.fault.Faulty.{Faulty}
+use Rattle.command_words.specs.declared.fault.Faulty.{Faulty as FaultyWords}
 use Rattle.command_words.specs.declared.fault.Faulty.TheVariants as faulty
 use Rattle.file_reports.specs.declared.input.Unread.{Unread}
 use Rattle.site_commands.specs.Endings.{Ends, EndsStream, SaysRefusal, Writes}
@@ -141,13 +141,13 @@ pub planned_run : (C : List ℕ → List ℕ → Type 0) (U : List ℕ → Unrea
 planned_run C U words p r out out' err err' planned (inl w) = inl (record { ending = w.0; is_ending = planned_ending C U words p w.0 planned w.1; ends = w.2 })
 planned_run C U words p r out out' err err' planned (inr w) = inr (record { plan = p; planned = planned; ends = w })
 
-faulty_ending : (C : List ℕ → List ℕ → Type 0) (U : List ℕ → Unread → Type 0) (words : List (List ℕ)) (f : Faulty) → Blames (AreFaulty words) f → IsEnding C U words (said f)
+faulty_ending : (C : List ℕ → List ℕ → Type 0) (U : List ℕ → Unread → Type 0) (words : List (List ℕ)) (f : FaultyWords) → Blames (AreFaulty words) f → IsEnding C U words (said f)
 faulty_ending C U words (faulty.Words text true) b = b
 faulty_ending C U words (faulty.Words text false) b = b
 faulty_ending C U words faulty.OutOfMemory b = tt
 
 -- so are words that are no plan
-pub faulty_run : (C : List ℕ → List ℕ → Type 0) (U : List ℕ → Unread → Type 0) (words : List (List ℕ)) (f : Faulty) (e : Ending) (r : ℕ) (out out' err err' : Option (List ℕ)) → Blames (AreFaulty words) f → e ≡ said f → Ends e r out out' err err' → RunsWords C U words r out out' err err'
+pub faulty_run : (C : List ℕ → List ℕ → Type 0) (U : List ℕ → Unread → Type 0) (words : List (List ℕ)) (f : FaultyWords) (e : Ending) (r : ℕ) (out out' err err' : Option (List ℕ)) → Blames (AreFaulty words) f → e ≡ said f → Ends e r out out' err err' → RunsWords C U words r out out' err err'
 faulty_run C U words f e r out out' err err' b is ends = inl (record { ending = e; is_ending = subst (IsEnding C U words) (sym is) (faulty_ending C U words f b); ends = ends })
 
 -- what the words ask for is within what a service allows

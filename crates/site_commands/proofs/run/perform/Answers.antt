@@ -3,7 +3,7 @@ use Rattle.site_commands.proofs.RunLemmas.{allowed_by, faulty_run, planned_run, 
 use Rattle.site_commands.proofs.run.perform.Goals as goal
 
 pub carry_out-requires : goal.carry_out-requires
-carry_out-requires g c κs within = allowed_by c.args.words.now c.in-Ok.plan c.in-Ok.ensures.ok
+carry_out-requires g c = (c.type_bounds.sync-R, allowed_by c.args.words.now c.in-Ok.plan c.in-Ok.ensures.ok)
 
 pub returns-in-Ok-clause-runs : goal.returns-in-Ok-clause-runs
 returns-in-Ok-clause-runs g c = planned_run (λ _ _. Unit {0}) (λ _ _. Unit {0}) c.args.words.now c.in-Ok.plan _ _ _ _ _ c.in-Ok.ensures.ok c.carry_out.ensures
