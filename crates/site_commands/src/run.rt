@@ -55,8 +55,9 @@ pub fn exit<
 ///
 /// All files are read before any is judged, and judged before a database is opened, but for the
 /// feeds of `run`, which their workers judge, and for `follow`, whose lines are taken, kept and
-/// acknowledged as they come. A result is written to `out` in one piece, a refusal as one line to `err`. Help that was asked for goes to `out`, what is said of faulty words to
-/// `err`. After a write that fails nothing more is written. It waits where `run` does.
+/// acknowledged as they come. A result is written to `out` in one piece, a refusal as one line to
+/// `err`. Help that was asked for goes to `out`, what is said of faulty words to `err`. After a
+/// write that fails nothing more is written. It waits where `run` does.
 ///
 /// How far `take` and `run` came is told by `progress` alone, before anything is written.
 pub fn perform<
@@ -94,8 +95,8 @@ fn said(faulty: Faulty) -> Ending
     }
 }
 
-/// Carries a plan out, and answers the exit status. A stream is written as it goes; of every other plan
-/// it is known what it comes to before anything is written.
+/// Carries a plan out, and answers the exit status. A stream is written as it goes; of every other
+/// plan it is known what it comes to before anything is written.
 fn carry_out<
     R: AllocGlobal + Files + Databases + Runs + Threads + Wait + Sync,
     O: Write,
