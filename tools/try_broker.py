@@ -130,7 +130,8 @@ def main():
             # What never came to either site over the broker comes from the service itself.
             trial.shell(f"'{trial.program}' relay --db {service}-orders.db --after 0 --all | '{trial.program}' follow --db {service}.db >/dev/null")
         for to, of in (("north", "south"), ("south", "north")):
-            trial.shell(f"'{trial.program}' summary --db {to}.db | '{trial.program}' delta --db {of}.db --all - | '{trial.program}' follow --db {to}.db >/dev/null")
+            trial.shell(f"'{trial.program}' summary --db {to}.db >{to}.summary")
+            trial.shell(f"'{trial.program}' delta --db {of}.db --all - <{to}.summary | '{trial.program}' follow --db {to}.db >/dev/null")
         trial.shell(f"cmp <('{trial.program}' summary --db north.db) <('{trial.program}' summary --db south.db)")
         for question in QUESTIONS:
             trial.shell(f"cmp <('{trial.program}' {question} --db north.db) <('{trial.program}' {question} --db south.db)")
