@@ -3,14 +3,16 @@
 
     tools/try_broker.py [--program FILE] [--orders N]
 
-Two services publish the events of their orders (`site relay --all | mosquitto_pub -l`), two sites follow them
-(`mosquitto_sub | site follow`). In the middle the broker is killed and started anew, a subscriber is killed and misses
-what comes, and one service sends everything twice. What the broker then lost is mended by `summary`, `delta --all` and
+Two services publish the events of their orders (pages of `site relay`, each a line, to `mosquitto_pub -l`), two sites
+follow them (`mosquitto_sub | site follow`). In the middle the broker is killed and started anew, a subscriber is killed
+and misses what comes, and one service sends everything twice. What the broker then lost is mended by `summary`, `delta --all` and
 `follow`, each way; in the end both sites must have the same summary and the same seven answers, with every order of both
 services. Where there is no Mosquitto it says so and tries nothing. The last line is 'N passed, M failed'.
 """
 import argparse
+import json
 import os
+import pwd
 import shutil
 import signal
 import socket
@@ -37,7 +39,8 @@ class Trial:
             self.port = it.getsockname()[1]
         with open(f"{room}/broker.conf", "w", encoding="ascii") as it:
             it.write(f"listener {self.port} 127.0.0.1\nallow_anonymous true\npersistence true\npersistence_location {room}/\n"
-                     "autosave_interval 1\nmax_queued_messages 0\nmax_packet_size 0\n")
+                     # Else a broker that root starts goes over to a user of its own, who can't write here.
+                     f"user {pwd.getpwuid(os.getuid()).pw_name}\nautosave_interval 1\nmax_queued_messages 0\n")
         self.broker = None
 
     def judge(self, is_right, what):
@@ -75,9 +78,20 @@ class Trial:
         subprocess.run(["pkill", f"-{int(how)}", "-g", str(follower.pid), "mosquitto_sub"], check=False)
         follower.wait(timeout=30)
 
+    def pages(self, service, after=0):
+        """The rows of a service after a number, a page of at most 100 a line, in a file."""
+        with open(f"{self.room}/{service}.pages", "wb") as out:
+            while True:
+                ran = subprocess.run([self.program, "relay", "--db", f"{service}-orders.db", "--after", str(after)], cwd=self.room, capture_output=True)
+                count = 0 if ran.returncode else len(json.loads(ran.stdout))
+                if not count:
+                    self.judge(ran.returncode == 0, f"relay after {after}: {ran.stderr!r}")
+                    return f"{service}.pages"
+                out.write(ran.stdout)
+                after += count
+
     def publish(self, service, after=0):
-        self.shell(f"'{self.program}' relay --db {service}-orders.db --after {after} --all | "
-                   f"mosquitto_pub -h 127.0.0.1 -p {self.port} -q 1 -t orders/{service} -l")
+        self.shell(f"mosquitto_pub -h 127.0.0.1 -p {self.port} -q 1 -t orders/{service} -l <{self.pages(service, after)}")
 
     def place(self, service, first, last):
         for number in range(first, last + 1):
@@ -128,7 +142,7 @@ def main():
         print(f"before: the north has {trial.held('north')} events, the south {trial.held('south')}, of {2 * given.orders}")
         for service in ("north", "south"):
             # What never came to either site over the broker comes from the service itself.
-            trial.shell(f"'{trial.program}' relay --db {service}-orders.db --after 0 --all | '{trial.program}' follow --db {service}.db >/dev/null")
+            trial.shell(f"'{trial.program}' follow --db {service}.db {trial.pages(service)} >/dev/null")
         for to, of in (("north", "south"), ("south", "north")):
             trial.shell(f"'{trial.program}' summary --db {to}.db >{to}.summary")
             trial.shell(f"'{trial.program}' delta --db {of}.db --all - <{to}.summary | '{trial.program}' follow --db {to}.db >/dev/null")
