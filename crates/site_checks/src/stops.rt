@@ -4,7 +4,7 @@
 use crate::event::{A1, A2, A3};
 use crate::refused::came;
 use crate::schedules::{then, then_deliver};
-use exchange::{Step, Steps, World};
+use exchange::{Step, Steps, World, run};
 use std::alloc::Global;
 
 /// Adds two deliveries and a step of each other kind, and answers whether it did.
@@ -66,6 +66,29 @@ fn ended(alloc: Global) -> Option<bool> {
     } else {
         None
     }
+}
+
+/// Whether two sites that are made for a run have all that it gives them, or stand where it stopped.
+fn has_its_sites(alloc: Global, steps: &Steps) -> bool {
+    if !steps.fits(2) {
+        return false;
+    }
+    match run(alloc, 2, steps) {
+        Ok(world) => stand_after(&world, 6, 0),
+        Err(stopped) => stand_after(&stopped.world, stopped.done, stopped.part),
+    }
+}
+
+/// The same of the schedule with each kind of step; true where there is no memory for it.
+fn runs_with_its_sites(alloc: Global) -> bool {
+    let mut steps = Steps::empty(alloc);
+    !add_each_kind(alloc, &mut steps) || has_its_sites(alloc, &steps)
+}
+
+/// It may fail where the one allocation is refused by which a run makes the list of its sites.
+#[test]
+fn a_run_has_its_sites(rt: HostRuntime) {
+    assert!(rt; runs_with_its_sites(rt.alloc()));
 }
 
 #[test]
