@@ -1,0 +1,3 @@
+pub mod TallyLemmas
+pub mod ListLemmas
+pub mod ShownLemmas

@@ -1,0 +1,10 @@
+//! Views of a set of events, kept as the events come.
+#![tactic(auto)]
+
+mod answer;
+mod kept;
+mod seed;
+mod tally;
+
+pub use kept::Views;
+pub use seed::Seed;

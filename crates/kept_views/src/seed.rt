@@ -1,0 +1,38 @@
+//! What keys are hashed by.
+
+ghost use Rattle.kept_views.specs.Seed.{hasher_of};
+
+use std::hash::RandomState;
+use std::hash::{BuildHasher, DefaultHasher};
+
+/// What the keys of tables are hashed by: a seed of one's own, or one that everybody knows.
+#[derive(Clone, Copy)]
+pub struct Seed {
+    state: Option<RandomState>,
+}
+
+impl Seed {
+    /// A seed that nobody knows, for keys that come from outside.
+    pub fn random(state: RandomState) -> Seed {
+        Seed { state: Some(state) }
+    }
+
+    /// The seed that everybody knows, for keys that one trusts: whoever knows it can pick keys that
+    /// collide.
+    pub fn known() -> Seed {
+        Seed { state: None }
+    }
+}
+
+impl BuildHasher for Seed {
+    type Hasher = DefaultHasher;
+
+    ghost build_hasher = { hasher_of };
+
+    fn build_hasher(&self) -> DefaultHasher {
+        match &self.state {
+            Some(state) => state.build_hasher(),
+            None => DefaultHasher::new(),
+        }
+    }
+}

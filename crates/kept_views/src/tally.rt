@@ -1,0 +1,42 @@
+//! A table of how often something comes.
+
+ghost use Rattle.std.specs.Prelude.{◌≡◌, ◌+◌, ◌-◌, ◌<◌, ◌≤◌, ◌^◌, ℕ, List, Some, bytes_eq, string_bytes, if◌then◌else◌};
+ghost use Rattle.std.specs.Option.{unwrap_or};
+ghost use Rattle.indexmap.specs.IndexMap.{get_by_text, spare};
+ghost use Rattle.kept_views.specs.Tables.{counted};
+
+use crate::seed::Seed;
+use indexmap::IndexMap;
+
+/// Counts of texts. A text that isn't there has the count 0.
+pub(crate) type Tally = IndexMap<String, u64, Seed>;
+
+/// Counts a text once more, for which there must be room. It takes no memory.
+pub(crate) fn raise(tally: &mut Tally, text: String)
+    requires room { 0 < spare tally.old }
+    requires fits { unwrap_or (get_by_text tally.old (string_bytes text)) 0 + 1 < 2 ^ 64 }
+    ensures { (k : List ℕ) → get_by_text tally.new k ≡ (if bytes_eq (string_bytes text) k
+        then Some (unwrap_or (get_by_text tally.old (string_bytes text)) 0 + 1)
+        else get_by_text tally.old k) }
+{
+    let before = tally.get(text.as_str()).copied().unwrap_or(0);
+    let _ = tally.insert(text, before + 1);
+}
+
+/// Counts a text once less, which must have been counted; a count that falls to 0 is taken out. It
+/// takes no memory.
+pub(crate) fn lower(tally: &mut Tally, text: &str)
+    requires counted { 0 < unwrap_or (get_by_text tally.old text.now) 0 }
+    ensures { (k : List ℕ) → get_by_text tally.new k ≡ (if bytes_eq text.now k
+        then counted (unwrap_or (get_by_text tally.old text.now) 0 - 1)
+        else get_by_text tally.old k) }
+{
+    let before = tally.get(text).copied().unwrap_or(0);
+    if before == 1 {
+        tally.swap_remove(text);
+        return;
+    }
+    if let Some(count) = tally.get_mut(text) {
+        *count = before - 1;
+    }
+}
