@@ -1,3 +1,4 @@
 pub mod TallyLemmas
 pub mod ListLemmas
 pub mod ShownLemmas
+pub mod TableLemmas

@@ -1,2 +1,3 @@
 pub mod Seed
 pub mod Tables
+pub mod steps

@@ -1,13 +1,33 @@
--- Tables about the shown events of a set, kept as events come.
-use Rattle.std.specs.Prelude.{◌≡◌, ℕ, zero, suc, List, Option, None, Some, bytes_eq, count_by}
+-- Tables about the shown events of a set, kept as events come. A is what came, in its order.
+use Rattle.std.specs.Prelude.{◌≡◌, ◌&&◌, ℕ, zero, suc, List, [], Bool, false, Option, None, Some, Contains, bytes_eq, count_by, slice_get}
 use Rattle.std.specs.Map.{lookup}
-use Rattle.attributes.specs.Event.{EventValue, kind_of}
+use Rattle.std.specs.Option.{option_map_or, option_map}
+use Rattle.std.specs.Ordering.{is_eq, nat_cmp, ordering_then}
+use Rattle.std.specs.declared.cmp.Ordering.{Ordering}
+use Rattle.attributes.specs.Bytes.{byte_cmp}
+use Rattle.attributes.specs.Event.{EventValue, id_of, kind_of, source_of, subject_of}
 use Rattle.inbox.specs.Sets.{set_of}
 use Rattle.inbox.specs.Shown.{shown}
+use Rattle.views.specs.Number.{number_or_0}
 
--- the tables: types with counts
+-- a source and a subject
+abbrev pub Thread : Type 0
+Thread = List ℕ × List ℕ
+
+-- a number and an id, which tell the events of a thread apart
+abbrev pub Rank : Type 0
+Rank = ℕ × List ℕ
+
+-- ranks with places among what came
+abbrev pub Rows : Type 0
+Rows = List (Rank × ℕ)
+
+-- the tables: types with counts, and threads with rows
 pub record Tables : Type 0 where
   pub kinds : List (List ℕ × ℕ)
+  pub threads : List (Thread × Rows)
+
+-- ---- types
 
 -- a count as a table has it: none for 0
 abbrev pub counted : ℕ → Option ℕ
@@ -23,6 +43,49 @@ abbrev pub CountsKinds : List EventValue → List (List ℕ × ℕ) → Type 0
 CountsKinds events rows =
     (kind : List ℕ) → lookup (bytes_eq kind) rows ≡ counted (count_of_kind events kind)
 
--- the tables are those of the events that came, A, in the order in which they came
+-- ---- threads
+
+-- by number, then id
+abbrev pub rank_cmp : Rank → Rank → Ordering
+rank_cmp x y = ordering_then (nat_cmp x.0 y.0) (byte_cmp x.1 y.1)
+
+abbrev pub is_thread : Thread → Thread → Bool
+is_thread x y = bytes_eq x.0 y.0 && bytes_eq x.1 y.1
+
+abbrev pub is_rank : Rank → Rank → Bool
+is_rank x y = is_eq (rank_cmp x y)
+
+-- the rows of the thread
+abbrev pub rows_of : List (Thread × Rows) → Thread → Rows
+rows_of threads thread = option_map_or (λ rows. rows) (lookup (is_thread thread) threads) []
+
+-- the place of the row of the thread that has the rank
+abbrev pub place_at : List (Thread × Rows) → Thread → Rank → Option ℕ
+place_at threads thread rank = lookup (is_rank rank) (rows_of threads thread)
+
+-- where the row of an event stands: in its thread, at its number and id; none without a subject
+abbrev pub slot_of : EventValue → Option (Thread × Rank)
+slot_of e = option_map (λ subject. ((source_of e, subject), (number_or_0 e, id_of e))) (subject_of e)
+
+-- whether a slot is that of the thread and the rank
+abbrev pub is_slot : Option (Thread × Rank) → Thread → Rank → Bool
+is_slot slot thread rank = option_map_or (λ s. is_thread s.0 thread && is_rank s.1 rank) slot false
+
+-- each row is of one of the events, which came at the row's place
+abbrev pub RowsAreOf : List EventValue → List EventValue → List (Thread × Rows) → Type 0
+RowsAreOf A events threads =
+    (thread : Thread) (rank : Rank) (place : ℕ) → place_at threads thread rank ≡ Some place
+    → (e : EventValue) × (slice_get A place ≡ Some e) × Contains events e
+    × (slot_of e ≡ Some (thread, rank))
+
+-- each of the events that has a subject has a row
+abbrev pub EachHasRow : List EventValue → List (Thread × Rows) → Type 0
+EachHasRow events threads =
+    (e : EventValue) (thread : Thread) (rank : Rank) → Contains events e
+    → slot_of e ≡ Some (thread, rank) → (place : ℕ) × (place_at threads thread rank ≡ Some place)
+
+-- the tables are those of the shown events of what came
 pub record StandsFor (A : List EventValue) (tables : Tables) : Type 0 where
   pub kinds : CountsKinds (shown (set_of A)) tables.kinds
+  pub rows : RowsAreOf A (shown (set_of A)) tables.threads
+  pub each : EachHasRow (shown (set_of A)) tables.threads

@@ -1,12 +1,17 @@
 //! The views, kept.
 
-ghost use Rattle.std.specs.Prelude.{◌≡◌, ◌∷◌, [], OnErr, OnOk, false};
+ghost use Rattle.std.specs.Prelude.{◌≡◌, ◌∷◌, ◌+◌, ◌<◌, ◌^◌, [], IfOk, OnErr, OnOk, false};
+ghost use Rattle.std.specs.Option.{option_map};
+ghost use Rattle.attributes.specs.Event.{kind_of};
 ghost use Rattle.inbox.specs.KeyOrder.{key_cmp};
 ghost use Rattle.inbox.specs.Ordered.{append_new, has};
 ghost use Rattle.kept_views.specs.Tables.{StandsFor};
+ghost use Rattle.kept_views.specs.steps.Moves.{ComesIn, GoesOut, count_in, slot_apart};
+ghost use Rattle.kept_views.specs.steps.Seen.{slot_in};
 
 use crate::seed::Seed;
 use crate::tally::{Tally, lower, raise};
+use crate::threads::{Slot, Threads, bring, clear, slot_of};
 use attributes::Sequenced;
 use inbox::Inbox;
 use indexmap::IndexMap;
@@ -17,18 +22,35 @@ use std::marker::Model;
 #[derive(Drop)]
 pub struct Views {
     pub(crate) kinds: Tally,
+    pub(crate) threads: Threads,
     alloc: Global,
 }
 
 impl Model for Views {
-    ghost use Rattle.std.specs.Prelude.{map, string_bytes};
     ghost use Rattle.kept_views.specs.Tables.{Tables};
 
     ghost Value = { Tables };
 
+    ghost use Rattle.kept_views.specs.steps.Seen.{kinds_in, threads_in};
+
     ghost view = { λ v. record {
-      kinds = map (λ e. (string_bytes e.0, e.1)) v.kinds.entries;
+      kinds = kinds_in v.kinds.entries;
+      threads = threads_in v.threads.entries;
     } };
+}
+
+/// The slot of an event, unless another event has the same.
+fn slot_apart(
+    alloc: Global,
+    event: &Sequenced,
+    other: &Sequenced,
+) -> Result<Option<Slot>, AllocError>
+    ensures { IfOk result (λ slot. option_map slot_in slot ≡ slot_apart event.now other.now) }
+{
+    if event.event().subject() == other.event().subject() && event.number() == other.number() {
+        return Ok(None);
+    }
+    slot_of(alloc, event)
 }
 
 impl Views {
@@ -38,6 +60,7 @@ impl Views {
     {
         Views {
             kinds: IndexMap::with_hasher(alloc, seed),
+            threads: IndexMap::with_hasher(alloc, seed),
             alloc,
         }
     }
@@ -52,38 +75,46 @@ impl Views {
         if inbox.place_of(event).is_ok() {
             return Ok(());
         }
+        let place = inbox.arrived();
+        if place == u64::MAX {
+            return Err(AllocError);
+        }
         let came = event.event();
         match inbox.shown_of(came.source(), came.id()) {
-            None => self.show(inbox, event),
+            None => self.admit(event, place),
             Some(other) => {
-                if came.compare(other.event()).is_lt() {
-                    self.replace(inbox, other, event)
-                } else {
-                    Ok(())
+                if !came.compare(other.event()).is_lt() {
+                    return Ok(());
                 }
+                let slot = slot_apart(self.alloc, other, event)?;
+                self.admit(event, place)?;
+                self.dismiss(other, slot);
+                Ok(())
             }
         }
     }
 
-    fn show(&mut self, inbox: &Inbox, event: &Sequenced) -> Result<(), AllocError> {
-        let _ = inbox;
+    /// Counts an event in, which comes at a place. On a refusal nothing has changed.
+    fn admit(&mut self, event: &Sequenced, place: u64) -> Result<(), AllocError>
+        requires fits { count_in self.old.kinds (kind_of event.now) + 1 < 2 ^ 64 }
+        ensures comes { OnOk result (ComesIn event.now place self.old self.new) }
+        ensures same { OnErr result (self.new ≡ self.old) }
+    {
         let kind = String::from_str(self.alloc, event.event().kind())?;
         self.kinds.reserve(1)?;
+        let slot = slot_of(self.alloc, event)?;
+        // The rows tell no room before, so what may be refused there is the last such step.
+        bring(self.alloc, &mut self.threads, slot, place)?;
         raise(&mut self.kinds, kind);
         Ok(())
     }
 
-    fn replace(
-        &mut self,
-        inbox: &Inbox,
-        other: &Sequenced,
-        event: &Sequenced,
-    ) -> Result<(), AllocError> {
-        let _ = inbox;
-        let kind = String::from_str(self.alloc, event.event().kind())?;
-        self.kinds.reserve(1)?;
-        raise(&mut self.kinds, kind);
-        lower(&mut self.kinds, other.event().kind());
-        Ok(())
+    /// Counts an event out, and empties a slot.
+    fn dismiss(&mut self, event: &Sequenced, slot: Option<Slot>)
+        requires counted { 0 < count_in self.old.kinds (kind_of event.now) }
+        ensures { GoesOut event.now (option_map slot_in slot) self.old self.new }
+    {
+        lower(&mut self.kinds, event.event().kind());
+        clear(&mut self.threads, slot);
     }
 }

@@ -5,6 +5,7 @@ mod answer;
 mod kept;
 mod seed;
 mod tally;
+mod threads;
 
 pub use kept::Views;
 pub use seed::Seed;

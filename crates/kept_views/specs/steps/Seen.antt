@@ -1,0 +1,25 @@
+-- Tables as the code holds them, seen as contracts see them.
+use Rattle.std.specs.Prelude.{ℕ, List, map, string_bytes}
+use Rattle.std.specs.BTreeMap.{BTreeMap}
+use Rattle.std.specs.declared.string.String.{String}
+use Rattle.kept_views.specs.declared.threads.Slot.{Slot}
+use Rattle.kept_views.specs.Tables.{Rank, Rows, Thread}
+
+module _ {Y : Type 0} where
+  abbrev pub kinds_in : List (String Y × ℕ) → List (List ℕ × ℕ)
+  kinds_in es = map (λ e. (string_bytes e.0, e.1)) es
+
+  abbrev pub thread_in : String Y × String Y → Thread
+  thread_in t = (string_bytes t.0, string_bytes t.1)
+
+  abbrev pub rank_in : ℕ × String Y → Rank
+  rank_in r = (r.0, string_bytes r.1)
+
+  abbrev pub rows_in : BTreeMap (ℕ × String Y) ℕ → Rows
+  rows_in rows = map (λ r. (rank_in r.0, r.1)) rows.entries
+
+  abbrev pub threads_in : List ((String Y × String Y) × BTreeMap (ℕ × String Y) ℕ) → List (Thread × Rows)
+  threads_in es = map (λ e. (thread_in e.0, rows_in e.1)) es
+
+abbrev pub slot_in : Slot → Thread × Rank
+slot_in s = (thread_in s.thread, rank_in s.rank)
