@@ -2,3 +2,5 @@ pub mod TallyLemmas
 pub mod ListLemmas
 pub mod ShownLemmas
 pub mod TableLemmas
+pub mod MemberLemmas
+pub mod StandsLemmas

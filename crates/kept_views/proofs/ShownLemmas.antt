@@ -69,7 +69,7 @@ has_key-is e f =
     both Equal b = refl
     both Greater b = refl
 
-key_back : (e f : EventValue) → same_key e f ≡ same_key f e
+pub key_back : (e f : EventValue) → same_key e f ≡ same_key f e
 key_back e f = from (pair_cmp e f) refl
   where
     from : (r : Ordering) → pair_cmp e f ≡ r → is_eq r ≡ same_key f e
@@ -77,7 +77,11 @@ key_back e f = from (pair_cmp e f) refl
     from Equal h = sym (ap is_eq (pair_cmp_total.antisymm f e ∙ ap ordering_reverse h))
     from Greater h = sym (ap is_eq (pair_cmp_total.antisymm f e ∙ ap ordering_reverse h))
 
-same_through : (e f g : EventValue) → same_key e f ≡ true → same_key f g ≡ true → same_key e g ≡ true
+pub one_key : (e f : EventValue) → source_of e ≡ source_of f → id_of e ≡ id_of f → same_key e f ≡ true
+one_key e f source id =
+    ap₂ (λ (x y : List ℕ). is_eq (ordering_then (byte_cmp (source_of e) x) (byte_cmp (id_of e) y))) (sym source) (sym id) ∙ ap is_eq (tied_itself pair_cmp_total e)
+
+pub same_through : (e f g : EventValue) → same_key e f ≡ true → same_key f g ≡ true → same_key e g ≡ true
 same_through e f g h k = ap is_eq (pair_cmp_total.congr e f g (equal_from _ h)) ∙ k
 
 -- no event of the key of a shown one has a lesser text
@@ -86,11 +90,11 @@ least E e shows i f here same =
     and_right _ _ (all_at (λ f. (same_key f e && is_lt (text_cmp f e)) ≡ false) E i f (any_false (λ f. same_key f e && is_lt (text_cmp f e)) E (not_true _ shows)) here) same
 
 -- two shown events of one key have one text
-one_text : (E : List EventValue) (i j : ℕ) (e f : EventValue) → slice_get E i ≡ Some e → slice_get E j ≡ Some f → is_shown E e ≡ true → is_shown E f ≡ true → same_key e f ≡ true → text_cmp e f ≡ Equal
+pub one_text : (E : List EventValue) (i j : ℕ) (e f : EventValue) → slice_get E i ≡ Some e → slice_get E j ≡ Some f → is_shown E e ≡ true → is_shown E f ≡ true → same_key e f ≡ true → text_cmp e f ≡ Equal
 one_text E i j e f at-e at-f shows-e shows-f same =
     neither_less (text_cmp e f) (text_cmp f e) (text_cmp_total.antisymm f e) (least E f shows-f i e at-e same) (least E e shows-e j f at-f (sym (key_back e f) ∙ same))
 
-tie_of : (e f : EventValue) → same_key e f ≡ true → text_cmp e f ≡ Equal → key_cmp e f ≡ Equal
+pub tie_of : (e f : EventValue) → same_key e f ≡ true → text_cmp e f ≡ Equal → key_cmp e f ≡ Equal
 tie_of e f h k = ap₂ ordering_then (equal_from _ h) k
 
 module _ (E : List EventValue) (e : EventValue) (fresh : has key_cmp E e ≡ false) where
@@ -122,7 +126,7 @@ module _ (E : List EventValue) (e : EventValue) (fresh : has key_cmp E e ≡ fal
 
   -- ---- no event has its key: it is one more
   module _ (none : NoneHas E (source_of e) (id_of e)) where
-    apart : (i : ℕ) (f : EventValue) → slice_get E i ≡ Some f → same_key f e ≡ false
+    pub apart : (i : ℕ) (f : EventValue) → slice_get E i ≡ Some f → same_key f e ≡ false
     apart i f here = sym (has_key-is e f) ∙ all_at (λ f. has_key (source_of e) (id_of e) f ≡ false) E i f (any_false (has_key (source_of e) (id_of e)) E none) here
 
     pub first_shows : is_shown E' e ≡ true
@@ -158,7 +162,7 @@ module _ (E : List EventValue) (e : EventValue) (fresh : has key_cmp E e ≡ fal
           or_true true = refl
           or_true false = refl
 
-      hides_none : (i : ℕ) (f : EventValue) → slice_get E i ≡ Some f → is_shown E f ≡ true → hides e f ≡ false
+      pub hides_none : (i : ℕ) (f : EventValue) → slice_get E i ≡ Some f → is_shown E f ≡ true → hides e f ≡ false
       hides_none i f here shows = and_false (same_key e f) (is_lt (text_cmp e f)) (λ s.
           let one : text_cmp o f ≡ Equal = one_text E there.place i o f there.is_there here there.least shows (same_through o e f same-o s) in
           ap is_lt (sym (alike_right text_cmp_total o f e one)) ∙ greater)
@@ -193,12 +197,12 @@ module _ (E : List EventValue) (e : EventValue) (fresh : has key_cmp E e ≡ fal
               by_text Greater t = refl
 
       -- of the shown ones it hides that one alone
-      hides_one : (i : ℕ) (f : EventValue) → slice_get E i ≡ Some f → key_cmp f o ≢ Equal → is_shown E f ≡ true → hides e f ≡ false
+      pub hides_one : (i : ℕ) (f : EventValue) → slice_get E i ≡ Some f → key_cmp f o ≢ Equal → is_shown E f ≡ true → hides e f ≡ false
       hides_one i f h n shows = and_false (same_key e f) (is_lt (text_cmp e f)) (λ s.
           let same : same_key f o ≡ true = same_through f e o (key_back f e ∙ s) (key_back e o ∙ same-o) in
           absurd (n (tie_of f o same (one_text E i there.place f o h there.is_there shows there.least same))))
 
-      hides_it : hides e o ≡ true
+      pub hides_it : hides e o ≡ true
       hides_it = ap₂ (λ (a b : Bool). a && b) (key_back e o ∙ same-o) less
 
       pub replaced_counts : IsStrictlySortedBy key_cmp E → (q : EventValue → Bool) → count_by q (shown E') + cond (q o) 1 0 ≡ cond (q e) 1 0 + count_by q (shown E)

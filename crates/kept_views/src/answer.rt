@@ -1,1 +1,76 @@
 //! Answers from the tables.
+
+ghost use Rattle.std.specs.Prelude.{◌≡◌, ◌≢◌, [], IfOk, List, OnErr, map};
+ghost use Rattle.attributes.specs.Bytes.{byte_cmp};
+ghost use Rattle.attributes.specs.Event.{EventValue, kind_of};
+ghost use Rattle.inbox.specs.Kept.{events};
+ghost use Rattle.views.specs.Question.{IsTrueOf, query_of};
+ghost use Rattle.views.specs.Tally.{tally};
+ghost use Rattle.kept_views.specs.Tables.{CountsKinds, StandsFor};
+ghost use Rattle.kept_views.specs.steps.Seen.{kinds_in};
+
+use crate::kept::Views;
+use crate::tally::Tally;
+use attributes::Text;
+use inbox::Inbox;
+use std::alloc::{AllocError, Global};
+use std::collections::BTreeMap;
+use views::{Answer, Kinds, Query, answer};
+
+/// The counts in byte order of their texts, lent. Time in proportion to them, times the logarithm
+/// of their number.
+fn ordered_kinds(alloc: Global, kinds: &Tally) -> Result<BTreeMap<&str, u64>, AllocError>
+    ensures { IfOk result (λ table. (shown : List EventValue)
+        → CountsKinds shown (kinds_in kinds.now.entries)
+        → map (λ e. (e.0.now, e.1)) table.entries ≡ tally byte_cmp (map kind_of shown)) }
+{
+    let mut table = BTreeMap::new(alloc);
+    for (kind, count) in kinds.iter() {
+        table.insert(kind.as_str(), *count)?;
+    }
+    Ok(table)
+}
+
+/// The rows of a table of types, copied.
+fn listed_kinds(alloc: Global, table: &BTreeMap<&str, u64>) -> Result<Kinds, AllocError>
+    ensures { IfOk result (λ rows. rows ≡ map (λ e. (e.0.now, e.1)) table.now.entries) }
+{
+    let mut rows = Kinds::empty(alloc);
+    for (kind, count) in table {
+        rows.push((Text::of(alloc, kind)?, *count))?;
+    }
+    Ok(rows)
+}
+
+/// The counts in byte order of their texts.
+fn list_kinds(alloc: Global, kinds: &Tally) -> Result<Kinds, AllocError>
+    ensures { IfOk result (λ rows. (shown : List EventValue)
+        → CountsKinds shown (kinds_in kinds.now.entries)
+        → rows ≡ tally byte_cmp (map kind_of shown)) }
+{
+    let table = ordered_kinds(alloc, kinds)?;
+    Ok(listed_kinds(alloc, &table)?)
+}
+
+impl Views {
+    /// The answer to a question about the events that came, as `views::answer` gives it. Types cost
+    /// time in proportion to the types, times the logarithm of their number, and memory in
+    /// proportion to the answer; other questions cost what `views::answer` costs. `AllocError`
+    /// where memory is refused.
+    pub fn answer(&self, inbox: &Inbox, query: Query) -> Result<Answer, AllocError>
+        requires { StandsFor inbox.now.arrivals self.now }
+        ensures query { IfOk result (λ a. query_of a ≡ query) }
+        ensures answer { IfOk result (IsTrueOf (events inbox.now)) }
+
+        // Without events no memory is wanted.
+        ensures err { OnErr result (events inbox.now ≢ []) }
+    {
+        if inbox.len() == 0 {
+            return answer(self.alloc, inbox, query);
+        }
+        match query {
+            Query::Kinds => Ok(Answer::Kinds(list_kinds(self.alloc, &self.kinds)?)),
+            _ => answer(self.alloc, inbox, query),
+        }
+    }
+}

@@ -1,10 +1,12 @@
 //! The views, kept.
 
-ghost use Rattle.std.specs.Prelude.{◌≡◌, ◌∷◌, ◌+◌, ◌<◌, ◌^◌, [], IfOk, OnErr, OnOk, false};
+ghost use Rattle.std.specs.Prelude.{◌≡◌, ◌∷◌, ◌++◌, ◌<◌, ◌≤◌, [], IfOk, OnErr, OnOk, false, true};
 ghost use Rattle.std.specs.Option.{option_map};
 ghost use Rattle.attributes.specs.Event.{kind_of};
 ghost use Rattle.inbox.specs.KeyOrder.{key_cmp};
 ghost use Rattle.inbox.specs.Ordered.{append_new, has};
+ghost use Rattle.inbox.specs.Sets.{set_of};
+ghost use Rattle.inbox.specs.Shown.{is_shown};
 ghost use Rattle.kept_views.specs.Tables.{StandsFor};
 ghost use Rattle.kept_views.specs.steps.Moves.{ComesIn, GoesOut, count_in, slot_apart};
 ghost use Rattle.kept_views.specs.steps.Seen.{slot_in};
@@ -13,6 +15,7 @@ use crate::seed::Seed;
 use crate::tally::{Tally, lower, raise};
 use crate::threads::{Slot, Threads, bring, clear, slot_of};
 use attributes::Sequenced;
+use attributes::laws::text_tells_events;
 use inbox::Inbox;
 use indexmap::IndexMap;
 use std::alloc::{AllocError, Global};
@@ -23,7 +26,7 @@ use std::marker::Model;
 pub struct Views {
     pub(crate) kinds: Tally,
     pub(crate) threads: Threads,
-    alloc: Global,
+    pub(crate) alloc: Global,
 }
 
 impl Model for Views {
@@ -71,14 +74,18 @@ impl Views {
         ensures stands { OnOk result
             (StandsFor (append_new key_cmp inbox.now.arrivals (event.now ∷ [])) self.new) }
         ensures same { OnErr result (self.new ≡ self.old) }
+
+        // Memory is wanted for a new event alone, and that it is shown.
+        ensures new { OnErr result (has key_cmp inbox.now.arrivals event.now ≡ false) }
+        ensures shown { OnErr result
+            (is_shown (set_of (inbox.now.arrivals ++ event.now ∷ [])) event.now ≡ true) }
     {
+        // A law that the clauses rest on; the call does nothing.
+        text_tells_events();
         if inbox.place_of(event).is_ok() {
             return Ok(());
         }
         let place = inbox.arrived();
-        if place == u64::MAX {
-            return Err(AllocError);
-        }
         let came = event.event();
         match inbox.shown_of(came.source(), came.id()) {
             None => self.admit(event, place),
@@ -96,10 +103,14 @@ impl Views {
 
     /// Counts an event in, which comes at a place. On a refusal nothing has changed.
     fn admit(&mut self, event: &Sequenced, place: u64) -> Result<(), AllocError>
-        requires fits { count_in self.old.kinds (kind_of event.now) + 1 < 2 ^ 64 }
+        requires fits { count_in self.old.kinds (kind_of event.now) ≤ place }
         ensures comes { OnOk result (ComesIn event.now place self.old self.new) }
         ensures same { OnErr result (self.new ≡ self.old) }
     {
+        // So many events no memory holds; a count goes as far as they.
+        if place == u64::MAX {
+            return Err(AllocError);
+        }
         let kind = String::from_str(self.alloc, event.event().kind())?;
         self.kinds.reserve(1)?;
         let slot = slot_of(self.alloc, event)?;

@@ -1,0 +1,385 @@
+-- The tables stand for what came, with one more event.
+use Rattle.std.proofs.Common.{◌≡◌, ◌≢◌, ℕ, zero, suc, ◌+◌, ◌-◌, ◌<◌, ◌≤◌, ◌==◌, ◌⊎◌, inl, inr, List, [], ◌∷◌, ◌++◌, Bool, true, false, not, ◌&&◌, cond, filter, if◌then◌else◌, length, refl, sym, ap, ap₂, subst, ◌∙◌, arith, Option, Some, None, slice_get, bytes_eq, rules}
+use Rattle.std.proofs.lemmas.Bool.Decides.{Decides-eqb}
+use Rattle.std.specs.Prelude.{Contains, count_by}
+use Rattle.std.specs.declared.cmp.Ordering.{Ordering}
+use Rattle.std.specs.declared.cmp.Ordering.TheVariants.{Less, Equal, Greater}
+use Rattle.std.specs.Ordering.{is_eq, is_lt}
+use Rattle.std.specs.List.{AllByRecursion}
+use Rattle.std.specs.Map.{lookup}
+use Rattle.std.specs.Option.{option_eq, option_map, option_map_or, unwrap_or}
+use Rattle.std.specs.BTreeSet.{insert_key}
+use Rattle.std.proofs.lemmas.Cmp.{nat_list_cmp_total, tied_itself}
+use Rattle.std.proofs.lemmas.List.Sums.{count_by-le-length}
+use Rattle.std.proofs.lemmas.Slice.Eq.{bytes_eq-Decides}
+use mathlib.Core.Bool.{true≢false}
+use Rattle.attributes.specs.Bytes.{byte_cmp}
+use Rattle.attributes.specs.Event.{EventValue, id_of, kind_of, source_of, subject_of, text}
+use Rattle.attributes.specs.Fault.{IsEvent}
+use Rattle.inbox.specs.KeyOrder.{key_cmp, pair_cmp, same_key, text_cmp}
+use Rattle.inbox.specs.Ordered.{append_new, has}
+use Rattle.inbox.specs.Sets.{AreEvents, set_of}
+use Rattle.inbox.specs.Shown.{IsShownOf, NoneHas, has_key, is_shown, shown}
+use Rattle.inbox.proofs.OrderLemmas.{key_cmp_total, tied_events}
+use Rattle.inbox.proofs.SetLemmas.{all-in_order, has-in_order, in_order-push, sorted-in_order}
+use Rattle.views.specs.Number.{number_or_0}
+use Rattle.kept_views.specs.Tables.{CountsKinds, EachHasRow, Rank, RowsAreOf, StandsFor, Tables, Thread, count_of_kind, counted, is_rank, is_slot, is_thread, place_at, slot_of}
+use Rattle.kept_views.specs.steps.Moves.{ComesIn, GoesOut, PutsAt, are_together, count_in, slot_apart}
+use Rattle.kept_views.proofs.MemberLemmas.{all_in, at_place, from_filter, from_inserted, is_inserted, is_last, length_filtered, length_in_order, place_in, to_filter, to_inserted, was_there}
+use Rattle.kept_views.proofs.ShownLemmas.{equal_from, first_counts, first_shows, hidden_counts, hides, hides_it, hides_none, hides_one, key_back, one_key, one_text, replaced_counts, replaces_shows, shown_of_new, stays_hidden, apart, tie_of}
+use Rattle.kept_views.proofs.TableLemmas.{rank_exact, rank_itself, thread_exact, thread_itself}
+
+-- ---- what comes again, and what is new
+pub known : (A : List EventValue) (e : EventValue) (T : Tables) → has key_cmp A e ≡ true → StandsFor A T → StandsFor (append_new key_cmp A (e ∷ [])) T
+known A e T h s = subst (λ B. StandsFor B T) (sym (ap (λ b. if b then A else A ++ e ∷ []) h)) s
+
+pub comes_new : (A : List EventValue) (e : EventValue) (T : Tables) → has key_cmp A e ≡ false → StandsFor (A ++ e ∷ []) T → StandsFor (append_new key_cmp A (e ∷ [])) T
+comes_new A e T h s = subst (λ B. StandsFor B T) (sym (ap (λ b. if b then A else A ++ e ∷ []) h)) s
+
+-- a source and an id that are the event's
+pub none_at : (E : List EventValue) (e : EventValue) (source id : List ℕ) → source ≡ source_of e → id ≡ id_of e → NoneHas E source id → NoneHas E (source_of e) (id_of e)
+none_at E e source id h k none = subst (λ x. NoneHas E x (id_of e)) h (subst (λ x. NoneHas E source x) k none)
+
+pub shown_at : (E : List EventValue) (e o : EventValue) (source id : List ℕ) → source ≡ source_of e → id ≡ id_of e → IsShownOf E source id o → IsShownOf E (source_of e) (id_of e) o
+shown_at E e o source id h k shows = subst (λ x. IsShownOf E x (id_of e) o) h (subst (λ x. IsShownOf E source x o) k shows)
+
+-- ---- counts
+text_back : (k t : List ℕ) → bytes_eq k t ≡ bytes_eq t k
+text_back k t = from (bytes_eq k t) (bytes_eq t k) refl refl
+  where
+    from : (a b : Bool) → bytes_eq k t ≡ a → bytes_eq t k ≡ b → a ≡ b
+    from true b e f = sym (sym f ∙ (bytes_eq-Decides t k).1 (sym ((bytes_eq-Decides k t).0 e)))
+    from false true e f = absurd (true≢false (sym ((bytes_eq-Decides k t).1 (sym ((bytes_eq-Decides t k).0 f))) ∙ e))
+    from false false e f = refl
+
+from_counted : (n : ℕ) → unwrap_or (counted n) 0 ≡ n
+from_counted zero = refl
+from_counted (suc n) = refl
+
+one_more : (n : ℕ) → Some (n + 1) ≡ counted (1 + n)
+one_more n = ap Some (omega arith) ∙ (λ i. counted (more i))
+  where
+    more : suc n ≡ 1 + n
+    more = omega arith
+
+pub raised : (n m : List ℕ → ℕ) (ks ms : List (List ℕ × ℕ)) (kind : List ℕ) → ((k : List ℕ) → lookup (bytes_eq k) ks ≡ counted (n k))
+    → ((k : List ℕ) → m k ≡ cond (bytes_eq k kind) 1 0 + n k)
+    → ((k : List ℕ) → lookup (bytes_eq k) ms ≡ (if bytes_eq kind k then Some (count_in ks kind + 1) else lookup (bytes_eq k) ks))
+    → (k : List ℕ) → lookup (bytes_eq k) ms ≡ counted (m k)
+raised n m ks ms kind was counts change k =
+    change k
+    ∙ elim (bytes_eq kind k) as (λ b. bytes_eq kind k ≡ b → (if b then Some (count_in ks kind + 1) else lookup (bytes_eq k) ks) ≡ counted (cond b 1 0 + n k)) [
+      | true ↦ λ e. ap (λ c. Some (c + 1)) (ap (λ o. unwrap_or o 0) (was kind) ∙ from_counted (n kind) ∙ ap n ((bytes_eq-Decides kind k).0 e)) ∙ one_more (n k)
+      | false ↦ λ e. was k ∙ ap counted (omega arith)
+    ] refl
+    ∙ ap (λ b. counted (cond b 1 0 + n k)) (text_back kind k) ∙ ap counted (sym (counts k))
+
+pub lowered : (n m : List ℕ → ℕ) (ks ms : List (List ℕ × ℕ)) (kind : List ℕ) → ((k : List ℕ) → lookup (bytes_eq k) ks ≡ counted (n k))
+    → ((k : List ℕ) → m k + cond (bytes_eq k kind) 1 0 ≡ n k)
+    → ((k : List ℕ) → lookup (bytes_eq k) ms ≡ (if bytes_eq kind k then counted (count_in ks kind - 1) else lookup (bytes_eq k) ks))
+    → (k : List ℕ) → lookup (bytes_eq k) ms ≡ counted (m k)
+lowered n m ks ms kind was counts change k =
+    change k
+    ∙ elim (bytes_eq kind k) as (λ b. bytes_eq kind k ≡ b → m k + cond b 1 0 ≡ n k → (if b then counted (count_in ks kind - 1) else lookup (bytes_eq k) ks) ≡ counted (m k)) [
+      | true ↦ λ e h. ap (λ c. counted (c - 1)) (ap (λ o. unwrap_or o 0) (was kind) ∙ from_counted (n kind) ∙ ap n ((bytes_eq-Decides kind k).0 e)) ∙ ap counted (omega (arith, h))
+      | false ↦ λ e h. was k ∙ ap counted (omega (arith, h))
+    ] refl (ap (λ b. m k + cond b 1 0) (text_back kind k) ∙ counts k)
+
+-- a count is that of what the table stands for, and fits
+pub count_is : (A : List EventValue) (T : Tables) (k : List ℕ) → StandsFor A T → count_in T.kinds k ≡ count_of_kind (shown (set_of A)) k
+count_is A T k s = ap (λ o. unwrap_or o 0) (s.kinds k) ∙ from_counted (count_of_kind (shown (set_of A)) k)
+
+pub count_fits : (A : List EventValue) (T : Tables) (k : List ℕ) → StandsFor A T → count_in T.kinds k ≤ length A
+count_fits A T k s =
+    omega (arith, count_is A T k s, count_by-le-length (λ e. bytes_eq k (kind_of e)) (shown (set_of A)), length_filtered (is_shown (set_of A)) (set_of A), length_in_order key_cmp A)
+
+-- ---- slots
+same_slot : (s : Thread × Rank) (t : Thread) (r : Rank) → (is_thread s.0 t && is_rank s.1 r) ≡ true → s ≡ (t, r)
+same_slot s t r h = from (is_thread s.0 t) (is_rank s.1 r) refl refl h
+  where
+    from : (a b : Bool) → is_thread s.0 t ≡ a → is_rank s.1 r ≡ b → (a && b) ≡ true → s ≡ (t, r)
+    from true true e f h = ap₂ (λ (x : Thread) (y : Rank). (x, y)) (thread_exact s.0 t e) (rank_exact s.1 r f)
+    from true false e f h = absurd (true≢false (sym h))
+    from false b e f h = absurd (true≢false (sym h))
+
+pub slot_exact : (o : Option (Thread × Rank)) (t : Thread) (r : Rank) → is_slot o t r ≡ true → o ≡ Some (t, r)
+slot_exact None t r h = absurd (true≢false (sym h))
+slot_exact (Some s) t r h = ap Some (same_slot s t r h)
+
+pub slot_itself : (o : Option (Thread × Rank)) (t : Thread) (r : Rank) → o ≡ Some (t, r) → is_slot o t r ≡ true
+slot_itself o t r h = ap (λ x. is_slot x t r) h ∙ ap₂ (λ (a b : Bool). a && b) (thread_itself t) (rank_itself r)
+
+-- what a slot says of its event
+pub record InSlot (e : EventValue) (t : Thread) (r : Rank) : Type 0 where
+  pub source : source_of e ≡ t.0
+  pub subject : subject_of e ≡ Some t.1
+  pub number : number_or_0 e ≡ r.0
+  pub id : id_of e ≡ r.1
+
+pub in_slot : (e : EventValue) (t : Thread) (r : Rank) → slot_of e ≡ Some (t, r) → InSlot e t r
+in_slot e t r h = from (subject_of e) refl h
+  where
+    from : (o : Option (List ℕ)) → subject_of e ≡ o → option_map {U = Thread × Rank} (λ subject. ((source_of e, subject), (number_or_0 e, id_of e))) o ≡ Some (t, r) → InSlot e t r
+    from None is h = absurd (cc)
+    from (Some subject) is h =
+        let same : ◌≡◌ {A = Thread × Rank} ((source_of e, subject), (number_or_0 e, id_of e)) (t, r) = cc in
+        record {
+          source = ap (λ (s : Thread × Rank). s.0.0) same;
+          subject = is ∙ ap (λ (s : Thread × Rank). Some s.0.1) same;
+          number = ap (λ (s : Thread × Rank). s.1.0) same;
+          id = ap (λ (s : Thread × Rank). s.1.1) same;
+        }
+
+subject_exact : (a b : Option (List ℕ)) → option_eq bytes_eq a b ≡ true → a ≡ b
+subject_exact None None h = refl
+subject_exact None (Some y) h = absurd (true≢false (sym h))
+subject_exact (Some x) None h = absurd (true≢false (sym h))
+subject_exact (Some x) (Some y) h = ap Some ((bytes_eq-Decides x y).0 h)
+
+subject_itself : (a : Option (List ℕ)) → option_eq bytes_eq a a ≡ true
+subject_itself None = refl
+subject_itself (Some x) = (bytes_eq-Decides x x).1 refl
+
+and_left : (a b : Bool) → (a && b) ≡ true → a ≡ true
+and_left true b h = refl
+and_left false b h = absurd (true≢false (sym h))
+
+and_right : (a b : Bool) → (a && b) ≡ true → b ≡ true
+and_right true b h = h
+and_right false b h = absurd (true≢false (sym h))
+
+number_exact : (n m : ℕ) → (n == m) ≡ true → n ≡ m
+number_exact n m h = (Decides-eqb n m).0 h
+
+pub together_alike : (o e : EventValue) → source_of o ≡ source_of e → id_of o ≡ id_of e → are_together o e ≡ true → slot_of o ≡ slot_of e
+together_alike o e source id h =
+    let subjects : subject_of o ≡ subject_of e = subject_exact _ _ (and_left _ _ h) in
+    let numbers : number_or_0 o ≡ number_or_0 e = number_exact _ _ (and_right _ _ h) in
+    ap (option_map (λ subject. ((source_of o, subject), (number_or_0 o, id_of o)))) subjects
+    ∙ ap (λ s. option_map (λ subject. ((s, subject), (number_or_0 o, id_of o))) (subject_of e)) source
+    ∙ ap₂ (λ (n : ℕ) (i : List ℕ). option_map (λ subject. ((source_of e, subject), (n, i))) (subject_of e)) numbers id
+
+pub alike_together : (o e : EventValue) (t : Thread) (r : Rank) → InSlot o t r → InSlot e t r → are_together o e ≡ true
+alike_together o e t r a b =
+    ap₂ (λ (s : Option (List ℕ)) (n : ℕ). option_eq bytes_eq (subject_of o) s && (number_or_0 o == n)) (b.subject ∙ sym a.subject) (b.number ∙ sym a.number)
+    ∙ ap₂ (λ (x y : Bool). x && y) (subject_itself (subject_of o)) (same (number_or_0 o))
+  where
+    same : (n : ℕ) → (n == n) ≡ true
+    same n = search rules
+
+-- ---- one more event
+module _ (A : List EventValue) (e : EventValue) (fresh : has key_cmp A e ≡ false) where
+  abbrev E : List EventValue
+  E = set_of A
+
+  abbrev E' : List EventValue
+  E' = insert_key key_cmp E e
+
+  fresh_in : has key_cmp E e ≡ false
+  fresh_in = has-in_order key_cmp_total A e ∙ fresh
+
+  grown : set_of (A ++ e ∷ []) ≡ E'
+  grown = in_order-push key_cmp_total A e
+
+  -- it is enough that they are those of the set with the event
+  stands : (T : Tables) → CountsKinds (shown E') T.kinds → RowsAreOf (A ++ e ∷ []) (shown E') T.threads → EachHasRow (shown E') T.threads → StandsFor (A ++ e ∷ []) T
+  stands T kinds rows each = record {
+    kinds = subst (λ X. CountsKinds (shown X) T.kinds) (sym grown) kinds;
+    rows = subst (λ X. RowsAreOf (A ++ e ∷ []) (shown X) T.threads) (sym grown) rows;
+    each = subst (λ X. EachHasRow (shown X) T.threads) (sym grown) each;
+  }
+
+  -- what is shown stays so unless it is hidden
+  stays : (f : EventValue) → Contains (shown E) f → hides e f ≡ false → Contains (shown E') f
+  stays f c h =
+      let r = from_filter (is_shown E) E f c in
+      to_filter (is_shown E') E' f (to_inserted key_cmp E e f r.0) (shown_of_new E e fresh_in f ∙ ap₂ (λ (a b : Bool). a && not b) r.1 h)
+
+  -- what is shown is the event, or was shown and isn't hidden
+  was : (f : EventValue) → Contains (shown E') f → (f ≡ e) ⊎ (Contains (shown E) f × (hides e f ≡ false))
+  was f c =
+      let r = from_filter (is_shown E') E' f c in
+      let both : (is_shown E f && not (hides e f)) ≡ true = sym (shown_of_new E e fresh_in f) ∙ r.1 in
+      elim (from_inserted key_cmp E e f r.0) as (λ _. (f ≡ e) ⊎ (Contains (shown E) f × (hides e f ≡ false))) [
+        | inl h ↦ inl h
+        | inr d ↦ inr (to_filter (is_shown E) E f d (and_left _ _ both), not_true (hides e f) (and_right _ _ both))
+      ]
+    where
+      not_true : (b : Bool) → not b ≡ true → b ≡ false
+      not_true true h = absurd (true≢false (sym h))
+      not_true false h = refl
+
+  is_there : is_shown E' e ≡ true → Contains (shown E') e
+  is_there h = to_filter (is_shown E') E' e (is_inserted key_cmp E e fresh_in) h
+
+  -- it is shown where its key is new, and where it is less than the one that was shown
+  pub first_is_shown : NoneHas E (source_of e) (id_of e) → is_shown (set_of (A ++ e ∷ [])) e ≡ true
+  first_is_shown none = ap (λ X. is_shown X e) grown ∙ first_shows E e fresh_in none
+
+  pub replaced_is_shown : (o : EventValue) → IsShownOf E (source_of e) (id_of e) o → is_lt (text_cmp e o) ≡ true → is_shown (set_of (A ++ e ∷ [])) e ≡ true
+  replaced_is_shown o there less = ap (λ X. is_shown X e) grown ∙ replaces_shows E e fresh_in o there less
+
+  module _ (old : Tables) (s : StandsFor A old) where
+    -- ---- it is hidden
+    pub stands_hidden : (o : EventValue) (there : IsShownOf E (source_of e) (id_of e) o) → is_lt (text_cmp e o) ≡ false → StandsFor (A ++ e ∷ []) old
+    stands_hidden o there greater =
+        stands old
+        (λ k. s.kinds k ∙ ap counted (sym (hidden_counts E e fresh_in o there greater (λ f. bytes_eq k (kind_of f)))))
+        (λ t r p h.
+            let row = s.rows t r p h in
+            let f = row.0 in
+            let c = from_filter (is_shown E) E f row.2 in
+            let at = place_in E f c.0 in
+            (f, was_there A e f p row.1, stays f row.2 (hides_none E e fresh_in o there greater at.0 f at.1 c.1), row.3))
+        (λ f t r c h. elim (was f c) as (λ _. (p : ℕ) × (place_at old.threads t r ≡ Some p)) [
+          | inl same ↦ absurd (true≢false (sym (ap (is_shown E') (sym same) ∙ (from_filter (is_shown E') E' f c).1) ∙ stays_hidden E e fresh_in o there greater))
+          | inr d ↦ s.each f t r d.0 h
+        ])
+
+    -- ---- the rows once it has come, and none has gone
+    module _ (mid : Tables) (comes : ComesIn e (length A) old mid) where
+      row_came : (t : Thread) (r : Rank) → is_slot (slot_of e) t r ≡ true → place_at mid.threads t r ≡ Some (length A)
+      row_came t r h = comes.threads t r ∙ ap (λ b. if b then Some (length A) else place_at old.threads t r) h
+
+      row_kept : (t : Thread) (r : Rank) → is_slot (slot_of e) t r ≡ false → place_at mid.threads t r ≡ place_at old.threads t r
+      row_kept t r h = comes.threads t r ∙ ap (λ b. if b then Some (length A) else place_at old.threads t r) h
+
+      some_row : (t : Thread) (r : Rank) → (p : ℕ) × (place_at old.threads t r ≡ Some p) → (p : ℕ) × (place_at mid.threads t r ≡ Some p)
+      some_row t r p = from (is_slot (slot_of e) t r) refl
+        where
+          from : (b : Bool) → is_slot (slot_of e) t r ≡ b → (p : ℕ) × (place_at mid.threads t r ≡ Some p)
+          from true h = (length A, row_came t r h)
+          from false h = (p.0, row_kept t r h ∙ p.1)
+
+      -- the row of the event itself
+      own_row : is_shown E' e ≡ true → (t : Thread) (r : Rank) (p : ℕ) → is_slot (slot_of e) t r ≡ true → place_at mid.threads t r ≡ Some p
+          → (f : EventValue) × (slice_get (A ++ e ∷ []) p ≡ Some f) × Contains (shown E') f × (slot_of f ≡ Some (t, r))
+      own_row shows t r p slot h =
+          let place : length A ≡ p = some_same (sym (row_came t r slot) ∙ h) in
+          (e, ap (slice_get (A ++ e ∷ [])) (sym place) ∙ is_last A e, is_there shows, slot_exact (slot_of e) t r slot)
+        where
+          some_same : {x y : ℕ} → Some x ≡ Some y → x ≡ y
+          some_same h = cc
+
+      -- ---- its key is new
+      pub stands_first : NoneHas E (source_of e) (id_of e) → StandsFor (A ++ e ∷ []) mid
+      stands_first none =
+          stands mid
+          (raised (count_of_kind (shown E)) (count_of_kind (shown E')) old.kinds mid.kinds (kind_of e) s.kinds (λ k. first_counts E e fresh_in none (λ f. bytes_eq k (kind_of f))) comes.kinds)
+          rows
+          (λ f t r c h. elim (was f c) as (λ _. (p : ℕ) × (place_at mid.threads t r ≡ Some p)) [
+            | inl same ↦ (length A, row_came t r (slot_itself (slot_of e) t r (ap slot_of (sym same) ∙ h)))
+            | inr d ↦ some_row t r (s.each f t r d.0 h)
+          ])
+        where
+          rows : RowsAreOf (A ++ e ∷ []) (shown E') mid.threads
+          rows t r p h = from (is_slot (slot_of e) t r) refl
+            where
+              from : (b : Bool) → is_slot (slot_of e) t r ≡ b → (f : EventValue) × (slice_get (A ++ e ∷ []) p ≡ Some f) × Contains (shown E') f × (slot_of f ≡ Some (t, r))
+              from true b = own_row (first_shows E e fresh_in none) t r p b h
+              from false b =
+                  let row = s.rows t r p (sym (row_kept t r b) ∙ h) in
+                  let f = row.0 in
+                  let at = place_in E f (from_filter (is_shown E) E f row.2).0 in
+                  (f, was_there A e f p row.1, stays f row.2 (not_hidden f at.0 at.1), row.3)
+                where
+                  not_hidden : (f : EventValue) (i : ℕ) → slice_get E i ≡ Some f → hides e f ≡ false
+                  not_hidden f i at = ap (λ b. b && is_lt (text_cmp e f)) (key_back e f ∙ apart E e fresh_in none i f at)
+
+      -- ---- it takes the place of another
+      module _ (o : EventValue) (there : IsShownOf E (source_of e) (id_of e) o) (less : is_lt (text_cmp e o) ≡ true) where
+        abbrev mid_count : List ℕ → ℕ
+        mid_count k = cond (bytes_eq k (kind_of e)) 1 0 + count_of_kind (shown E) k
+
+        mid_counts : (k : List ℕ) → lookup (bytes_eq k) mid.kinds ≡ counted (mid_count k)
+        mid_counts = raised (count_of_kind (shown E)) mid_count old.kinds mid.kinds (kind_of e) s.kinds (λ k. refl) comes.kinds
+
+        goes_count : (k : List ℕ) → count_of_kind (shown E') k + cond (bytes_eq k (kind_of o)) 1 0 ≡ mid_count k
+        goes_count k = replaced_counts E e fresh_in o there less (sorted-in_order key_cmp_total A) (λ f. bytes_eq k (kind_of f))
+
+        -- it was counted
+        pub was_counted : 0 < count_in mid.kinds (kind_of o)
+        was_counted =
+            let own : ◌≡◌ {A = ℕ} (cond (bytes_eq (kind_of o) (kind_of o)) 1 0) 1 = ap (λ b. cond b 1 0) ((bytes_eq-Decides (kind_of o) (kind_of o)).1 refl) in
+            omega (arith, own, goes_count (kind_of o), ap (λ c. unwrap_or c 0) (mid_counts (kind_of o)) ∙ from_counted (mid_count (kind_of o)))
+
+        sources : source_of o ≡ source_of e
+        sources = (bytes_eq-Decides (source_of o) (source_of e)).0 (and_left _ _ there.of_key)
+
+        ids : id_of o ≡ id_of e
+        ids = (bytes_eq-Decides (id_of o) (id_of e)).0 (and_right _ _ there.of_key)
+
+        module _ (new : Tables) (goes : GoesOut o (slot_apart o e) mid new) (events : AreEvents A) (tells : (e f : EventValue) → IsEvent e → IsEvent f → text e ≡ text f → e ≡ f) where
+          is_other : (f : EventValue) → Contains E f → key_cmp f o ≡ Equal → f ≡ o
+          is_other f c h =
+              let all : AllByRecursion IsEvent E = all-in_order key_cmp_total IsEvent A events in
+              tied_events tells f o (all_in IsEvent E f all c) (all_in IsEvent E o all (at_place E o there.place there.is_there)) h
+
+          row_gone : (t : Thread) (r : Rank) → is_slot (slot_apart o e) t r ≡ true → place_at new.threads t r ≡ None
+          row_gone t r h = goes.threads t r ∙ ap (λ b. if b then None else place_at mid.threads t r) h
+
+          row_stays : (t : Thread) (r : Rank) → is_slot (slot_apart o e) t r ≡ false → place_at new.threads t r ≡ place_at mid.threads t r
+          row_stays t r h = goes.threads t r ∙ ap (λ b. if b then None else place_at mid.threads t r) h
+
+          -- what stood in the slot of the other is the other's, or the event's own
+          hidden_if_other : (f : EventValue) (t : Thread) (r : Rank) → Contains (shown E) f → slot_of f ≡ Some (t, r) → is_slot (slot_of e) t r ≡ false → is_slot (slot_apart o e) t r ≡ false → hides e f ≡ false
+          hidden_if_other f t r c h a b =
+              let d = from_filter (is_shown E) E f c in
+              let at = place_in E f d.0 in
+              hides_one E e fresh_in o there less at.0 f at.1 (λ tie. other (ap slot_of (sym (is_other f d.0 tie)) ∙ h)) d.1
+            where
+              other : slot_of o ≡ Some (t, r) → ⊥
+              other own = from (are_together o e) refl
+                where
+                  from : (x : Bool) → are_together o e ≡ x → ⊥
+                  from true x = true≢false (sym (slot_itself (slot_of e) t r (sym (together_alike o e sources ids x) ∙ own)) ∙ a)
+                  from false x = true≢false (sym (ap (λ y. is_slot (if y then None else slot_of o) t r) x ∙ slot_itself (slot_of o) t r own) ∙ b)
+
+          rows_after : RowsAreOf (A ++ e ∷ []) (shown E') new.threads
+          rows_after t r p h = from (is_slot (slot_apart o e) t r) (is_slot (slot_of e) t r) refl refl
+            where
+              from : (b a : Bool) → is_slot (slot_apart o e) t r ≡ b → is_slot (slot_of e) t r ≡ a → (f : EventValue) × (slice_get (A ++ e ∷ []) p ≡ Some f) × Contains (shown E') f × (slot_of f ≡ Some (t, r))
+              from true a b own = let none : None ≡ Some p = sym (row_gone t r b) ∙ h in absurd (cc)
+              from false true b own = own_row (replaces_shows E e fresh_in o there less) t r p own (sym (row_stays t r b) ∙ h)
+              from false false b own =
+                  let row = s.rows t r p (sym (row_stays t r b ∙ row_kept t r own) ∙ h) in
+                  let f = row.0 in
+                  (f, was_there A e f p row.1, stays f row.2 (hidden_if_other f t r row.2 row.3 own b), row.3)
+
+          -- what isn't hidden doesn't stand in the slot that is emptied
+          not_gone : (f : EventValue) (t : Thread) (r : Rank) → Contains (shown E') f → slot_of f ≡ Some (t, r) → is_slot (slot_apart o e) t r ≡ false
+          not_gone f t r c h = from (is_slot (slot_apart o e) t r) refl
+            where
+              apart_is : is_slot (slot_apart o e) t r ≡ true → (are_together o e ≡ false) × (slot_of o ≡ Some (t, r))
+              apart_is g = by (are_together o e) refl g
+                where
+                  by : (x : Bool) → are_together o e ≡ x → is_slot (if x then None else slot_of o) t r ≡ true → (are_together o e ≡ false) × (slot_of o ≡ Some (t, r))
+                  by true x g = absurd (true≢false (sym g))
+                  by false x g = (x, slot_exact (slot_of o) t r g)
+
+              by_was : (f ≡ e) ⊎ (Contains (shown E) f × (hides e f ≡ false)) → are_together o e ≡ false → slot_of o ≡ Some (t, r) → ⊥
+              by_was (inl same) x own = true≢false (sym (alike_together o e t r (in_slot o t r own) (in_slot e t r (ap slot_of (sym same) ∙ h))) ∙ x)
+              by_was (inr d) x own =
+                  let a = in_slot f t r h in
+                  let b = in_slot o t r own in
+                  let w = from_filter (is_shown E) E f d.0 in
+                  let at = place_in E f w.0 in
+                  let key : same_key f o ≡ true = one_key f o (a.source ∙ sym b.source) (a.id ∙ sym b.id) in
+                  let tie : key_cmp f o ≡ Equal = tie_of f o key (one_text E at.0 there.place f o at.1 there.is_there w.1 there.least key) in
+                  true≢false (sym (hides_it E e fresh_in o there less) ∙ ap (hides e) (sym (is_other f w.0 tie)) ∙ d.1)
+
+              from : (b : Bool) → is_slot (slot_apart o e) t r ≡ b → b ≡ false
+              from true g = let p = apart_is g in absurd (by_was (was f c) p.0 p.1)
+              from false g = refl
+
+          pub stands_replaced : StandsFor (A ++ e ∷ []) new
+          stands_replaced =
+              stands new
+              (lowered mid_count (count_of_kind (shown E')) mid.kinds new.kinds (kind_of o) mid_counts goes_count goes.kinds)
+              rows_after
+              (λ f t r c h.
+                  let kept : place_at new.threads t r ≡ place_at mid.threads t r = row_stays t r (not_gone f t r c h) in
+                  elim (was f c) as (λ _. (p : ℕ) × (place_at new.threads t r ≡ Some p)) [
+                    | inl same ↦ (length A, kept ∙ row_came t r (slot_itself (slot_of e) t r (ap slot_of (sym same) ∙ h)))
+                    | inr d ↦ let q = some_row t r (s.each f t r d.0 h) in (q.0, kept ∙ q.1)
+                  ])
