@@ -4,3 +4,4 @@ pub mod ShownLemmas
 pub mod TableLemmas
 pub mod MemberLemmas
 pub mod StandsLemmas
+pub mod AnswerLemmas

@@ -31,7 +31,7 @@ seen f same h p (e ∷ es) =
     ]
 
 module _ {K P : Type 0} (f : K → P) (same : P → P → Bool) (exact : (p q : P) → same p q ≡ true → p ≡ q) (itself : (p : P) → same p p ≡ true) where
-  back : (p q : P) → same p q ≡ false → same q p ≡ false
+  pub back : (p q : P) → same p q ≡ false → same q p ≡ false
   back p q h = from (same q p) refl
     where
       from : (b : Bool) → same q p ≡ b → b ≡ false

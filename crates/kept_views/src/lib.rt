@@ -3,6 +3,7 @@
 
 mod answer;
 mod kept;
+mod latest;
 mod seed;
 mod tally;
 mod threads;

@@ -1,0 +1,24 @@
+-- The latest event of a thread, by its rows.
+use Rattle.std.specs.Prelude.{ℕ, List, Option, Some, map, option_and_then, slice_get}
+use Rattle.std.specs.Map.{lookup}
+use Rattle.std.specs.Option.{option_map}
+use Rattle.attributes.specs.Event.{EventValue}
+use Rattle.views.specs.Latest.{greatest, thread_of}
+use Rattle.kept_views.specs.Tables.{Rank, Rows, Thread, is_rank, rank_cmp}
+
+-- the greatest rank
+abbrev pub top_rank : Rows → Option Rank
+top_rank rows = greatest rank_cmp (map (λ row. row.0) rows)
+
+-- the event that came at the place of the greatest rank
+abbrev pub top_event : List EventValue → Rows → Option EventValue
+top_event A rows =
+    option_and_then (λ rank. option_and_then (slice_get A) (lookup (is_rank rank) rows)) (top_rank rows)
+
+-- an event with its thread
+abbrev pub thread_row : EventValue → Option (Thread × Option EventValue)
+thread_row e = option_map (λ thread. (thread, Some e)) (thread_of e)
+
+-- a thread with the event of its greatest rank
+abbrev pub latest_row : List EventValue → Thread × Rows → Option (Thread × Option EventValue)
+latest_row A thread = option_and_then thread_row (top_event A thread.1)

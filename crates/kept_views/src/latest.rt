@@ -1,0 +1,93 @@
+//! The latest events, by their rows.
+
+ghost use Rattle.std.specs.Prelude.{◌≡◌, [], IfOk, OnOk, Some, filter_map, map};
+ghost use Rattle.std.specs.List.{cons_option};
+ghost use Rattle.std.specs.Option.{option_and_then, option_copied};
+ghost use Rattle.views.specs.Latest.{thread_cmp};
+ghost use Rattle.kept_views.specs.steps.Latest.{latest_row, thread_row, top_event};
+ghost use Rattle.kept_views.specs.steps.Rows.{put_all};
+ghost use Rattle.kept_views.specs.steps.Seen.{rows_in, threads_in};
+
+use crate::threads::{Rows, Threads};
+use attributes::{Batch, Sequenced};
+use inbox::Inbox;
+use std::alloc::{AllocError, Global};
+use std::collections::BTreeMap;
+
+/// Events by source and subject, lent.
+type Latest<'a> = BTreeMap<(&'a str, &'a str), &'a Sequenced>;
+
+/// The event that came at the place of the greatest number and id of a thread.
+fn last_event<'a>(inbox: &'a Inbox, rows: &Rows) -> Option<&'a Sequenced>
+    ensures { option_copied result ≡ top_event inbox.now.arrivals (rows_in rows.now) }
+{
+    // That the rows rise is known of their number.
+    let _len = rows.len();
+    let (_, place) = rows.last_key_value()?;
+    if *place < inbox.arrived() {
+        Some(inbox.arrived_at(*place))
+    } else {
+        None
+    }
+}
+
+/// Puts an event in at its source and subject.
+fn add<'a>(latest: &mut Latest<'a>, event: &'a Sequenced) -> Result<(), AllocError>
+    ensures { OnOk result (map (λ e. ((e.0.0.now, e.0.1.now), Some e.1.now)) latest.new.entries
+        ≡ put_all thread_cmp
+            (map (λ e. ((e.0.0.now, e.0.1.now), Some e.1.now)) latest.old.entries)
+            (cons_option (thread_row event.now) [])) }
+{
+    if let Some(subject) = event.event().subject() {
+        latest.insert((event.event().source(), subject), event)?;
+    }
+    Ok(())
+}
+
+/// Puts the latest event of a thread in, if it has one.
+fn add_last<'a>(
+    latest: &mut Latest<'a>,
+    inbox: &'a Inbox,
+    rows: &Rows,
+) -> Result<(), AllocError>
+    ensures { OnOk result (map (λ e. ((e.0.0.now, e.0.1.now), Some e.1.now)) latest.new.entries
+        ≡ put_all thread_cmp
+            (map (λ e. ((e.0.0.now, e.0.1.now), Some e.1.now)) latest.old.entries)
+            (cons_option (option_and_then thread_row
+                (top_event inbox.now.arrivals (rows_in rows.now))) [])) }
+{
+    match last_event(inbox, rows) {
+        Some(event) => add(latest, event),
+        None => Ok(()),
+    }
+}
+
+/// The latest event of each source and subject, by source, then subject, lent. Time in proportion to
+/// them, times the logarithm of their number.
+pub(crate) fn ordered_latest<'a>(
+    alloc: Global,
+    inbox: &'a Inbox,
+    threads: &Threads,
+) -> Result<Latest<'a>, AllocError>
+    ensures { IfOk result (λ latest.
+        map (λ e. ((e.0.0.now, e.0.1.now), Some e.1.now)) latest.entries
+        ≡ put_all thread_cmp []
+            (filter_map (latest_row inbox.now.arrivals) (threads_in threads.now.entries))) }
+{
+    let mut latest = BTreeMap::new(alloc);
+    for (_, rows) in threads.iter() {
+        add_last(&mut latest, inbox, rows)?;
+    }
+    Ok(latest)
+}
+
+/// Copies of the events of a table.
+pub(crate) fn copied(alloc: Global, latest: &Latest<'_>) -> Result<Batch, AllocError>
+    ensures { IfOk result (λ batch. batch ≡ map (λ e. e.1.now) latest.now.entries) }
+{
+    let mut batch = Batch::empty(alloc);
+    for entry in latest {
+        batch.push(entry.1.copy()?)?;
+    }
+    Ok(batch)
+}
