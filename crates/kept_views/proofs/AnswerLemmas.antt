@@ -1,16 +1,14 @@
 -- Rows in order of their keys, each with its value.
-use Rattle.std.proofs.Common.{◌≡◌, ℕ, zero, suc, ◌+◌, ◌<◌, List, [], ◌∷◌, Bool, true, false, ◌||◌, cond, if◌then◌else◌, map, refl, sym, ap, ap₂, ◌∙◌, arith, Option, Some, None, slice_get}
+use Rattle.std.proofs.Common.{◌≡◌, ℕ, zero, suc, ◌+◌, ◌<◌, List, [], ◌∷◌, Bool, true, false, ◌||◌, cond, map, refl, sym, ap, ap₂, ◌∙◌, arith, Some, slice_get}
 use Rattle.std.specs.Prelude.{count_by, is_some}
 use Rattle.std.specs.declared.cmp.Ordering.{Ordering}
-use Rattle.std.specs.declared.cmp.Ordering.TheVariants.{Less, Equal, Greater}
+use Rattle.std.specs.declared.cmp.Ordering.TheVariants.{Equal}
 use Rattle.std.specs.Ordering.{is_eq}
 use Rattle.std.specs.Cmp.{IsTotalOrder}
 use Rattle.std.specs.List.{AllByRecursion, IsDistinct}
 use Rattle.std.specs.List.Sorted.{IsStrictlySortedBy}
 use Rattle.std.specs.Map.{keys_of, lookup}
-use Rattle.std.specs.Option.{option_map, option_map_or}
 use Rattle.std.specs.BTreeSet.{insert_key}
-use Rattle.std.specs.BTreeMap.{insert_entry}
 use Rattle.std.specs.Str.{bytes_eq}
 use Rattle.std.specs.String.{string_bytes}
 use Rattle.std.specs.declared.string.String.{String}
@@ -19,7 +17,6 @@ use Rattle.std.proofs.lemmas.List.Sums.{sum_by-cons}
 use Rattle.std.proofs.lemmas.Map.Lookups.{exact_bytes}
 use Rattle.std.proofs.lemmas.Map.Text.{is_eq-slice_cmp}
 use Rattle.std.proofs.lemmas.Slice.Eq.{bytes_eq-Decides}
-use mathlib.Core.Bool.{true≢false}
 use Rattle.attributes.specs.Bytes.{byte_cmp}
 use Rattle.attributes.specs.Event.{EventValue, kind_of}
 use Rattle.inbox.specs.Ordered.{add_all, has, in_order}
@@ -29,8 +26,8 @@ use Rattle.views.proofs.TableLemmas.{insert_value, with_values}
 use Rattle.kept_views.specs.Tables.{CountsKinds, count_of_kind, counted}
 use Rattle.kept_views.specs.steps.Rows.{put_all}
 use Rattle.kept_views.specs.steps.Seen.{kinds_in}
-use Rattle.kept_views.proofs.ListLemmas.{all_at, each_at}
-use Rattle.kept_views.proofs.TableLemmas.{back, seen}
+use Rattle.kept_views.proofs.ListLemmas.{each_at}
+use Rattle.kept_views.proofs.TableLemmas.{back}
 
 -- ---- rows that have a function's values
 module _ {K V : Type 0} {R : K → K → Ordering} (o : IsTotalOrder R) (exact : (x y : K) → R x y ≡ Equal → x ≡ y) (F : K → V) where

@@ -5,3 +5,4 @@ pub mod TableLemmas
 pub mod MemberLemmas
 pub mod StandsLemmas
 pub mod AnswerLemmas
+pub mod LatestLemmas

@@ -1,13 +1,13 @@
 -- What one more event changes of what is shown.
-use Rattle.std.proofs.Common.{◌≡◌, ◌≢◌, ℕ, zero, suc, ◌+◌, List, [], ◌∷◌, Bool, true, false, not, ◌||◌, ◌&&◌, cond, filter, refl, sym, ap, ap₂, ◌∙◌, arith, Option, Some, None, slice_get, bytes_eq}
+use Rattle.std.proofs.Common.{◌≡◌, ◌≢◌, ℕ, ◌+◌, List, Bool, true, false, not, ◌||◌, ◌&&◌, cond, refl, sym, ap, ap₂, ◌∙◌, arith, Some, slice_get}
 use Rattle.std.specs.Prelude.{count_by}
 use Rattle.std.specs.declared.cmp.Ordering.{Ordering}
 use Rattle.std.specs.declared.cmp.Ordering.TheVariants.{Less, Equal, Greater}
 use Rattle.std.specs.Ordering.{is_eq, is_lt, ordering_reverse, ordering_then}
-use Rattle.std.specs.List.{AllByRecursion, list_any}
+use Rattle.std.specs.List.{list_any}
 use Rattle.std.specs.List.Sorted.{IsStrictlySortedBy}
 use Rattle.std.specs.BTreeSet.{insert_key}
-use Rattle.std.proofs.lemmas.Cmp.{tied_back, tied_itself, alike_right}
+use Rattle.std.proofs.lemmas.Cmp.{tied_itself, alike_right}
 use Rattle.std.proofs.lemmas.Map.Text.{is_eq-slice_cmp}
 use mathlib.Core.Bool.{true≢false}
 use Rattle.attributes.specs.Bytes.{byte_cmp}
@@ -33,7 +33,7 @@ less_from Less h = refl
 less_from Equal h = absurd (cc)
 less_from Greater h = absurd (cc)
 
-neither_less : (r s : Ordering) → s ≡ ordering_reverse r → is_lt r ≡ false → is_lt s ≡ false → r ≡ Equal
+pub neither_less : (r s : Ordering) → s ≡ ordering_reverse r → is_lt r ≡ false → is_lt s ≡ false → r ≡ Equal
 neither_less Less s t h k = absurd (true≢false h)
 neither_less Equal s t h k = refl
 neither_less Greater s t h k = absurd (true≢false (sym (ap is_lt t) ∙ k))

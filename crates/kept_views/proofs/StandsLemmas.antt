@@ -1,32 +1,29 @@
 -- The tables stand for what came, with one more event.
-use Rattle.std.proofs.Common.{◌≡◌, ◌≢◌, ℕ, zero, suc, ◌+◌, ◌-◌, ◌<◌, ◌≤◌, ◌==◌, ◌⊎◌, inl, inr, List, [], ◌∷◌, ◌++◌, Bool, true, false, not, ◌&&◌, cond, filter, if◌then◌else◌, length, refl, sym, ap, ap₂, subst, ◌∙◌, arith, Option, Some, None, slice_get, bytes_eq, rules}
+use Rattle.std.proofs.Common.{◌≡◌, ℕ, zero, suc, ◌+◌, ◌-◌, ◌<◌, ◌≤◌, ◌==◌, ◌⊎◌, inl, inr, List, [], ◌∷◌, ◌++◌, Bool, true, false, not, ◌&&◌, cond, if◌then◌else◌, length, refl, sym, ap, ap₂, subst, ◌∙◌, arith, Option, Some, None, slice_get, bytes_eq, rules}
 use Rattle.std.proofs.lemmas.Bool.Decides.{Decides-eqb}
-use Rattle.std.specs.Prelude.{Contains, count_by}
-use Rattle.std.specs.declared.cmp.Ordering.{Ordering}
-use Rattle.std.specs.declared.cmp.Ordering.TheVariants.{Less, Equal, Greater}
-use Rattle.std.specs.Ordering.{is_eq, is_lt}
+use Rattle.std.specs.Prelude.{Contains}
+use Rattle.std.specs.declared.cmp.Ordering.TheVariants.{Equal}
+use Rattle.std.specs.Ordering.{is_lt}
 use Rattle.std.specs.List.{AllByRecursion}
 use Rattle.std.specs.Map.{lookup}
-use Rattle.std.specs.Option.{option_eq, option_map, option_map_or, unwrap_or}
+use Rattle.std.specs.Option.{option_eq, option_map, unwrap_or}
 use Rattle.std.specs.BTreeSet.{insert_key}
-use Rattle.std.proofs.lemmas.Cmp.{nat_list_cmp_total, tied_itself}
 use Rattle.std.proofs.lemmas.List.Sums.{count_by-le-length}
 use Rattle.std.proofs.lemmas.Slice.Eq.{bytes_eq-Decides}
 use mathlib.Core.Bool.{true≢false}
-use Rattle.attributes.specs.Bytes.{byte_cmp}
 use Rattle.attributes.specs.Event.{EventValue, id_of, kind_of, source_of, subject_of, text}
 use Rattle.attributes.specs.Fault.{IsEvent}
-use Rattle.inbox.specs.KeyOrder.{key_cmp, pair_cmp, same_key, text_cmp}
+use Rattle.inbox.specs.KeyOrder.{key_cmp, same_key, text_cmp}
 use Rattle.inbox.specs.Ordered.{append_new, has}
 use Rattle.inbox.specs.Sets.{AreEvents, set_of}
-use Rattle.inbox.specs.Shown.{IsShownOf, NoneHas, has_key, is_shown, shown}
+use Rattle.inbox.specs.Shown.{IsShownOf, NoneHas, is_shown, shown}
 use Rattle.inbox.proofs.OrderLemmas.{key_cmp_total, tied_events}
 use Rattle.inbox.proofs.SetLemmas.{all-in_order, has-in_order, in_order-push, sorted-in_order}
 use Rattle.views.specs.Number.{number_or_0}
 use Rattle.kept_views.specs.Tables.{CountsKinds, EachHasRow, Rank, RowsAreOf, StandsFor, Tables, Thread, count_of_kind, counted, is_rank, is_slot, is_thread, place_at, slot_of}
-use Rattle.kept_views.specs.steps.Moves.{ComesIn, GoesOut, PutsAt, are_together, count_in, slot_apart}
+use Rattle.kept_views.specs.steps.Moves.{ComesIn, GoesOut, are_together, count_in, slot_apart}
 use Rattle.kept_views.proofs.MemberLemmas.{all_in, at_place, from_filter, from_inserted, is_inserted, is_last, length_filtered, length_in_order, place_in, to_filter, to_inserted, was_there}
-use Rattle.kept_views.proofs.ShownLemmas.{equal_from, first_counts, first_shows, hidden_counts, hides, hides_it, hides_none, hides_one, key_back, one_key, one_text, replaced_counts, replaces_shows, shown_of_new, stays_hidden, apart, tie_of}
+use Rattle.kept_views.proofs.ShownLemmas.{first_counts, first_shows, hidden_counts, hides, hides_it, hides_none, hides_one, key_back, one_key, one_text, replaced_counts, replaces_shows, shown_of_new, stays_hidden, apart, tie_of}
 use Rattle.kept_views.proofs.TableLemmas.{rank_exact, rank_itself, thread_exact, thread_itself}
 
 -- ---- what comes again, and what is new

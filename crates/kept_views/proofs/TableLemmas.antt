@@ -1,10 +1,9 @@
 -- Tables whose keys are seen through a function: what a look-up finds after a change.
-use Rattle.std.proofs.Common.{◌≡◌, ℕ, List, length, arith, [], ◌∷◌, Bool, true, false, ◌&&◌, if◌then◌else◌, cond, map, refl, sym, ap, ap₂, ◌∙◌, subst, Option, Some, None}
-use Rattle.std.specs.Map.{lookup, set_value, IsKeyTest, AreApart, KeepsOthers}
+use Rattle.std.proofs.Common.{◌≡◌, ℕ, List, length, arith, [], ◌∷◌, Bool, true, false, ◌&&◌, if◌then◌else◌, cond, map, refl, sym, ap, ap₂, ◌∙◌, Option, Some, None}
+use Rattle.std.specs.Map.{lookup, set_value, KeepsOthers}
 use Rattle.std.specs.Option.{option_map, option_map_or}
 use Rattle.std.specs.Ordering.{is_eq}
 use Rattle.std.specs.BTreeMap.{BTreeMap}
-use Rattle.std.specs.String.{string_bytes}
 use Rattle.std.specs.declared.string.String.{String}
 use Rattle.std.specs.Str.{bytes_eq}
 use Rattle.std.specs.Cmp.{Equal-is, IsTotalOrder}
@@ -91,7 +90,7 @@ module _ {Y : Type 0} where
   abbrev pub at_thread : Thread → String Y × String Y → Bool
   at_thread t k = is_thread t (thread_in k)
 
-  row_seen : (rows : Held Y) (r : Rank) → lookup (is_rank r) (rows_in rows) ≡ lookup (at_rank r) rows.entries
+  pub row_seen : (rows : Held Y) (r : Rank) → lookup (is_rank r) (rows_in rows) ≡ lookup (at_rank r) rows.entries
   row_seen rows r = seen rank_in is_rank (λ (n : ℕ). n) r rows.entries ∙ option_same (lookup (at_rank r) rows.entries)
 
   place_seen : (es : List ((String Y × String Y) × Held Y)) (t : Thread) (r : Rank) → place_at (threads_in es) t r ≡ lookup (is_rank r) (option_map_or (λ (rows : Rows). rows) (option_map rows_in (lookup (at_thread t) es)) [])

@@ -4,17 +4,22 @@ ghost use Rattle.std.specs.Prelude.{◌≡◌, ◌≢◌, [], IfOk, List, OnErr,
 ghost use Rattle.attributes.specs.Bytes.{byte_cmp};
 ghost use Rattle.attributes.specs.Event.{EventValue, kind_of};
 ghost use Rattle.inbox.specs.Kept.{events};
+ghost use Rattle.inbox.specs.Shown.{shown};
+ghost use Rattle.views.specs.Latest.{latest};
 ghost use Rattle.views.specs.Question.{IsTrueOf, query_of};
 ghost use Rattle.views.specs.Tally.{tally};
-ghost use Rattle.kept_views.specs.Tables.{CountsKinds, StandsFor};
-ghost use Rattle.kept_views.specs.steps.Seen.{kinds_in};
+ghost use Rattle.kept_views.specs.Tables.{CountsKinds, EachHasRow, RowsAreOf, StandsFor};
+ghost use Rattle.kept_views.specs.steps.Seen.{kinds_in, threads_in};
 
 use crate::kept::Views;
+use crate::latest::{copied, ordered_latest};
 use crate::tally::Tally;
-use attributes::Text;
+use crate::threads::Threads;
+use attributes::{Batch, Text};
 use inbox::Inbox;
 use std::alloc::{AllocError, Global};
 use std::collections::BTreeMap;
+use views::laws::{latest_are_greatest, latest_are_one};
 use views::{Answer, Kinds, Query, answer};
 
 /// The counts in byte order of their texts, lent. Time in proportion to them, times the logarithm
@@ -52,11 +57,27 @@ fn list_kinds(alloc: Global, kinds: &Tally) -> Result<Kinds, AllocError>
     Ok(listed_kinds(alloc, &table)?)
 }
 
+/// Copies of the latest events, by source, then subject. Time in proportion to them, times the
+/// logarithm of their number, and to what is copied.
+fn list_latest(alloc: Global, inbox: &Inbox, threads: &Threads) -> Result<Batch, AllocError>
+    ensures { IfOk result (λ batch.
+        RowsAreOf inbox.now.arrivals (shown (events inbox.now)) (threads_in threads.now.entries)
+        → EachHasRow (shown (events inbox.now)) (threads_in threads.now.entries)
+        → batch ≡ latest (events inbox.now)) }
+{
+    // Laws that the clause rests on, and that what came are events; the calls do nothing.
+    latest_are_greatest();
+    latest_are_one();
+    let _arrived = inbox.arrived();
+    let table = ordered_latest(alloc, inbox, threads)?;
+    Ok(copied(alloc, &table)?)
+}
+
 impl Views {
-    /// The answer to a question about the events that came, as `views::answer` gives it. Types cost
-    /// time in proportion to the types, times the logarithm of their number, and memory in
-    /// proportion to the answer; other questions cost what `views::answer` costs. `AllocError`
-    /// where memory is refused.
+    /// The answer to a question about the events that came, as `views::answer` gives it. `Kinds` and
+    /// `Latest` cost time in proportion to the rows of the answer, times the logarithm of their
+    /// number, and to what is copied into it, and memory in proportion to the answer; other
+    /// questions cost what `views::answer` costs. `AllocError` where memory is refused.
     pub fn answer(&self, inbox: &Inbox, query: Query) -> Result<Answer, AllocError>
         requires { StandsFor inbox.now.arrivals self.now }
         ensures query { IfOk result (λ a. query_of a ≡ query) }
@@ -70,6 +91,7 @@ impl Views {
         }
         match query {
             Query::Kinds => Ok(Answer::Kinds(list_kinds(self.alloc, &self.kinds)?)),
+            Query::Latest => Ok(Answer::Latest(list_latest(self.alloc, inbox, &self.threads)?)),
             _ => answer(self.alloc, inbox, query),
         }
     }

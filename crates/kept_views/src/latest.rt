@@ -1,9 +1,10 @@
 //! The latest events, by their rows.
 
 ghost use Rattle.std.specs.Prelude.{◌≡◌, [], IfOk, OnOk, Some, filter_map, map};
-ghost use Rattle.std.specs.List.{cons_option};
+ghost use Rattle.std.specs.List.{IsDistinct, cons_option};
 ghost use Rattle.std.specs.Option.{option_and_then, option_copied};
 ghost use Rattle.views.specs.Latest.{thread_cmp};
+ghost use Rattle.kept_views.specs.Tables.{is_thread};
 ghost use Rattle.kept_views.specs.steps.Latest.{latest_row, thread_row, top_event};
 ghost use Rattle.kept_views.specs.steps.Rows.{put_all};
 ghost use Rattle.kept_views.specs.steps.Seen.{rows_in, threads_in};
@@ -69,10 +70,12 @@ pub(crate) fn ordered_latest<'a>(
     inbox: &'a Inbox,
     threads: &Threads,
 ) -> Result<Latest<'a>, AllocError>
-    ensures { IfOk result (λ latest.
+    ensures rows { IfOk result (λ latest.
         map (λ e. ((e.0.0.now, e.0.1.now), Some e.1.now)) latest.entries
         ≡ put_all thread_cmp []
             (filter_map (latest_row inbox.now.arrivals) (threads_in threads.now.entries))) }
+    ensures distinct { OnOk result
+        (IsDistinct is_thread (map (λ t. t.0) (threads_in threads.now.entries))) }
 {
     let mut latest = BTreeMap::new(alloc);
     for (_, rows) in threads.iter() {

@@ -1,5 +1,5 @@
 -- The latest event of a thread, by its rows.
-use Rattle.std.specs.Prelude.{ℕ, List, Option, Some, map, option_and_then, slice_get}
+use Rattle.std.specs.Prelude.{List, Option, Some, map, option_and_then, slice_get}
 use Rattle.std.specs.Map.{lookup}
 use Rattle.std.specs.Option.{option_map}
 use Rattle.attributes.specs.Event.{EventValue}

@@ -1,4 +1,4 @@
-use Rattle.std.proofs.Common.{rules, ◌≡◌, [], ◌∷◌, List, ℕ, map, refl, sym, ap, ◌∙◌, Bor}
+use Rattle.std.proofs.Common.{rules, ◌≡◌, [], List, ℕ, map, sym, ap, ◌∙◌, Bor}
 use Rattle.std.specs.BTreeMap.{insert_entry}
 use Rattle.attributes.specs.Bytes.{byte_cmp}
 use Rattle.kept_views.specs.steps.Rows.{put_all}

@@ -1,4 +1,4 @@
-use Rattle.std.proofs.Common.{rules, ◌≡◌, ◌-◌, ◌∙◌, sym, ap, None, Some, if◌then◌else◌, bytes_eq, string_bytes, arith}
+use Rattle.std.proofs.Common.{rules, ◌≡◌, ◌-◌, ◌∙◌, sym, ap, None, Some, if◌then◌else◌, bytes_eq, arith}
 use Rattle.std.specs.Option.{option_copied_mut, unwrap_or}
 use Rattle.indexmap.specs.IndexMap.{get_by_text}
 use Rattle.std.proofs.lemmas.Map.Text.{hash_map_updates_text}

@@ -1,7 +1,6 @@
-use Rattle.std.proofs.Common.{rules, ◌≡◌, refl, sym, ap, subst, ◌∙◌, None, Some, OnErr}
+use Rattle.std.proofs.Common.{rules, sym, ap, subst, ◌∙◌, Some}
 use Rattle.std.specs.Map.{lookup}
 use Rattle.std.specs.Option.{option_copied_mut}
-use Rattle.std.proofs.lemmas.Map.Steps.{set_value_same}
 use Rattle.std.proofs.lemmas.Result.{err_from_is_err_and}
 use Rattle.kept_views.specs.steps.Moves.{PutsAt}
 use Rattle.kept_views.specs.steps.Seen.{rank_in, slot_in, thread_in, threads_in}

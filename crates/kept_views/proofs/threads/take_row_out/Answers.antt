@@ -1,5 +1,4 @@
-use Rattle.std.proofs.Common.{rules, ◌≡◌, refl, sym, ap, subst, ◌∙◌, None, Some}
-use Rattle.std.specs.Map.{lookup}
+use Rattle.std.proofs.Common.{rules, sym, ap, subst, ◌∙◌, None, Some}
 use Rattle.std.specs.Option.{option_copied_mut}
 use Rattle.kept_views.specs.steps.Moves.{PutsAt}
 use Rattle.kept_views.specs.steps.Seen.{rank_in, slot_in, thread_in, threads_in}

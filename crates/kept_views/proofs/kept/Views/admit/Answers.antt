@@ -1,7 +1,5 @@
-use Rattle.std.proofs.Common.{rules, ◌≡◌, ◌+◌, ◌<◌, ◌^◌, arith, refl, sym, ap, subst, ◌∙◌, None, Some}
-use Rattle.kept_views.specs.steps.Moves.{PutsAt}
+use Rattle.std.proofs.Common.{◌+◌, arith, ap, ◌∙◌, Some}
 use Rattle.kept_views.proofs.TallyLemmas.{count_changes, count_seen}
-use Rattle.kept_views.specs.Tables.{slot_of}
 use Rattle.attributes.specs.Event.{kind_of}
 use Rattle.kept_views.proofs.kept.Views.admit.Goals as goal
 

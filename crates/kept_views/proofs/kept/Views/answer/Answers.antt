@@ -1,9 +1,15 @@
-use Rattle.std.proofs.Common.{◌≡◌, sym, subst, ◌∙◌}
+use Rattle.std.proofs.Common.{sym, subst}
 use Rattle.inbox.specs.Kept.{events}
 use Rattle.inbox.specs.Shown.{shown}
-use Rattle.kept_views.specs.Tables.{CountsKinds}
+use Rattle.kept_views.specs.Tables.{CountsKinds, EachHasRow, RowsAreOf}
 use Rattle.kept_views.proofs.kept.Views.answer.Goals as goal
 
 pub returns-in_ok-list_kinds-in-Kinds-clause-answer : goal.returns-in_ok-list_kinds-in-Kinds-clause-answer
 returns-in_ok-list_kinds-in-Kinds-clause-answer c =
     c.in_ok-list_kinds-in-Kinds.ensures (shown (events c.args.inbox.now)) (subst (λ v. CountsKinds (shown (events c.args.inbox.now)) v.kinds) (sym c.self.view_is) c.requires.kinds)
+
+pub returns-in_ok-list_latest-in-Latest-clause-answer : goal.returns-in_ok-list_latest-in-Latest-clause-answer
+returns-in_ok-list_latest-in-Latest-clause-answer c =
+    c.in_ok-list_latest-in-Latest.ensures
+    (subst (λ v. RowsAreOf c.args.inbox.now.arrivals (shown (events c.args.inbox.now)) v.threads) (sym c.self.view_is) c.requires.rows)
+    (subst (λ v. EachHasRow (shown (events c.args.inbox.now)) v.threads) (sym c.self.view_is) c.requires.each)

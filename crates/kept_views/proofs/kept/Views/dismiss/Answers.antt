@@ -1,4 +1,4 @@
-use Rattle.std.proofs.Common.{rules, ◌≡◌, ◌+◌, ◌-◌, ◌<◌, ◌^◌, arith, refl, sym, ap, subst, ◌∙◌, None, Some}
+use Rattle.std.proofs.Common.{◌-◌, arith, refl, ap, ◌∙◌}
 use Rattle.attributes.specs.Event.{kind_of}
 use Rattle.kept_views.specs.Tables.{counted}
 use Rattle.kept_views.proofs.TallyLemmas.{count_changes, count_seen}

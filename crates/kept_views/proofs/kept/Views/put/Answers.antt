@@ -1,14 +1,13 @@
-use Rattle.std.proofs.Common.{rules, ◌≡◌, ◌∷◌, ◌++◌, ◌<◌, ◌≤◌, [], IfOk, OnErr, OnOk, false, true, arith, refl, sym, ap, ap₂, subst, ◌∙◌, List, ℕ}
+use Rattle.std.proofs.Common.{rules, ◌≡◌, false, true, arith, sym, ap, ap₂, subst, ◌∙◌}
 use Rattle.std.specs.Ordering.{is_lt}
 use Rattle.std.proofs.lemmas.Result.{err_from_is_err_and, on_err_weaker, on_ok_weaker}
 use Rattle.attributes.specs.Bytes.{byte_cmp}
 use Rattle.attributes.specs.Event.{EventValue, id_of, kind_of, source_of, text}
 use Rattle.inbox.specs.KeyOrder.{key_cmp, text_cmp}
-use Rattle.inbox.specs.Ordered.{append_new, has}
+use Rattle.inbox.specs.Ordered.{has}
 use Rattle.inbox.specs.Sets.{set_of}
-use Rattle.inbox.specs.Shown.{IsShownOf, NoneHas, is_shown}
 use Rattle.kept_views.specs.steps.Moves.{ComesIn, GoesOut}
-use Rattle.kept_views.proofs.StandsLemmas.{comes_new, count_fits, first_is_shown, known, none_at, replaced_is_shown, shown_at, stands_first, stands_hidden, stands_replaced, was_counted}
+use Rattle.kept_views.proofs.StandsLemmas.{comes_new, count_fits, first_is_shown, none_at, replaced_is_shown, shown_at, stands_first, stands_hidden, stands_replaced, was_counted}
 use Rattle.kept_views.proofs.kept.Views.put.Goals as goal
 
 pub admit-requires : goal.admit-requires
