@@ -113,7 +113,7 @@ count_from (suc n) m h = cc
 pub kinds_listed : (S : List EventValue) (rows : List (List ℕ × ℕ)) → CountsKinds S rows → IsDistinct bytes_eq (map (λ row. row.0) rows) → put_all byte_cmp [] rows ≡ tally byte_cmp (map kind_of S)
 kinds_listed S rows counts distinct =
     in_order_of_keys nat_list_cmp_total exact_bytes (times S) rows
-      (each_at _ rows (λ i row h. count_from (count_of_kind S row.0) row.1 (sym (counts row.0) ∙ row_found bytes_eq (λ p q. (bytes_eq-Decides p q).0) (λ p. (bytes_eq-Decides p p).1 refl) rows distinct i row h) ∙ sym (times_is S row.0)))
+    (each_at _ rows (λ i row h. count_from (count_of_kind S row.0) row.1 (sym (counts row.0) ∙ row_found bytes_eq (λ p q. (bytes_eq-Decides p q).0) (λ p. (bytes_eq-Decides p p).1 refl) rows distinct i row h) ∙ sym (times_is S row.0)))
     ∙ ap (with_values (times S)) (one_order nat_list_cmp_total exact_bytes (map (λ row. row.0) rows) (map kind_of S) (λ k. has_row rows k ∙ ap is_some (counts k) ∙ sym (has_kind S k)))
 
 pub kinds_distinct : {Y : Type 0} (es : List (String Y × ℕ)) → IsDistinct (λ x y. bytes_eq (string_bytes x) (string_bytes y)) (keys_of es) → IsDistinct bytes_eq (map (λ row. row.0) (kinds_in es))

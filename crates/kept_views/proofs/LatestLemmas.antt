@@ -264,8 +264,8 @@ module _ (A : List EventValue) (threads : List (Thread × Rows)) (rows : RowsAre
   pub latest_listed : put_all thread_cmp [] (filter_map (latest_row A) threads) ≡ with_values (latest_of S) (threads_of S)
   latest_listed =
       in_order_of_keys thread_cmp_total thread_cmp_exact (latest_of S) (filter_map (latest_row A) threads)
-        (all_members _ (filter_map (latest_row A) threads) (λ y c. let g = of_filter_map (latest_row A) threads y c in let r = row_is g.0 y g.1 g.2 in
-          ap (λ (z : Thread × Option EventValue). z.1) r.1 ∙ sym r.4 ∙ ap (λ (z : Thread × Option EventValue). latest_of S z.0) (sym r.1)))
+      (all_members _ (filter_map (latest_row A) threads) (λ y c. let g = of_filter_map (latest_row A) threads y c in let r = row_is g.0 y g.1 g.2 in
+      ap (λ (z : Thread × Option EventValue). z.1) r.1 ∙ sym r.4 ∙ ap (λ (z : Thread × Option EventValue). latest_of S z.0) (sym r.1)))
       ∙ ap (with_values (latest_of S)) (one_order thread_cmp_total thread_cmp_exact keys (filter_map thread_of S) (λ t. both_ways _ _ (λ h. in_has thread_cmp_total thread_cmp_exact _ t (onward t (has_in thread_cmp_total thread_cmp_exact _ t h))) (λ h. in_has thread_cmp_total thread_cmp_exact _ t (backward t (has_in thread_cmp_total thread_cmp_exact _ t h)))))
     where
       onward : (t : Thread) → Contains keys t → Contains (filter_map thread_of S) t

@@ -137,8 +137,8 @@ module _ (E : List EventValue) (e : EventValue) (fresh : has key_cmp E e ≡ fal
     first_counts q =
         count_after q
         ∙ ap₂ (λ (b : Bool) (n : ℕ). cond (b && q e) 1 0 + n) first_shows
-          (count_alike _ (λ f. is_shown E f && q f) E (each_at _ E (λ i f h. ap (λ b. b && q f) (keep (is_shown E f) (hides e f) (λ s. ap (λ b. b && is_lt (text_cmp e f)) (key_back e f ∙ apart i f h)))))
-          ∙ sym (count_filter (is_shown E) q E))
+        (count_alike _ (λ f. is_shown E f && q f) E (each_at _ E (λ i f h. ap (λ b. b && q f) (keep (is_shown E f) (hides e f) (λ s. ap (λ b. b && is_lt (text_cmp e f)) (key_back e f ∙ apart i f h)))))
+        ∙ sym (count_filter (is_shown E) q E))
 
   -- ---- an event of its key is shown
   module _ (o : EventValue) (there : IsShownOf E (source_of e) (id_of e) o) where
@@ -171,8 +171,8 @@ module _ (E : List EventValue) (e : EventValue) (fresh : has key_cmp E e ≡ fal
       hidden_counts q =
           count_after q
           ∙ ap₂ (λ (b : Bool) (n : ℕ). cond (b && q e) 1 0 + n) stays_hidden
-            (count_alike _ (λ f. is_shown E f && q f) E (each_at _ E (λ i f h. ap (λ b. b && q f) (keep (is_shown E f) (hides e f) (hides_none i f h))))
-            ∙ sym (count_filter (is_shown E) q E))
+          (count_alike _ (λ f. is_shown E f && q f) E (each_at _ E (λ i f h. ap (λ b. b && q f) (keep (is_shown E f) (hides e f) (hides_none i f h))))
+          ∙ sym (count_filter (is_shown E) q E))
           ∙ none_more (count_by q (shown E))
         where
           none_more : (n : ℕ) → 0 + n ≡ n
@@ -210,9 +210,9 @@ module _ (E : List EventValue) (e : EventValue) (fresh : has key_cmp E e ≡ fal
           let after : count_by q (shown E') ≡ cond (is_shown E' e && q e) 1 0 + count_by (λ f. (is_shown E f && not (hides e f)) && q f) E = count_after q in
           let shows : ◌≡◌ {A = ℕ} (cond (is_shown E' e && q e) 1 0) (cond (q e) 1 0) = ap (λ b. cond (b && q e) 1 0) replaces_shows in
           let rest : count_by (λ f. (is_shown E f && not (hides e f)) && q f) E + cond (is_shown E o && q o) 1 0 ≡ count_by (λ f. is_shown E f && q f) E =
-              one_out key_cmp key_cmp_total (λ f. (is_shown E f && not (hides e f)) && q f) (λ f. is_shown E f && q f) E there.place o sorted there.is_there
-              (ap₂ (λ (a b : Bool). (a && not b) && q o) there.least hides_it)
-              (λ i f h n. ap (λ b. b && q f) (keep (is_shown E f) (hides e f) (hides_one i f h n))) in
+          one_out key_cmp key_cmp_total (λ f. (is_shown E f && not (hides e f)) && q f) (λ f. is_shown E f && q f) E there.place o sorted there.is_there
+          (ap₂ (λ (a b : Bool). (a && not b) && q o) there.least hides_it)
+          (λ i f h n. ap (λ b. b && q f) (keep (is_shown E f) (hides e f) (hides_one i f h n))) in
           let here : ◌≡◌ {A = ℕ} (cond (is_shown E o && q o) 1 0) (cond (q o) 1 0) = ap (λ b. cond (b && q o) 1 0) there.least in
           let before : count_by q (shown E) ≡ count_by (λ f. is_shown E f && q f) E = count_filter (is_shown E) q E in
           omega (arith, after, shows, rest, here, before)

@@ -223,11 +223,11 @@ module _ (A : List EventValue) (e : EventValue) (fresh : has key_cmp A e ≡ fal
         stands old
         (λ k. s.kinds k ∙ ap counted (sym (hidden_counts E e fresh_in o there greater (λ f. bytes_eq k (kind_of f)))))
         (λ t r p h.
-            let row = s.rows t r p h in
-            let f = row.0 in
-            let c = from_filter (is_shown E) E f row.2 in
-            let at = place_in E f c.0 in
-            (f, was_there A e f p row.1, stays f row.2 (hides_none E e fresh_in o there greater at.0 f at.1 c.1), row.3))
+        let row = s.rows t r p h in
+        let f = row.0 in
+        let c = from_filter (is_shown E) E f row.2 in
+        let at = place_in E f c.0 in
+        (f, was_there A e f p row.1, stays f row.2 (hides_none E e fresh_in o there greater at.0 f at.1 c.1), row.3))
         (λ f t r c h. elim (was f c) as (λ _. (p : ℕ) × (place_at old.threads t r ≡ Some p)) [
           | inl same ↦ absurd (true≢false (sym (ap (is_shown E') (sym same) ∙ (from_filter (is_shown E') E' f c).1) ∙ stays_hidden E e fresh_in o there greater))
           | inr d ↦ s.each f t r d.0 h
@@ -375,8 +375,8 @@ module _ (A : List EventValue) (e : EventValue) (fresh : has key_cmp A e ≡ fal
               (lowered mid_count (count_of_kind (shown E')) mid.kinds new.kinds (kind_of o) mid_counts goes_count goes.kinds)
               rows_after
               (λ f t r c h.
-                  let kept : place_at new.threads t r ≡ place_at mid.threads t r = row_stays t r (not_gone f t r c h) in
-                  elim (was f c) as (λ _. (p : ℕ) × (place_at new.threads t r ≡ Some p)) [
-                    | inl same ↦ (length A, kept ∙ row_came t r (slot_itself (slot_of e) t r (ap slot_of (sym same) ∙ h)))
-                    | inr d ↦ let q = some_row t r (s.each f t r d.0 h) in (q.0, kept ∙ q.1)
-                  ])
+              let kept : place_at new.threads t r ≡ place_at mid.threads t r = row_stays t r (not_gone f t r c h) in
+              elim (was f c) as (λ _. (p : ℕ) × (place_at new.threads t r ≡ Some p)) [
+                | inl same ↦ (length A, kept ∙ row_came t r (slot_itself (slot_of e) t r (ap slot_of (sym same) ∙ h)))
+                | inr d ↦ let q = some_row t r (s.each f t r d.0 h) in (q.0, kept ∙ q.1)
+              ])

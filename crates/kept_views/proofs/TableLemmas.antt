@@ -105,7 +105,7 @@ module _ {Y : Type 0} where
       place_seen fs u s
       ∙ ap (λ o. lookup (is_rank s) (option_map_or (λ (rows : Rows). rows) (option_map rows_in o) [])) (read_after thread_in is_thread thread_exact thread_itself t es fs w keeps there u)
       ∙ elim (is_thread t u) as (λ b. is_thread t u ≡ b → lookup (is_rank s) (option_map_or (λ (rows : Rows). rows) (option_map rows_in (if b then w else lookup (at_thread u) es)) [])
-        ≡ (if b && is_rank r s then place else place_at (threads_in es) u s)) [
+      ≡ (if b && is_rank r s then place else place_at (threads_in es) u s)) [
         | true ↦ λ e. inner s ∙ ap (λ x. if is_rank r s then place else place_at (threads_in es) x s) (thread_exact t u e)
         | false ↦ λ e. sym (place_seen es u s)
       ] refl

@@ -19,9 +19,12 @@ use attributes::laws::text_tells_events;
 use inbox::Inbox;
 use indexmap::IndexMap;
 use std::alloc::{AllocError, Global};
+use std::hash::RandomState;
 use std::marker::Model;
 
-/// Views of a set of events, kept as the events come. Contracts see the tables.
+/// Views of what came to an inbox, kept event by event: the types of the shown events with how many
+/// have each, and for each source and subject the rows of its shown events by number, then id.
+/// Contracts see these tables, whose order says nothing.
 #[derive(Drop)]
 pub struct Views {
     pub(crate) kinds: Tally,
@@ -57,8 +60,26 @@ fn slot_apart(
 }
 
 impl Views {
-    /// The views of no events. They take no memory.
-    pub fn with_seed(alloc: Global, seed: Seed) -> Views
+    /// The views of no events. Keys are hashed by the random state, which nobody else knows, so
+    /// events from outside may come. They take no memory.
+    pub fn with_hasher(alloc: Global, state: RandomState) -> Views
+        ensures { StandsFor [] result }
+    {
+        Views::with_seed(alloc, Seed::random(state))
+    }
+
+    /// The views of no events, for events whose sources, subjects and types one trusts: the hash of
+    /// a key is known to everybody, and whoever picks keys that collide makes each `put` take time
+    /// in proportion to them. What takes events from outside calls `with_hasher`. They take no
+    /// memory.
+    pub fn empty(alloc: Global) -> Views
+        ensures { StandsFor [] result }
+    {
+        Views::with_seed(alloc, Seed::known())
+    }
+
+    /// The views of no events, hashed by a seed.
+    fn with_seed(alloc: Global, seed: Seed) -> Views
         ensures { StandsFor [] result }
     {
         Views {
@@ -68,7 +89,11 @@ impl Views {
         }
     }
 
-    /// Takes an event that comes.
+    /// Takes an event that comes to the inbox, before the inbox takes it: from then on the views
+    /// stand for what came with the event, so `Inbox::put` of it has to follow. An event that is
+    /// there, or that isn't shown, changes nothing and needs no memory. After a refusal nothing has
+    /// changed. Two searches of the inbox, and time logarithmic in the shown events of its source
+    /// and subject; a type, source or subject that is new is copied, and an id in any case.
     pub fn put(&mut self, inbox: &Inbox, event: &Sequenced) -> Result<(), AllocError>
         requires { StandsFor inbox.now.arrivals self.old }
         ensures stands { OnOk result

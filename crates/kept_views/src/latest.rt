@@ -36,8 +36,8 @@ fn last_event<'a>(inbox: &'a Inbox, rows: &Rows) -> Option<&'a Sequenced>
 fn add<'a>(latest: &mut Latest<'a>, event: &'a Sequenced) -> Result<(), AllocError>
     ensures { OnOk result (map (λ e. ((e.0.0.now, e.0.1.now), Some e.1.now)) latest.new.entries
         ≡ put_all thread_cmp
-            (map (λ e. ((e.0.0.now, e.0.1.now), Some e.1.now)) latest.old.entries)
-            (cons_option (thread_row event.now) [])) }
+        (map (λ e. ((e.0.0.now, e.0.1.now), Some e.1.now)) latest.old.entries)
+        (cons_option (thread_row event.now) [])) }
 {
     if let Some(subject) = event.event().subject() {
         latest.insert((event.event().source(), subject), event)?;
@@ -46,16 +46,12 @@ fn add<'a>(latest: &mut Latest<'a>, event: &'a Sequenced) -> Result<(), AllocErr
 }
 
 /// Puts the latest event of a thread in, if it has one.
-fn add_last<'a>(
-    latest: &mut Latest<'a>,
-    inbox: &'a Inbox,
-    rows: &Rows,
-) -> Result<(), AllocError>
+fn add_last<'a>(latest: &mut Latest<'a>, inbox: &'a Inbox, rows: &Rows) -> Result<(), AllocError>
     ensures { OnOk result (map (λ e. ((e.0.0.now, e.0.1.now), Some e.1.now)) latest.new.entries
         ≡ put_all thread_cmp
-            (map (λ e. ((e.0.0.now, e.0.1.now), Some e.1.now)) latest.old.entries)
-            (cons_option (option_and_then thread_row
-                (top_event inbox.now.arrivals (rows_in rows.now))) [])) }
+        (map (λ e. ((e.0.0.now, e.0.1.now), Some e.1.now)) latest.old.entries)
+        (cons_option (option_and_then thread_row
+        (top_event inbox.now.arrivals (rows_in rows.now))) [])) }
 {
     match last_event(inbox, rows) {
         Some(event) => add(latest, event),
@@ -73,7 +69,7 @@ pub(crate) fn ordered_latest<'a>(
     ensures rows { IfOk result (λ latest.
         map (λ e. ((e.0.0.now, e.0.1.now), Some e.1.now)) latest.entries
         ≡ put_all thread_cmp []
-            (filter_map (latest_row inbox.now.arrivals) (threads_in threads.now.entries))) }
+        (filter_map (latest_row inbox.now.arrivals) (threads_in threads.now.entries))) }
     ensures distinct { OnOk result
         (IsDistinct is_thread (map (λ t. t.0) (threads_in threads.now.entries))) }
 {

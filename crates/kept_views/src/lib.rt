@@ -9,4 +9,3 @@ mod tally;
 mod threads;
 
 pub use kept::Views;
-pub use seed::Seed;

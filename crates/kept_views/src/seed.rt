@@ -2,24 +2,23 @@
 
 ghost use Rattle.kept_views.specs.Seed.{hasher_of};
 
-use std::hash::RandomState;
-use std::hash::{BuildHasher, DefaultHasher};
+use std::hash::{BuildHasher, DefaultHasher, RandomState};
 
 /// What the keys of tables are hashed by: a seed of one's own, or one that everybody knows.
 #[derive(Clone, Copy)]
-pub struct Seed {
+pub(crate) struct Seed {
     state: Option<RandomState>,
 }
 
 impl Seed {
     /// A seed that nobody knows, for keys that come from outside.
-    pub fn random(state: RandomState) -> Seed {
+    pub(crate) fn random(state: RandomState) -> Seed {
         Seed { state: Some(state) }
     }
 
     /// The seed that everybody knows, for keys that one trusts: whoever knows it can pick keys that
     /// collide.
-    pub fn known() -> Seed {
+    pub(crate) fn known() -> Seed {
         Seed { state: None }
     }
 }

@@ -47,12 +47,7 @@ pub(crate) fn slot_of(alloc: Global, event: &Sequenced) -> Result<Option<Slot>, 
 }
 
 /// Puts a row in.
-fn put_row(
-    alloc: Global,
-    threads: &mut Threads,
-    slot: Slot,
-    place: u64,
-) -> Result<(), AllocError>
+fn put_row(alloc: Global, threads: &mut Threads, slot: Slot, place: u64) -> Result<(), AllocError>
     ensures ok { OnOk result (PutsAt (Some (slot_in slot)) (Some place)
         (threads_in threads.old.entries) (threads_in threads.new.entries)) }
     ensures err { OnErr result

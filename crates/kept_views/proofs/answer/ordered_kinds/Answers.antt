@@ -11,9 +11,9 @@ pub loop-kind-preserved : goal.loop-kind-preserved
 loop-kind-preserved c =
     let old = map (λ (e : Bor (List ℕ) × ℕ). (e.0.now, e.1)) c.loop-kind.table.entries in
     ap (λ (t : List (List ℕ × ℕ)). put_all byte_cmp t (kinds_in c.next.new.self))
-      (ap (map (λ (e : Bor (List ℕ) × ℕ). (e.0.now, e.1))) c.in_ok-insert.ensures.entries
-      ∙ seen_insert (λ (b : Bor (List ℕ)). b.now) (λ (n : ℕ). n) byte_cmp c.loop-kind.table.entries c.as_str.result c.in-Some.count.now
-      ∙ ap (λ b. insert_entry byte_cmp old b c.in-Some.count.now) c.as_str.ensures.value)
+    (ap (map (λ (e : Bor (List ℕ) × ℕ). (e.0.now, e.1))) c.in_ok-insert.ensures.entries
+    ∙ seen_insert (λ (b : Bor (List ℕ)). b.now) (λ (n : ℕ). n) byte_cmp c.loop-kind.table.entries c.as_str.result c.in-Some.count.now
+    ∙ ap (λ b. insert_entry byte_cmp old b c.in-Some.count.now) c.as_str.ensures.value)
     ∙ ap (λ l. put_all byte_cmp old (kinds_in l)) (sym c.in-Some.ensures.steps) ∙ c.loop-kind.invariant
 
 pub returns : goal.returns

@@ -9,14 +9,14 @@ use Rattle.kept_views.proofs.tally.lower.Goals as goal
 pub returns-then-before-eq1 : goal.returns-then-before-eq1
 returns-then-before-eq1 c =
     let was : unwrap_or (get_by_text c.args.tally.now c.args.text.now) 0 ≡ 1 =
-        sym (c.unwrap_or-before.ensures ∙ ap (λ o. unwrap_or o 0) (c.copied.ensures ∙ c.get.ensures.value)) ∙ c.if-before-eq1.true in
+    sym (c.unwrap_or-before.ensures ∙ ap (λ o. unwrap_or o 0) (c.copied.ensures ∙ c.get.ensures.value)) ∙ c.if-before-eq1.true in
     λ k. hash_map_updates_text c.args.text.now c.args.tally.now c.swap_remove.new.self None c.swap_remove.ensures.updates k
     ∙ sym (ap (λ n. if bytes_eq c.args.text.now k then counted (n - 1) else get_by_text c.args.tally.now k) was)
 
 pub returns-in-Some : goal.returns-in-Some
 returns-in-Some c =
     let was : c.unwrap_or-before.result ≡ unwrap_or (get_by_text c.args.tally.now c.args.text.now) 0 =
-        c.unwrap_or-before.ensures ∙ ap (λ o. unwrap_or o 0) (c.copied.ensures ∙ c.get.ensures.value) in
+    c.unwrap_or-before.ensures ∙ ap (λ o. unwrap_or o 0) (c.copied.ensures ∙ c.get.ensures.value) in
     let w = c.unwrap_or-before.result - 1 in
     λ k. hash_map_updates_text c.args.text.now c.args.tally.now (c.get_mut.follows.lender w) (Some w) ((c.get_mut.follows.holds w).3 (search rules)) k
     ∙ ap (λ n. if bytes_eq c.args.text.now k then n else get_by_text c.args.tally.now k) (counted_some w (λ e. omega (arith, e, was, c.requires.counted, c.if-before-eq1.false)))

@@ -43,7 +43,7 @@ returns-then-not-is_lt-clause-stands c =
     let new : has key_cmp A e ≡ false = search rules in
     let there = shown_at (set_of A) e o _ _ (c.source.ensures.value ∙ ap source_of c.event-came.ensures) (c.id.ensures.value ∙ ap id_of c.event-came.ensures) c.in-Some.ensures.some in
     let texts : is_lt (text_cmp e o) ≡ false =
-        ap is_lt (sym (c.compare.ensures.order ∙ ap₂ (λ (x y : EventValue). byte_cmp (text x) (text y)) c.event-came.ensures c.event.ensures)) ∙ sym c.is_lt.ensures ∙ c.if-not-is_lt.true in
+    ap is_lt (sym (c.compare.ensures.order ∙ ap₂ (λ (x y : EventValue). byte_cmp (text x) (text y)) c.event-came.ensures c.event.ensures)) ∙ sym c.is_lt.ensures ∙ c.if-not-is_lt.true in
     comes_new A e c.args.self.now new (stands_hidden A e new c.args.self.now c.requires o there texts)
 
 pub returns-in_err-slot-in-Some-clause-shown : goal.returns-in_err-slot-in-Some-clause-shown
@@ -54,7 +54,7 @@ returns-in_err-slot-in-Some-clause-shown c =
     let new : has key_cmp A e ≡ false = search rules in
     let there = shown_at (set_of A) e o _ _ (c.source.ensures.value ∙ ap source_of c.event-came.ensures) (c.id.ensures.value ∙ ap id_of c.event-came.ensures) c.in-Some.ensures.some in
     let texts : is_lt (text_cmp e o) ≡ true =
-        ap is_lt (sym (c.compare.ensures.order ∙ ap₂ (λ (x y : EventValue). byte_cmp (text x) (text y)) c.event-came.ensures c.event.ensures)) ∙ sym c.is_lt.ensures ∙ c.if-not-is_lt.false in
+    ap is_lt (sym (c.compare.ensures.order ∙ ap₂ (λ (x y : EventValue). byte_cmp (text x) (text y)) c.event-came.ensures c.event.ensures)) ∙ sym c.is_lt.ensures ∙ c.if-not-is_lt.false in
     let exit = err_from_is_err_and c.from_residual.result c.from_residual.ensures.1 in
     rw exit.1 (replaced_is_shown A e new o there texts)
 
@@ -66,7 +66,7 @@ returns-in_err-admit-in-Some-clause-shown c =
     let new : has key_cmp A e ≡ false = search rules in
     let there = shown_at (set_of A) e o _ _ (c.source.ensures.value ∙ ap source_of c.event-came.ensures) (c.id.ensures.value ∙ ap id_of c.event-came.ensures) c.in-Some.ensures.some in
     let texts : is_lt (text_cmp e o) ≡ true =
-        ap is_lt (sym (c.compare.ensures.order ∙ ap₂ (λ (x y : EventValue). byte_cmp (text x) (text y)) c.event-came.ensures c.event.ensures)) ∙ sym c.is_lt.ensures ∙ c.if-not-is_lt.false in
+    ap is_lt (sym (c.compare.ensures.order ∙ ap₂ (λ (x y : EventValue). byte_cmp (text x) (text y)) c.event-came.ensures c.event.ensures)) ∙ sym c.is_lt.ensures ∙ c.if-not-is_lt.false in
     let exit = err_from_is_err_and c.from_residual-in_err-admit-in-Some.result c.from_residual-in_err-admit-in-Some.ensures.1 in
     rw exit.1 (replaced_is_shown A e new o there texts)
 
@@ -79,7 +79,7 @@ dismiss-requires c =
     let new : has key_cmp A e ≡ false = search rules in
     let there = shown_at (set_of A) e o _ _ (c.source.ensures.value ∙ ap source_of c.event-came.ensures) (c.id.ensures.value ∙ ap id_of c.event-came.ensures) c.in-Some.ensures.some in
     let texts : is_lt (text_cmp e o) ≡ true =
-        ap is_lt (sym (c.compare.ensures.order ∙ ap₂ (λ (x y : EventValue). byte_cmp (text x) (text y)) c.event-came.ensures c.event.ensures)) ∙ sym c.is_lt.ensures ∙ c.if-not-is_lt.false in
+    ap is_lt (sym (c.compare.ensures.order ∙ ap₂ (λ (x y : EventValue). byte_cmp (text x) (text y)) c.event-came.ensures c.event.ensures)) ∙ sym c.is_lt.ensures ∙ c.if-not-is_lt.false in
     record { counted = was_counted A e new c.args.self.now c.requires mid (subst (λ n. ComesIn e n c.args.self.now mid) c.arrived-place.ensures.count c.in_ok-admit-in-Some.ensures.comes) o there texts }
 
 pub returns-in_ok-admit-in-Some-clause-stands : goal.returns-in_ok-admit-in-Some-clause-stands
@@ -92,6 +92,6 @@ returns-in_ok-admit-in-Some-clause-stands c =
     let new : has key_cmp A e ≡ false = search rules in
     let there = shown_at (set_of A) e o _ _ (c.source.ensures.value ∙ ap source_of c.event-came.ensures) (c.id.ensures.value ∙ ap id_of c.event-came.ensures) c.in-Some.ensures.some in
     let texts : is_lt (text_cmp e o) ≡ true =
-        ap is_lt (sym (c.compare.ensures.order ∙ ap₂ (λ (x y : EventValue). byte_cmp (text x) (text y)) c.event-came.ensures c.event.ensures)) ∙ sym c.is_lt.ensures ∙ c.if-not-is_lt.false in
+    ap is_lt (sym (c.compare.ensures.order ∙ ap₂ (λ (x y : EventValue). byte_cmp (text x) (text y)) c.event-came.ensures c.event.ensures)) ∙ sym c.is_lt.ensures ∙ c.if-not-is_lt.false in
     comes_new A e after new (stands_replaced A e new c.args.self.now c.requires mid (subst (λ n. ComesIn e n c.args.self.now mid) c.arrived-place.ensures.count c.in_ok-admit-in-Some.ensures.comes) o there texts after
     (subst (λ s. GoesOut o s mid after) c.in_ok-slot-in-Some.ensures c.dismiss.ensures) c.arrived-place.ensures.events c.text_tells_events.ensures)
