@@ -1,0 +1,55 @@
+//! Events of rows.
+
+use attributes::{Event, Given, Parts, Sequenced, Text};
+use std::alloc::{AllocError, Global};
+
+/// The id, the sequence number, the type and the subject of an event of the source `/orders`. An
+/// empty subject is none.
+pub type Row<'a> = (&'a str, u64, &'a str, &'a str);
+
+/// Sets an attribute.
+fn set(alloc: Global, parts: &mut Parts, name: &str, text: &str) -> Result<(), AllocError> {
+    parts.set(name, Given::Words(Text::of(alloc, text)?))
+}
+
+/// Sets the sequence number.
+fn set_number(alloc: Global, parts: &mut Parts, number: u64) -> Result<(), AllocError> {
+    let digits = format!(in alloc; "{number:020}")?;
+    set(alloc, parts, "sequence", digits.as_str())
+}
+
+/// Sets the attributes of a row.
+fn set_row(alloc: Global, parts: &mut Parts, row: Row<'_>) -> Result<(), AllocError> {
+    let (id, number, kind, subject) = row;
+    set_number(alloc, parts, number)?;
+    for (name, text) in [
+        ("specversion", "1.0"),
+        ("source", "/orders"),
+        ("id", id),
+        ("type", kind),
+        ("subject", subject),
+    ] {
+        if !text.is_empty() {
+            set(alloc, parts, name, text)?;
+        }
+    }
+    Ok(())
+}
+
+/// The event of parts that have no fault.
+fn built(parts: Parts) -> Option<Sequenced> {
+    match Event::build(parts) {
+        Ok(event) => Sequenced::of(event).ok(),
+        Err(_) => None,
+    }
+}
+
+/// The event of a row.
+pub fn event(alloc: Global, row: Row<'_>) -> Option<Sequenced> {
+    let mut parts = Parts::empty(alloc);
+    if set_row(alloc, &mut parts, row).is_ok() {
+        built(parts)
+    } else {
+        None
+    }
+}

@@ -1,0 +1,215 @@
+//! An inbox beside its views.
+
+ghost use Rattle.std.specs.Prelude.{◌≡◌, ◌<◌, ◌∷◌, [], IsTrue, false};
+ghost use Rattle.inbox.specs.KeyOrder.{key_cmp};
+ghost use Rattle.inbox.specs.Ordered.{append_new};
+ghost use Rattle.kept_views.specs.Tables.{StandsFor};
+
+use crate::event::{Row, event};
+use attributes::Sequenced;
+use inbox::Inbox;
+use kept_views::Views;
+use std::alloc::{AllocError, Global};
+use std::hash::RandomState;
+use std::marker::Model;
+use std::process::Abort;
+use views::{Answer, Query, answer, print};
+
+/// An inbox, and the views of what came to it.
+#[derive(Drop)]
+struct Kept {
+    inbox: Inbox,
+    views: Views,
+}
+
+impl Model for Kept {
+    ghost use Rattle.inbox.specs.Codes.{kept_code};
+    ghost use Rattle.inbox.specs.Kept.{Kept as Came};
+    ghost use Rattle.kept_views.specs.Tables.{StandsFor};
+
+    ghost Value = { Came };
+
+    ghost coded = { kept_code };
+
+    ghost view = { λ k. k.inbox };
+
+    ghost invariant = { λ k. StandsFor k.inbox.arrivals k.views };
+}
+
+/// Makes room for an event. What is refused is tried once more.
+fn grow(inbox: &mut Inbox) -> bool
+    ensures same { inbox.new.arrivals ≡ inbox.old.arrivals }
+    ensures room { IsTrue result → 0 < inbox.new.spare }
+{
+    match inbox.reserve(1) {
+        Ok(()) => true,
+        Err(_) => match inbox.reserve(1) {
+            Ok(()) => true,
+            Err(_) => false,
+        },
+    }
+}
+
+/// The views take an event. What is refused is tried once more.
+fn note(views: &mut Views, inbox: &Inbox, event: &Sequenced) -> bool
+    requires { StandsFor inbox.now.arrivals views.old }
+    ensures stands { IsTrue result
+        → StandsFor (append_new key_cmp inbox.now.arrivals (event.now ∷ [])) views.new }
+    ensures same { result ≡ false → views.new ≡ views.old }
+{
+    match views.put(inbox, event) {
+        Ok(()) => true,
+        Err(_) => match views.put(inbox, event) {
+            Ok(()) => true,
+            Err(_) => false,
+        },
+    }
+}
+
+/// An event comes to the views, and then to the inbox.
+fn take_event(inbox: &mut Inbox, views: &mut Views, event: Sequenced) -> bool
+    requires { StandsFor inbox.old.arrivals views.old }
+    ensures { StandsFor inbox.new.arrivals views.new }
+{
+    if !grow(inbox) {
+        return false;
+    }
+    if !note(views, inbox, &event) {
+        return false;
+    }
+    inbox.put(event);
+    true
+}
+
+/// Whether there is an answer with these lines.
+fn has_lines(alloc: Global, found: Result<Answer, AllocError>, wanted: &str) -> bool {
+    match found {
+        Ok(found) => match print(alloc, &found) {
+            Ok(text) => text.as_str() == wanted,
+            Err(_) => false,
+        },
+        Err(_) => false,
+    }
+}
+
+impl Kept {
+    /// The event of a row comes.
+    fn take(&mut self, alloc: Global, row: Row<'_>) -> bool {
+        match event(alloc, row) {
+            Some(event) => take_event(&mut self.inbox, &mut self.views, event),
+            None => false,
+        }
+    }
+
+    /// The events of rows come.
+    fn take_all(&mut self, alloc: Global, rows: &[Row<'_>]) -> bool {
+        for row in rows {
+            if !self.take(alloc, *row) {
+                return false;
+            }
+        }
+        true
+    }
+
+    /// Whether the views answer a question with these lines, and so does the inbox from scratch.
+    fn answers(&self, alloc: Global, query: Query, wanted: &str) -> bool {
+        has_lines(alloc, self.views.answer(&self.inbox, query), wanted)
+            && has_lines(alloc, answer(alloc, &self.inbox, query), wanted)
+    }
+
+    /// Whether after these rows the types are these lines, and the latest are those of these texts.
+    fn shows(&self, alloc: Global, kinds: &str, latest: &str) -> bool {
+        self.answers(alloc, Query::Kinds, kinds) && self.answers(alloc, Query::Latest, latest)
+    }
+}
+
+/// Views that hash by a seed of their own.
+fn seeded(rt: &HostRuntime) -> Option<Kept> {
+    let state = RandomState::new(rt).ok()?;
+    Some(Kept {
+        inbox: Inbox::empty(rt.alloc()),
+        views: Views::with_hasher(rt.alloc(), state),
+    })
+}
+
+/// Views that hash by the seed that everybody knows.
+fn known(alloc: Global) -> Kept {
+    Kept {
+        inbox: Inbox::empty(alloc),
+        views: Views::empty(alloc),
+    }
+}
+
+const F1: Row<'static> = ("b1", 1, "t.a", "x");
+
+const F2: Row<'static> = ("b2", 2, "t.b", "x");
+
+const G: Row<'static> = ("b2", 2, "t.c", "w");
+
+const H: Row<'static> = ("b1", 1, "t.c", "w");
+
+const LINE_F1: &str =
+    "{\"id\":\"b1\",\"sequence\":\"00000000000000000001\",\"source\":\"/orders\",\"specversion\":\"1.0\",\"subject\":\"x\",\"type\":\"t.a\"}\n";
+
+const LINE_F2: &str =
+    "{\"id\":\"b2\",\"sequence\":\"00000000000000000002\",\"source\":\"/orders\",\"specversion\":\"1.0\",\"subject\":\"x\",\"type\":\"t.b\"}\n";
+
+const LINE_G: &str =
+    "{\"id\":\"b2\",\"sequence\":\"00000000000000000002\",\"source\":\"/orders\",\"specversion\":\"1.0\",\"subject\":\"w\",\"type\":\"t.c\"}\n";
+
+const LINES_G_F1: &str =
+    "{\"id\":\"b2\",\"sequence\":\"00000000000000000002\",\"source\":\"/orders\",\"specversion\":\"1.0\",\"subject\":\"w\",\"type\":\"t.c\"}\n{\"id\":\"b1\",\"sequence\":\"00000000000000000001\",\"source\":\"/orders\",\"specversion\":\"1.0\",\"subject\":\"x\",\"type\":\"t.a\"}\n";
+
+/// Conflicts hide the latest of a subject, and its type, twice.
+fn hide(rt: &impl Abort, alloc: Global, kept: &mut Kept) {
+    assert!(rt; kept.shows(alloc, "", ""));
+    assert!(rt; kept.take(alloc, F1));
+    assert!(rt; kept.shows(alloc, "[\"t.a\",1]\n", LINE_F1));
+    assert!(rt; kept.take(alloc, F2));
+    assert!(rt; kept.shows(alloc, "[\"t.a\",1]\n[\"t.b\",1]\n", LINE_F2));
+    assert!(rt; kept.take(alloc, G));
+    assert!(rt; kept.shows(alloc, "[\"t.a\",1]\n[\"t.c\",1]\n", LINES_G_F1));
+    assert!(rt; kept.take_all(alloc, &[F2, F1, G]));
+    assert!(rt; kept.shows(alloc, "[\"t.a\",1]\n[\"t.c\",1]\n", LINES_G_F1));
+    assert!(rt; kept.take(alloc, H));
+    assert!(rt; kept.shows(alloc, "[\"t.c\",2]\n", LINE_G));
+}
+
+#[test]
+fn what_is_hidden_is_counted_out(rt: HostRuntime) {
+    let mut kept = known(rt.alloc());
+    hide(&rt, rt.alloc(), &mut kept);
+}
+
+#[test]
+fn no_seed_changes_an_answer(rt: HostRuntime) {
+    let made = seeded(&rt);
+    assert!(rt; made.is_some());
+    if let Some(mut kept) = made {
+        hide(&rt, rt.alloc(), &mut kept);
+    }
+}
+
+/// A hidden event that stood at the same number and subject, one without a subject, and one that is
+/// hidden as it comes.
+fn replace(rt: &impl Abort, alloc: Global, kept: &mut Kept) {
+    assert!(rt; kept.take_all(alloc, &[F1, ("b1", 1, "t.", "x"), ("b3", 7, "t.b", "")]));
+    assert!(rt; kept.take(alloc, ("b1", 1, "t.z", "x")));
+    assert!(rt; kept.answers(alloc, Query::Kinds, "[\"t.\",1]\n[\"t.b\",1]\n"));
+    assert!(rt; kept.take_all(alloc, &[F2, ("b2", 2, "t.a", "x")]));
+    assert!(rt;
+        kept.answers(
+            alloc,
+            Query::Kinds,
+            "[\"t.\",1]\n[\"t.a\",1]\n[\"t.b\",1]\n"
+        )
+    );
+    assert!(rt; kept.answers(alloc, Query::Gaps, "[\"/orders\",[[3,6]]]\n"));
+    assert!(rt; kept.answers(alloc, Query::Days, ""));
+}
+
+#[test]
+fn what_takes_the_place_of_another_is_counted_once(rt: HostRuntime) {
+    let mut kept = known(rt.alloc());
+    replace(&rt, rt.alloc(), &mut kept);
+}
