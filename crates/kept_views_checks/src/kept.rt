@@ -66,6 +66,14 @@ fn note(views: &mut Views, inbox: &Inbox, event: &Sequenced) -> bool
     }
 }
 
+/// The event of a row. What is refused is tried once more.
+fn made(alloc: Global, row: Row<'_>) -> Option<Sequenced> {
+    match event(alloc, row) {
+        Some(event) => Some(event),
+        None => event(alloc, row),
+    }
+}
+
 /// An event comes to the views, and then to the inbox.
 fn take_event(inbox: &mut Inbox, views: &mut Views, event: Sequenced) -> bool
     requires { StandsFor inbox.old.arrivals views.old }
@@ -95,7 +103,7 @@ fn has_lines(alloc: Global, found: Result<Answer, AllocError>, wanted: &str) -> 
 impl Kept {
     /// The event of a row comes.
     fn take(&mut self, alloc: Global, row: Row<'_>) -> bool {
-        match event(alloc, row) {
+        match made(alloc, row) {
             Some(event) => take_event(&mut self.inbox, &mut self.views, event),
             None => false,
         }
@@ -111,10 +119,17 @@ impl Kept {
         true
     }
 
+    /// Whether the views answer a question with these lines. What is refused is tried once more.
+    fn tells(&self, alloc: Global, query: Query, wanted: &str) -> bool {
+        has_lines(alloc, self.views.answer(&self.inbox, query), wanted)
+            || has_lines(alloc, self.views.answer(&self.inbox, query), wanted)
+    }
+
     /// Whether the views answer a question with these lines, and so does the inbox from scratch.
     fn answers(&self, alloc: Global, query: Query, wanted: &str) -> bool {
-        has_lines(alloc, self.views.answer(&self.inbox, query), wanted)
-            && has_lines(alloc, answer(alloc, &self.inbox, query), wanted)
+        self.tells(alloc, query, wanted)
+            && (has_lines(alloc, answer(alloc, &self.inbox, query), wanted)
+                || has_lines(alloc, answer(alloc, &self.inbox, query), wanted))
     }
 
     /// Whether after these rows the types are these lines, and the latest are those of these texts.
