@@ -73,7 +73,7 @@ outcome_is_send : IsSend (enum.Enum (enum_declared.shape outcome.the_type))
 outcome_is_send = enum_send (enum_declared.shape outcome.the_type) ((search (heap.crosses, sendable) depth 60 fits 20000, tt), ((asked_is_send, tt), tt))
 
 pub job_is_send : PassesAreSend → IsSend job.the_row
-job_is_send pass = recorded_send (job.the_field).row _ _ (job.the_type).to_one (struct_send (declared.shape job.the_type) (search (maps.crosses, heap.crosses, sendable) depth 60 fits 20000, (pass, tt)))
+job_is_send pass = recorded_send (job.the_field).row _ _ (job.the_type).to_one (struct_send (declared.shape job.the_type) (search sendable, (search (maps.crosses, heap.crosses, sendable) depth 60 fits 20000, (pass, tt))))
 
 pub finished_is_send : PassesAreSend → IsSend finished.the_row
 finished_is_send pass = recorded_send (finished.the_field).row _ _ (finished.the_type).to_one (struct_send (declared.shape finished.the_type) (outcome_is_send, (pass, tt)))
@@ -83,10 +83,10 @@ closure_is_send : (i : ℕ) (δ : Ty) (name : Sym) (captured : List RattleType) 
 closure_is_send i δ name captured all =
     param_send i _ (arg_send δ no _ (recorded_send (field_at name captured).row _ _ (type_at name captured).to_one (struct_send (declared.shape (type_at name captured)) all)))
 
--- a worker's closure captures the runtime, the memory, the site, the gate, its number, its job, and
+-- a worker's closure captures the runtime, the memory, the site, the gate, its job, and
 -- the count of those that are left
 abbrev captured : NamedLft → NamedLft → NamedLft → NamedLft → RattleType → RattleType → List RattleType
-captured a b c d R G = ShrRef a.mir a.lft (param 0 R) ∷ global.the_row ∷ ShrRef b.mir b.lft shared.the_row ∷ ShrRef c.mir c.lft (param 1 G) ∷ UInt w64 ∷ job.the_row ∷ ShrRef d.mir d.lft count.the_row ∷ []
+captured a b c d R G = ShrRef a.mir a.lft (param 0 R) ∷ global.the_row ∷ ShrRef b.mir b.lft shared.the_row ∷ ShrRef c.mir c.lft (param 1 G) ∷ job.the_row ∷ ShrRef d.mir d.lft count.the_row ∷ []
 
 pub worker_is_send : (δ : Ty) (name : Sym) (a b c d : NamedLft) (R G : RattleType) → IsSync R → IsSync G → PassesAreSend → SharedSitesAreSync
     → IsSend (param 2 (arg δ no (TupleAt name (captured a b c d R G))))
@@ -99,13 +99,10 @@ worker_is_send δ name a b c d R G runtime gate pass site = closure_is_send 2 δ
       (
         shr_send _ _ _ (param_sync 1 G gate),
         (
-          search sendable,
+          job_is_send pass,
           (
-            job_is_send pass,
-            (
-              search (heap.crosses, sendable) depth 30,
-              tt,
-            ),
+            search (heap.crosses, sendable) depth 30,
+            tt,
           ),
         ),
       ),

@@ -1,5 +1,6 @@
 mod CauseLemmas
 mod CrossLemmas
+mod GateLemmas
 pub mod AskLemmas
 pub mod PullLemmas
 pub mod ServeLemmas

@@ -14,7 +14,7 @@ use Rattle.turn_lock.specs.declared.machine.Entry.{Entry}
 use Rattle.turn_lock.specs.History.{StartsWith, entry, made_by}
 use Rattle.views.specs.declared.query.Query.{Query}
 use Rattle.site_lock.specs.Pass.{IsSame, IsSplitOff, Shown, Steps, leave, leaves}
-use Rattle.feeds.specs.Serve.{EachAt, HasCalls, Serves, WorkerAsks, WorkerFeeds, WorkerPulls, worker_of}
+use Rattle.feeds.specs.Serve.{AreGated, EachAt, HasCalls, Serves, WorkerAsks, WorkerFeeds, WorkerIsGated, WorkerPulls, ends_of, worker_of}
 use Rattle.feeds.specs.declared.asking.Asked.{Asked}
 use Rattle.feeds.specs.declared.report.Report.{Report}
 use Rattle.feeds.specs.declared.serving.Served.{Served}
@@ -24,15 +24,15 @@ use Rattle.feeds.specs.declared.serving.worker.Outcome.{Outcome}
 use Rattle.feeds.specs.declared.serving.worker.Outcome.TheVariants.{Answered, Reported}
 use Rattle.feeds.specs.declared.serving.worker.Work.{Work}
 use Rattle.feeds.specs.declared.serving.worker.Work.TheVariants as work
-use Rattle.feeds.specs.steps.Serve.{AllAt, AllTold, AreAt, Each, Ends, IsJobAt, Performs, WorkerTells, answers_by, answers_in, outcomes, reports_by, reports_in, works_of}
+use Rattle.feeds.specs.steps.Serve.{AllAt, AllTold, AreAt, Each, Ends, IsGatedFor, IsJobAt, Performs, WorkerTells, ended_by, answers_by, answers_in, outcomes, reports_by, reports_in, works_of}
 use Rattle.feeds.proofs.PullLemmas.{holds_on, keeps_having}
 
 -- one job more
-pub one_more : (js : List Job) (fs : List Finished) (j : Job) (f : Finished) → Each Ends js fs → Ends j f → Each Ends (js ++ j ∷ []) (fs ++ f ∷ [])
-one_more [] [] j f h k = (k, tt)
-one_more [] (x ∷ xs) j f h k = absurd h
-one_more (y ∷ ys) [] j f h k = absurd h
-one_more (y ∷ ys) (x ∷ xs) j f h k = (h.0, one_more ys xs j f h.1 k)
+pub one_more : (H : Job → Finished → Type 0) (js : List Job) (fs : List Finished) (j : Job) (f : Finished) → Each H js fs → H j f → Each H (js ++ j ∷ []) (fs ++ f ∷ [])
+one_more H [] [] j f h k = (k, tt)
+one_more H [] (x ∷ xs) j f h k = absurd h
+one_more H (y ∷ ys) [] j f h k = absurd h
+one_more H (y ∷ ys) (x ∷ xs) j f h k = (h.0, one_more H ys xs j f h.1 k)
 
 pub at_last : (t : TableId) (js : List Job) (j : Job) → AreAt t (js ++ j ∷ []) → AreAt t js × (j.pass.table ≡ t)
 at_last t [] j h = (tt, h.0)
@@ -42,11 +42,11 @@ pub all_at_last : (t : TableId) (fs : List Finished) (f : Finished) → AllAt t 
 all_at_last t [] f h = (tt, h.0)
 all_at_last t (x ∷ xs) f h = let r = all_at_last t xs f h.1 in ((h.0, r.0), r.1)
 
-pub each_length : (js : List Job) (fs : List Finished) → Each Ends js fs → length fs ≡ length js
-each_length [] [] h = refl
-each_length [] (x ∷ xs) h = absurd h
-each_length (y ∷ ys) [] h = absurd h
-each_length (y ∷ ys) (x ∷ xs) h = omega (arith, each_length ys xs h.1)
+pub each_length : (H : Job → Finished → Type 0) (js : List Job) (fs : List Finished) → Each H js fs → length fs ≡ length js
+each_length H [] [] h = refl
+each_length H [] (x ∷ xs) h = absurd h
+each_length H (y ∷ ys) [] h = absurd h
+each_length H (y ∷ ys) (x ∷ xs) h = omega (arith, each_length H ys xs h.1)
 
 -- two histories that begin with one another are one
 none_left : (l : List (Entry Call)) → length l ≡ 0 → l ≡ []
@@ -88,8 +88,9 @@ each_at_more Holds at [] (z ∷ zs) x y h k = absurd h
 each_at_more Holds at (w ∷ ws) [] x y h k = absurd h
 each_at_more Holds at (w ∷ ws) (z ∷ zs) x y h k = (h.0, each_at_more Holds (at + 1) ws zs x y h.1 (subst (λ n. Holds n x y) (omega arith) k))
 
-pub job_of : (p r q : Shown) (place : ℕ) (j : Job) → IsSame p r → r.splits ≡ p.splits + place → IsSplitOff r q → j.pass ≡ q → IsJobAt p place j.work j
-job_of p r q place j same splits off is = record {
+pub job_of : (p r q : Shown) (place : ℕ) (j : Job) → j.worker ≡ place → IsSame p r → r.splits ≡ p.splits + place → IsSplitOff r q → j.pass ≡ q → IsJobAt p place j.work j
+job_of p r q place j worker same splits off is = record {
+  worker = worker;
   work = refl;
   table = ap (λ z. z.table) is ∙ off.table ∙ same.table;
   number = ap (λ z. z.number) is ∙ off.number ∙ (λ i. same.number i ++ splits i ∷ []);
@@ -112,11 +113,11 @@ at_jobs p at [] (j ∷ js) h = absurd h
 at_jobs p at (w ∷ ws) [] h = absurd h
 at_jobs p at (w ∷ ws) (j ∷ js) h = (h.0.table, at_jobs p (at + 1) ws js h.1)
 
-pub at_finished : (t : TableId) (js : List Job) (fs : List Finished) → AreAt t js → Each Ends js fs → AllAt t fs
-at_finished t [] [] h k = tt
-at_finished t [] (f ∷ fs) h k = absurd k
-at_finished t (j ∷ js) [] h k = absurd k
-at_finished t (j ∷ js) (f ∷ fs) h k = (k.0.1.same.table ∙ h.0, at_finished t js fs h.1 k.1)
+pub at_finished : (lets shuts heard : ℕ → ℕ → Type 0) (t : TableId) (js : List Job) (fs : List Finished) → AreAt t js → Each (Ends lets shuts heard) js fs → AllAt t fs
+at_finished lets shuts heard t [] [] h k = tt
+at_finished lets shuts heard t [] (f ∷ fs) h k = absurd k
+at_finished lets shuts heard t (j ∷ js) [] h k = absurd k
+at_finished lets shuts heard t (j ∷ js) (f ∷ fs) h k = (k.0.1.same.table ∙ h.0, at_finished lets shuts heard t js fs h.1 k.1)
 
 -- what came of a worker more
 starts_then : (a b c : List (Entry Call)) → StartsWith c b → StartsWith b a → StartsWith c a
@@ -204,23 +205,40 @@ has_calls p place j f m seen number unused steps own =
     ap (λ z. made_by z seen) (sym (steps.same.number ∙ number)) ∙ own ∙ steps.mine
     ∙ ap (λ z. z ++ map (entry j.pass.number) m) unused ∙ ap (λ z. map (entry z) m) number
 
-worker_tells : (p q : Shown) (place : ℕ) (w : Work) (j : Job) (f : Finished) → q.opening ≡ p.opening → IsJobAt p place w j → Ends j f → StartsWith q.seen f.pass.seen → made_by f.pass.number q.seen ≡ f.pass.mine
+worker_tells : (lets shuts heard : ℕ → ℕ → Type 0) (p q : Shown) (place : ℕ) (w : Work) (j : Job) (f : Finished) → q.opening ≡ p.opening → IsJobAt p place w j → Ends lets shuts heard j f → StartsWith q.seen f.pass.seen → made_by f.pass.number q.seen ≡ f.pass.mine
     → WorkerTells p q place w f.outcome
-worker_tells p q place w j f same is ends heard own = (
+worker_tells lets shuts heard p q place w j f same is ends told own = (
   ends.0,
   has_calls p place j f ends.0 q.seen is.number is.unused ends.1 own,
   subst (λ z. Performs z ends.0 (leaves q) f.outcome) is.work
-      (performs_still j.work ends.0 (leaves f.pass) (leaves q) f.outcome (λ e h. seen_still f.pass q e heard (same ∙ sym (ends.1.same.opening ∙ is.opening)) h) ends.2),
+      (performs_still j.work ends.0 (leaves f.pass) (leaves q) f.outcome (λ e h. seen_still f.pass q e told (same ∙ sym (ends.1.same.opening ∙ is.opening)) h) ends.2),
 )
 
-pub all_tell : (p q : Shown) (at : ℕ) (ws : List Work) (js : List Job) (fs : List Finished) → q.opening ≡ p.opening → EachAt (IsJobAt p) at ws js → Each Ends js fs → AllTold q.seen fs
+pub all_tell : (lets shuts heard : ℕ → ℕ → Type 0) (p q : Shown) (at : ℕ) (ws : List Work) (js : List Job) (fs : List Finished) → q.opening ≡ p.opening → EachAt (IsJobAt p) at ws js → Each (Ends lets shuts heard) js fs → AllTold q.seen fs
     → EachAt (WorkerTells p q) at ws (outcomes fs)
-all_tell p q at [] [] [] same a b c = tt
-all_tell p q at [] [] (f ∷ fs) same a b c = absurd b
-all_tell p q at [] (j ∷ js) fs same a b c = absurd a
-all_tell p q at (w ∷ ws) [] fs same a b c = absurd a
-all_tell p q at (w ∷ ws) (j ∷ js) [] same a b c = absurd b
-all_tell p q at (w ∷ ws) (j ∷ js) (f ∷ fs) same a b c = (worker_tells p q at w j f same a.0 b.0 c.0 c.1, all_tell p q (at + 1) ws js fs same a.1 b.1 c.2)
+all_tell lets shuts heard p q at [] [] [] same a b c = tt
+all_tell lets shuts heard p q at [] [] (f ∷ fs) same a b c = absurd b
+all_tell lets shuts heard p q at [] (j ∷ js) fs same a b c = absurd a
+all_tell lets shuts heard p q at (w ∷ ws) [] fs same a b c = absurd a
+all_tell lets shuts heard p q at (w ∷ ws) (j ∷ js) [] same a b c = absurd b
+all_tell lets shuts heard p q at (w ∷ ws) (j ∷ js) (f ∷ fs) same a b c = (worker_tells lets shuts heard p q at w j f same a.0 b.0 c.0 c.1, all_tell lets shuts heard p q (at + 1) ws js fs same a.1 b.1 c.2)
+
+worker_gated : (lets shuts heard : ℕ → ℕ → Type 0) (p q : Shown) (place : ℕ) (w : Work) (j : Job) (f : Finished) → IsJobAt p place w j → Ends lets shuts heard j f → made_by f.pass.number q.seen ≡ f.pass.mine
+    → WorkerIsGated lets shuts heard p q place (ended_by f.outcome)
+worker_gated lets shuts heard p q place w j f is ends own = (
+  ends.0,
+  has_calls p place j f ends.0 q.seen is.number is.unused ends.1 own,
+  subst (λ z. IsGatedFor lets shuts heard z (length ends.0) (ended_by f.outcome)) is.worker ends.3,
+)
+
+pub all_gated : (lets shuts heard : ℕ → ℕ → Type 0) (p q : Shown) (at : ℕ) (ws : List Work) (js : List Job) (fs : List Finished) → EachAt (IsJobAt p) at ws js → Each (Ends lets shuts heard) js fs → AllTold q.seen fs
+    → AreGated lets shuts heard p q at (map ended_by (outcomes fs))
+all_gated lets shuts heard p q at [] [] [] a b c = tt
+all_gated lets shuts heard p q at [] [] (f ∷ fs) a b c = absurd b
+all_gated lets shuts heard p q at [] (j ∷ js) fs a b c = absurd a
+all_gated lets shuts heard p q at (w ∷ ws) [] fs a b c = absurd a
+all_gated lets shuts heard p q at (w ∷ ws) (j ∷ js) [] a b c = absurd b
+all_gated lets shuts heard p q at (w ∷ ws) (j ∷ js) (f ∷ fs) a b c = (worker_gated lets shuts heard p q at w j f a.0 b.0 c.1, all_gated lets shuts heard p q (at + 1) ws js fs a.1 b.1 c.2)
 
 -- reports of feeds come first, then those of peers, then answers
 feeds_tell : (p q : Shown) (at : ℕ) (bs : List (List ℕ)) (rest : List Work) (os : List Outcome) → EachAt (WorkerTells p q) at (map work.Feed bs ++ rest) os
@@ -277,6 +295,33 @@ serves p q feeds peers asks s os h reports answers =
       each_ask = subst (λ l. EachAt (WorkerAsks p q) (length feeds + length peers) asks l)
           (sym (answers ∙ ap answers_in a.2 ∙ answers_behind a.0 a.1 ∙ ap answers_in b.2 ∙ answers_behind b.0 b.1 ∙ ap answers_in c.1 ∙ all_answers c.0)) c.2;
     }
+
+ends_reported : (rs : List Report) (os : List Outcome) → map ended_by (map Reported rs ++ os) ≡ map (λ (r : Report). r.ended) rs ++ map ended_by os
+ends_reported [] os = refl
+ends_reported (r ∷ rs) os = ap (λ l. r.ended ∷ l) (ends_reported rs os)
+
+ends_answered : (rs : List Asked) → map ended_by (map Answered rs) ≡ map (λ (r : Asked). r.ended) rs
+ends_answered [] = refl
+ends_answered (r ∷ rs) = ap (λ l. r.ended ∷ l) (ends_answered rs)
+
+ends_apart : (fed pulled : List Report) (asked : List Asked) → map ended_by (map Reported fed ++ (map Reported pulled ++ map Answered asked)) ≡ map (λ (r : Report). r.ended) (fed ++ pulled) ++ map (λ (r : Asked). r.ended) asked
+ends_apart fed pulled asked = ends_reported fed (map Reported pulled ++ map Answered asked)
+    ∙ ap (λ l. map (λ (r : Report). r.ended) fed ++ l) (ends_reported pulled (map Answered asked) ∙ ap (λ l. map (λ (r : Report). r.ended) pulled ++ l) (ends_answered asked))
+    ∙ sym (append_assoc (map (λ (r : Report). r.ended) fed) (map (λ (r : Report). r.ended) pulled) (map (λ (r : Asked). r.ended) asked))
+    ∙ ap (λ l. l ++ map (λ (r : Asked). r.ended) asked) (sym (map-append (λ (r : Report). r.ended) fed pulled))
+
+-- the ends of outcomes are those of the reports, then those of the answers
+pub ends_are : (p q : Shown) (feeds : List (List ℕ)) (peers : List (List EventValue)) (asks : List (List Query)) (s : Served) (os : List Outcome) → EachAt (WorkerTells p q) 0 (works_of feeds peers asks) os
+    → s.reports.items ≡ reports_in os → s.asked.items ≡ answers_in os → map ended_by os ≡ ends_of s
+ends_are p q feeds peers asks s os h reports answers =
+    let a = feeds_tell p q 0 feeds (map work.Pull peers ++ map work.Ask asks) os h in
+    let behind = subst (λ n. EachAt (WorkerTells p q) n (map work.Pull peers ++ map work.Ask asks) a.1) (omega arith) a.4 in
+    let b = peers_tell p q (length feeds) peers (map work.Ask asks) a.1 behind in
+    let c = asks_tell p q (length feeds + length peers) asks b.1 b.4 in
+    let first : s.reports.items ≡ a.0 ++ b.0 = reports ∙ ap reports_in a.2 ∙ reports_first a.0 a.1 ∙ ap (λ l. a.0 ++ l) (ap reports_in b.2 ∙ reports_first b.0 b.1 ∙ ap (λ l. b.0 ++ l) (ap reports_in c.1 ∙ no_reports c.0) ∙ append-nil b.0) in
+    let last : s.asked.items ≡ c.0 = answers ∙ ap answers_in a.2 ∙ answers_behind a.0 a.1 ∙ ap answers_in b.2 ∙ answers_behind b.0 b.1 ∙ ap answers_in c.1 ∙ all_answers c.0 in
+    ap (map ended_by) (a.2 ∙ ap (λ l. map Reported a.0 ++ l) (b.2 ∙ ap (λ l. map Reported b.0 ++ l) c.1)) ∙ ends_apart a.0 b.0 c.0
+    ∙ ap (λ l. map (λ (r : Report). r.ended) l ++ map (λ (r : Asked). r.ended) c.0) (sym first) ∙ ap (λ l. map (λ (r : Report). r.ended) s.reports.items ++ map (λ (r : Asked). r.ended) l) (sym last)
 
 pub some_of : {X : Type 0} → (P : X → Type 0) (o : Option X) (x : X) → o ≡ Some x → IfSome o P → P x
 some_of P (Some y) x is h = let same : y ≡ x = cc in subst P same h

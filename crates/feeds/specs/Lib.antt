@@ -1,4 +1,5 @@
 pub mod Report
+pub mod Gate
 pub mod Ask
 pub mod Pull
 pub mod Serve

@@ -1,5 +1,5 @@
 -- What came of workers over one shared site, each with a pass of its own that was split off one.
-use Rattle.std.specs.Prelude.{◌≡◌, ℕ, ◌+◌, List, [], ◌∷◌, ◌++◌, length, map}
+use Rattle.std.specs.Prelude.{◌≡◌, ◌≤◌, ℕ, ◌+◌, List, [], ◌∷◌, ◌++◌, length, map}
 use Rattle.attributes.specs.Event.{EventValue}
 use Rattle.site.specs.declared.call.Call.{Call}
 use Rattle.turn_lock.specs.declared.machine.Entry.{Entry}
@@ -7,9 +7,11 @@ use Rattle.turn_lock.specs.History.{entry, made_by}
 use Rattle.views.specs.declared.query.Query.{Query}
 use Rattle.site_lock.specs.Pass.{Shown, leaves}
 use Rattle.feeds.specs.Ask.{Asks}
+use Rattle.feeds.specs.Gate.{IsGated}
 use Rattle.feeds.specs.Pull.{PullsFrom}
 use Rattle.feeds.specs.Report.{Feeds}
 use Rattle.feeds.specs.declared.asking.Asked.{Asked}
+use Rattle.feeds.specs.declared.report.Ended.{Ended}
 use Rattle.feeds.specs.declared.report.Report.{Report}
 use Rattle.feeds.specs.declared.serving.ServeFault.{ServeFault}
 use Rattle.feeds.specs.declared.serving.ServeFault.TheVariants.{NoThread, OutOfMemory}
@@ -66,3 +68,23 @@ pub record Serves (p q : Shown) (feeds : List (List ℕ)) (peers : List (List Ev
   pub each_feed : EachAt (WorkerFeeds p q) 0 feeds fed
   pub each_peer : EachAt (WorkerPulls p q) (length feeds) peers pulled
   pub each_ask : EachAt (WorkerAsks p q) (length feeds + length peers) asks s.asked.items
+
+-- the gate let the worker at this place make its calls, under this number and counted from 1, and
+-- was told of each: all that q has seen of it, and those of its peer besides, if it pulled. It ended
+-- so
+abbrev pub WorkerIsGated : (ℕ → ℕ → Type 0) → (ℕ → ℕ → Type 0) → (ℕ → ℕ → Type 0) → Shown → Shown
+    → ℕ → Ended → Type 0
+WorkerIsGated lets shuts heard p q place ended =
+    (m : List Call) × HasCalls q.seen (worker_of p place) m × ((calls : ℕ) × (length m ≤ calls)
+    × IsGated lets shuts heard place calls ended)
+
+-- so it is of each worker from this place on, by how it ended
+abbrev pub AreGated : (ℕ → ℕ → Type 0) → (ℕ → ℕ → Type 0) → (ℕ → ℕ → Type 0) → Shown → Shown → ℕ
+    → List Ended → Type 0
+AreGated lets shuts heard p q place [] = Unit {0}
+AreGated lets shuts heard p q place (e ∷ es) = WorkerIsGated lets shuts heard p q place e
+    × AreGated lets shuts heard p q (place + 1) es
+
+-- how the workers ended, in their order
+abbrev pub ends_of : Served → List Ended
+ends_of s = map (λ (r : Report). r.ended) s.reports.items ++ map (λ (r : Asked). r.ended) s.asked.items

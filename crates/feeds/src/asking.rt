@@ -1,9 +1,11 @@
 //! One worker that asks a desk.
 
-ghost use Rattle.std.specs.Prelude.{◌≡◌, List};
+ghost use Rattle.std.specs.Prelude.{◌≡◌, ◌+◌, ◌<◌, ◌^◌, List, length};
 ghost use Rattle.site.specs.declared.call.Call.{Call};
 ghost use Rattle.feeds.specs.Ask.{Asks};
+ghost use Rattle.feeds.specs.Gate.{IsGated};
 ghost use Rattle.feeds.specs.steps.Ask.{AsksOne};
+ghost use Rattle.feeds.specs.steps.Gate.{GoesThrough};
 
 use crate::report::Ended;
 use attributes::List;
@@ -21,8 +23,8 @@ pub struct Asked {
     pub ended: Ended,
 }
 
-/// Asks a question in one call, where the gate lets it, and keeps the answer. What comes back is
-/// why the worker ends, if it does.
+/// Asks a question in the call behind the first `call`, where the gate lets it, and keeps the answer.
+/// What comes back is why the worker ends, if it does.
 fn ask_one<D: Desk, G: Gate>(
     desk: &mut D,
     gate: &G,
@@ -31,9 +33,13 @@ fn ask_one<D: Desk, G: Gate>(
     query: Query,
     answers: &mut Answers,
 ) -> Option<Ended>
+    requires { call + 1 < 2 ^ 64 }
     ensures { (m : List Call) × D.went desk.old desk.new m
-        × AsksOne query m answers.old answers.new result }
+        × AsksOne query m answers.old answers.new result
+        × GoesThrough (G.lets gate.now) (G.shuts gate.now) (G.heard gate.now) worker
+        call (length m) (call + 1) result }
 {
+    let call = call + 1;
     match gate.before(worker, call) {
         Ok(()) => (),
         Err(_) => return Some(Ended::GateShut),
@@ -61,12 +67,13 @@ pub fn ask<D: Desk, G: Gate>(
     worker: u64,
     queries: &[Query],
 ) -> Asked
-    ensures { (m : List Call) × D.went desk.old desk.new m × Asks queries.now m result }
+    ensures { (m : List Call) × D.went desk.old desk.new m × Asks queries.now m result
+        × IsGated (G.lets gate.now) (G.shuts gate.now) (G.heard gate.now) worker (length m)
+        result.ended }
 {
     let mut answers = List::empty(alloc);
     for (place, query) in queries.iter().enumerate() {
-        let call = (place as u64).saturating_add(1);
-        match ask_one(desk, gate, worker, call, *query, &mut answers) {
+        match ask_one(desk, gate, worker, place as u64, *query, &mut answers) {
             None => (),
             Some(ended) => return Asked { answers, ended },
         }

@@ -3,6 +3,7 @@
 ghost use Rattle.std.specs.Prelude.{◌≡◌, ◌+◌, ◌<◌, ◌^◌, List, length, MatchResult};
 ghost use Rattle.event_json.specs.Reading.{max_input};
 ghost use Rattle.site.specs.declared.call.Call.{Call};
+ghost use Rattle.feeds.specs.Gate.{IsGated};
 ghost use Rattle.feeds.specs.Report.{Feeds, Tells, reported, unread};
 ghost use Rattle.feeds.specs.steps.Tally.{Passes};
 
@@ -43,7 +44,8 @@ fn hand_over<D: Desk, G: Gate>(
 ) -> Ended
     requires start { tally.old ≡ record { calls = 0; fresh = 0; repeated = 0; refused = 0 } }
     ensures { (m : List Call) × D.went desk.old desk.new m
-        × Tells events m (reported tally.new result) }
+        × Tells events m (reported tally.new result)
+        × IsGated (G.lets gate.now) (G.shuts gate.now) (G.heard gate.now) worker (length m) result }
 {
     // The count bounds the sums below.
     let _len = events.len();
@@ -75,7 +77,9 @@ fn feed_events<D: Desk, G: Gate>(
     worker: u64,
     events: Events,
 ) -> Report
-    ensures { (m : List Call) × D.went desk.old desk.new m × Tells events m result }
+    ensures { (m : List Call) × D.went desk.old desk.new m × Tells events m result
+        × IsGated (G.lets gate.now) (G.shuts gate.now) (G.heard gate.now) worker (length m)
+        result.ended }
 {
     // The count bounds the sum of the report.
     let _len = events.len();
@@ -108,7 +112,9 @@ pub fn feed<D: Desk, G: Gate>(
     worker: u64,
     bytes: &[u8],
 ) -> Report
-    ensures fed { (m : List Call) × D.went desk.old desk.new m × Feeds bytes.now m result }
+    ensures fed { (m : List Call) × D.went desk.old desk.new m × Feeds bytes.now m result
+        × IsGated (G.lets gate.now) (G.shuts gate.now) (G.heard gate.now) worker (length m)
+        result.ended }
     ensures too_large { max_input < length bytes.now
         → result ≡ unread ReadFault.InputTooLarge }
 {

@@ -2,6 +2,7 @@
 
 ghost use Rattle.std.specs.Prelude.{◌≡◌, ◌+◌, ◌<◌, ◌≤◌, ◌^◌, List, None, length};
 ghost use Rattle.site.specs.declared.call.Call.{Call};
+ghost use Rattle.feeds.specs.steps.Gate.{GoesThrough};
 ghost use Rattle.feeds.specs.steps.Tally.{Flushed, FlushedIfFull, Gains, short_of};
 
 use crate::report::{Ended, Tally};
@@ -32,12 +33,16 @@ pub(crate) fn flush<D: Desk, G: Gate>(
 ) -> Option<Ended>
     requires room { tally.old.fresh + tally.old.repeated + length batch.old < 2 ^ 64 }
     requires most { length batch.old ≤ 100 }
+    requires few { tally.old.calls + 1 < 2 ^ 64 }
     ensures flushed { (m : List Call) × D.went desk.old desk.new m
-        × Flushed m batch.old batch.new tally.old tally.new result }
+        × Flushed m batch.old batch.new tally.old tally.new result
+        × GoesThrough (G.lets gate.now) (G.shuts gate.now) (G.heard gate.now) worker
+        tally.old.calls (length m) tally.new.calls result }
     ensures gains { result ≡ None
         → Gains (D.arrivals desk.old) batch.old (D.arrivals desk.new) }
+    ensures calls { tally.new.calls ≡ tally.old.calls + 1 }
 {
-    tally.calls = tally.calls.saturating_add(1);
+    tally.calls += 1;
     match gate.before(worker, tally.calls) {
         Ok(()) => (),
         Err(_) => return Some(Ended::GateShut),
@@ -69,8 +74,13 @@ pub(crate) fn flush_full<D: Desk, G: Gate>(
 ) -> Option<Ended>
     requires room { tally.old.fresh + tally.old.repeated + length batch.old < 2 ^ 64 }
     requires most { length batch.old ≤ 100 }
-    ensures { (m : List Call) × D.went desk.old desk.new m
-        × FlushedIfFull m batch.old batch.new tally.old tally.new result }
+    requires few { tally.old.calls + 1 < 2 ^ 64 }
+    ensures calls { result ≡ None
+        → tally.new.calls + length batch.new ≤ tally.old.calls + length batch.old }
+    ensures flushed { (m : List Call) × D.went desk.old desk.new m
+        × FlushedIfFull m batch.old batch.new tally.old tally.new result
+        × GoesThrough (G.lets gate.now) (G.shuts gate.now) (G.heard gate.now) worker
+        tally.old.calls (length m) tally.new.calls result }
 {
     if batch.len() != PAGE {
         return None;

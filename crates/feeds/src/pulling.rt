@@ -1,12 +1,14 @@
 //! One worker that brings one desk what it lacks of another's events.
 
-ghost use Rattle.std.specs.Prelude.{◌≡◌, ◌+◌, ◌<◌, ◌^◌, List, None, Some};
+ghost use Rattle.std.specs.Prelude.{◌≡◌, ◌+◌, ◌<◌, ◌≤◌, ◌^◌, ℕ, List, None, Some, length};
 ghost use Rattle.inbox.specs.Sets.{set_of};
 ghost use Rattle.site.specs.Delta.{delta};
 ghost use Rattle.site.specs.declared.call.Call.{Call};
+ghost use Rattle.feeds.specs.Gate.{IsGated};
 ghost use Rattle.feeds.specs.Pull.{Holds, Pulled, Pulls, PullsFrom, replied};
 ghost use Rattle.feeds.specs.Report.{reported};
 ghost use Rattle.feeds.specs.declared.report.Ended.TheVariants.{Done};
+ghost use Rattle.feeds.specs.steps.Gate.{GoesThrough, end_if};
 ghost use Rattle.feeds.specs.steps.Pull.{HasSameCounts, Moves, Pages, Sums};
 ghost use Rattle.feeds.specs.steps.Tally.{Gains};
 
@@ -24,7 +26,9 @@ const PAGES: u64 = 72_057_594_037_927_936;
 /// The summary of a desk, in the worker's first call, where the gate lets it; else why the worker
 /// ends.
 fn summary_of<E: Desk, G: Gate>(to: &mut E, gate: &G, worker: u64) -> Result<Summary, Ended>
-    ensures { (n : List Call) × E.went to.old to.new n × Sums n result }
+    ensures { (n : List Call) × E.went to.old to.new n × Sums n result
+        × GoesThrough (G.lets gate.now) (G.shuts gate.now) (G.heard gate.now) worker
+        0 (length n) 1 (end_if result) }
 {
     match gate.before(worker, 1) {
         Ok(()) => (),
@@ -47,13 +51,17 @@ fn next_page<D: Desk, G: Gate>(
     peer: &Summary,
     tally: &mut Tally,
 ) -> Result<Batch, Ended>
-    requires { tally.old.fresh + tally.old.repeated < 2 ^ 64 }
+    requires room { tally.old.fresh + tally.old.repeated < 2 ^ 64 }
+    requires few { tally.old.calls + 1 < 2 ^ 64 }
     ensures page { (m : List Call) × D.went from.old from.new m
-        × Pages peer.now (tally.old.fresh + tally.old.repeated) m result }
+        × Pages peer.now (tally.old.fresh + tally.old.repeated) m result
+        × GoesThrough (G.lets gate.now) (G.shuts gate.now) (G.heard gate.now) worker
+        tally.old.calls (length m) tally.new.calls (end_if result) }
     ensures same { HasSameCounts tally.old tally.new }
+    ensures calls { tally.new.calls ≡ tally.old.calls + 1 }
 {
     let place = tally.fresh + tally.repeated;
-    tally.calls = tally.calls.saturating_add(1);
+    tally.calls += 1;
     match gate.before(worker, tally.calls) {
         Ok(()) => (),
         Err(_) => return Err(Ended::GateShut),
@@ -76,11 +84,15 @@ fn move_page<D: Desk, E: Desk, G: Gate>(
     peer: &Summary,
     tally: &mut Tally,
 ) -> Option<Ended>
-    requires { tally.old.fresh + tally.old.repeated + 100 < 2 ^ 64 }
-    ensures { (m n : List Call) × D.went from.old from.new m × E.went to.old to.new n
+    requires room { tally.old.fresh + tally.old.repeated + 100 < 2 ^ 64 }
+    requires few { tally.old.calls + 2 < 2 ^ 64 }
+    ensures calls { tally.new.calls ≤ tally.old.calls + 2 }
+    ensures moves { (m n : List Call) × D.went from.old from.new m × E.went to.old to.new n
         × Moves peer.now m n tally.old tally.new result
         × (result ≡ None → Gains (E.arrivals to.old) (replied m) (E.arrivals to.new))
-        × (result ≡ Some Done → E.arrivals to.new ≡ E.arrivals to.old) }
+        × (result ≡ Some Done → E.arrivals to.new ≡ E.arrivals to.old)
+        × GoesThrough (G.lets gate.now) (G.shuts gate.now) (G.heard gate.now) worker
+        tally.old.calls (length m + length n) tally.new.calls result }
 {
     let mut batch = match next_page(from, gate, worker, peer, tally) {
         Ok(batch) => batch,
@@ -104,7 +116,9 @@ fn pull_pages<D: Desk, E: Desk, G: Gate>(
     requires start { tally.old ≡ record { calls = 1; fresh = 0; repeated = 0; refused = 0 } }
     ensures pulled { (m n : List Call) × D.went from.old from.new m × E.went to.old to.new n
         × Pulled peer.now m n (reported tally.new result)
-        × (result ≡ Done → Holds (E.arrivals to.new) (replied m)) }
+        × (result ≡ Done → Holds (E.arrivals to.new) (replied m))
+        × GoesThrough (G.lets gate.now) (G.shuts gate.now) (G.heard gate.now) worker
+        1 (length m + length n) tally.new.calls (Some result) }
     ensures few { tally.new.fresh + tally.new.repeated + tally.new.refused < 2 ^ 64 }
 {
     // What is taken is held: a law of sets.
@@ -127,7 +141,9 @@ fn pull_pages<D: Desk, E: Desk, G: Gate>(
 pub fn pull<D: Desk, E: Desk, G: Gate>(from: &mut D, to: &mut E, gate: &G, worker: u64) -> Report
     ensures { (m n : List Call) × D.went from.old from.new m × E.went to.old to.new n
         × Pulls m n result
-        × (result.ended ≡ Done → Holds (E.arrivals to.new) (replied m)) }
+        × (result.ended ≡ Done → Holds (E.arrivals to.new) (replied m))
+        × IsGated (G.lets gate.now) (G.shuts gate.now) (G.heard gate.now) worker
+        (length m + length n) result.ended }
 {
     let mut tally = Tally::start();
     match summary_of(to, gate, worker) {
@@ -145,7 +161,9 @@ pub fn pull<D: Desk, E: Desk, G: Gate>(from: &mut D, to: &mut E, gate: &G, worke
 pub fn pull_from<E: Desk, G: Gate>(from: &mut Site, to: &mut E, gate: &G, worker: u64) -> Report
     ensures same { from.new ≡ from.old }
     ensures pulled { (n : List Call) × E.went to.old to.new n
-        × PullsFrom from.old n (E.arrivals to.new) result }
+        × PullsFrom from.old n (E.arrivals to.new) result
+        × ((calls : ℕ) × (length n ≤ calls)
+        × IsGated (G.lets gate.now) (G.shuts gate.now) (G.heard gate.now) worker calls result.ended) }
 {
     pull(from, to, gate, worker)
 }

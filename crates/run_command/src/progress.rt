@@ -19,6 +19,12 @@ pub struct Counting<'a, G> {
 }
 
 impl<'a, G: Gate> Gate for Counting<'a, G> {
+    ghost lets = { λ c worker call. G.lets c.gate.now worker call };
+
+    ghost shuts = { λ c worker call. G.shuts c.gate.now worker call };
+
+    ghost heard = { λ c worker call. G.heard c.gate.now worker call };
+
     fn before(&self, worker: u64, call: u64) -> Result<(), GateShut> {
         self.gate.before(worker, call)
     }

@@ -4,4 +4,5 @@ pub mod Delta
 pub mod Law
 pub mod Machine
 pub mod Desk
+pub mod Gate
 pub mod steps

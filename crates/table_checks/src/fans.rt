@@ -51,6 +51,14 @@ struct Together {
 }
 
 impl Gate for Together {
+    ghost use Rattle.std.specs.Prelude.{⊤};
+
+    ghost lets = { λ _ _ _. ⊤ };
+
+    ghost shuts = { λ _ _ _. ⊤ };
+
+    ghost heard = { λ _ _ _. ⊤ };
+
     fn before(&self, worker: u64, call: u64) -> Result<(), GateShut> {
         if worker > 1 || call != 1 {
             return Ok(());
@@ -75,6 +83,14 @@ struct ShutsAtSecond {
 }
 
 impl Gate for ShutsAtSecond {
+    ghost use Rattle.std.specs.Prelude.{⊤};
+
+    ghost lets = { λ _ _ _. ⊤ };
+
+    ghost shuts = { λ _ _ _. ⊤ };
+
+    ghost heard = { λ _ _ _. ⊤ };
+
     fn before(&self, worker: u64, call: u64) -> Result<(), GateShut> {
         if worker == 1 && call == 2 {
             return Err(GateShut);
@@ -125,6 +141,14 @@ impl Heard {
 }
 
 impl Gate for Heard {
+    ghost use Rattle.std.specs.Prelude.{⊤};
+
+    ghost lets = { λ _ _ _. ⊤ };
+
+    ghost shuts = { λ _ _ _. ⊤ };
+
+    ghost heard = { λ _ _ _. ⊤ };
+
     fn before(&self, worker: u64, call: u64) -> Result<(), GateShut> {
         let Some(calls) = self.of(worker) else {
             self.strange.fetch_add(1, Ordering::SeqCst);

@@ -116,6 +116,14 @@ struct Awaiting {
 }
 
 impl Gate for Awaiting {
+    ghost use Rattle.std.specs.Prelude.{⊤};
+
+    ghost lets = { λ _ _ _. ⊤ };
+
+    ghost shuts = { λ _ _ _. ⊤ };
+
+    ghost heard = { λ _ _ _. ⊤ };
+
     fn before(&self, _worker: u64, call: u64) -> Result<(), GateShut> {
         if call != 2 {
             return Ok(());

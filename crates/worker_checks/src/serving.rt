@@ -117,6 +117,14 @@ impl Meeting {
 }
 
 impl Gate for Meeting {
+    ghost use Rattle.std.specs.Prelude.{⊤};
+
+    ghost lets = { λ _ _ _. ⊤ };
+
+    ghost shuts = { λ _ _ _. ⊤ };
+
+    ghost heard = { λ _ _ _. ⊤ };
+
     fn before(&self, worker: u64, call: u64) -> Result<(), GateShut> {
         self.expect(self.of(worker).is_some_and(|calls| calls.ask(call)));
         let is_met = match worker {

@@ -15,6 +15,14 @@ use views::{Query, print};
 struct First(u64);
 
 impl Gate for First {
+    ghost use Rattle.std.specs.Prelude.{⊤};
+
+    ghost lets = { λ _ _ _. ⊤ };
+
+    ghost shuts = { λ _ _ _. ⊤ };
+
+    ghost heard = { λ _ _ _. ⊤ };
+
     fn before(&self, worker: u64, call: u64) -> Result<(), GateShut> {
         if worker == 7 && call <= self.0 {
             Ok(())

@@ -1,5 +1,5 @@
 -- Workers on their way: their jobs, and what came of them.
-use Rattle.std.specs.Prelude.{◌≡◌, ℕ, List, [], ◌∷◌, ◌++◌, map}
+use Rattle.std.specs.Prelude.{◌≡◌, ◌≤◌, ℕ, List, [], ◌∷◌, ◌++◌, length, map}
 use Rattle.atomic_table.specs.Seated.{TableId}
 use Rattle.attributes.specs.Event.{EventValue}
 use Rattle.site.specs.declared.call.Call.{Call}
@@ -8,10 +8,12 @@ use Rattle.turn_lock.specs.History.{StartsWith, made_by}
 use Rattle.views.specs.declared.query.Query.{Query}
 use Rattle.site_lock.specs.Pass.{Shown, Steps, leaves}
 use Rattle.feeds.specs.Ask.{Asks}
+use Rattle.feeds.specs.Gate.{IsGated}
 use Rattle.feeds.specs.Pull.{PullsFrom}
 use Rattle.feeds.specs.Report.{Feeds}
 use Rattle.feeds.specs.Serve.{HasCalls, worker_of}
 use Rattle.feeds.specs.declared.asking.Asked.{Asked}
+use Rattle.feeds.specs.declared.report.Ended.{Ended}
 use Rattle.feeds.specs.declared.report.Report.{Report}
 use Rattle.feeds.specs.declared.serving.worker.Finished.{Finished}
 use Rattle.feeds.specs.declared.serving.worker.Job.{Job}
@@ -39,15 +41,29 @@ Performs (work.Ask queries) m B (Reported r) = ⊥
 
 -- the job for this work, with the pass of the worker at this place
 pub record IsJobAt (p : Shown) (place : ℕ) (w : Work) (j : Job) : Type 0 where
+  pub worker : j.worker ≡ place
   pub work : j.work ≡ w
   pub table : j.pass.table ≡ p.table
   pub number : j.pass.number ≡ worker_of p place
   pub opening : j.pass.opening ≡ p.opening
   pub unused : j.pass.mine ≡ []
 
--- a worker did this job
-abbrev pub Ends : Job → Finished → Type 0
-Ends j f = (m : List Call) × Steps j.pass f.pass m × Performs j.work m (leaves f.pass) f.outcome
+-- how the worker ended
+abbrev pub ended_by : Outcome → Ended
+ended_by (Reported r) = r.ended
+ended_by (Answered r) = r.ended
+
+-- the gate let the worker make at least so many calls, and it ended so
+abbrev pub IsGatedFor : (ℕ → ℕ → Type 0) → (ℕ → ℕ → Type 0) → (ℕ → ℕ → Type 0) → ℕ → ℕ → Ended
+    → Type 0
+IsGatedFor lets shuts heard worker count ended =
+    (calls : ℕ) × (count ≤ calls) × IsGated lets shuts heard worker calls ended
+
+-- a worker did this job, in calls that the gate let through
+abbrev pub Ends : (ℕ → ℕ → Type 0) → (ℕ → ℕ → Type 0) → (ℕ → ℕ → Type 0) → Job → Finished → Type 0
+Ends lets shuts heard j f = (m : List Call) × Steps j.pass f.pass m
+    × Performs j.work m (leaves f.pass) f.outcome
+    × IsGatedFor lets shuts heard j.worker (length m) (ended_by f.outcome)
 
 -- the two lists have one length, and this holds at each place
 abbrev pub Each : {A : Type 0} → {B : Type 0} → (A → B → Type 0) → List A → List B → Type 0

@@ -4,7 +4,7 @@ ghost use Rattle.std.specs.Prelude.{◌≡◌, ◌≤◌, ◌<◌, ◌+◌, ◌+
 ghost use Rattle.std.specs.Vec.{vec_capacity};
 ghost use Rattle.std.specs.Thread.{IsSync};
 ghost use Rattle.site.specs.declared.call.Call.{Call};
-ghost use Rattle.feeds.specs.steps.Serve.{AreAt, Each, Ends, Performs};
+ghost use Rattle.feeds.specs.steps.Serve.{AreAt, Each, Ends, IsGatedFor, Performs, ended_by};
 
 use crate::aside::Aside;
 use crate::asking::ask;
@@ -21,14 +21,18 @@ use std::sync::atomic::{AtomicU64, Ordering};
 use std::thread;
 use std::thread::{Promise, Threads};
 
-/// What a worker promises: it does this job.
+/// What a worker promises: it does this job, past this gate.
 #[derive(Drop)]
-struct Done(Snapshot<Job>);
+struct Done<G> {
+    job: Snapshot<Job>,
+    gate: Snapshot<G>,
+}
 
-impl Promise<Finished> for Done {
+impl<G: Gate> Promise<Finished> for Done<G> {
     ghost use Rattle.feeds.specs.steps.Serve.{Ends};
 
-    ghost kept_by = { λ p finished. Ends p.0.value finished };
+    ghost kept_by = { λ p finished. Ends (G.lets p.gate.value) (G.shuts p.gate.value)
+        (G.heard p.gate.value) p.job.value finished };
 }
 
 /// Does a worker's work over a desk.
@@ -40,7 +44,9 @@ fn perform<D: Desk, G: Gate>(
     work: Work,
 ) -> Outcome
     ensures { (m : List Call) × D.went desk.old desk.new m
-        × Performs work m (D.arrivals desk.new) result }
+        × Performs work m (D.arrivals desk.new) result
+        × IsGatedFor (G.lets gate.now) (G.shuts gate.now) (G.heard gate.now) worker (length m)
+        (ended_by result) }
 {
     match work {
         Work::Feed(bytes) => {
@@ -59,14 +65,13 @@ fn work<R: Wait, G: Gate>(
     alloc: Global,
     shared: &SharedSite,
     gate: &G,
-    worker: u64,
     job: Job,
     left: &AtomicU64,
 ) -> Finished
     requires { job.pass.table ≡ shared.now }
-    ensures { Ends job result }
+    ensures { Ends (G.lets gate.now) (G.shuts gate.now) (G.heard gate.now) job result }
 {
-    let Job { work, pass } = job;
+    let Job { worker, work, pass } = job;
     let mut caller = Caller::of(rt, shared, pass);
     let outcome = perform(alloc, &mut caller, gate, worker, work);
     let pass = caller.into_pass();
@@ -87,8 +92,7 @@ fn turn_until_done<R: Wait, A: Aside + Drop>(rt: &R, left: &AtomicU64, mut aside
     unreachable!()
 }
 
-/// Does each job in a thread of its own, and turns the aside meanwhile. The worker's number is the
-/// job's place. What came of the jobs is put into the room that was made for it; none where a
+/// Does each job in a thread of its own, and turns the aside meanwhile. What came of the jobs is put into the room that was made for it; none where a
 /// thread couldn't be started.
 #[cycle(jobs)]
 #[tactic(auto, using(crate::proofs::ServeLemmas::one_more, crate::proofs::ServeLemmas::at_last))]
@@ -106,23 +110,25 @@ fn run_jobs<R: Threads + Wait + Sync, G: Gate + Sync, A: Aside + Drop>(
     requires empty { room.items ≡ [] }
     requires room { length jobs.items ≤ vec_capacity room }
     ensures aside { A.moves aside result.0 }
-    ensures each { IfSome result.1 (λ v. Each Ends jobs.items v.items
+    ensures each { IfSome result.1 (λ v. Each (Ends (G.lets gate.now) (G.shuts gate.now) (G.heard gate.now)) jobs.items v.items
         × (vec_capacity room ≤ vec_capacity v)) }
 {
     let Some(job) = jobs.pop() else {
         return (turn_until_done(rt, left, aside), Some(room));
     };
-    let worker = jobs.len() as u64;
-    let promise = Done(Snapshot::of(&job));
+    let promise = Done {
+        job: Snapshot::of(&job),
+        gate: Snapshot::of(gate),
+    };
     thread::scope(
         thread::scope_env(),
         rt,
         move |scope| -> (A, Option<Vec<Finished>>)
             requires { IsSync R.row × IsSync G.row × AreAt shared.now jobs.items
-                × (job.pass.table ≡ shared.now) × (promise.0.value ≡ job)
+                × (job.pass.table ≡ shared.now) × (promise.job.value ≡ job) × (promise.gate.value ≡ gate.now)
                 × (room.items ≡ []) × (length jobs.items < vec_capacity room) }
             ensures { A.moves aside result.0
-                × IfSome result.1 (λ v. Each Ends (jobs.items ++ job ∷ []) v.items
+                × IfSome result.1 (λ v. Each (Ends (G.lets gate.entry.now) (G.shuts gate.entry.now) (G.heard gate.entry.now)) (jobs.items ++ job ∷ []) v.items
                 × (vec_capacity room ≤ vec_capacity v)) }
         {
             threads_share_a_site();
@@ -130,8 +136,8 @@ fn run_jobs<R: Threads + Wait + Sync, G: Gate + Sync, A: Aside + Drop>(
                 promise,
                 move || -> Finished
                     requires { IsSync R.row × IsSync G.row × (job.pass.table ≡ shared.now) }
-                    ensures { Ends job result }
-                { work(rt, alloc, shared, gate, worker, job, left) },
+                    ensures { Ends (G.lets gate.entry.now) (G.shuts gate.entry.now) (G.heard gate.entry.now) job result }
+                { work(rt, alloc, shared, gate, job, left) },
             );
             match child {
                 Err(_) => (aside, None),
@@ -199,7 +205,7 @@ pub(super) fn run_beside<R: Threads + Wait + Sync, G: Gate + Sync, A: Aside>(
     requires empty { room.items ≡ [] }
     requires room { length jobs.items ≤ vec_capacity room }
     ensures aside { A.moves aside.old aside.new }
-    ensures each { IfSome result (λ v. Each Ends jobs.items v.items
+    ensures each { IfSome result (λ v. Each (Ends (G.lets gate.now) (G.shuts gate.now) (G.heard gate.now)) jobs.items v.items
         × (vec_capacity room ≤ vec_capacity v)) }
 {
     let (lent, all) = run_jobs(rt, alloc, shared, gate, jobs, room, left, Lent { aside });

@@ -28,9 +28,11 @@ pub(crate) enum Outcome {
     Answered(Asked),
 }
 
-/// A worker's work, and the pass that it works with.
+/// A worker's number and work, and the pass that it works with.
 #[derive(Drop)]
 pub(crate) struct Job {
+    /// The worker's number.
+    pub worker: u64,
     pub work: Work,
     pub pass: Pass,
 }
@@ -117,6 +119,14 @@ pub(super) fn split_all(
     let Ok(theirs) = shared.split(pass) else {
         unreachable!()
     };
-    put(&mut jobs, Job { work, pass: theirs });
+    let worker = jobs.len() as u64;
+    put(
+        &mut jobs,
+        Job {
+            worker,
+            work,
+            pass: theirs,
+        },
+    );
     jobs
 }

@@ -9,4 +9,4 @@ put-requires t c = let jobs = c.split_all-jobs.result in
 
 pub returns-clause-jobs : goal.returns-clause-jobs
 returns-clause-jobs t c = let e = c.split_all-jobs.ensures in
-    job_more _ _ _ _ _ (record { work = c.in-Some.work; pass = c.in-Ok.theirs }) e.jobs (job_of _ _ _ _ _ e.same.0 e.splits c.in-Ok.ensures.new refl) c.in-Some.ensures c.put.ensures.items
+    job_more _ _ _ _ _ (record { worker = c.len-worker.result; work = c.in-Some.work; pass = c.in-Ok.theirs }) e.jobs (job_of _ _ _ _ _ (omega (arith, c.len-worker.ensures, c.split_all-jobs.result.ok.0, each_at_length _ _ _ _ e.jobs)) e.same.0 e.splits c.in-Ok.ensures.new refl) c.in-Some.ensures c.put.ensures.items
