@@ -87,4 +87,5 @@ AreGated lets shuts heard p q place (e ∷ es) = WorkerIsGated lets shuts heard 
 
 -- how the workers ended, in their order
 abbrev pub ends_of : Served → List Ended
-ends_of s = map (λ (r : Report). r.ended) s.reports.items ++ map (λ (r : Asked). r.ended) s.asked.items
+ends_of s = map (λ (r : Report). r.ended) s.reports.items
+    ++ map (λ (r : Asked). r.ended) s.asked.items

@@ -23,8 +23,8 @@ pub struct Asked {
     pub ended: Ended,
 }
 
-/// Asks a question in the call behind the first `call`, where the gate lets it, and keeps the answer.
-/// What comes back is why the worker ends, if it does.
+/// Asks a question in the call behind the first `call`, where the gate lets it, and keeps the
+/// answer. What comes back is why the worker ends, if it does.
 fn ask_one<D: Desk, G: Gate>(
     desk: &mut D,
     gate: &G,

@@ -163,7 +163,8 @@ pub fn pull_from<E: Desk, G: Gate>(from: &mut Site, to: &mut E, gate: &G, worker
     ensures pulled { (n : List Call) × E.went to.old to.new n
         × PullsFrom from.old n (E.arrivals to.new) result
         × ((calls : ℕ) × (length n ≤ calls)
-        × IsGated (G.lets gate.now) (G.shuts gate.now) (G.heard gate.now) worker calls result.ended) }
+        × IsGated (G.lets gate.now) (G.shuts gate.now) (G.heard gate.now) worker calls
+        result.ended) }
 {
     pull(from, to, gate, worker)
 }

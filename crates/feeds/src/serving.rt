@@ -99,8 +99,8 @@ pub fn serve<R: Threads + Wait + Sync, G: Gate + Sync, A: Aside>(
         ≤ pass.old.splits + (length jobs.feeds + length jobs.peers + length jobs.asks)) }
     ensures served { IfOk result (λ s.
         Serves pass.old pass.new jobs.feeds jobs.peers jobs.asks s) }
-    ensures gated { IfOk result (λ s. AreGated (G.lets gate.now) (G.shuts gate.now) (G.heard gate.now)
-        pass.old pass.new 0 (ends_of s)) }
+    ensures gated { IfOk result (λ s. AreGated (G.lets gate.now) (G.shuts gate.now)
+        (G.heard gate.now) pass.old pass.new 0 (ends_of s)) }
     ensures aside { A.moves aside.old aside.new }
     ensures refused { IfErr result (λ _. pass.new.seen ≡ pass.old.seen) }
     ensures not_begun { IfErr result (λ fault. fault ≡ OutOfMemory

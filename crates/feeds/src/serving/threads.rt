@@ -92,8 +92,8 @@ fn turn_until_done<R: Wait, A: Aside + Drop>(rt: &R, left: &AtomicU64, mut aside
     unreachable!()
 }
 
-/// Does each job in a thread of its own, and turns the aside meanwhile. What came of the jobs is put into the room that was made for it; none where a
-/// thread couldn't be started.
+/// Does each job in a thread of its own, and turns the aside meanwhile. What came of the jobs is put
+/// into the room that was made for it; none where a thread couldn't be started.
 #[cycle(jobs)]
 #[tactic(auto, using(crate::proofs::ServeLemmas::one_more, crate::proofs::ServeLemmas::at_last))]
 fn run_jobs<R: Threads + Wait + Sync, G: Gate + Sync, A: Aside + Drop>(
@@ -110,7 +110,8 @@ fn run_jobs<R: Threads + Wait + Sync, G: Gate + Sync, A: Aside + Drop>(
     requires empty { room.items ≡ [] }
     requires room { length jobs.items ≤ vec_capacity room }
     ensures aside { A.moves aside result.0 }
-    ensures each { IfSome result.1 (λ v. Each (Ends (G.lets gate.now) (G.shuts gate.now) (G.heard gate.now)) jobs.items v.items
+    ensures each { IfSome result.1 (λ v.
+        Each (Ends (G.lets gate.now) (G.shuts gate.now) (G.heard gate.now)) jobs.items v.items
         × (vec_capacity room ≤ vec_capacity v)) }
 {
     let Some(job) = jobs.pop() else {
@@ -125,10 +126,12 @@ fn run_jobs<R: Threads + Wait + Sync, G: Gate + Sync, A: Aside + Drop>(
         rt,
         move |scope| -> (A, Option<Vec<Finished>>)
             requires { IsSync R.row × IsSync G.row × AreAt shared.now jobs.items
-                × (job.pass.table ≡ shared.now) × (promise.job.value ≡ job) × (promise.gate.value ≡ gate.now)
-                × (room.items ≡ []) × (length jobs.items < vec_capacity room) }
+                × (job.pass.table ≡ shared.now) × (promise.job.value ≡ job)
+                × (promise.gate.value ≡ gate.now) × (room.items ≡ [])
+                × (length jobs.items < vec_capacity room) }
             ensures { A.moves aside result.0
-                × IfSome result.1 (λ v. Each (Ends (G.lets gate.entry.now) (G.shuts gate.entry.now) (G.heard gate.entry.now)) (jobs.items ++ job ∷ []) v.items
+                × IfSome result.1 (λ v. Each (Ends (G.lets gate.entry.now)
+                (G.shuts gate.entry.now) (G.heard gate.entry.now)) (jobs.items ++ job ∷ []) v.items
                 × (vec_capacity room ≤ vec_capacity v)) }
         {
             threads_share_a_site();
@@ -136,7 +139,8 @@ fn run_jobs<R: Threads + Wait + Sync, G: Gate + Sync, A: Aside + Drop>(
                 promise,
                 move || -> Finished
                     requires { IsSync R.row × IsSync G.row × (job.pass.table ≡ shared.now) }
-                    ensures { Ends (G.lets gate.entry.now) (G.shuts gate.entry.now) (G.heard gate.entry.now) job result }
+                    ensures { Ends (G.lets gate.entry.now) (G.shuts gate.entry.now)
+                        (G.heard gate.entry.now) job result }
                 { work(rt, alloc, shared, gate, job, left) },
             );
             match child {
@@ -205,7 +209,8 @@ pub(super) fn run_beside<R: Threads + Wait + Sync, G: Gate + Sync, A: Aside>(
     requires empty { room.items ≡ [] }
     requires room { length jobs.items ≤ vec_capacity room }
     ensures aside { A.moves aside.old aside.new }
-    ensures each { IfSome result (λ v. Each (Ends (G.lets gate.now) (G.shuts gate.now) (G.heard gate.now)) jobs.items v.items
+    ensures each { IfSome result (λ v.
+        Each (Ends (G.lets gate.now) (G.shuts gate.now) (G.heard gate.now)) jobs.items v.items
         × (vec_capacity room ≤ vec_capacity v)) }
 {
     let (lent, all) = run_jobs(rt, alloc, shared, gate, jobs, room, left, Lent { aside });
