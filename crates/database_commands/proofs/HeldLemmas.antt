@@ -1,14 +1,16 @@
 -- What a database holds for a command, before and after.
 use Rattle.std.proofs.Common.{◌≡◌, ◌∙◌, List, [], Bool, true, false, Ok, Err, Result, inl, inr, sym, subst, refl}
 use Rattle.std.specs.Result.{IfOk, OnErr, OnOk}
+use Rattle.sqlite_trees.specs.Tree.{Trees}
 use Rattle.sqlite.specs.Effect.{Database}
 use Rattle.attributes.specs.Event.{EventValue}
 use Rattle.inbox.specs.KeyOrder.{key_cmp}
 use Rattle.inbox.specs.Ordered.{append_new}
 use Rattle.database_layout.specs.Layout.{has_inbox}
+use Rattle.inbox_table.specs.Calls.{MayMake, MayUpgrade}
 use Rattle.inbox_table.specs.Rows.{IsAnyInbox, IsInbox}
 use Rattle.inbox_table.proofs.UpgradeLemmas.{any_named}
-use Rattle.database_commands.specs.Held.{Holds}
+use Rattle.database_commands.specs.Held.{Holds, MayHold}
 
 -- where there was no table, the one that was made has what the database held
 pub made_holds : (old new : Database) (held : List EventValue) → has_inbox old.schema ≡ false → IsInbox new [] → Holds old held → IsInbox new held
@@ -22,6 +24,41 @@ pub inbox_holds : (db : Database) (held : List EventValue) → IsInbox db held �
 inbox_holds db held box = record {
   there = λ _. inl box;
   none = λ no. absurd (clash (has_inbox db.schema) (any_named db held (inl box)) no);
+}
+
+-- so does one with a table of either version
+pub any_holds : (db : Database) (held : List EventValue) → IsAnyInbox db held → Holds db held
+any_holds db held box = record {
+  there = λ _. box;
+  none = λ no. absurd (clash (has_inbox db.schema) (any_named db held box) no);
+}
+
+-- and one without a table holds none
+pub absent_holds : (db : Database) → has_inbox db.schema ≡ false → Holds db []
+absent_holds db absent = record {
+  there = λ yes. absurd (clash (has_inbox db.schema) yes absent);
+  none = λ _. refl;
+}
+
+-- what is left after a stop in making a table, or in taking one over
+pub made_may_hold : (old : Database) (trees : Trees) → has_inbox old.schema ≡ false → MayMake old trees → MayHold old trees
+made_may_hold old trees absent may = record {
+  db = may.db;
+  are = may.are;
+  sound = may.sound;
+  events = [];
+  was = absent_holds old absent;
+  is = inbox_holds may.db [] may.made.table;
+}
+
+pub upgraded_may_hold : (old : Database) (trees : Trees) → MayUpgrade old trees → MayHold old trees
+upgraded_may_hold old trees may = record {
+  db = may.db;
+  are = may.are;
+  sound = may.sound;
+  events = may.events;
+  was = any_holds old may.events (inr may.was);
+  is = inbox_holds may.db may.events may.is;
 }
 
 once_in : (db : Database) (held : List EventValue) → IsAnyInbox db held → append_new key_cmp [] held ≡ held

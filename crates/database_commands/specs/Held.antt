@@ -1,6 +1,7 @@
 -- What a database holds for a command.
 use Rattle.std.specs.Prelude.{◌≡◌, ◌≢◌, ◌⊎◌, ◌+◌, ◌++◌, ℕ, suc, Bool, List, [], ◌∷◌, Some, None, length, true, false, IsTrue}
-use Rattle.sqlite.specs.Effect.{Database}
+use Rattle.sqlite_trees.specs.Tree.{Trees}
+use Rattle.sqlite.specs.Effect.{Database, IsDatabase}
 use Rattle.attributes.specs.Event.{EventValue}
 use Rattle.inbox.specs.KeyOrder.{key_cmp}
 use Rattle.inbox.specs.Ordered.{append_new}
@@ -31,6 +32,15 @@ pub record Holds (db : Database) (events : List EventValue) : Type 0 where
 -- whatever events it held, it holds
 abbrev pub KeepsEvents : Database → Database → Type 0
 KeepsEvents old new = (held : List EventValue) → Holds old held → Holds new held
+
+-- these are the trees of a database that holds the events that the old one held
+pub record MayHold (old : Database) (trees : Trees) : Type 0 where
+  pub db : Database
+  pub are : trees ≡ db.trees
+  pub sound : IsDatabase db
+  pub events : List EventValue
+  pub was : Holds old events
+  pub is : Holds db events
 
 -- the database has the events that were held and behind them those of L that weren't there, and the
 -- text says how many those are

@@ -1,12 +1,12 @@
 //! The inbox of a database: its table, and taking events into it.
 ghost use Rattle.std.specs.Prelude.{◌≡◌, ◌⊎◌, ℕ, List, length, IfErr, IfOk, IsTrue};
 ghost use Rattle.sqlite.specs.Held.{state};
-ghost use Rattle.sqlite.specs.State.{HasCleanDisk};
+ghost use Rattle.sqlite.specs.State.{HasCleanDisk, Survives};
 ghost use Rattle.attributes.specs.Event.{EventValue};
 ghost use Rattle.inbox_table.specs.Calls.{IsAsItWas, Takes};
 ghost use Rattle.inbox_table.specs.Rows.{IsInbox};
 ghost use Rattle.database_commands.specs.declared.fault.CommandFault.TheVariants.{OutOfMemory};
-ghost use Rattle.database_commands.specs.Held.{Holds, IsTaken, KeepsOrTakes, TakesInto};
+ghost use Rattle.database_commands.specs.Held.{Holds, IsTaken, KeepsOrTakes, MayHold, TakesInto};
 ghost use Rattle.database_commands.specs.Print.{counts_line};
 
 use crate::Ended;
@@ -25,8 +25,16 @@ pub fn loaded<S: Alter + Drop>(alloc: Global, conn: Connection<S>) -> Result<Loa
         → (held : List EventValue) → Holds (state S.Store conn).now held → l.events ≡ held) }
     ensures found { IfOk result (λ l. HasCleanDisk (state S.Store l.table.conn)
         → IsInbox (state S.Store l.table.conn).now l.events) }
+    ensures held { IfOk result (λ l. HasCleanDisk (state S.Store l.table.conn)
+        → Holds (state S.Store conn).now l.events) }
     ensures rows { IfOk result (λ l. l.table.rows ≡ length l.events) }
+    ensures stays_open { IfOk result (λ l. HasCleanDisk (state S.Store l.table.conn)
+        → IsTrue (state S.Store l.table.conn).is_open) }
     ensures back { IfErr result (λ n. IsAsItWas (state S.Store conn) (state S.Store n.conn)) }
+    ensures crash { IfOk result (λ l. Survives (state S.Store conn) (state S.Store l.table.conn)
+        (MayHold (state S.Store conn).now)) }
+    ensures crash_refused { IfErr result (λ n. Survives (state S.Store conn)
+        (state S.Store n.conn) (MayHold (state S.Store conn).now)) }
 {
     if has_inbox(conn.schema()) {
         return Table::adopt_and_load(alloc, conn);

@@ -1,10 +1,13 @@
 -- What a run whose workers have ended comes to.
-use Rattle.std.proofs.Common.{◌≡◌, ◌+◌, ◌-◌, ◌≤◌, ℕ, List, [], ◌∷◌, ◌++◌, refl, sym, ap, subst, ◌∙◌, arith, length, take, slice_get, true, false, Option, None, Some, Result, Ok, Err, IfErr, IfOk, IsOk, IsTrue, OnOk, zero, suc, inl}
+use Rattle.std.proofs.Common.{◌≡◌, ◌+◌, ◌-◌, ◌≤◌, ℕ, List, [], ◌∷◌, ◌++◌, refl, sym, ap, subst, ◌∙◌, append-nil, arith, length, take, slice_get, true, false, Option, None, Some, Result, Ok, Err, IfErr, IfOk, IsOk, IsTrue, OnOk, zero, suc, inl, inr, ⊥}
 use Rattle.std.specs.Option.{option_or}
+use Rattle.std.specs.Prelude.{IsSome}
 use Rattle.std.proofs.Math.Seq.{take-append-add, take-length}
+use Rattle.sqlite_trees.specs.Tree.{Trees}
 use Rattle.sqlite.specs.Effect.{Database}
 use Rattle.sqlite.specs.Held.{Held}
-use Rattle.sqlite.specs.State.{State, HasCleanDisk}
+use Rattle.sqlite.specs.State.{State, HasCleanDisk, Survives}
+use Rattle.sqlite.proofs.StateLemmas.{survives_weaker}
 use Rattle.attributes.specs.Event.{EventValue}
 use Rattle.database_commands.specs.declared.fault.CommandFault.TheVariants as command
 use Rattle.feeds.specs.declared.report.Ended.{Ended}
@@ -15,12 +18,13 @@ use Rattle.feeds.specs.declared.serving.ServeFault.TheVariants as serve
 use Rattle.feeds.specs.declared.serving.Served.{Served}
 use Rattle.inbox_table.specs.Calls.{IsSettled, Kept}
 use Rattle.inbox_table.specs.Rows.{IsInbox}
-use Rattle.keeper.specs.Keep.{Grows, HasAll, HasFirst, KeepsUp}
+use Rattle.keeper.specs.Keep.{Grows, HasAll, HasFirst, KeepsUp, MayGrow}
+use Rattle.keeper.specs.steps.Flushes.{grows_none, grows_on, survives_none, survives_on}
 use Rattle.keeper.specs.declared.fault.KeepFault.{KeepFault}
 use Rattle.keeper.specs.declared.fault.KeepFault.TheVariants as keep
 use Rattle.run_command.specs.Ending.{KeepsRest, workers_of}
 use Rattle.run_command.specs.Fault.{IsRunFault, of_end, of_keep, of_serve}
-use Rattle.run_command.specs.Outcome.{AreReports, HasFrom, HasRun, Tells, fault_of, keeping_fault, reports_in}
+use Rattle.run_command.specs.Outcome.{AreReports, HasFrom, HasRun, MayRun, Tells, fault_of, keeping_fault, reports_in}
 use Rattle.run_command.specs.Peer.{ArePulled}
 use Rattle.run_command.specs.Run.{IsFeedFault, IsRun, IsRunText, SaysRun}
 use Rattle.run_command.specs.Shared.{IsClosed}
@@ -28,7 +32,7 @@ use Rattle.run_command.specs.Tally.{first_fault, read_in, refused_in}
 use Rattle.run_command.specs.declared.fault.RunFault.{RunFault}
 use Rattle.run_command.specs.declared.fault.RunFault.TheVariants as run
 use Rattle.inbox_table.proofs.UpgradeLemmas.{any_named}
-use Rattle.database_commands.specs.Held.{Holds}
+use Rattle.database_commands.specs.Held.{Holds, MayHold}
 use Rattle.run_command.proofs.ToldLemmas.{AreFed, all_pulled, are_fed, blamed, no_first, told}
 
 -- the text of reports without a fault
@@ -158,10 +162,18 @@ all_first s rows A h = record {
 }
 
 module _ {S : Type 0} (state : Held S → State) (bs : List (List ℕ)) (ps : List (List EventValue)) (held A : List EventValue) (k0 k l : Kept S) (served : Result Served ServeFault) (before stopped : Option KeepFault) (n : ℕ) (outcome : Result (List ℕ) RunFault)
-    (closed : IsClosed state k0 held bs ps k A served) (rest : KeepsRest state k l A served before stopped) (count : HasCleanDisk (state k0.conn) → k0.rows ≡ length held) (is : n ≡ length bs)
+    (closed : IsClosed state k0 held bs ps k A served before) (rest : KeepsRest state k l A served before stopped) (count : HasCleanDisk (state k0.conn) → k0.rows ≡ length held) (is : n ≡ length bs)
     (tells : Tells n (reports_in (workers_of served)) A (fault_of n (workers_of served) stopped) outcome) where
   pub was_clean : HasCleanDisk (state l.conn) → HasCleanDisk (state k0.conn)
-  was_clean clean = closed.was_clean (rest.was_clean clean)
+  was_clean clean = closed.grows.was_clean (rest.grows.was_clean clean)
+
+  -- what a crash leaves: where keeping stopped, nothing was done after it
+  pub grown : Grows (state k0.conn) (state l.conn)
+  grown = go before refl
+    where
+      go : (b : Option KeepFault) → before ≡ b → Grows (state k0.conn) (state l.conn)
+      go None e = grows_on (state k0.conn) (state k.conn) (state l.conn) closed.grows rest.grows (λ clean is_open. closed.stays_open clean e is_open)
+      go (Some fault) e = subst (λ (z : Kept S). Grows (state k0.conn) (state z.conn)) (sym (rest.idle (subst (λ (z : Option KeepFault). IsSome z) (sym e) refl))) closed.grows
 
   pub has_run : HasRun bs ps held (state l.conn) stopped outcome
   has_run = let W : Result (List Report) ServeFault = workers_of served in record {
@@ -208,6 +220,9 @@ module _ {S : Type 0} (state : Held S → State) (bs : List (List ℕ)) (ps : Li
   pub blame : IfErr outcome (λ why. IsFeedFault bs why × IsRunFault why)
   blame = either_blames served n bs ps A held closed.more stopped outcome is closed.reports tells
 
+not_some : (stopped : Option KeepFault) → stopped ≡ None → IsSome stopped → ⊥
+not_some stopped none some = let bad : false ≡ true = subst IsSome none some in cc
+
 -- the rest, where nothing is done for it
 module _ {S : Type 0} (state : Held S → State) (k l : Kept S) (A : List EventValue) (served : Result Served ServeFault) where
   pub rest_idle : (stopped : Option KeepFault) → KeepsUp (state k.conn) k.rows A → (IsOk served → stopped ≡ None → ⊥) → KeepsRest state k k A served stopped stopped
@@ -217,7 +232,8 @@ module _ {S : Type 0} (state : Held S → State) (k l : Kept S) (A : List EventV
     told = λ fault is. is;
     all = λ clean ok none. absurd (never ok none);
     settled = λ clean ok none. absurd (never ok none);
-    was_clean = λ clean. clean;
+    grows = grows_none (state k.conn);
+    idle = λ some. refl;
   }
 
   -- where it is kept
@@ -229,7 +245,8 @@ module _ {S : Type 0} (state : Held S → State) (k l : Kept S) (A : List EventV
     told = λ fault is. absurd (cc);
     all = λ clean ok last. (all clean).table;
     settled = λ clean ok last. settled clean;
-    was_clean = list.was_clean;
+    grows = list;
+    idle = λ some. absurd (not_some stopped none some);
   }
 
   -- where it is refused
@@ -243,7 +260,8 @@ module _ {S : Type 0} (state : Held S → State) (k l : Kept S) (A : List EventV
     told = λ fault is. absurd (cc);
     all = λ clean ok last. absurd (cc);
     settled = λ clean ok last. absurd (cc);
-    was_clean = list.was_clean;
+    grows = list;
+    idle = λ some. absurd (not_some stopped none some);
   }
 
 -- what is told at each end
@@ -279,3 +297,34 @@ inbox_holds db held box = record {
   there = λ _. inl box;
   none = λ no. let e : true ≡ false = sym (any_named db held (inl box)) ∙ no in absurd (cc);
 }
+
+-- what a stop leaves: what it held, where the run wasn't begun
+held_may_run : (old : Database) (trees : Trees) → MayHold old trees → MayRun old trees
+held_may_run old trees may = record {
+  db = may.db;
+  are = may.are;
+  sound = may.sound;
+  held = may.events;
+  was = may.was;
+  more = [];
+  is = subst (Holds may.db) (sym (append-nil may.events)) may.is;
+}
+
+pub unbegun_may : (old new : State) → Survives old new (MayHold old.now) → Survives old new (MayRun old.now)
+unbegun_may old new = survives_weaker old new _ _ (λ clean trees. held_may_run old.now trees)
+
+-- and more behind it, where it was
+pub ran_on : (old mid new : State) (events : List EventValue) → Survives old mid (MayHold old.now) → (HasCleanDisk mid → Holds old.now events) → (HasCleanDisk mid → IsInbox mid.now events)
+    → (HasCleanDisk mid → IsTrue mid.is_open) → Grows mid new → Survives old new (MayRun old.now)
+ran_on old mid new events one held found opens grows = survives_on old mid new (MayRun old.now) (λ trees. IsTrue mid.is_open → MayGrow mid.now trees) (unbegun_may old mid one) grows.survives behind
+  where
+    behind : HasCleanDisk mid → (trees : Trees) → (IsTrue mid.is_open → MayGrow mid.now trees) → MayRun old.now trees
+    behind clean trees may = let m = may (opens clean) in let all = m.list events (found clean) in record {
+      db = m.db;
+      are = m.are;
+      sound = m.sound;
+      held = events;
+      was = held clean;
+      more = all.0;
+      is = inbox_holds m.db (events ++ all.0) all.1;
+    }

@@ -1,5 +1,5 @@
 -- What is left where the workers of a run have ended.
-use Rattle.std.proofs.Common.{◌≡◌, ◌≤◌, ℕ, List, ◌++◌, length, sym, ap, subst, ◌∙◌, append_assoc, Result, Ok, Err, IfOk, IsTrue}
+use Rattle.std.proofs.Common.{◌≡◌, ◌≤◌, ℕ, List, ◌++◌, length, sym, ap, subst, ◌∙◌, append_assoc, Option, None, Result, Ok, Err, IfOk, IsTrue}
 use Rattle.sqlite.specs.Held.{Held}
 use Rattle.sqlite.specs.State.{State, HasCleanDisk}
 use Rattle.atomic_table.specs.Seated.{TableId}
@@ -14,7 +14,7 @@ use Rattle.feeds.specs.declared.serving.ServeFault.{ServeFault}
 use Rattle.feeds.specs.declared.serving.Served.{Served}
 use Rattle.views.specs.declared.query.Query.{Query}
 use Rattle.keeper.specs.Flush.{Flushes, Flushing}
-use Rattle.keeper.specs.Keep.{HasFirst, KeepsUp}
+use Rattle.keeper.specs.Keep.{Grows, HasFirst, KeepsUp}
 use Rattle.keeper.specs.Law.{FirstArrivalsStay}
 use Rattle.keeper.proofs.LawLemmas.{leave_grows}
 use Rattle.run_command.specs.Outcome.{AreReports}
@@ -69,13 +69,13 @@ module _ {S : Type 0} (state : Held S → State) (stay : FirstArrivalsStay) (is_
       (subst (λ (z : List EventValue). IsHistory z (p2.seen ++ (meets.all_own.0 ++ closes.others))) meets.same.opening
       (subst (λ (z : List (Entry Call)). IsHistory p3.opening z) history closes.legal))
 
-  pub closed : IsClosed state k A0 feeds peers g.keeper A served
+  pub closed : IsClosed state k A0 feeds peers g.keeper A served g.fault
   closed = let grows = leave_grows p3.opening (p3.seen ++ closes.others) in
       let grew : A ≡ A0 ++ grows.0 = closes.leaves ∙ (grows.1 ∙ ap (λ (z : List EventValue). z ++ grows.0) opening) in record {
         first = still;
         mark = subst (λ (z : Kept S). z.rows ≤ g.keeper.rows) begun flushes.mark;
-        was_clean = λ clean. subst (λ (z : Kept S). HasCleanDisk (state z.conn)) begun (flushes.list.was_clean clean);
-        was_open = λ clean is_open. subst (λ (z : Kept S). IsTrue (state z.conn).is_open) begun (flushes.list.was_open clean is_open);
+        grows = subst (λ (z : Kept S). Grows (state z.conn) (state g.keeper.conn)) begun flushes.list;
+        stays_open = λ clean none is_open. flushes.stays_open clean none (subst (λ (z : Kept S). IsTrue (state z.conn).is_open) (sym begun) is_open);
         more = grows.0;
         grew = grew;
         reports = all_told is_found p1 p2 (meets.all_own.0 ++ closes.others) feeds peers asks served A0 grows.0 (sym meets.same.opening ∙ opening) legal (sym of_workers ∙ grew) serves;

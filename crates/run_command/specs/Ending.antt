@@ -1,5 +1,5 @@
 -- The end of a run whose workers have ended.
-use Rattle.std.specs.Prelude.{◌≡◌, ◌≤◌, List, Option, None, Some, Result, Ok, Err, IsOk, IsTrue}
+use Rattle.std.specs.Prelude.{◌≡◌, ◌≤◌, List, Option, None, Some, Result, Ok, Err, IsOk, IsSome, IsTrue}
 use Rattle.sqlite.specs.Held.{Held}
 use Rattle.sqlite.specs.State.{State, HasCleanDisk}
 use Rattle.attributes.specs.Event.{EventValue}
@@ -8,7 +8,7 @@ use Rattle.feeds.specs.declared.serving.ServeFault.{ServeFault}
 use Rattle.feeds.specs.declared.serving.Served.{Served}
 use Rattle.inbox_table.specs.Calls.{IsSettled, Kept}
 use Rattle.inbox_table.specs.Rows.{IsInbox}
-use Rattle.keeper.specs.Keep.{KeepsUp}
+use Rattle.keeper.specs.Keep.{Grows, KeepsUp}
 use Rattle.keeper.specs.declared.fault.KeepFault.{KeepFault}
 
 -- what the workers reported, or why nothing was reported
@@ -31,4 +31,7 @@ module _ {S : Type 0} (state : Held S → State) where
         → IsInbox (state l.conn).now arrivals
     pub settled : HasCleanDisk (state l.conn) → IsOk served → stopped ≡ None
         → IsSettled (state l.conn)
-    pub was_clean : HasCleanDisk (state l.conn) → HasCleanDisk (state k.conn)
+    -- whatever it comes to, the list only grows, and a crash leaves no less; nothing is done after
+    -- a stop
+    pub grows : Grows (state k.conn) (state l.conn)
+    pub idle : IsSome before → l ≡ k

@@ -1,7 +1,8 @@
 -- What a run leaves, whatever it came to.
 use Rattle.std.specs.Prelude.{◌≡◌, ◌⊎◌, ℕ, List, [], ◌∷◌, ◌++◌, length, take, Option, None, Some, Result, Ok, Err, IfOk, IsOk, IsTrue}
 use Rattle.std.specs.Option.{option_or}
-use Rattle.sqlite.specs.Effect.{Database}
+use Rattle.sqlite_trees.specs.Tree.{Trees}
+use Rattle.sqlite.specs.Effect.{Database, IsDatabase}
 use Rattle.sqlite.specs.State.{State, HasCleanDisk}
 use Rattle.attributes.specs.Event.{EventValue}
 use Rattle.inbox_table.specs.Calls.{IsSettled}
@@ -98,3 +99,14 @@ abbrev pub RunsTo : List (List ℕ) → List (List EventValue) → State → Sta
 RunsTo feeds peers old new stopped outcome = IsUnbegun old new stopped outcome
     ⊎ ((held : List EventValue) × (HasCleanDisk new → WasHeld old.now held)
     × HasRun feeds peers held new stopped outcome)
+
+-- these are the trees of a database that holds the events that the old one held, and behind them
+-- more or nothing
+pub record MayRun (old : Database) (trees : Trees) : Type 0 where
+  pub db : Database
+  pub are : trees ≡ db.trees
+  pub sound : IsDatabase db
+  pub held : List EventValue
+  pub was : database.Holds old held
+  pub more : List EventValue
+  pub is : database.Holds db (held ++ more)

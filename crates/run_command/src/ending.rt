@@ -2,14 +2,14 @@
 ghost use Rattle.std.specs.Prelude.{◌≡◌, ◌⊎◌, ◌≤◌, ◌+◌, ℕ, [], length, take, List, Err, IfErr, IfOk, None, OnOk};
 ghost use Rattle.attributes.specs.Event.{EventValue};
 ghost use Rattle.sqlite.specs.Held.{state};
-ghost use Rattle.sqlite.specs.State.{HasCleanDisk};
+ghost use Rattle.sqlite.specs.State.{HasCleanDisk, Survives};
 ghost use Rattle.inbox.specs.KeyOrder.{key_cmp};
 ghost use Rattle.inbox.specs.Ordered.{append_new};
 ghost use Rattle.inbox_table.specs.Calls.{IsSettled};
-ghost use Rattle.keeper.specs.Keep.{KeepsUp};
+ghost use Rattle.keeper.specs.Keep.{Grows, KeepsUp};
 ghost use Rattle.run_command.specs.Ending.{KeepsRest, workers_of};
 ghost use Rattle.run_command.specs.Fault.{IsRunFault};
-ghost use Rattle.run_command.specs.Outcome.{HasRun, RunsTo, Tells, fault_of, reports_in};
+ghost use Rattle.run_command.specs.Outcome.{HasRun, MayRun, RunsTo, Tells, fault_of, reports_in};
 ghost use Rattle.run_command.specs.Run.{IsFeedFault, IsRun, IsRunText, RunsInto, SaysRun};
 ghost use Rattle.run_command.specs.Tally.{read_in, refused_in};
 ghost use Rattle.database_commands.specs.declared.fault.CommandFault.TheVariants.{OutOfMemory};
@@ -76,6 +76,8 @@ pub fn run<R: Threads + Wait + Sync, S: Alter + Drop, G: Gate + Sync, W: Watch>(
         (arrivals : List EventValue) × SaysRun jobs.feeds arrivals text) }
     ensures feed { IfErr result.outcome (IsFeedFault jobs.feeds) }
     ensures database { IfErr result.outcome IsRunFault }
+    ensures crash { Survives (state S.Store conn) (state S.Store result.conn)
+        (MayRun (state S.Store conn).now) }
 {
     match loaded(alloc, conn) {
         Ok(loaded) => {
@@ -117,8 +119,7 @@ fn run_table<R: Threads + Wait + Sync, S: Alter + Drop, G: Gate + Sync, W: Watch
         (arrivals : List EventValue) × SaysRun jobs.feeds arrivals text) }
     ensures feed { IfErr result.outcome (IsFeedFault jobs.feeds) }
     ensures database { IfErr result.outcome IsRunFault }
-    ensures was_clean { HasCleanDisk (state S.Store result.conn)
-        → HasCleanDisk (state S.Store table.conn) }
+    ensures grows { Grows (state S.Store table.conn) (state S.Store result.conn) }
 {
     let feeds = jobs.feeds.len();
     match Keeper::of_loaded(alloc, table, events) {

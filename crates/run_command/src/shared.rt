@@ -44,7 +44,7 @@ pub fn share<R: Threads + Wait + Sync, S: Alter + Drop, G: Gate + Sync, W: Watch
     requires few { length jobs.feeds + length jobs.peers + length jobs.asks ≤ 16 }
     ensures ok { IfOk result (λ c.
         IsClosed (λ conn. state S.Store conn) keeper site jobs.feeds jobs.peers
-        c.keeper c.site c.served) }
+        c.keeper c.site c.served c.stopped) }
     ensures err { IfErr result (λ back. back ≡ keeper) }
 {
     first_arrivals_stay();

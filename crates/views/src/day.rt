@@ -43,8 +43,9 @@ impl Day {
         Day { number }
     }
 
-    /// The day of the event's time, where it has one.
-    pub(crate) fn of_event(event: &Event) -> Option<Day>
+    /// The day of the event's time in UTC, where it has a time: what `Query::Days` counts by. Takes
+    /// no time, since an event knows its day.
+    pub fn of_event(event: &Event) -> Option<Day>
         ensures { result ≡ day_of event.now }
     {
         match event.day() {

@@ -6,8 +6,10 @@ use Rattle.attributes.specs.Event.{EventValue}
 use Rattle.inbox.specs.KeyOrder.{key_cmp}
 use Rattle.inbox.specs.Ordered.{append_new}
 use Rattle.inbox_table.specs.Calls.{Kept}
+use Rattle.keeper.specs.Keep.{Grows}
+use Rattle.keeper.specs.steps.Flushes.{grows_none}
 use Rattle.run_command.specs.Shared.{IsClosed}
-use Rattle.run_command.proofs.EndLemmas.{blame, has_run, ran, says, settles, was_clean}
+use Rattle.run_command.proofs.EndLemmas.{blame, grown, has_run, ran, says, settles}
 use Rattle.run_command.proofs.ending.run_table.Goals as goal
 
 pub returns-in-Ok-share-clause-left : goal.returns-in-Ok-share-clause-left
@@ -15,8 +17,8 @@ returns-in-Ok-share-clause-left g c =
     let closed = c.in-Ok-share.closed in
     let held : List EventValue = append_new key_cmp [] c.args.events in
     let at : Held _ → State = λ conn. state g.S.Store conn in
-    let is : IsClosed at c.in-Ok.kept.keeper held c.args.jobs.feeds c.args.jobs.peers closed.keeper closed.site closed.served =
-    subst (λ (z : List EventValue). IsClosed at c.in-Ok.kept.keeper z c.args.jobs.feeds c.args.jobs.peers closed.keeper closed.site closed.served) c.in-Ok.ensures.site c.in-Ok-share.ensures.ok in
+    let is : IsClosed at c.in-Ok.kept.keeper held c.args.jobs.feeds c.args.jobs.peers closed.keeper closed.site closed.served closed.stopped =
+    subst (λ (z : List EventValue). IsClosed at c.in-Ok.kept.keeper z c.args.jobs.feeds c.args.jobs.peers closed.keeper closed.site closed.served closed.stopped) c.in-Ok.ensures.site c.in-Ok-share.ensures.ok in
     let count : (HasCleanDisk (at c.in-Ok.kept.keeper.conn) → c.in-Ok.kept.keeper.rows ≡ length held) = λ clean.
     ap (λ (k : Kept _). k.rows) c.in-Ok.ensures.keeper ∙ c.requires.count (subst (λ (k : Kept _). HasCleanDisk (at k.conn)) c.in-Ok.ensures.keeper clean) in
     let last : Kept _ = record { conn = c.ended.result.conn; rows = c.ended.ensures.kept.0 } in
@@ -27,8 +29,8 @@ returns-in-Ok-share-clause-ran g c clean =
     let closed = c.in-Ok-share.closed in
     let held : List EventValue = append_new key_cmp [] c.args.events in
     let at : Held _ → State = λ conn. state g.S.Store conn in
-    let is : IsClosed at c.in-Ok.kept.keeper held c.args.jobs.feeds c.args.jobs.peers closed.keeper closed.site closed.served =
-    subst (λ (z : List EventValue). IsClosed at c.in-Ok.kept.keeper z c.args.jobs.feeds c.args.jobs.peers closed.keeper closed.site closed.served) c.in-Ok.ensures.site c.in-Ok-share.ensures.ok in
+    let is : IsClosed at c.in-Ok.kept.keeper held c.args.jobs.feeds c.args.jobs.peers closed.keeper closed.site closed.served closed.stopped =
+    subst (λ (z : List EventValue). IsClosed at c.in-Ok.kept.keeper z c.args.jobs.feeds c.args.jobs.peers closed.keeper closed.site closed.served closed.stopped) c.in-Ok.ensures.site c.in-Ok-share.ensures.ok in
     let count : (HasCleanDisk (at c.in-Ok.kept.keeper.conn) → c.in-Ok.kept.keeper.rows ≡ length held) = λ clean.
     ap (λ (k : Kept _). k.rows) c.in-Ok.ensures.keeper ∙ c.requires.count (subst (λ (k : Kept _). HasCleanDisk (at k.conn)) c.in-Ok.ensures.keeper clean) in
     let last : Kept _ = record { conn = c.ended.result.conn; rows = c.ended.ensures.kept.0 } in
@@ -39,8 +41,8 @@ returns-in-Ok-share-clause-settled g c clean =
     let closed = c.in-Ok-share.closed in
     let held : List EventValue = append_new key_cmp [] c.args.events in
     let at : Held _ → State = λ conn. state g.S.Store conn in
-    let is : IsClosed at c.in-Ok.kept.keeper held c.args.jobs.feeds c.args.jobs.peers closed.keeper closed.site closed.served =
-    subst (λ (z : List EventValue). IsClosed at c.in-Ok.kept.keeper z c.args.jobs.feeds c.args.jobs.peers closed.keeper closed.site closed.served) c.in-Ok.ensures.site c.in-Ok-share.ensures.ok in
+    let is : IsClosed at c.in-Ok.kept.keeper held c.args.jobs.feeds c.args.jobs.peers closed.keeper closed.site closed.served closed.stopped =
+    subst (λ (z : List EventValue). IsClosed at c.in-Ok.kept.keeper z c.args.jobs.feeds c.args.jobs.peers closed.keeper closed.site closed.served closed.stopped) c.in-Ok.ensures.site c.in-Ok-share.ensures.ok in
     let count : (HasCleanDisk (at c.in-Ok.kept.keeper.conn) → c.in-Ok.kept.keeper.rows ≡ length held) = λ clean.
     ap (λ (k : Kept _). k.rows) c.in-Ok.ensures.keeper ∙ c.requires.count (subst (λ (k : Kept _). HasCleanDisk (at k.conn)) c.in-Ok.ensures.keeper clean) in
     let last : Kept _ = record { conn = c.ended.result.conn; rows = c.ended.ensures.kept.0 } in
@@ -51,8 +53,8 @@ returns-in-Ok-share-clause-said g c =
     let closed = c.in-Ok-share.closed in
     let held : List EventValue = append_new key_cmp [] c.args.events in
     let at : Held _ → State = λ conn. state g.S.Store conn in
-    let is : IsClosed at c.in-Ok.kept.keeper held c.args.jobs.feeds c.args.jobs.peers closed.keeper closed.site closed.served =
-    subst (λ (z : List EventValue). IsClosed at c.in-Ok.kept.keeper z c.args.jobs.feeds c.args.jobs.peers closed.keeper closed.site closed.served) c.in-Ok.ensures.site c.in-Ok-share.ensures.ok in
+    let is : IsClosed at c.in-Ok.kept.keeper held c.args.jobs.feeds c.args.jobs.peers closed.keeper closed.site closed.served closed.stopped =
+    subst (λ (z : List EventValue). IsClosed at c.in-Ok.kept.keeper z c.args.jobs.feeds c.args.jobs.peers closed.keeper closed.site closed.served closed.stopped) c.in-Ok.ensures.site c.in-Ok-share.ensures.ok in
     let count : (HasCleanDisk (at c.in-Ok.kept.keeper.conn) → c.in-Ok.kept.keeper.rows ≡ length held) = λ clean.
     ap (λ (k : Kept _). k.rows) c.in-Ok.ensures.keeper ∙ c.requires.count (subst (λ (k : Kept _). HasCleanDisk (at k.conn)) c.in-Ok.ensures.keeper clean) in
     let last : Kept _ = record { conn = c.ended.result.conn; rows = c.ended.ensures.kept.0 } in
@@ -63,8 +65,8 @@ returns-in-Ok-share-clause-feed g c =
     let closed = c.in-Ok-share.closed in
     let held : List EventValue = append_new key_cmp [] c.args.events in
     let at : Held _ → State = λ conn. state g.S.Store conn in
-    let is : IsClosed at c.in-Ok.kept.keeper held c.args.jobs.feeds c.args.jobs.peers closed.keeper closed.site closed.served =
-    subst (λ (z : List EventValue). IsClosed at c.in-Ok.kept.keeper z c.args.jobs.feeds c.args.jobs.peers closed.keeper closed.site closed.served) c.in-Ok.ensures.site c.in-Ok-share.ensures.ok in
+    let is : IsClosed at c.in-Ok.kept.keeper held c.args.jobs.feeds c.args.jobs.peers closed.keeper closed.site closed.served closed.stopped =
+    subst (λ (z : List EventValue). IsClosed at c.in-Ok.kept.keeper z c.args.jobs.feeds c.args.jobs.peers closed.keeper closed.site closed.served closed.stopped) c.in-Ok.ensures.site c.in-Ok-share.ensures.ok in
     let count : (HasCleanDisk (at c.in-Ok.kept.keeper.conn) → c.in-Ok.kept.keeper.rows ≡ length held) = λ clean.
     ap (λ (k : Kept _). k.rows) c.in-Ok.ensures.keeper ∙ c.requires.count (subst (λ (k : Kept _). HasCleanDisk (at k.conn)) c.in-Ok.ensures.keeper clean) in
     let last : Kept _ = record { conn = c.ended.result.conn; rows = c.ended.ensures.kept.0 } in
@@ -75,21 +77,21 @@ returns-in-Ok-share-clause-database g c =
     let closed = c.in-Ok-share.closed in
     let held : List EventValue = append_new key_cmp [] c.args.events in
     let at : Held _ → State = λ conn. state g.S.Store conn in
-    let is : IsClosed at c.in-Ok.kept.keeper held c.args.jobs.feeds c.args.jobs.peers closed.keeper closed.site closed.served =
-    subst (λ (z : List EventValue). IsClosed at c.in-Ok.kept.keeper z c.args.jobs.feeds c.args.jobs.peers closed.keeper closed.site closed.served) c.in-Ok.ensures.site c.in-Ok-share.ensures.ok in
+    let is : IsClosed at c.in-Ok.kept.keeper held c.args.jobs.feeds c.args.jobs.peers closed.keeper closed.site closed.served closed.stopped =
+    subst (λ (z : List EventValue). IsClosed at c.in-Ok.kept.keeper z c.args.jobs.feeds c.args.jobs.peers closed.keeper closed.site closed.served closed.stopped) c.in-Ok.ensures.site c.in-Ok-share.ensures.ok in
     let count : (HasCleanDisk (at c.in-Ok.kept.keeper.conn) → c.in-Ok.kept.keeper.rows ≡ length held) = λ clean.
     ap (λ (k : Kept _). k.rows) c.in-Ok.ensures.keeper ∙ c.requires.count (subst (λ (k : Kept _). HasCleanDisk (at k.conn)) c.in-Ok.ensures.keeper clean) in
     let last : Kept _ = record { conn = c.ended.result.conn; rows = c.ended.ensures.kept.0 } in
     IfErr-weaker c.ended.result.outcome _ _ (λ why h. h.1) (blame at c.args.jobs.feeds c.args.jobs.peers held closed.site c.in-Ok.kept.keeper closed.keeper last closed.served closed.stopped c.ended.result.stopped c.len-feeds.result c.ended.result.outcome is c.ended.ensures.kept.1 count c.len-feeds.ensures c.ended.ensures.told)
 
-pub returns-in-Ok-share-clause-was_clean : goal.returns-in-Ok-share-clause-was_clean
-returns-in-Ok-share-clause-was_clean g c clean =
+pub returns-in-Ok-share-clause-grows : goal.returns-in-Ok-share-clause-grows
+returns-in-Ok-share-clause-grows g c =
     let closed = c.in-Ok-share.closed in
     let held : List EventValue = append_new key_cmp [] c.args.events in
     let at : Held _ → State = λ conn. state g.S.Store conn in
-    let is : IsClosed at c.in-Ok.kept.keeper held c.args.jobs.feeds c.args.jobs.peers closed.keeper closed.site closed.served =
-    subst (λ (z : List EventValue). IsClosed at c.in-Ok.kept.keeper z c.args.jobs.feeds c.args.jobs.peers closed.keeper closed.site closed.served) c.in-Ok.ensures.site c.in-Ok-share.ensures.ok in
+    let is : IsClosed at c.in-Ok.kept.keeper held c.args.jobs.feeds c.args.jobs.peers closed.keeper closed.site closed.served closed.stopped =
+    subst (λ (z : List EventValue). IsClosed at c.in-Ok.kept.keeper z c.args.jobs.feeds c.args.jobs.peers closed.keeper closed.site closed.served closed.stopped) c.in-Ok.ensures.site c.in-Ok-share.ensures.ok in
     let count : (HasCleanDisk (at c.in-Ok.kept.keeper.conn) → c.in-Ok.kept.keeper.rows ≡ length held) = λ clean.
     ap (λ (k : Kept _). k.rows) c.in-Ok.ensures.keeper ∙ c.requires.count (subst (λ (k : Kept _). HasCleanDisk (at k.conn)) c.in-Ok.ensures.keeper clean) in
     let last : Kept _ = record { conn = c.ended.result.conn; rows = c.ended.ensures.kept.0 } in
-    subst (λ (k : Kept _). HasCleanDisk (at k.conn)) c.in-Ok.ensures.keeper (was_clean at c.args.jobs.feeds c.args.jobs.peers held closed.site c.in-Ok.kept.keeper closed.keeper last closed.served closed.stopped c.ended.result.stopped c.len-feeds.result c.ended.result.outcome is c.ended.ensures.kept.1 count c.len-feeds.ensures c.ended.ensures.told clean)
+    subst (λ (k : Kept _). Grows (at k.conn) (at c.ended.result.conn)) c.in-Ok.ensures.keeper (grown at c.args.jobs.feeds c.args.jobs.peers held closed.site c.in-Ok.kept.keeper closed.keeper last closed.served closed.stopped c.ended.result.stopped c.len-feeds.result c.ended.result.outcome is c.ended.ensures.kept.1 count c.len-feeds.ensures c.ended.ensures.told)
