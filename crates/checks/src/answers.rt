@@ -49,7 +49,7 @@ const AHEAD: Row<'static> = (
 );
 
 /// Questions about the events of rows, with the lines that answer them.
-static ASKED: [(&[Row<'static>], Query, &str); 29] = [
+pub(crate) static ASKED: [(&[Row<'static>], Query, &str); 29] = [
     (&[], Query::Cover, "{\"sources\":{},\"version\":1}\n"),
     (&[], Query::Shown, ""),
     (&[], Query::Conflicts, ""),
@@ -142,7 +142,7 @@ static ASKED: [(&[Row<'static>], Query, &str); 29] = [
 ];
 
 /// Takes the event of a row, and answers whether it did.
-fn take(alloc: Global, inbox: &mut Inbox, row: Row<'_>) -> bool {
+pub(crate) fn take(alloc: Global, inbox: &mut Inbox, row: Row<'_>) -> bool {
     match event(alloc, row) {
         Some(event) => inbox.take(event).is_ok(),
         None => false,
@@ -160,7 +160,7 @@ fn take_all(alloc: Global, inbox: &mut Inbox, rows: &[Row<'_>]) -> bool {
 }
 
 /// The lines of the answer to a question.
-fn lines(alloc: Global, inbox: &Inbox, query: Query) -> Result<Text, AllocError> {
+pub(crate) fn lines(alloc: Global, inbox: &Inbox, query: Query) -> Result<Text, AllocError> {
     match answer(alloc, inbox, query) {
         Ok(answer) => print(alloc, &answer),
         Err(error) => Err(error),

@@ -16,6 +16,8 @@ mod inboxes;
 #[cfg(test)]
 mod json;
 #[cfg(test)]
+mod refused;
+#[cfg(test)]
 mod reports;
 #[cfg(test)]
 mod second;

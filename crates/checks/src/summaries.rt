@@ -5,12 +5,12 @@ use coverage::{Interval, Intervals, Summary, SummaryFault};
 use std::alloc::{AllocError, Global};
 
 /// Inserts a number, and answers whether it is new.
-fn insert(set: &mut Intervals, number: u64) -> Option<bool> {
+pub(crate) fn insert(set: &mut Intervals, number: u64) -> Option<bool> {
     set.insert(Sequence::of_u64(number)?).ok()
 }
 
 /// Inserts the numbers of intervals, and answers whether it did.
-fn fill(set: &mut Intervals, pairs: &[Interval]) -> bool {
+pub(crate) fn fill(set: &mut Intervals, pairs: &[Interval]) -> bool {
     for pair in pairs {
         for n in pair.0..=pair.1 {
             if insert(set, n).is_none() {
@@ -32,7 +32,7 @@ fn set(alloc: Global, pairs: &[Interval]) -> Option<Intervals> {
 }
 
 /// Whether a set has just these intervals.
-fn has(set: &Intervals, wanted: &[Interval]) -> bool {
+pub(crate) fn has(set: &Intervals, wanted: &[Interval]) -> bool {
     let mut from = 0;
     for pair in wanted {
         if set.next_span(from) != Some(*pair) {
@@ -382,7 +382,7 @@ fn summaries(rt: HostRuntime) {
     assert!(rt; is_copied(&later, &seen));
 }
 
-fn fault_of(alloc: Global, text: &str) -> Option<SummaryFault> {
+pub(crate) fn fault_of(alloc: Global, text: &str) -> Option<SummaryFault> {
     match Summary::of_text(alloc, text.as_bytes()) {
         Ok(_) => None,
         Err(fault) => Some(fault),
