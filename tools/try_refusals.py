@@ -87,11 +87,22 @@ ROWS_OF_ALL = [
 BY_HAND = {"follow"}
 # Tests that have to pass whichever allocation is refused, by their crate; and those that may fail at so many of them.
 TESTS = {
+    "checks": [
+        "refused::a_question_is_answered_whole_or_wants_memory",
+        "refused::a_set_of_numbers_is_right_or_wants_memory",
+        "refused::a_summary_is_judged_or_wants_memory",
+        "refused::an_event_is_read_and_written_or_wants_memory",
+    ],
     "site_checks": [
         "refused::a_batch_is_taken_or_its_front",
+        "refused::a_peer_is_told_what_it_lacks_or_memory_is_wanted",
         "refused::a_site_is_merged_or_its_front",
         "stops::a_run_has_its_sites",
         "stops::a_schedule_stands_where_it_stopped",
+    ],
+    "worker_checks": [
+        "refused::a_refused_call_has_its_turn_and_adds_nothing",
+        "threads::what_was_refused_is_not_there",
     ],
 }
 MAY_FAIL = {"stops::a_run_has_its_sites": 1}

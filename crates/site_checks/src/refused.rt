@@ -2,11 +2,12 @@
 //! given, and the same as ever once there is memory. tools/try_refusals.py runs these tests with each
 //! allocation refused; with ample memory they compare the whole answers.
 
-use crate::event::{A1, A2, A3, fill, take};
+use crate::event::{A1, A2, A3, Row, add_numbers, fill, has, take};
 use attributes::Batch;
+use coverage::Summary;
 use inbox::Short;
 use site::Site;
-use std::alloc::Global;
+use std::alloc::{AllocError, Global};
 
 /// Whether the events that came to a site have these numbers, the first so many of them, in this
 /// order. Takes no memory.
@@ -82,4 +83,63 @@ fn a_batch_is_taken_or_its_front(rt: HostRuntime) {
 #[test]
 fn a_site_is_merged_or_its_front(rt: HostRuntime) {
     assert!(rt; merges_from_nothing(rt.alloc()));
+}
+
+/// Whether there is a batch of these rows; none where memory is refused.
+fn is_batch(batch: Result<Batch, AllocError>, rows: &[Row<'_>]) -> Option<bool> {
+    match batch {
+        Ok(batch) => Some(has(&batch, rows)),
+        Err(_) => None,
+    }
+}
+
+/// What a site is asked for.
+#[derive(Clone, Copy)]
+enum Asked {
+    Delta,
+    DeltaPage,
+    Page,
+    Arrivals,
+}
+
+/// What a site tells, the peer being told of what it lacks.
+fn told(site: &mut Site, peer: &Summary, asked: Asked) -> Result<Batch, AllocError> {
+    match asked {
+        Asked::Delta => site.delta(peer),
+        Asked::DeltaPage => site.delta_page(peer, 1, 100),
+        Asked::Page => site.page(1, 1),
+        Asked::Arrivals => site.arrivals_after(1, 10),
+    }
+}
+
+/// Whether a site tells these rows, at the second time where memory is refused.
+fn tells(site: &mut Site, peer: &Summary, asked: Asked, rows: &[Row<'_>]) -> bool {
+    match is_batch(told(site, peer, asked), rows) {
+        Some(is_right) => is_right,
+        None => is_batch(told(site, peer, asked), rows) == Some(true),
+    }
+}
+
+/// Whether a site that took the numbers 2, 1 and 3 tells a peer with the number 2 what it lacks, and
+/// its pages, and stays as it is.
+fn tells_all(site: &mut Site, peer: &Summary) -> bool {
+    tells(site, peer, Asked::Delta, &[A1, A3])
+        && tells(site, peer, Asked::DeltaPage, &[A3])
+        && tells(site, peer, Asked::Page, &[A2])
+        && tells(site, peer, Asked::Arrivals, &[A1, A3])
+        && came(site, &[2, 1, 3], 3)
+}
+
+/// The same of a new site and peer; true where there is no memory for them.
+fn tells_from_nothing(alloc: Global) -> bool {
+    let mut site = Site::empty(alloc);
+    let mut peer = Summary::empty(alloc);
+    let is_ready = take(alloc, &mut site, &[A2, A1, A3]).is_some()
+        && add_numbers(alloc, &mut peer, &[2]);
+    !is_ready || tells_all(&mut site, &peer)
+}
+
+#[test]
+fn a_peer_is_told_what_it_lacks_or_memory_is_wanted(rt: HostRuntime) {
+    assert!(rt; tells_from_nothing(rt.alloc()));
 }

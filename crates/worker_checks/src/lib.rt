@@ -8,6 +8,8 @@ mod desk;
 #[cfg(test)]
 mod event;
 #[cfg(test)]
+mod refused;
+#[cfg(test)]
 mod serving;
 #[cfg(test)]
 mod shared;

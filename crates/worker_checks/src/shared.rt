@@ -13,7 +13,7 @@ use std::sync::Wait;
 use views::{Query, print};
 
 /// The line of the event a1.
-const A1: &str = concat!(
+pub const A1: &str = concat!(
     "{\"id\":\"a1\",\"sequence\":\"00000000000000000001\",\"source\":\"/orders\",",
     "\"specversion\":\"1.0\",\"subject\":\"x\",\"type\":\"t.a\"}\n"
 );
