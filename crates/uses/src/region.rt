@@ -6,7 +6,7 @@ use database_layout::has_inbox;
 use feeds::{Ended, Jobs, Served, serve};
 use inbox_table::Table;
 use keeper::{Flusher, Keeper, Kept};
-use site::Wide;
+use site::{Site, Wide};
 use site_lock::{Begun, SharedSite};
 use sqlite::{Alter, Connection};
 use sqlite_std_file::File;
@@ -16,13 +16,24 @@ use std::sync::Wait;
 use std::thread::Threads;
 use views::Query;
 
+/// The inbox of a database, made where there is none.
+fn table_of<S: Alter + Drop>(alloc: Global, conn: Connection<S>) -> Option<Table<S>> {
+    let found = if has_inbox(conn.schema()) {
+        Table::adopt(alloc, conn)
+    } else {
+        Table::create(alloc, conn)
+    };
+    match found {
+        Ok(table) => Some(table),
+        Err(_) => None,
+    }
+}
+
 /// The inbox of the database in that file; both are made where there are none.
 pub fn inbox(rt: &HostRuntime, name: &str) -> Option<Table<FileStore<File>>> {
-    let conn = Connection::open(rt, name).ok()?;
-    if has_inbox(conn.schema()) {
-        Table::adopt(rt.alloc(), conn).ok()
-    } else {
-        Table::create(rt.alloc(), conn).ok()
+    match Connection::open(rt, name) {
+        Ok(conn) => table_of(rt.alloc(), conn),
+        Err(_) => None,
     }
 }
 
@@ -50,6 +61,17 @@ fn are_done(served: &Served) -> bool {
     true
 }
 
+/// The types of a site's events, if all is there.
+fn lines_of(site: &Site, is_whole: bool) -> Option<Text> {
+    if !is_whole {
+        return None;
+    }
+    match site.lines(Query::Kinds) {
+        Ok(lines) => Some(lines),
+        Err(_) => None,
+    }
+}
+
 /// Takes files into an inbox, each by a thread of its own, while this thread keeps what came, and
 /// answers the types of all its events, with how many have each.
 pub fn kinds<R: Threads + Wait + Sync, S: Alter + Drop>(
@@ -60,9 +82,15 @@ pub fn kinds<R: Threads + Wait + Sync, S: Alter + Drop>(
 ) -> Option<Text>
     requires { length jobs.feeds + length jobs.peers + length jobs.asks ≤ 16 }
 {
-    let Kept { keeper, site } = Keeper::begin(alloc, table).ok()?;
-    let Begun { shared, mut pass } = SharedSite::begin(alloc, site).ok()?;
-    let own = shared.split(&mut pass).ok()?;
+    let Ok(Kept { keeper, site }) = Keeper::begin(alloc, table) else {
+        return None;
+    };
+    let Ok(Begun { shared, mut pass }) = SharedSite::begin(alloc, site) else {
+        return None;
+    };
+    let Ok(own) = shared.split(&mut pass) else {
+        unreachable!()
+    };
     let mut flusher = Flusher::of(rt, &shared, keeper, own);
     let served = serve(rt, alloc, &shared, &mut pass, jobs, &Wide, &mut flusher);
     let is_whole = match served {
@@ -70,10 +98,5 @@ pub fn kinds<R: Threads + Wait + Sync, S: Alter + Drop>(
         Err(_) => false,
     };
     drop(flusher.end());
-    let site = shared.close(rt, pass);
-    if is_whole {
-        site.lines(Query::Kinds).ok()
-    } else {
-        None
-    }
+    lines_of(&shared.close(rt, pass), is_whole)
 }

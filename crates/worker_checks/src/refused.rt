@@ -11,7 +11,7 @@ use site::{DeskFault, Site};
 use site_lock::{Begun, Pass, SharedSite};
 use std::alloc::Global;
 use std::sync::Wait;
-use views::{Query, print};
+use views::{Answer, Query, print};
 
 /// The summary of a site with the number 1.
 const COVER: &str = "{\"sources\":{\"/orders\":[[1,1]]},\"version\":1}\n";
@@ -53,6 +53,14 @@ fn takes<R: Wait>(rt: &R, shared: &SharedSite, pass: &mut Pass, batch: &mut Batc
     }
 }
 
+/// Whether an answer has these lines; none where memory is refused.
+fn is_printed(alloc: Global, answer: &Answer, wanted: &str) -> Option<bool> {
+    match print(alloc, answer) {
+        Ok(text) => Some(text.as_str() == wanted),
+        Err(_) => None,
+    }
+}
+
 /// Whether a question has these lines; none where memory is refused.
 fn has_lines<R: Wait>(
     rt: &R,
@@ -66,10 +74,7 @@ fn has_lines<R: Wait>(
     ensures { pass.new.table ≡ pass.old.table }
 {
     match shared.query(rt, pass, query) {
-        Ok(answer) => match print(alloc, &answer) {
-            Ok(text) => Some(text.as_str() == wanted),
-            Err(_) => None,
-        },
+        Ok(answer) => is_printed(alloc, &answer, wanted),
         Err(_) => None,
     }
 }
@@ -153,7 +158,7 @@ fn is_shared_well<R: Wait>(rt: &R, alloc: Global, batch: &mut Batch) -> bool {
         return true;
     };
     let Ok(mut second) = shared.split(&mut first) else {
-        return false;
+        unreachable!()
     };
     let is_well = learns(rt, alloc, &shared, &mut first, &mut second, batch);
     is_well & has_one(&shared.close(rt, first))
