@@ -2,39 +2,45 @@
 //! database, a thread for each, and kept meanwhile; then the types of all that it has are printed.
 #![tactic(auto)]
 
-ghost use Rattle.std.specs.Prelude.{◌≤◌, ◌+◌, length, IfOk};
+ghost use Rattle.std.specs.Prelude.{◌≤◌, length, IfOk};
 
 mod region;
 
 use attributes::{List, Octets, Text};
-use feeds::Jobs;
-use region::{inbox, kinds};
+use region::kinds;
+use sqlite::Connection;
 use std::io::{ErrorKind, Write};
 use std::process::ExitCode;
 use std::{env, fs, io};
 
-/// The words behind the program's name.
-fn words(rt: &HostRuntime) -> io::Result<Vec<String>> {
-    let mut words = Vec::new(rt.alloc());
-    for word in env::args(rt)?.skip(1) {
-        words.push(word)?;
+/// The bytes of each file, 16 of them at most.
+fn contents(rt: &HostRuntime, names: &[String]) -> io::Result<List<Octets>>
+    ensures { IfOk result (λ files. length files ≤ 16) }
+{
+    let mut files = List::empty(rt.alloc());
+    for name in names {
+        files.push(Octets::from_vec(fs::read(rt, name.as_str())?))?;
     }
-    Ok(words)
+    if files.len() <= 16 {
+        Ok(files)
+    } else {
+        Err(io::Error::from(ErrorKind::InvalidInput))
+    }
 }
 
-/// The bytes of each file, 16 at most, as jobs of workers.
-fn jobs(rt: &HostRuntime, names: &[String]) -> io::Result<Jobs>
-    ensures { IfOk result (λ j. length j.feeds + length j.peers + length j.asks ≤ 16) }
+/// The name of the database, and the bytes of the files behind it.
+fn given(rt: &HostRuntime) -> io::Result<(String, List<Octets>)>
+    ensures { IfOk result (λ it. length it.1 ≤ 16) }
 {
-    let mut feeds = List::empty(rt.alloc());
-    for name in names {
-        feeds.push(Octets::from_vec(fs::read(rt, name.as_str())?))?;
-    }
-    if feeds.len() > 16 {
+    let mut words = env::args(rt)?.skip(1);
+    let Some(database) = words.next() else {
         return Err(io::Error::from(ErrorKind::InvalidInput));
+    };
+    let mut names = Vec::new(rt.alloc());
+    for name in words {
+        names.push(name)?;
     }
-    let (peers, asks) = (List::empty(rt.alloc()), List::empty(rt.alloc()));
-    Ok(Jobs { feeds, peers, asks })
+    Ok((database, contents(rt, names.as_slice())?))
 }
 
 /// Prints a text, if there is one.
@@ -50,17 +56,11 @@ fn print(rt: &HostRuntime, text: Option<Text>) -> ExitCode {
 
 /// `uses DB FILE..`
 fn main(rt: HostRuntime) -> ExitCode {
-    let Ok(words) = words(&rt) else {
+    let Ok((database, files)) = given(&rt) else {
         return ExitCode::FAILURE;
     };
-    let Some((database, files)) = words.as_slice().split_first() else {
-        return ExitCode::FAILURE;
-    };
-    let Ok(jobs) = jobs(&rt, files) else {
-        return ExitCode::FAILURE;
-    };
-    match inbox(&rt, database.as_str()) {
-        Some(table) => print(&rt, kinds(&rt, rt.alloc(), table, jobs)),
-        None => ExitCode::FAILURE,
+    match Connection::open(&rt, database.as_str()) {
+        Ok(conn) => print(&rt, kinds(&rt, rt.alloc(), conn, files)),
+        Err(_) => ExitCode::FAILURE,
     }
 }

@@ -1,16 +1,16 @@
 //! The inbox of a database as a site that threads share.
-ghost use Rattle.std.specs.Prelude.{◌≤◌, ◌+◌, length};
+ghost use Rattle.std.specs.Prelude.{◌≤◌, length};
+ghost use Rattle.sqlite.specs.Held.{state};
+ghost use Rattle.keeper.specs.Keep.{KeepsUp};
 
-use attributes::Text;
+use attributes::{List, Octets, Text};
 use database_layout::has_inbox;
-use feeds::{Ended, Jobs, Served, serve};
+use feeds::{Ended, Jobs, ServeFault, Served, serve};
 use inbox_table::Table;
 use keeper::{Flusher, Keeper, Kept};
 use site::{Site, Wide};
 use site_lock::{Begun, SharedSite};
 use sqlite::{Alter, Connection};
-use sqlite_std_file::File;
-use sqlite_store::FileStore;
 use std::alloc::Global;
 use std::sync::Wait;
 use std::thread::Threads;
@@ -25,14 +25,6 @@ fn table_of<S: Alter + Drop>(alloc: Global, conn: Connection<S>) -> Option<Table
     };
     match found {
         Ok(table) => Some(table),
-        Err(_) => None,
-    }
-}
-
-/// The inbox of the database in that file; both are made where there are none.
-pub fn inbox(rt: &HostRuntime, name: &str) -> Option<Table<FileStore<File>>> {
-    match Connection::open(rt, name) {
-        Ok(conn) => table_of(rt.alloc(), conn),
         Err(_) => None,
     }
 }
@@ -52,13 +44,14 @@ fn keep_all<R: Wait, S: Alter + Drop>(flusher: &mut Flusher<'_, R, S>) -> bool {
 }
 
 /// Whether each worker brought all that it was to bring.
-fn are_done(served: &Served) -> bool {
-    for report in &served.reports {
-        if report.ended != Ended::Done {
-            return false;
-        }
+fn are_done(served: &Result<Served, ServeFault>) -> bool {
+    match served {
+        Ok(served) => served
+            .reports
+            .iter()
+            .all(|report| report.ended == Ended::Done),
+        Err(_) => false,
     }
-    true
 }
 
 /// The types of a site's events, if all is there.
@@ -72,19 +65,34 @@ fn lines_of(site: &Site, is_whole: bool) -> Option<Text> {
     }
 }
 
-/// Takes files into an inbox, each by a thread of its own, while this thread keeps what came, and
-/// answers the types of all its events, with how many have each.
+/// Takes files into the inbox of a database, each by a thread of its own, while this thread keeps
+/// what came, and answers the types of all its events, with how many have each.
 pub fn kinds<R: Threads + Wait + Sync, S: Alter + Drop>(
     rt: &R,
     alloc: Global,
-    table: Table<S>,
-    jobs: Jobs,
+    conn: Connection<S>,
+    files: List<Octets>,
 ) -> Option<Text>
-    requires { length jobs.feeds + length jobs.peers + length jobs.asks ≤ 16 }
+    requires { length files ≤ 16 }
 {
-    let Ok(Kept { keeper, site }) = Keeper::begin(alloc, table) else {
-        return None;
-    };
+    let table = table_of(alloc, conn)?;
+    match Keeper::begin(alloc, table) {
+        Ok(kept) => taken(rt, alloc, kept, files),
+        Err(_) => None,
+    }
+}
+
+/// The same of a site whose table keeps up with it.
+fn taken<R: Threads + Wait + Sync, S: Alter + Drop>(
+    rt: &R,
+    alloc: Global,
+    kept: Kept<S>,
+    files: List<Octets>,
+) -> Option<Text>
+    requires first { KeepsUp (state S.Store kept.keeper.conn) kept.keeper.rows kept.site }
+    requires few { length files ≤ 16 }
+{
+    let Kept { keeper, site } = kept;
     let Ok(Begun { shared, mut pass }) = SharedSite::begin(alloc, site) else {
         return None;
     };
@@ -92,11 +100,13 @@ pub fn kinds<R: Threads + Wait + Sync, S: Alter + Drop>(
         unreachable!()
     };
     let mut flusher = Flusher::of(rt, &shared, keeper, own);
-    let served = serve(rt, alloc, &shared, &mut pass, jobs, &Wide, &mut flusher);
-    let is_whole = match served {
-        Ok(served) => are_done(&served) && keep_all(&mut flusher),
-        Err(_) => false,
+    let jobs = Jobs {
+        feeds: files,
+        peers: List::empty(alloc),
+        asks: List::empty(alloc),
     };
+    let served = serve(rt, alloc, &shared, &mut pass, jobs, &Wide, &mut flusher);
+    let is_whole = are_done(&served) && keep_all(&mut flusher);
     drop(flusher.end());
     lines_of(&shared.close(rt, pass), is_whole)
 }
