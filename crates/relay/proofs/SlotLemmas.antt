@@ -137,11 +137,11 @@ each_turn P Q later olds [] i d x y z low at k h = absurd (omega (arith, low))
 each_turn P Q later [] (b ∷ xs) i d x y z low at k h = absurd h
 each_turn {A} {B} P Q later (a ∷ olds) (b ∷ xs) zero d x y z low at k h = (k a (subst (λ (v : B). P a v) (sym at) h.0), each_all olds xs h.1)
   where
-    each_all : (as : List A) (bs : List B) → Each P as bs → Each Q as bs
+    each_all : (ls : List A) (bs : List B) → Each P ls bs → Each Q ls bs
     each_all [] [] h = tt
     each_all [] (b ∷ bs) h = absurd h
-    each_all (a ∷ as) [] h = absurd h
-    each_all (a ∷ as) (b ∷ bs) h = (later a b h.0, each_all as bs h.1)
+    each_all (a ∷ ls) [] h = absurd h
+    each_all (a ∷ ls) (b ∷ bs) h = (later a b h.0, each_all ls bs h.1)
 each_turn P Q later (a ∷ olds) (b ∷ xs) (suc i) d x y z low at k h = (later a b h.0, each_turn P Q later olds xs i d x y z (omega (arith, low)) at k h.1)
 
 -- what stands at a place is the same whatever stands for a place past the end

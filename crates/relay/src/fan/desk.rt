@@ -131,6 +131,33 @@ fn turn<'s, E, H: Threads + Wait + Sync, S: Alter, R: Route + Drop + Send + 's, 
     slots[place] = renew(scope, rt, alloc, gate, done, refused, service, slot);
 }
 
+/// The first place whose lane is here, to go on.
+fn first_waiting<R: Route + Drop, G: Gate>(slots: &Vec<Slot<R, G>>) -> Option<usize>
+    ensures { IfSome result (λ place. place < length slots.now.items) }
+{
+    for place in 0..slots.len() {
+        match &slots[place] {
+            Slot::Waiting(_) => return Some(place),
+            _ => {}
+        }
+    }
+    None
+}
+
+/// The first place whose lane hasn't ended.
+fn first_open<R: Route + Drop, G: Gate>(slots: &Vec<Slot<R, G>>) -> Option<usize>
+    ensures some { IfSome result (λ place. place < length slots.now.items) }
+    ensures none { result ≡ None → All IsEnded slots.now.items }
+{
+    for place in 0..slots.len() {
+        match &slots[place] {
+            Slot::Ended(_) => {}
+            _ => return Some(place),
+        }
+    }
+    None
+}
+
 /// Whose turn it is: of a lane that is here, or else of one whose worker says that it has come back,
 /// for which it waits. No lane where all have ended.
 fn next_place<H: Wait, R: Route + Drop, G: Gate>(
@@ -141,19 +168,16 @@ fn next_place<H: Wait, R: Route + Drop, G: Gate>(
     ensures some { IfSome result (λ place. place < length slots.now.items) }
     ensures none { result ≡ None → All IsEnded slots.now.items }
 {
-    let mut busy = None;
-    for place in 0..slots.len() {
-        match &slots[place] {
-            Slot::Waiting(_) => return Some(place),
-            Slot::Ended(_) => {}
-            _ => busy = Some(place),
-        }
+    let Some(open) = first_open(slots) else {
+        return None;
+    };
+    if let Some(place) = first_waiting(slots) {
+        return Some(place);
     }
-    let busy = busy?;
     // A place that was told isn't believed: it says only whose worker is waited for.
     match told.recv(rt) {
         Ok(place) if place < slots.len() as u64 => Some(place as usize),
-        _ => Some(busy),
+        _ => Some(open),
     }
 }
 

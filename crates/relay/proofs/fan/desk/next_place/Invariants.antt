@@ -1,9 +1,0 @@
-use Rattle.std.proofs.Common.{◌≡◌, ◌<◌, ℕ, length, get_or, None, IfSome}
-use Rattle.relay.specs.steps.Slot.{IsEnded}
-use Rattle.relay.specs.declared.fan.slot.Slot.{Slot}
-use Rattle.relay.proofs.fan.desk.next_place.Given as goal
-
-abbrev pub invariant-loop-place : goal.invariant-loop-place
-invariant-loop-place g l =
-    (l.busy ≡ None → (k : ℕ) (d : Slot g.row.R.Denot g.row.G.Denot) → k < l.place → IsEnded (get_or l.slots.items k d))
-    × IfSome l.busy (λ place. place < length l.slots.items)
