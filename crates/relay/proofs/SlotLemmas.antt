@@ -5,6 +5,7 @@ use Rattle.sqlite.specs.Effect.{Database}
 use Rattle.sqlite.specs.State.{State, HasCleanDisk}
 use Rattle.attributes.specs.Event.{EventValue}
 use Rattle.outbox.specs.Call.{IsSame}
+use Rattle.outbox.specs.Row.{rows_of}
 use Rattle.relay.specs.Fan.{AreSent}
 use Rattle.relay.specs.steps.Lane.{Moves, Carries, Hands, AreBetween, Comes, Rests, Honestly, Each, IsWindow}
 use Rattle.relay.specs.steps.Slot.{IsOf, Lands, Starts}
@@ -94,7 +95,7 @@ module _ {R G : Type 0} (accepted : R → List EventValue) (takes : R → List E
     subst (λ l. Comes accepted takes has_failed (lets gate) (shuts gate) (heard gate) source base db s old l) (sym k.0) h,
     (k.1, (subst (λ n. base ≤ n) (sym k.2) low,
     (subst (λ n. (n ≤ handle.promise.lane.value.relay.mark) ⊎ (n ≤ base)) (sym k.2) (subst (λ (l : Lane R). (start ≤ l.relay.mark) ⊎ (start ≤ base)) (sym k.0) top),
-    λ clean commands is. subst (λ n. IsWindow base _ n handle.promise.rows.value) (sym k.2) (subst (λ r. IsWindow base _ start r) (sym k.3) (w clean commands is))))),
+    λ clean commands is. subst (λ n. IsWindow base (rows_of source base commands) n handle.promise.rows.value) (sym k.2) (subst (λ r. IsWindow base (rows_of source base commands) start r) (sym k.3) (w clean commands is))))),
   )
   of_starts db s old lane start rows (Ended back) h low top w k = absurd k
   of_starts db s old lane start rows Taken h low top w k = absurd k
@@ -130,6 +131,14 @@ module _ {R G : Type 0} (accepted : R → List EventValue) (takes : R → List E
   pub fan_many : (db : Database) (s t : State) (olds : List (Lane R)) (first last : List (Slot R G)) → first ≡ map Waiting olds
       → (Each (IsOf accepted takes has_failed lets shuts heard gate source base db s) olds first → Each (IsOf accepted takes has_failed lets shuts heard gate source base db t) olds last) → length last ≡ length olds
   fan_many db s t olds first last p goes = each_length (IsOf accepted takes has_failed lets shuts heard gate source base db t) olds last (goes (subst (λ l. Each (IsOf accepted takes has_failed lets shuts heard gate source base db s) olds l) (sym p) (each_waits db s olds)))
+
+-- the same of another service that has this source and base
+pub turned : {R G : Type 0} (accepted : R → List EventValue) (takes : R → List EventValue → R → Type 0) (has_failed : R → R → Type 0) (lets shuts heard : G → ℕ → ℕ → Type 0) (gate : G) (source source' : List ℕ) (base base' : ℕ) (db : Database) (b c : State) (olds : List (Lane R)) (xs ys : List (Slot R G)) → source' ≡ source → base' ≡ base
+    → (Each (IsOf accepted takes has_failed lets shuts heard gate source' base' db b) olds xs → Each (IsOf accepted takes has_failed lets shuts heard gate source' base' db c) olds ys)
+    → Each (IsOf accepted takes has_failed lets shuts heard gate source base db b) olds xs → Each (IsOf accepted takes has_failed lets shuts heard gate source base db c) olds ys
+turned accepted takes has_failed lets shuts heard gate source source' base base' db b c olds xs ys p q goes h =
+    subst (λ s. Each (IsOf accepted takes has_failed lets shuts heard gate s base db c) olds ys) p (subst (λ n. Each (IsOf accepted takes has_failed lets shuts heard gate source' n db c) olds ys) q
+    (goes (subst (λ n. Each (IsOf accepted takes has_failed lets shuts heard gate source' n db b) olds xs) (sym q) (subst (λ s. Each (IsOf accepted takes has_failed lets shuts heard gate s base db b) olds xs) (sym p) h))))
 
 -- one of the slots is another, and what holds of each before holds after
 pub each_turn : {A B : Type 0} (P Q : A → B → Type 0) → ((o : A) (x : B) → P o x → Q o x) → (olds : List A) (xs : List B) (i : ℕ) (d x y z : B) → i < length xs → x ≡ get_or xs i d → ((o : A) → P o x → Q o y) → Each P olds xs → Each Q olds (slice_set (slice_set xs i z) i y)

@@ -27,7 +27,8 @@ pub run_slots-slots-requires : goal.run_slots-slots-requires
 run_slots-slots-requires g c =
     let count = counted c.lanes_of-lanes.result.items c.args.routes.items c.lanes_of-lanes.ensures.routes in
     let many : length c.slots_of-slots.result.items ≡ length c.lanes_of-lanes.result.items = ap length c.slots_of-slots.ensures ∙ length-map c.lanes_of-lanes.result.items Waiting in
-    omega (arith, count, many, c.len.ensures, c.in-Some.ensures.shared)
+    let flags : length c.slots_of-slots.result.items ≡ length c.in-Some.room.shared.refused.items = omega (arith, count, many, c.len.ensures, c.in-Some.ensures.shared) in
+    (c.type_bounds.send-R, (c.type_bounds.sync-H, (c.type_bounds.sync-G, flags)))
 
 pub lanes_back-lanes-requires-clause-room : goal.lanes_back-lanes-requires-clause-room
 lanes_back-lanes-requires-clause-room g c =

@@ -1,6 +1,7 @@
-use Rattle.std.proofs.Common.{◌≡◌, ◌∙◌, refl, subst, sym, rules, arith}
+use Rattle.std.proofs.Common.{◌≡◌, ◌∙◌, refl, rules, arith}
 use Rattle.sqlite.specs.Held.{state}
 use Rattle.relay.proofs.ReadLemmas.{same_none, same_then, still_then}
+use Rattle.relay.proofs.SlotLemmas.{turned}
 use Rattle.relay.proofs.fan.desk.run.Goals as goal
 
 pub loop-init : goal.loop-init
@@ -19,10 +20,7 @@ pub returns-in_default-clause-goes : goal.returns-in_default-clause-goes
 returns-in_default-clause-goes g c = c.loop.invariant.3
 
 pub index-requires : goal.index-requires
-index-requires g c = omega (arith, c.in-Some.ensures.some, c.loop.invariant.2, c.requires)
-
-pub turn-requires : goal.turn-requires
-turn-requires g c = c.in-Some.ensures.some
+index-requires g c = omega (arith, c.in-Some-next_place.ensures.some, c.loop.invariant.2, c.requires)
 
 pub loop-preserved : goal.loop-preserved
 loop-preserved g c =
@@ -34,5 +32,6 @@ loop-preserved g c =
       (is.0 ∙ was.0.0, is.1 ∙ was.0.1, is.2 ∙ was.0.2),
       same_then first before after was.1 c.turn.ensures.service,
       c.turn.ensures.many ∙ was.2,
-      λ db olds still h. ?,
+      λ db olds still h. turned g.R.Route.accepted g.R.Route.takes g.R.Route.has_failed g.G.Gate.lets g.G.Gate.shuts g.G.Gate.heard c.args.gate.now c.args.service.now.source c.loop.service.source c.args.service.now.base c.loop.service.base db before after olds c.loop.slots.items c.turn.new.slots.items was.0.0 was.0.1
+      (c.turn.ensures.goes db olds (still_then db first before still was.1)) (was.3 db olds still h),
     )
