@@ -93,9 +93,16 @@ module _ {R G : Type 0} (accepted : R → List EventValue) (takes : R → List E
   of_starts db s old lane start rows (Waiting back) h low top w k = comes_on accepted takes has_failed (lets gate) (shuts gate) (heard gate) source base db s old lane back start rows h low top w k
   of_starts db s old lane start rows (Busy handle) h low top w k = (
     subst (λ l. Comes accepted takes has_failed (lets gate) (shuts gate) (heard gate) source base db s old l) (sym k.0) h,
-    (k.1, (subst (λ n. base ≤ n) (sym k.2) low,
-    (subst (λ n. (n ≤ handle.promise.lane.value.relay.mark) ⊎ (n ≤ base)) (sym k.2) (subst (λ (l : Lane R). (start ≤ l.relay.mark) ⊎ (start ≤ base)) (sym k.0) top),
-    λ clean commands is. subst (λ n. IsWindow base (rows_of source base commands) n handle.promise.rows.value) (sym k.2) (subst (λ r. IsWindow base (rows_of source base commands) start r) (sym k.3) (w clean commands is))))),
+    (
+      k.1,
+      (
+        subst (λ n. base ≤ n) (sym k.2) low,
+        (
+          subst (λ n. (n ≤ handle.promise.lane.value.relay.mark) ⊎ (n ≤ base)) (sym k.2) (subst (λ (l : Lane R). (start ≤ l.relay.mark) ⊎ (start ≤ base)) (sym k.0) top),
+          λ clean commands is. subst (λ n. IsWindow base (rows_of source base commands) n handle.promise.rows.value) (sym k.2) (subst (λ r. IsWindow base (rows_of source base commands) start r) (sym k.3) (w clean commands is)),
+        ),
+      ),
+    ),
   )
   of_starts db s old lane start rows (Ended back) h low top w k = absurd k
   of_starts db s old lane start rows Taken h low top w k = absurd k

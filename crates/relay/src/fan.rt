@@ -176,10 +176,7 @@ fn lanes_of<R: Drop>(relays: &Relays, routes: Routes<R>, room: Vec<Lane<R>>) -> 
 }
 
 /// The lanes, each waiting to go on, in the room that was made for them.
-fn slots_of<R: Route + Drop, G: Gate>(
-    lanes: Vec<Lane<R>>,
-    room: Vec<Slot<R, G>>,
-) -> Vec<Slot<R, G>>
+fn slots_of<R: Route + Drop, G: Gate>(lanes: Vec<Lane<R>>, room: Vec<Slot<R, G>>) -> Vec<Slot<R, G>>
     requires empty { room.items ≡ [] }
     requires room { length lanes.items ≤ vec_capacity room }
     ensures { result.items ≡ map Waiting lanes.items }
@@ -192,10 +189,7 @@ fn slots_of<R: Route + Drop, G: Gate>(
 }
 
 /// The lanes once all have ended, in the room that was made for them.
-fn lanes_back<R: Route + Drop, G: Gate>(
-    slots: Vec<Slot<R, G>>,
-    room: Vec<Lane<R>>,
-) -> Vec<Lane<R>>
+fn lanes_back<R: Route + Drop, G: Gate>(slots: Vec<Slot<R, G>>, room: Vec<Lane<R>>) -> Vec<Lane<R>>
     requires ended { All IsEnded slots.items }
     requires empty { room.items ≡ [] }
     requires room { length slots.items ≤ vec_capacity room }

@@ -18,11 +18,10 @@ use outbox::Service;
 use site::Gate;
 use sqlite::Alter;
 use std::alloc::Global;
-use std::mem;
 use std::sync::Wait;
 use std::sync::atomic::AtomicBool;
-use std::thread;
 use std::thread::{Scope, Threads};
+use std::{mem, thread};
 
 /// Lets a lane that is here go on over its next window; it ends where it stopped or no row is left.
 fn advance<'s, E, H: Threads + Wait + Sync, S: Alter, R: Route + Drop + Send + 's, G: Gate + Sync>(
@@ -209,7 +208,17 @@ fn run<'s, E, H: Threads + Wait + Sync, S: Alter, R: Route + Drop + Send + 's, G
         let Some(place) = next_place(rt, told, slots) else {
             return;
         };
-        turn(scope, rt, alloc, gate, done, &refused[place], service, place, slots);
+        turn(
+            scope,
+            rt,
+            alloc,
+            gate,
+            done,
+            &refused[place],
+            service,
+            place,
+            slots,
+        );
     }
     unreachable!()
 }
@@ -273,19 +282,16 @@ fn run_in_scope<'a, H: Threads + Wait + Sync, S: Alter, R: Route + Drop + Send, 
                 (state S.Store result.service.now.conn)) olds result.slots.items) }
         {
             let Lent { service, mut slots } = lent;
-            run(scope, rt, alloc, gate, done, told, refused, service, &mut slots);
+            run(
+                scope, rt, alloc, gate, done, told, refused, service, &mut slots,
+            );
             Lent { service, slots }
         },
     )
 }
 
 /// Carries the lanes over the rows of the service until each has ended, none waiting for another.
-pub(super) fn run_slots<
-    H: Threads + Wait + Sync,
-    S: Alter,
-    R: Route + Drop + Send,
-    G: Gate + Sync,
->(
+pub(super) fn run_slots<H: Threads + Wait + Sync, S: Alter, R: Route + Drop + Send, G: Gate + Sync>(
     rt: &H,
     alloc: Global,
     gate: &G,
@@ -308,7 +314,15 @@ pub(super) fn run_slots<
         service.old.source service.old.base (state S.Store service.old.conn).now
         (state S.Store service.new.conn)) olds result.items }
 {
-    let lent = run_in_scope(rt, alloc, gate, done, told, refused, Lent { service, slots });
+    let lent = run_in_scope(
+        rt,
+        alloc,
+        gate,
+        done,
+        told,
+        refused,
+        Lent { service, slots },
+    );
     let Lent { service, slots } = lent;
     keep(service);
     slots

@@ -33,5 +33,5 @@ loop-preserved g c =
       same_then first before after was.1 c.turn.ensures.service,
       c.turn.ensures.many ∙ was.2,
       λ db olds still h. turned g.R.Route.accepted g.R.Route.takes g.R.Route.has_failed g.G.Gate.lets g.G.Gate.shuts g.G.Gate.heard c.args.gate.now c.args.service.now.source c.loop.service.source c.args.service.now.base c.loop.service.base db before after olds c.loop.slots.items c.turn.new.slots.items was.0.0 was.0.1
-      (c.turn.ensures.goes db olds (still_then db first before still was.1)) (was.3 db olds still h),
+          (c.turn.ensures.goes db olds (still_then db first before still was.1)) (was.3 db olds still h),
     )
