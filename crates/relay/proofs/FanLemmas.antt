@@ -5,15 +5,23 @@ use Rattle.std.specs.List.{AllByRecursion}
 use Rattle.std.proofs.lemmas.List.{take_more, take_all, map-append, length-append}
 use Rattle.std.proofs.lemmas.List.Elements.{recursion_from_All, All-from_recursion, All-append}
 use Rattle.attributes.specs.Event.{EventValue}
+use Rattle.site.specs.Gate.{LetsThrough}
+use Rattle.sqlite.specs.Effect.{Database}
+use Rattle.sqlite.specs.State.{State, HasCleanDisk}
+use Rattle.outbox.specs.Order.{Accepted}
+use Rattle.outbox.specs.Row.{rows_of}
+use Rattle.outbox.specs.Service.{IsService}
 use Rattle.relay.specs.Relay.{Marked}
-use Rattle.relay.specs.Fan.{IsAtEnd, HasCause, Closes, Hands, Leaves, Delivers, AtEach}
-use Rattle.relay.specs.steps.Lane.{Moves, Sends, HasSent, Each, Whatever, AreBetween, end_after, end_of}
+use Rattle.relay.specs.Fan.{IsAtEnd, HasCause, Closes, Hands, Leaves, Delivers, AtEach, calls_of}
+use Rattle.relay.specs.steps.Lane.{Moves, Carries, Rests, Each, Whatever, AreBetween, ArePlaced, calls_to, end_after, end_of}
+use Rattle.relay.specs.steps.Slot.{IsEnded}
 use Rattle.relay.specs.declared.fault.RelayFault.{RelayFault}
-use Rattle.relay.specs.declared.fault.RelayFault.TheVariants.{OutOfMemory, RouteFailed, Stranger, Store, NoThread, GateShut}
+use Rattle.relay.specs.declared.fault.RelayFault.TheVariants.{GateShut}
 use Rattle.relay.specs.declared.fan.lane.Lane.{Lane}
+use Rattle.relay.specs.declared.fan.slot.Slot.{Slot}
+use Rattle.relay.specs.declared.fan.slot.Slot.TheVariants.{Ended}
 use Rattle.relay.specs.declared.fan.End.{End}
 use Rattle.relay.specs.declared.fan.End.TheVariants.{Done, Failed}
-use Rattle.relay.proofs.RoundLemmas.{each_from}
 
 nil_of : {A : Type 0} (l : List A) → length l ≡ 0 → l ≡ []
 nil_of [] is = refl
@@ -22,21 +30,27 @@ nil_of (x ∷ l) is = absurd (omega (arith, is))
 all_more : {A : Type 0} (P : A → Type 0) (xs : List A) (x : A) → All P xs → P x → All P (xs ++ x ∷ [])
 all_more P xs x h k = All-append P xs (x ∷ []) h (All-from_recursion P (x ∷ []) (k, tt))
 
+placed_more : {R : Type 0} (place : ℕ) (lanes : List (Lane R)) (lane : Lane R) → ArePlaced place lanes → lane.place ≡ length lanes + place → ArePlaced place (lanes ++ lane ∷ [])
+placed_more place [] lane h at = (at ∙ (let e : 0 + place ≡ place = omega arith in e), tt)
+placed_more place (x ∷ xs) lane h at = (h.0, placed_more (suc place) xs lane h.1 (at ∙ (let e : suc (length xs) + place ≡ length xs + suc place = omega arith in e)))
+
 -- the first lanes are made, of the relays in their order and the routes but for the rest
 abbrev pub Filled : {R : Type 0} → List Marked → List R → List (Lane R) → ℕ → List R → Type 0
 Filled relays routes lanes place rest =
     (map (λ x. x.route) lanes ++ rest ≡ routes) × (map (λ x. x.relay) lanes ≡ take place relays)
-    × (length lanes ≡ place) × All (λ x. x.fault ≡ None) lanes
+    × (length lanes ≡ place) × All (λ x. (x.fault ≡ None) × (x.calls ≡ 0)) lanes
+    × ArePlaced 0 lanes
 
 pub filled_none : {R : Type 0} (relays : List Marked) (routes : List R) (lanes : List (Lane R)) (rest : List R) → lanes ≡ [] → rest ≡ routes → Filled relays routes lanes 0 rest
-filled_none relays routes lanes rest none is = subst (λ l. Filled relays routes l 0 rest) (sym none) (is, refl, refl, λ k d low. absurd (omega (arith, low)))
+filled_none relays routes lanes rest none is = subst (λ l. Filled relays routes l 0 rest) (sym none) (is, refl, refl, λ k d low. absurd (omega (arith, low)), tt)
 
-pub filled_more : {R : Type 0} (relays : List Marked) (routes : List R) (lanes news : List (Lane R)) (place : ℕ) (rest left : List R) (lane : Lane R) → Filled relays routes lanes place rest → rest ≡ lane.route ∷ left → place < length relays → lane.relay ≡ get_or relays place lane.relay → lane.fault ≡ None → news ≡ lanes ++ lane ∷ [] → Filled relays routes news (place + 1) left
-filled_more {R} relays routes lanes news place rest left lane h first low is goes made = subst (λ l. Filled relays routes l (place + 1) left) (sym made) (
+pub filled_more : {R : Type 0} (relays : List Marked) (routes : List R) (lanes news : List (Lane R)) (place : ℕ) (rest left : List R) (lane : Lane R) → Filled relays routes lanes place rest → rest ≡ lane.route ∷ left → place < length relays → lane.relay ≡ get_or relays place lane.relay → lane.fault ≡ None → lane.calls ≡ 0 → lane.place ≡ place → news ≡ lanes ++ lane ∷ [] → Filled relays routes news (place + 1) left
+filled_more {R} relays routes lanes news place rest left lane h first low is goes none at made = subst (λ l. Filled relays routes l (place + 1) left) (sym made) (
   ap (λ l. l ++ left) (map-append (λ (x : Lane R). x.route) lanes (lane ∷ [])) ∙ append_assoc (map (λ (x : Lane R). x.route) lanes) (lane.route ∷ []) left ∙ ap (λ r. map (λ (x : Lane R). x.route) lanes ++ r) (sym first) ∙ h.0,
   map-append (λ (x : Lane R). x.relay) lanes (lane ∷ []) ∙ ap (λ l. l ++ lane.relay ∷ []) h.1 ∙ ap (λ m. take place relays ++ m ∷ []) is ∙ sym (take_more relays place lane.relay low),
   length-append lanes (lane ∷ []) ∙ ap (λ n. n + 1) h.2,
-  all_more (λ x. x.fault ≡ None) lanes lane h.3 goes,
+  all_more (λ x. (x.fault ≡ None) × (x.calls ≡ 0)) lanes lane h.3 (goes, none),
+  placed_more 0 lanes lane h.4 (at ∙ sym h.2 ∙ (let e : length lanes ≡ length lanes + 0 = omega arith in e)),
 )
 
 pub filled_low : {R : Type 0} (relays : List Marked) (routes : List R) (lanes : List (Lane R)) (place : ℕ) (rest left : List R) (route : R) → Filled relays routes lanes place rest → rest ≡ route ∷ left → place < length routes
@@ -80,88 +94,113 @@ put_low done x rest left cap h first = let some : length rest ≡ suc (length le
 pub put_all : {A : Type 0} → {B : Type 0} (f : A → B) (done : List B) (rest : List A) (all : List B) → done ++ map f rest ≡ all → length rest ≡ 0 → done ≡ all
 put_all f done rest all h none = sym (append-nil done) ∙ ap (λ r. done ++ map f r) (sym (nil_of rest none)) ∙ h
 
+-- an ended lane is put among those that are done
+pub ended_low : {R G : Type 0} (done : List (Lane R)) (rest left all : List (Slot R G)) (slot : Slot R G) → map Ended done ++ rest ≡ all → rest ≡ slot ∷ left → All IsEnded all → IsEnded slot
+ended_low {R} {G} done rest left all slot h first ended = go done (recursion_from_All IsEnded (map Ended done ++ slot ∷ left) (subst (All IsEnded) (sym h ∙ ap (λ r. map Ended done ++ r) first) ended))
+  where
+    go : (d : List (Lane R)) → AllByRecursion IsEnded (map Ended d ++ slot ∷ left) → IsEnded slot
+    go [] k = k.0
+    go (x ∷ d) k = go d k.1
+
+pub ended_more : {R G : Type 0} (done new : List (Lane R)) (rest left all : List (Slot R G)) (lane : Lane R) → map Ended done ++ rest ≡ all → rest ≡ Ended lane ∷ left → new ≡ done ++ lane ∷ [] → map Ended new ++ left ≡ all
+ended_more done new rest left all lane h first is = ap (λ l. map Ended l ++ left) is ∙ ap (λ l. l ++ left) (map-append Ended done (lane ∷ [])) ∙ append_assoc (map Ended done) (Ended lane ∷ []) left ∙ ap (λ r. map Ended done ++ r) (sym first) ∙ h
+
+pub ended_all : {R G : Type 0} (done : List (Lane R)) (rest all : List (Slot R G)) → map Ended done ++ rest ≡ all → length rest ≡ 0 → map Ended done ≡ all
+ended_all done rest all h none = sym (append-nil (map Ended done)) ∙ ap (λ r. map Ended done ++ r) (sym (nil_of rest none)) ∙ h
+
 -- what holds of each lane holds at each place of the lists that they were made of and made
-each_at : {R : Type 0} (Holds : Lane R → Lane R → Type 0) (Shows : Marked → Marked → R → R → End → Type 0) (end : End) → ((o n : Lane R) → Holds o n → Shows o.relay n.relay o.route n.route (end_of end n))
-    → (olds news : List (Lane R)) → Each Holds olds news → AtEach (map (λ x. x.relay) olds) (map (λ x. x.relay) news) (map (λ x. x.route) olds) (map (λ x. x.route) news) (map (end_of end) news) Shows
-each_at Holds Shows end show [] [] h i old new route back e p q s t u = absurd (cc)
-each_at Holds Shows end show [] (n ∷ news) h i old new route back e p q s t u = absurd h
-each_at Holds Shows end show (o ∷ olds) [] h i old new route back e p q s t u = absurd h
-each_at {R} Holds Shows end show (o ∷ olds) (n ∷ news) h zero old new route back e p q s t u =
+each_at : {R : Type 0} (Holds : Lane R → Lane R → Type 0) (Shows : ℕ → Marked → Marked → R → R → End → Type 0) → ((o n : Lane R) → Holds o n → Shows o.place o.relay n.relay o.route n.route (end_of n))
+    → (place : ℕ) (olds news : List (Lane R)) → ArePlaced place olds → Each Holds olds news → AtEach (map (λ x. x.relay) olds) (map (λ x. x.relay) news) (map (λ x. x.route) olds) (map (λ x. x.route) news) (map end_of news) (λ i. Shows (place + i))
+each_at Holds Shows show place [] [] are h i old new route back e p q s t u = absurd (cc)
+each_at Holds Shows show place [] (n ∷ news) are h i old new route back e p q s t u = absurd h
+each_at Holds Shows show place (o ∷ olds) [] are h i old new route back e p q s t u = absurd h
+each_at {R} Holds Shows show place (o ∷ olds) (n ∷ news) are h zero old new route back e p q s t u =
     let a : o.relay ≡ old = cc in
     let b : n.relay ≡ new = cc in
     let c : o.route ≡ route = cc in
     let d : n.route ≡ back = cc in
-    let f : end_of end n ≡ e = cc in
-    subst (λ x. Shows x new route back e) a (subst (λ x. Shows o.relay x route back e) b (subst (λ x. Shows o.relay n.relay x back e) c (subst (λ x. Shows o.relay n.relay o.route x e) d (subst (λ x. Shows o.relay n.relay o.route n.route x) f (show o n h.0)))))
-each_at Holds Shows end show (o ∷ olds) (n ∷ news) h (suc i) old new route back e p q s t u = each_at Holds Shows end show olds news h.1 i old new route back e p q s t u
+    let f : end_of n ≡ e = cc in
+    let at : o.place ≡ place + 0 = omega (arith, are.0) in
+    subst (λ x. Shows x old new route back e) at (subst (λ x. Shows o.place x new route back e) a (subst (λ x. Shows o.place o.relay x route back e) b (subst (λ x. Shows o.place o.relay n.relay x back e) c (subst (λ x. Shows o.place o.relay n.relay o.route x e) d (subst (λ x. Shows o.place o.relay n.relay o.route n.route x) f (show o n h.0))))))
+each_at Holds Shows show place (o ∷ olds) (n ∷ news) are h (suc i) old new route back e p q s t u =
+    subst (λ x. Shows x old new route back e) (let k : suc place + i ≡ place + suc i = omega arith in k) (each_at Holds Shows show (suc place) olds news are.1 h.1 i old new route back e p q s t u)
 
-at_lists : {R : Type 0} (Shows : Marked → Marked → R → R → End → Type 0) (a a' b b' : List Marked) (c c' d d' : List R) (e e' : List End) → AtEach a b c d e Shows → a ≡ a' → b' ≡ b → c ≡ c' → d' ≡ d → e' ≡ e → AtEach a' b' c' d' e' Shows
+at_lists : {R : Type 0} (Shows : ℕ → Marked → Marked → R → R → End → Type 0) (a a' b b' : List Marked) (c c' d d' : List R) (e e' : List End) → AtEach a b c d e (λ i. Shows (0 + i)) → a ≡ a' → b' ≡ b → c ≡ c' → d' ≡ d → e' ≡ e → AtEach a' b' c' d' e' Shows
 at_lists Shows a a' b b' c c' d d' e e' h p q s t u i old new route back end v w x y z =
-    h i old new route back end (ap (λ l. slice_get l i) p ∙ v) (ap (λ l. slice_get l i) (sym q) ∙ w) (ap (λ l. slice_get l i) s ∙ x) (ap (λ l. slice_get l i) (sym t) ∙ y) (ap (λ l. slice_get l i) (sym u) ∙ z)
+    subst (λ n. Shows n old new route back end) (let k : 0 + i ≡ i = omega arith in k)
+    (h i old new route back end (ap (λ l. slice_get l i) p ∙ v) (ap (λ l. slice_get l i) (sym q) ∙ w) (ap (λ l. slice_get l i) s ∙ x) (ap (λ l. slice_get l i) (sym t) ∙ y) (ap (λ l. slice_get l i) (sym u) ∙ z))
 
-each_to : {A : Type 0} (D : Type 0) (F : A → Type 0) (P Q : A → A → Type 0) → ((x y : A) → P x y → (D → F y) → Q x y) → (xs ys : List A) → Each P xs ys → (D → AllByRecursion F ys) → Each Q xs ys
-each_to D F P Q one [] [] h f = tt
-each_to D F P Q one [] (y ∷ ys) h f = absurd h
-each_to D F P Q one (x ∷ xs) [] h f = absurd h
-each_to D F P Q one (x ∷ xs) (y ∷ ys) h f = (one x y h.0 (λ d. (f d).0), each_to D F P Q one xs ys h.1 (λ d. (f d).1))
+-- what the end of a lane did to its route
+closes : {R : Type 0} (has_failed : R → R → Type 0) (before route : R) (o : Option RelayFault) → MatchOption o (route ≡ before) (HasCause has_failed before route) → Closes has_failed before route (end_after o)
+closes has_failed before route (Some f) h = h
+closes has_failed before route None h = h
 
--- what the end of a lane did to its route, where this is the end of those that didn't stop
-closes : {R : Type 0} (has_failed : R → R → Type 0) (before route : R) (end : End) → ((f : RelayFault) → end ≡ Failed f → (f ≡ OutOfMemory) ⊎ (f ≡ Store)) → (o : Option RelayFault) → MatchOption o (route ≡ before) (HasCause has_failed before route) → Closes has_failed before route (end_after o end)
-closes has_failed before route end why (Some f) h = h
-closes has_failed before route Done why None h = h
-closes has_failed before route (Failed OutOfMemory) why None h = h
-closes has_failed before route (Failed Store) why None h = h
-closes has_failed before route (Failed NoThread) why None h = h
-closes has_failed before route (Failed GateShut) why None h = h
-closes has_failed before route (Failed RouteFailed) why None h = elim (why RouteFailed refl) [ inl is ↦ absurd (cc) | inr is ↦ absurd (cc) ]
-closes has_failed before route (Failed Stranger) why None h = elim (why Stranger refl) [ inl is ↦ absurd (cc) | inr is ↦ absurd (cc) ]
+same_calls : (o : Option RelayFault) (pages : ℕ) → calls_to o pages ≡ calls_of (end_after o) pages
+same_calls None pages = refl
+same_calls (Some f) pages = refl
 
-ended : {R : Type 0} (takes : R → List EventValue → R → Type 0) (has_failed : R → R → Type 0) (end : End) → ((f : RelayFault) → end ≡ Failed f → (f ≡ OutOfMemory) ⊎ (f ≡ Store)) → (o n : Lane R) (pages : List (List EventValue)) → Rattle.relay.specs.steps.Lane.Hands takes has_failed o n pages → Hands takes has_failed o.route n.route (end_of end n) pages
-ended takes has_failed end why o n pages h = record { before = h.before; taken = h.taken; closed = closes has_failed h.before n.route end why n.fault h.closed; sized = h.sized }
+shut_at : (o : Option RelayFault) → end_after o ≡ Failed GateShut → o ≡ Some GateShut
+shut_at None is = absurd (cc)
+shut_at (Some f) is = let same : f ≡ GateShut = cc in ap Some same
 
-leaves : {R : Type 0} (accepted : R → List EventValue) (takes : R → List EventValue → R → Type 0) (has_failed : R → R → Type 0) (end : End) → ((f : RelayFault) → end ≡ Failed f → (f ≡ OutOfMemory) ⊎ (f ≡ Store)) → (o n : Lane R) → (o.fault ≡ None) × Moves accepted takes has_failed o n → Leaves accepted takes has_failed o.relay n.relay o.route n.route (end_of end n)
-leaves {R} accepted takes has_failed end why o n h = record {
-  site = h.1.site;
-  forward = h.1.forward;
-  kept = h.1.kept;
-  handed = (pages.0, ended takes has_failed end why o n pages.0 pages.1.0);
-}
-  where
-    pages : (pages : List (List EventValue)) × (Rattle.relay.specs.steps.Lane.Hands takes has_failed o n pages × Whatever pages)
-    pages = h.1.handed h.0
+-- the lane hadn't begun
+abbrev pub IsFresh : {R : Type 0} → Lane R → Type 0
+IsFresh lane = (lane.fault ≡ None) × (lane.calls ≡ 0)
 
-delivers : {R : Type 0} (accepted : R → List EventValue) (takes : R → List EventValue → R → Type 0) (has_failed : R → R → Type 0) (base : ℕ) (rows : List EventValue) (end : End) → ((f : RelayFault) → end ≡ Failed f → (f ≡ OutOfMemory) ⊎ (f ≡ Store)) → (o n : Lane R) → ((o.fault ≡ None) × Sends accepted takes has_failed base rows o n) × (end ≡ Done → HasSent base rows n) → Delivers accepted takes has_failed base rows o.relay n.relay o.route n.route (end_of end n)
-delivers {R} accepted takes has_failed base rows end why o n h = record {
-  sent = h.0.1.sent;
-  new_rows = h.0.1.new_rows;
-  handed = (pages.0, (ended takes has_failed end why o n pages.0 pages.1.0, pages.1.1));
-  reached = h.0.1.reached;
-  done = λ is. go n.fault refl is;
-}
-  where
-    pages : (pages : List (List EventValue)) × (Rattle.relay.specs.steps.Lane.Hands takes has_failed o n pages × AreBetween base rows o.relay.mark n.relay.mark pages)
-    pages = h.0.1.handed h.0.0
+module _ {R : Type 0} (accepted : R → List EventValue) (takes : R → List EventValue → R → Type 0) (has_failed : R → R → Type 0) (lets shuts heard : ℕ → ℕ → Type 0) where
+  ended : (o n : Lane R) (pages : List (List EventValue)) → o.calls ≡ 0 → Rattle.relay.specs.steps.Lane.Hands takes has_failed lets shuts heard o n pages → Hands takes has_failed lets shuts heard o.place o.route n.route (end_of n) pages
+  ended o n pages none h = record {
+    before = h.before;
+    taken = h.taken;
+    closed = closes has_failed h.before n.route n.fault h.closed;
+    sized = h.sized;
+    gated = record {
+      through = subst (λ z. LetsThrough lets heard o.place 0 z) (same_calls n.fault (length pages)) (subst (λ z. LetsThrough lets heard o.place z (calls_to n.fault (length pages))) none h.through);
+      shut = λ s. subst (λ z. shuts o.place (z + 1)) (let e : o.calls + length pages ≡ length pages = omega (arith, none) in e) (h.shut (shut_at n.fault s));
+    };
+  }
 
-    go : (x : Option RelayFault) → n.fault ≡ x → end_after x end ≡ Done → IsAtEnd base rows n.relay.mark
-    go None none is = h.1 is none
-    go (Some f) some is = absurd (cc)
+  leaves : (o n : Lane R) → IsFresh o × Moves accepted takes has_failed lets shuts heard o n → Leaves accepted takes has_failed lets shuts heard o.place o.relay n.relay o.route n.route (end_of n)
+  leaves o n h =
+      let pages : (pages : List (List EventValue)) × (Rattle.relay.specs.steps.Lane.Hands takes has_failed lets shuts heard o n pages × Whatever pages) = h.1.handed h.0.0 in
+      record { site = h.1.site; forward = h.1.forward; kept = h.1.kept; handed = (pages.0, ended o n pages.0 h.0.1 pages.1.0) }
 
-pub fan_leaves : {R : Type 0} (accepted : R → List EventValue) (takes : R → List EventValue → R → Type 0) (has_failed : R → R → Type 0) (end : End) (olds news : List (Lane R)) (relays after : List Marked) (routes back : List R) (ends : List End)
-    → ((f : RelayFault) → end ≡ Failed f → (f ≡ OutOfMemory) ⊎ (f ≡ Store)) → All (λ x. x.fault ≡ None) olds → Each (Moves accepted takes has_failed) olds news
-    → map (λ x. x.relay) olds ≡ relays → after ≡ map (λ x. x.relay) news → map (λ x. x.route) olds ≡ routes → back ≡ map (λ x. x.route) news → ends ≡ map (end_of end) news
-    → AtEach relays after routes back ends (Leaves accepted takes has_failed)
-fan_leaves {R} accepted takes has_failed end olds news relays after routes back ends why fresh moves p q s t u =
-    at_lists (Leaves accepted takes has_failed) _ relays _ after _ routes _ back _ ends
-    (each_at (λ x y. (x.fault ≡ None) × Moves accepted takes has_failed x y) (Leaves accepted takes has_failed) end (leaves accepted takes has_failed end why) olds news
-    (each_from (λ (x : Lane R). x.fault ≡ None) (Moves accepted takes has_failed) (λ x y. (x.fault ≡ None) × Moves accepted takes has_failed x y) (λ x y f m. (f, m)) olds news (recursion_from_All (λ (x : Lane R). x.fault ≡ None) olds fresh) moves)) p q s t u
+  delivers : (base : ℕ) (rows : List EventValue) (o n : Lane R) → IsFresh o × (Carries accepted takes has_failed lets shuts heard base rows o n × (n.fault ≡ None → IsAtEnd base rows n.relay.mark)) → Delivers accepted takes has_failed lets shuts heard base rows o.place o.relay n.relay o.route n.route (end_of n)
+  delivers base rows o n h =
+      let pages : (pages : List (List EventValue)) × (Rattle.relay.specs.steps.Lane.Hands takes has_failed lets shuts heard o n pages × AreBetween base rows o.relay.mark n.relay.mark pages) = h.1.0.handed h.0.0 in
+      record {
+        sent = h.1.0.sent;
+        new_rows = h.1.0.new_rows;
+        handed = (pages.0, (ended o n pages.0 h.0.1 pages.1.0, pages.1.1));
+        reached = h.1.0.within;
+        done = λ is. h.1.1 (not_stopped n.fault is);
+      }
+    where
+      not_stopped : (x : Option RelayFault) → end_after x ≡ Done → x ≡ None
+      not_stopped None is = refl
+      not_stopped (Some f) is = absurd (cc)
 
-pub fan_delivers : {R : Type 0} (accepted : R → List EventValue) (takes : R → List EventValue → R → Type 0) (has_failed : R → R → Type 0) (base : ℕ) (rows : List EventValue) (end : End) (olds news : List (Lane R)) (relays after : List Marked) (routes back : List R) (ends : List End)
-    → ((f : RelayFault) → end ≡ Failed f → (f ≡ OutOfMemory) ⊎ (f ≡ Store)) → All (λ x. x.fault ≡ None) olds → Each (Sends accepted takes has_failed base rows) olds news → (end ≡ Done → All (HasSent base rows) news)
-    → map (λ x. x.relay) olds ≡ relays → after ≡ map (λ x. x.relay) news → map (λ x. x.route) olds ≡ routes → back ≡ map (λ x. x.route) news → ends ≡ map (end_of end) news
-    → AtEach relays after routes back ends (Delivers accepted takes has_failed base rows)
-fan_delivers {R} accepted takes has_failed base rows end olds news relays after routes back ends why fresh sends done p q s t u =
-    let going : Each (λ x y. (x.fault ≡ None) × Sends accepted takes has_failed base rows x y) olds news =
-    each_from (λ (x : Lane R). x.fault ≡ None) (Sends accepted takes has_failed base rows) (λ x y. (x.fault ≡ None) × Sends accepted takes has_failed base rows x y) (λ x y f m. (f, m)) olds news (recursion_from_All (λ (x : Lane R). x.fault ≡ None) olds fresh) sends in
-    at_lists (Delivers accepted takes has_failed base rows) _ relays _ after _ routes _ back _ ends
-    (each_at (λ x y. ((x.fault ≡ None) × Sends accepted takes has_failed base rows x y) × (end ≡ Done → HasSent base rows y)) (Delivers accepted takes has_failed base rows) end (delivers accepted takes has_failed base rows end why) olds news
-    (each_to (end ≡ Done) (HasSent base rows) (λ x y. (x.fault ≡ None) × Sends accepted takes has_failed base rows x y) (λ x y. ((x.fault ≡ None) × Sends accepted takes has_failed base rows x y) × (end ≡ Done → HasSent base rows y)) (λ x y m f. (m, f)) olds news going (λ is. recursion_from_All (HasSent base rows) news (done is)))) p q s t u
+  each_from : (P Q : Lane R → Lane R → Type 0) → ((x y : Lane R) → IsFresh x → P x y → Q x y) → (xs ys : List (Lane R)) → AllByRecursion IsFresh xs → Each P xs ys → Each Q xs ys
+  each_from P Q one [] [] f h = tt
+  each_from P Q one [] (y ∷ ys) f h = absurd h
+  each_from P Q one (x ∷ xs) [] f h = absurd h
+  each_from P Q one (x ∷ xs) (y ∷ ys) f h = (one x y f.0 h.0, each_from P Q one xs ys f.1 h.1)
+
+  pub fan_leaves : (source : List ℕ) (base : ℕ) (db : Database) (b : State) (olds news : List (Lane R)) (relays after : List Marked) (routes back : List R) (ends : List End)
+      → All IsFresh olds → ArePlaced 0 olds → Each (Rests accepted takes has_failed lets shuts heard source base db b) olds news
+      → map (λ x. x.relay) olds ≡ relays → after ≡ map (λ x. x.relay) news → map (λ x. x.route) olds ≡ routes → back ≡ map (λ x. x.route) news → ends ≡ map end_of news
+      → AtEach relays after routes back ends (Leaves accepted takes has_failed lets shuts heard)
+  fan_leaves source base db b olds news relays after routes back ends fresh placed rests p q s t u =
+      at_lists (Leaves accepted takes has_failed lets shuts heard) _ relays _ after _ routes _ back _ ends
+      (each_at (λ x y. IsFresh x × Moves accepted takes has_failed lets shuts heard x y) (Leaves accepted takes has_failed lets shuts heard) leaves 0 olds news placed
+      (each_from (Rests accepted takes has_failed lets shuts heard source base db b) (λ x y. IsFresh x × Moves accepted takes has_failed lets shuts heard x y) (λ x y f r. (f, r.comes.moves)) olds news (recursion_from_All IsFresh olds fresh) rests)) p q s t u
+
+  pub fan_delivers : (source : List ℕ) (base : ℕ) (db : Database) (b : State) (commands : List Accepted) (olds news : List (Lane R)) (relays after : List Marked) (routes back : List R) (ends : List End)
+      → HasCleanDisk b → IsService db source base commands → All IsFresh olds → ArePlaced 0 olds → Each (Rests accepted takes has_failed lets shuts heard source base db b) olds news
+      → map (λ x. x.relay) olds ≡ relays → after ≡ map (λ x. x.relay) news → map (λ x. x.route) olds ≡ routes → back ≡ map (λ x. x.route) news → ends ≡ map end_of news
+      → AtEach relays after routes back ends (Delivers accepted takes has_failed lets shuts heard base (rows_of source base commands))
+  fan_delivers source base db b commands olds news relays after routes back ends clean is fresh placed rests p q s t u =
+      let rows = rows_of source base commands in
+      at_lists (Delivers accepted takes has_failed lets shuts heard base rows) _ relays _ after _ routes _ back _ ends
+      (each_at (λ x y. IsFresh x × (Carries accepted takes has_failed lets shuts heard base rows x y × (y.fault ≡ None → IsAtEnd base rows y.relay.mark))) (Delivers accepted takes has_failed lets shuts heard base rows) (delivers base rows) 0 olds news placed
+      (each_from (Rests accepted takes has_failed lets shuts heard source base db b) (λ x y. IsFresh x × (Carries accepted takes has_failed lets shuts heard base rows x y × (y.fault ≡ None → IsAtEnd base rows y.relay.mark))) (λ x y f r. (f, (r.comes.carries clean commands is, λ none. r.done none clean commands is))) olds news (recursion_from_All IsFresh olds fresh) rests)) p q s t u

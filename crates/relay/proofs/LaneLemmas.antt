@@ -2,11 +2,15 @@
 use Rattle.std.proofs.Common.{◌≡◌, ◌⊎◌, ◌+◌, ◌-◌, ◌<◌, ◌≤◌, inl, inr, ℕ, zero, suc, Bool, true, false, nat_lt, List, [], ◌∷◌, ◌++◌, length, take, drop, slice_get, Some, None, Option, IsSome, append_assoc, refl, sym, ap, subst, ◌∙◌, arith}
 use Rattle.std.specs.Prelude.{⊤, MatchOption}
 use Rattle.std.specs.List.{AllByRecursion}
+use Rattle.std.proofs.lemmas.Bool.{cases_lt}
 use Rattle.std.proofs.lemmas.Bool.Decides.{nat_tests}
+use Rattle.std.proofs.lemmas.List.{length-append}
 use Rattle.attributes.specs.Event.{EventValue}
+use Rattle.site.specs.Gate.{LetsThrough}
 use Rattle.relay.specs.Route.{Has, AreIn, AreOf}
-use Rattle.relay.specs.Fan.{AreSent, HasCause, Closes, IsPage, TakesAll, joined, rows_between}
-use Rattle.relay.specs.steps.Lane.{Moves, Carries, Each, Hands, HandsOver, IsClosed, Whatever, AreBetween}
+use Rattle.relay.specs.Fan.{AreSent, HasCause, IsPage, TakesAll, calls_of, joined, rows_between}
+use Rattle.relay.specs.steps.Lane.{Moves, Carries, Each, Hands, HandsOver, IsClosed, IsQuiet, StopsAt, Whatever, AreBetween, calls_to}
+use Rattle.relay.specs.declared.fan.End.TheVariants.{Failed}
 use Rattle.relay.specs.declared.fan.lane.Lane.{Lane}
 use Rattle.relay.specs.declared.fault.RelayFault.{RelayFault}
 use Rattle.relay.specs.declared.fault.RelayFault.TheVariants.{OutOfMemory, RouteFailed, Stranger, Store, NoThread, GateShut}
@@ -104,34 +108,83 @@ between_none base rows mark = drop_take (mark - base) (mark - base) rows (omega 
 pub between_then : (base : ℕ) (rows : List EventValue) (a b c : ℕ) → a ≤ b → b ≤ c → rows_between base rows a b ++ rows_between base rows b c ≡ rows_between base rows a c
 between_then base rows a b c low high = slices (a - base) (b - base) (c - base) rows (omega (arith, low)) (omega (arith, high))
 
+-- calls after calls
+through_none : (lets heard : ℕ → ℕ → Type 0) (worker first : ℕ) → LetsThrough lets heard worker first 0
+through_none lets heard worker first k low high = let no : ⊥ = omega (arith, low, high) in absurd no
+
+through_one : (lets heard : ℕ → ℕ → Type 0) (worker first : ℕ) → lets worker (first + 1) → heard worker (first + 1) → LetsThrough lets heard worker first 1
+through_one lets heard worker first let_in told k low high = let is : first + 1 ≡ k = omega (arith, low, high) in (subst (λ z. lets worker z) is let_in, subst (λ z. heard worker z) is told)
+
+through_on : (lets heard : ℕ → ℕ → Type 0) (worker first count more : ℕ) → LetsThrough lets heard worker first count → LetsThrough lets heard worker (first + count) more → LetsThrough lets heard worker first (count + more)
+through_on lets heard worker first count more h j k low high = elim (cases_lt (first + count) k) [
+  | inl above ↦ j k above (omega (arith, high))
+  | inr within ↦ h k low within
+]
+
+calls_past : (o : Option RelayFault) (n m : ℕ) → n + calls_to o m ≡ calls_to o (n + m)
+calls_past None n m = refl
+calls_past (Some OutOfMemory) n m = refl
+calls_past (Some RouteFailed) n m = omega arith
+calls_past (Some Stranger) n m = refl
+calls_past (Some Store) n m = refl
+calls_past (Some NoThread) n m = refl
+calls_past (Some GateShut) n m = refl
+
 -- nothing was handed over
-pub hands_none : {R : Type 0} (takes : R → List EventValue → R → Type 0) (has_failed : R → R → Type 0) (old new : Lane R) → IsClosed has_failed old.route new → Hands takes has_failed old new []
-hands_none takes has_failed old new h = record { before = old.route; taken = refl; closed = h; sized = tt }
+pub hands_none : {R : Type 0} (takes : R → List EventValue → R → Type 0) (has_failed : R → R → Type 0) (lets shuts heard : ℕ → ℕ → Type 0) (old new : Lane R) → IsClosed has_failed old.route new → (new.fault ≡ None → new.calls ≡ old.calls) → LetsThrough lets heard old.place old.calls (calls_to new.fault 0) → (new.fault ≡ Some GateShut → shuts old.place (old.calls + 1)) → Hands takes has_failed lets shuts heard old new []
+hands_none takes has_failed lets shuts heard old new h counts through shut = record {
+  before = old.route;
+  taken = refl;
+  closed = h;
+  sized = tt;
+  counted = λ none. let is = counts none in omega (arith, is);
+  through = through;
+  shut = λ s. subst (λ z. shuts old.place (z + 1)) (let k : old.calls ≡ old.calls + 0 = omega arith in k) (shut s);
+}
 
 -- one page was handed over
-pub hands_one : {R : Type 0} (takes : R → List EventValue → R → Type 0) (has_failed : R → R → Type 0) (old new : Lane R) (page : List EventValue) → IsPage page → takes old.route page new.route → new.fault ≡ None → Hands takes has_failed old new (page ∷ [])
-hands_one {R} takes has_failed old new page sized h goes = record {
+pub hands_one : {R : Type 0} (takes : R → List EventValue → R → Type 0) (has_failed : R → R → Type 0) (lets shuts heard : ℕ → ℕ → Type 0) (old new : Lane R) (page : List EventValue) → IsPage page → takes old.route page new.route → new.fault ≡ None → new.calls ≡ old.calls + 1 → lets old.place (old.calls + 1) → heard old.place (old.calls + 1) → Hands takes has_failed lets shuts heard old new (page ∷ [])
+hands_one {R} takes has_failed lets shuts heard old new page sized h goes one let_in told = record {
   before = new.route;
   taken = (new.route, (h, refl));
   closed = subst (λ (o : Option RelayFault). MatchOption o (new.route ≡ new.route) (HasCause has_failed new.route new.route)) (sym goes) refl;
   sized = (sized, tt);
+  counted = λ none. one;
+  through = subst (λ (o : Option RelayFault). LetsThrough lets heard old.place old.calls (calls_to o 1)) (sym goes) (through_one lets heard old.place old.calls let_in told);
+  shut = λ s. let no : ⊥ = none_some new.fault GateShut goes s in absurd no;
 }
+  where
+    none_some : (o : Option RelayFault) (f : RelayFault) → o ≡ None → o ≡ Some f → ⊥
+    none_some (Some x) f is s = absurd (cc)
+    none_some None f is s = absurd (cc)
 
 -- the lane was at rest
-pub hands_rest : {R : Type 0} (takes : R → List EventValue → R → Type 0) (has_failed : R → R → Type 0) (lane : Lane R) → lane.fault ≡ None → Hands takes has_failed lane lane []
-hands_rest takes has_failed lane goes = hands_none takes has_failed lane lane (subst (λ (o : Option RelayFault). MatchOption o (lane.route ≡ lane.route) (HasCause has_failed lane.route lane.route)) (sym goes) refl)
-
-pub over_then : {R : Type 0} (takes : R → List EventValue → R → Type 0) (has_failed : R → R → Type 0) (P Q T : List (List EventValue) → Type 0) (a b c : Lane R) → (IsSome b.fault → c ≡ b) → ((ps : List (List EventValue)) → c ≡ b → P ps → T ps) → ((ps qs : List (List EventValue)) → P ps → Q qs → T (ps ++ qs))
-    → HandsOver takes has_failed P a b → HandsOver takes has_failed Q b c → HandsOver takes has_failed T a c
-over_then {R} takes has_failed P Q T a b c idle same both h k goes = go b.fault refl
+pub hands_rest : {R : Type 0} (takes : R → List EventValue → R → Type 0) (has_failed : R → R → Type 0) (lets shuts heard : ℕ → ℕ → Type 0) (lane : Lane R) → lane.fault ≡ None → Hands takes has_failed lets shuts heard lane lane []
+hands_rest takes has_failed lets shuts heard lane goes =
+    hands_none takes has_failed lets shuts heard lane lane (subst (λ (o : Option RelayFault). MatchOption o (lane.route ≡ lane.route) (HasCause has_failed lane.route lane.route)) (sym goes) refl)
+    (λ none. refl) (subst (λ (o : Option RelayFault). LetsThrough lets heard lane.place lane.calls (calls_to o 0)) (sym goes) (through_none lets heard lane.place lane.calls)) (λ s. let no : ⊥ = none_some lane.fault GateShut goes s in absurd no)
   where
-    first : (pages : List (List EventValue)) × (Hands takes has_failed a b pages × P pages)
+    none_some : (o : Option RelayFault) (f : RelayFault) → o ≡ None → o ≡ Some f → ⊥
+    none_some (Some x) f is s = absurd (cc)
+    none_some None f is s = absurd (cc)
+
+pub over_then : {R : Type 0} (takes : R → List EventValue → R → Type 0) (has_failed : R → R → Type 0) (lets shuts heard : ℕ → ℕ → Type 0) (P Q T : List (List EventValue) → Type 0) (a b c : Lane R) → b.place ≡ a.place → (IsSome b.fault → c ≡ b) → ((ps : List (List EventValue)) → c ≡ b → P ps → T ps) → ((ps qs : List (List EventValue)) → P ps → Q qs → T (ps ++ qs))
+    → HandsOver takes has_failed lets shuts heard P a b → HandsOver takes has_failed lets shuts heard Q b c → HandsOver takes has_failed lets shuts heard T a c
+over_then {R} takes has_failed lets shuts heard P Q T a b c place idle same both h k goes = go b.fault refl
+  where
+    first : (pages : List (List EventValue)) × (Hands takes has_failed lets shuts heard a b pages × P pages)
     first = h goes
 
-    go : (o : Option RelayFault) → b.fault ≡ o → (pages : List (List EventValue)) × (Hands takes has_failed a c pages × T pages)
+    go : (o : Option RelayFault) → b.fault ≡ o → (pages : List (List EventValue)) × (Hands takes has_failed lets shuts heard a c pages × T pages)
     go None is =
-        let second : (pages : List (List EventValue)) × (Hands takes has_failed b c pages × Q pages) = k is in
-        let there : b.route ≡ first.1.0.before = subst (λ (x : Option RelayFault). MatchOption x (b.route ≡ first.1.0.before) (HasCause has_failed first.1.0.before b.route)) is first.1.0.closed in (
+        let second : (pages : List (List EventValue)) × (Hands takes has_failed lets shuts heard b c pages × Q pages) = k is in
+        let there : b.route ≡ first.1.0.before = subst (λ (x : Option RelayFault). MatchOption x (b.route ≡ first.1.0.before) (HasCause has_failed first.1.0.before b.route)) is first.1.0.closed in
+        let many : length (first.0 ++ second.0) ≡ length first.0 + length second.0 = length-append first.0 second.0 in
+        let made : b.calls ≡ a.calls + length first.0 = first.1.0.counted is in
+        let before : LetsThrough lets heard a.place a.calls (length first.0) = subst (λ (x : Option RelayFault). LetsThrough lets heard a.place a.calls (calls_to x (length first.0))) is first.1.0.through in
+        let after : LetsThrough lets heard a.place (a.calls + length first.0) (calls_to c.fault (length second.0)) =
+        subst (λ z. LetsThrough lets heard a.place z (calls_to c.fault (length second.0))) made (subst (λ z. LetsThrough lets heard z b.calls (calls_to c.fault (length second.0))) place second.1.0.through) in
+        let all : LetsThrough lets heard a.place a.calls (length first.0 + calls_to c.fault (length second.0)) = through_on lets heard a.place a.calls (length first.0) (calls_to c.fault (length second.0)) before after in (
           first.0 ++ second.0,
           (
             record {
@@ -139,61 +192,86 @@ over_then {R} takes has_failed P Q T a b c idle same both h k goes = go b.fault 
               taken = takes_then takes a.route b.route second.1.0.before first.0 second.0 (subst (λ r. TakesAll takes a.route first.0 r) (sym there) first.1.0.taken) second.1.0.taken;
               closed = second.1.0.closed;
               sized = sized_then first.0 second.0 first.1.0.sized second.1.0.sized;
+              counted = λ none. let is2 = second.1.0.counted none in omega (arith, is2, made, many);
+              through = subst (λ z. LetsThrough lets heard a.place a.calls z) (calls_past c.fault (length first.0) (length second.0) ∙ ap (calls_to c.fault) (sym many)) all;
+              shut = λ s. subst (λ z. shuts a.place (z + 1)) (let e : b.calls + length second.0 ≡ a.calls + length (first.0 ++ second.0) = omega (arith, made, many) in e) (subst (λ z. shuts z (b.calls + length second.0 + 1)) place (second.1.0.shut s));
             },
             both first.0 second.0 first.1.1 second.1.1,
           ),
         )
     go (Some f) is =
         let one : c ≡ b = idle (subst (λ (x : Option RelayFault). IsSome x) (sym is) refl) in
-        (first.0, (subst (λ (l : Lane R). Hands takes has_failed a l first.0) (sym one) first.1.0, same first.0 one first.1.1))
+        (first.0, (subst (λ (l : Lane R). Hands takes has_failed lets shuts heard a l first.0) (sym one) first.1.0, same first.0 one first.1.1))
 
 -- marks that meet
-pub over_between : {R : Type 0} (takes : R → List EventValue → R → Type 0) (has_failed : R → R → Type 0) (base : ℕ) (rows : List EventValue) (a b c : Lane R) → (IsSome b.fault → c ≡ b) → a.relay.mark ≤ b.relay.mark → b.relay.mark ≤ c.relay.mark
-    → HandsOver takes has_failed (AreBetween base rows a.relay.mark b.relay.mark) a b → HandsOver takes has_failed (AreBetween base rows b.relay.mark c.relay.mark) b c → HandsOver takes has_failed (AreBetween base rows a.relay.mark c.relay.mark) a c
-over_between {R} takes has_failed base rows a b c idle low high h k =
-    over_then takes has_failed (AreBetween base rows a.relay.mark b.relay.mark) (AreBetween base rows b.relay.mark c.relay.mark) (AreBetween base rows a.relay.mark c.relay.mark) a b c idle
+pub over_between : {R : Type 0} (takes : R → List EventValue → R → Type 0) (has_failed : R → R → Type 0) (lets shuts heard : ℕ → ℕ → Type 0) (base : ℕ) (rows : List EventValue) (a b c : Lane R) → b.place ≡ a.place → (IsSome b.fault → c ≡ b) → a.relay.mark ≤ b.relay.mark → b.relay.mark ≤ c.relay.mark
+    → HandsOver takes has_failed lets shuts heard (AreBetween base rows a.relay.mark b.relay.mark) a b → HandsOver takes has_failed lets shuts heard (AreBetween base rows b.relay.mark c.relay.mark) b c → HandsOver takes has_failed lets shuts heard (AreBetween base rows a.relay.mark c.relay.mark) a c
+over_between {R} takes has_failed lets shuts heard base rows a b c place idle low high h k =
+    over_then takes has_failed lets shuts heard (AreBetween base rows a.relay.mark b.relay.mark) (AreBetween base rows b.relay.mark c.relay.mark) (AreBetween base rows a.relay.mark c.relay.mark) a b c place idle
     (λ ps same are. are ∙ ap (λ (l : Lane R). rows_between base rows a.relay.mark l.relay.mark) (sym same))
     (λ ps qs p q. joined_then ps qs ∙ ap (λ l. l ++ joined qs) p ∙ ap (λ l. rows_between base rows a.relay.mark b.relay.mark ++ l) q ∙ between_then base rows a.relay.mark b.relay.mark c.relay.mark low high)
     h k
 
-pub moves_none : {R : Type 0} (accepted : R → List EventValue) (takes : R → List EventValue → R → Type 0) (has_failed : R → R → Type 0) (lane : Lane R) → Moves accepted takes has_failed lane lane
-moves_none accepted takes has_failed lane = record { site = refl; forward = omega arith; kept = λ e x. x; handed = λ goes. ([], (hands_rest takes has_failed lane goes, tt)); idle = λ h. refl }
+pub moves_none : {R : Type 0} (accepted : R → List EventValue) (takes : R → List EventValue → R → Type 0) (has_failed : R → R → Type 0) (lets shuts heard : ℕ → ℕ → Type 0) (lane : Lane R) → Moves accepted takes has_failed lets shuts heard lane lane
+moves_none accepted takes has_failed lets shuts heard lane = record { place = refl; site = refl; forward = omega arith; kept = λ e x. x; handed = λ goes. ([], (hands_rest takes has_failed lets shuts heard lane goes, tt)); idle = λ h. refl }
 
-pub moves_then : {R : Type 0} (accepted : R → List EventValue) (takes : R → List EventValue → R → Type 0) (has_failed : R → R → Type 0) (a b c : Lane R) → Moves accepted takes has_failed a b → Moves accepted takes has_failed b c → Moves accepted takes has_failed a c
-moves_then accepted takes has_failed a b c h k = record {
+pub moves_then : {R : Type 0} (accepted : R → List EventValue) (takes : R → List EventValue → R → Type 0) (has_failed : R → R → Type 0) (lets shuts heard : ℕ → ℕ → Type 0) (a b c : Lane R) → Moves accepted takes has_failed lets shuts heard a b → Moves accepted takes has_failed lets shuts heard b c → Moves accepted takes has_failed lets shuts heard a c
+moves_then accepted takes has_failed lets shuts heard a b c h k = record {
+  place = k.place ∙ h.place;
   site = k.site ∙ h.site;
   forward = omega (arith, h.forward, k.forward);
   kept = λ e x. k.kept e (h.kept e x);
-  handed = over_then takes has_failed Whatever Whatever Whatever a b c k.idle (λ ps same x. tt) (λ ps qs x y. tt) h.handed k.handed;
+  handed = over_then takes has_failed lets shuts heard Whatever Whatever Whatever a b c h.place k.idle (λ ps same x. tt) (λ ps qs x y. tt) h.handed k.handed;
   idle = λ some. let one = h.idle some in k.idle (subst (λ l. IsSome l.fault) (sym one) some) ∙ one;
 }
 
-pub over_rest : {R : Type 0} (takes : R → List EventValue → R → Type 0) (has_failed : R → R → Type 0) (base : ℕ) (rows : List EventValue) (lane : Lane R) → HandsOver takes has_failed (AreBetween base rows lane.relay.mark lane.relay.mark) lane lane
-over_rest takes has_failed base rows lane goes = ([], (hands_rest takes has_failed lane goes, sym (between_none base rows lane.relay.mark)))
+pub over_rest : {R : Type 0} (takes : R → List EventValue → R → Type 0) (has_failed : R → R → Type 0) (lets shuts heard : ℕ → ℕ → Type 0) (base : ℕ) (rows : List EventValue) (lane : Lane R) → HandsOver takes has_failed lets shuts heard (AreBetween base rows lane.relay.mark lane.relay.mark) lane lane
+over_rest takes has_failed lets shuts heard base rows lane goes = ([], (hands_rest takes has_failed lets shuts heard lane goes, sym (between_none base rows lane.relay.mark)))
 
-pub carries_none : {R : Type 0} (accepted : R → List EventValue) (takes : R → List EventValue → R → Type 0) (has_failed : R → R → Type 0) (start : ℕ) (rows : List EventValue) (lane : Lane R) → Carries accepted takes has_failed start rows lane lane
-carries_none accepted takes has_failed start rows lane = record {
-  moves = moves_none accepted takes has_failed lane;
+pub carries_none : {R : Type 0} (accepted : R → List EventValue) (takes : R → List EventValue → R → Type 0) (has_failed : R → R → Type 0) (lets shuts heard : ℕ → ℕ → Type 0) (start : ℕ) (rows : List EventValue) (lane : Lane R) → Carries accepted takes has_failed lets shuts heard start rows lane lane
+carries_none accepted takes has_failed lets shuts heard start rows lane = record {
+  moves = moves_none accepted takes has_failed lets shuts heard lane;
   within = inl refl;
   sent = sent_none start rows lane.relay.mark (accepted lane.route);
   new_rows = λ e x. inl x;
-  handed = over_rest takes has_failed start rows lane;
+  handed = over_rest takes has_failed lets shuts heard start rows lane;
 }
 
-pub carries_then : {R : Type 0} (accepted : R → List EventValue) (takes : R → List EventValue → R → Type 0) (has_failed : R → R → Type 0) (start : ℕ) (rows : List EventValue) (a b c : Lane R) → Carries accepted takes has_failed start rows a b → Carries accepted takes has_failed start rows b c → Carries accepted takes has_failed start rows a c
-carries_then accepted takes has_failed start rows a b c h k = record {
-  moves = moves_then accepted takes has_failed a b c h.moves k.moves;
+pub carries_then : {R : Type 0} (accepted : R → List EventValue) (takes : R → List EventValue → R → Type 0) (has_failed : R → R → Type 0) (lets shuts heard : ℕ → ℕ → Type 0) (start : ℕ) (rows : List EventValue) (a b c : Lane R) → Carries accepted takes has_failed lets shuts heard start rows a b → Carries accepted takes has_failed lets shuts heard start rows b c → Carries accepted takes has_failed lets shuts heard start rows a c
+carries_then accepted takes has_failed lets shuts heard start rows a b c h k = record {
+  moves = moves_then accepted takes has_failed lets shuts heard a b c h.moves k.moves;
   within = elim k.within [ inl same ↦ elim h.within [ inl still ↦ inl (same ∙ still) | inr low ↦ inr (omega (arith, same, low)) ] | inr low ↦ inr low ];
   sent = sent_then start rows a.relay.mark b.relay.mark c.relay.mark (accepted b.route) (accepted c.route) h.sent k.moves.kept k.sent;
   new_rows = of_then (accepted a.route) (accepted b.route) (accepted c.route) rows h.new_rows k.new_rows;
-  handed = over_between takes has_failed start rows a b c k.moves.idle h.moves.forward k.moves.forward h.handed k.handed;
+  handed = over_between takes has_failed lets shuts heard start rows a b c h.moves.place k.moves.idle h.moves.forward k.moves.forward h.handed k.handed;
 }
 
+-- what a lane that stopped did to its route, and what of that the gate let through
+abbrev pub Stops : {R : Type 0} → (R → R → Type 0) → (ℕ → ℕ → Type 0) → (ℕ → ℕ → Type 0) → (ℕ → ℕ → Type 0) → ℕ → ℕ → R → R → RelayFault → Type 0
+Stops has_failed lets shuts heard worker calls old new f = HasCause has_failed old new f × (LetsThrough lets heard worker calls (calls_of (Failed f) 0) × (f ≡ GateShut → shuts worker (calls + 1)))
+
+pub stops_at : {R : Type 0} (has_failed : R → R → Type 0) (lets shuts heard : ℕ → ℕ → Type 0) (worker calls call : ℕ) (old new : R) (f : RelayFault) → call ≡ calls + 1 → StopsAt has_failed lets shuts heard worker call old new f → Stops has_failed lets shuts heard worker calls old new f
+stops_at has_failed lets shuts heard worker calls call old new OutOfMemory is h = absurd h
+stops_at has_failed lets shuts heard worker calls call old new RouteFailed is h = (h.0, (through_one lets heard worker calls (subst (λ z. lets worker z) is h.1.0) (subst (λ z. heard worker z) is h.1.1), λ s. absurd (cc)))
+stops_at has_failed lets shuts heard worker calls call old new Stranger is h = absurd h
+stops_at has_failed lets shuts heard worker calls call old new Store is h = absurd h
+stops_at has_failed lets shuts heard worker calls call old new NoThread is h = absurd h
+stops_at has_failed lets shuts heard worker calls call old new GateShut is h = (h.0, (through_none lets heard worker calls, λ s. subst (λ z. shuts worker z) is h.1))
+
+stops_quiet : {R : Type 0} (has_failed : R → R → Type 0) (lets shuts heard : ℕ → ℕ → Type 0) (worker calls : ℕ) (old new : R) (f : RelayFault) → new ≡ old → IsQuiet f → Stops has_failed lets shuts heard worker calls old new f
+stops_quiet has_failed lets shuts heard worker calls old new OutOfMemory same h = (same, (through_none lets heard worker calls, λ s. absurd (cc)))
+stops_quiet has_failed lets shuts heard worker calls old new RouteFailed same h = elim h [ inl is ↦ absurd (cc) | inr or ↦ elim or [ inl is ↦ absurd (cc) | inr is ↦ absurd (cc) ] ]
+stops_quiet has_failed lets shuts heard worker calls old new Stranger same h = elim h [ inl is ↦ absurd (cc) | inr or ↦ elim or [ inl is ↦ absurd (cc) | inr is ↦ absurd (cc) ] ]
+stops_quiet has_failed lets shuts heard worker calls old new Store same h = (same, (through_none lets heard worker calls, λ s. absurd (cc)))
+stops_quiet has_failed lets shuts heard worker calls old new NoThread same h = (same, (through_none lets heard worker calls, λ s. absurd (cc)))
+stops_quiet has_failed lets shuts heard worker calls old new GateShut same h = elim h [ inl is ↦ absurd (cc) | inr or ↦ elim or [ inl is ↦ absurd (cc) | inr is ↦ absurd (cc) ] ]
+
 -- a lane that stopped before or at a send: its mark is as it was
-pub carries_stop : {R : Type 0} (accepted : R → List EventValue) (takes : R → List EventValue → R → Type 0) (has_failed : R → R → Type 0) (start : ℕ) (rows : List EventValue) (old new : Lane R) (f : RelayFault) → old.fault ≡ None → new.relay ≡ old.relay → new.fault ≡ Some f → HasCause has_failed old.route new.route f
-    → AreIn (accepted old.route) (accepted new.route) → AreOf (accepted new.route) (accepted old.route) rows → Carries accepted takes has_failed start rows old new
-carries_stop {R} accepted takes has_failed start rows old new f going same stop cause kept of = record {
+pub carries_stop : {R : Type 0} (accepted : R → List EventValue) (takes : R → List EventValue → R → Type 0) (has_failed : R → R → Type 0) (lets shuts heard : ℕ → ℕ → Type 0) (start : ℕ) (rows : List EventValue) (old new : Lane R) (f : RelayFault) → old.fault ≡ None → new.place ≡ old.place → new.relay ≡ old.relay → new.fault ≡ Some f → Stops has_failed lets shuts heard old.place old.calls old.route new.route f
+    → AreIn (accepted old.route) (accepted new.route) → AreOf (accepted new.route) (accepted old.route) rows → Carries accepted takes has_failed lets shuts heard start rows old new
+carries_stop {R} accepted takes has_failed lets shuts heard start rows old new f going place same stop cause kept of = record {
   moves = record {
+    place = place;
     site = ap (λ m. m.site) same;
     forward = omega (arith, ap (λ m. m.mark) same);
     kept = kept;
@@ -206,19 +284,36 @@ carries_stop {R} accepted takes has_failed start rows old new f going same stop 
   handed = λ goes. ([], (hands, sym (ap (λ m. rows_between start rows old.relay.mark m.mark) same ∙ between_none start rows old.relay.mark)));
 }
   where
-    hands : Hands takes has_failed old new []
-    hands = hands_none takes has_failed old new (subst (λ (o : Option RelayFault). MatchOption o (new.route ≡ old.route) (HasCause has_failed old.route new.route)) (sym stop) cause)
+    some_none : (o : Option RelayFault) → o ≡ Some f → o ≡ None → ⊥
+    some_none (Some x) is h = absurd (cc)
+    some_none None is h = absurd (cc)
+
+    one_fault : (o : Option RelayFault) (g : RelayFault) → o ≡ Some f → o ≡ Some g → f ≡ g
+    one_fault (Some x) g is h = cc
+    one_fault None g is h = absurd (cc)
+
+    hands : Hands takes has_failed lets shuts heard old new []
+    hands = hands_none takes has_failed lets shuts heard old new (subst (λ (o : Option RelayFault). MatchOption o (new.route ≡ old.route) (HasCause has_failed old.route new.route)) (sym stop) cause.0)
+        (λ none. let no : ⊥ = some_none new.fault stop none in absurd no) (subst (λ (o : Option RelayFault). LetsThrough lets heard old.place old.calls (calls_to o 0)) (sym stop) cause.1.0) (λ shut. cause.1.1 (one_fault new.fault GateShut stop shut))
 
     none_some : (o : Option RelayFault) → o ≡ None → IsSome o → ⊥
     none_some (Some x) is h = absurd (cc)
     none_some None is h = let k : ◌≡◌ {A = Bool} false true = h in absurd (cc)
 
+-- a lane that came to no call
+pub carries_quiet : {R : Type 0} (accepted : R → List EventValue) (takes : R → List EventValue → R → Type 0) (has_failed : R → R → Type 0) (lets shuts heard : ℕ → ℕ → Type 0) (start : ℕ) (rows : List EventValue) (old new : Lane R) (f : RelayFault) → old.fault ≡ None → IsQuiet f → new.place ≡ old.place → new.relay ≡ old.relay → new.route ≡ old.route → new.fault ≡ Some f
+    → Carries accepted takes has_failed lets shuts heard start rows old new
+carries_quiet accepted takes has_failed lets shuts heard start rows old new f going quiet place same route stop =
+    carries_stop accepted takes has_failed lets shuts heard start rows old new f going place same stop (stops_quiet has_failed lets shuts heard old.place old.calls old.route new.route f route quiet)
+    (λ e h. subst (λ r. Has (accepted r) e) (sym route) h) (λ e h. inl (subst (λ r. Has (accepted r) e) route h))
+
 -- a lane whose route accepted the next page
-pub carries_page : {R : Type 0} (accepted : R → List EventValue) (takes : R → List EventValue → R → Type 0) (has_failed : R → R → Type 0) (start : ℕ) (rows page : List EventValue) (old new : Lane R) → old.fault ≡ None → new.fault ≡ None → new.relay.site ≡ old.relay.site → old.relay.mark ≤ new.relay.mark → new.relay.mark ≤ start + length rows
-    → AreSent start rows old.relay.mark new.relay.mark page → AreIn page rows → page ≡ rows_between start rows old.relay.mark new.relay.mark → IsPage page → takes old.route page new.route
-    → AreIn page (accepted new.route) → AreIn (accepted old.route) (accepted new.route) → AreOf (accepted new.route) (accepted old.route) page → Carries accepted takes has_failed start rows old new
-carries_page {R} accepted takes has_failed start rows page old new going goes same low high there rows-in exact sized took sent kept of = record {
+pub carries_page : {R : Type 0} (accepted : R → List EventValue) (takes : R → List EventValue → R → Type 0) (has_failed : R → R → Type 0) (lets shuts heard : ℕ → ℕ → Type 0) (start : ℕ) (rows page : List EventValue) (old new : Lane R) → old.fault ≡ None → new.fault ≡ None → new.place ≡ old.place → new.calls ≡ old.calls + 1 → lets old.place (old.calls + 1) → heard old.place (old.calls + 1)
+    → new.relay.site ≡ old.relay.site → old.relay.mark ≤ new.relay.mark → new.relay.mark ≤ start + length rows → AreSent start rows old.relay.mark new.relay.mark page → AreIn page rows → page ≡ rows_between start rows old.relay.mark new.relay.mark → IsPage page → takes old.route page new.route
+    → AreIn page (accepted new.route) → AreIn (accepted old.route) (accepted new.route) → AreOf (accepted new.route) (accepted old.route) page → Carries accepted takes has_failed lets shuts heard start rows old new
+carries_page {R} accepted takes has_failed lets shuts heard start rows page old new going goes place one let_in told same low high there rows-in exact sized took sent kept of = record {
   moves = record {
+    place = place;
     site = same;
     forward = low;
     kept = kept;
@@ -231,8 +326,8 @@ carries_page {R} accepted takes has_failed start rows page old new going goes sa
   handed = λ was. (page ∷ [], (hands, Rattle.std.proofs.Common.append-nil page ∙ exact));
 }
   where
-    hands : Hands takes has_failed old new (page ∷ [])
-    hands = hands_one takes has_failed old new page sized took goes
+    hands : Hands takes has_failed lets shuts heard old new (page ∷ [])
+    hands = hands_one takes has_failed lets shuts heard old new page sized took goes one let_in told
 
     none_some : (o : Option RelayFault) → o ≡ None → IsSome o → ⊥
     none_some (Some x) is h = absurd (cc)
@@ -258,12 +353,6 @@ between_length start rows from to high = go (from - start) (to - start) rows hig
     go n (suc m) [] low = absurd (omega (arith, low))
     go zero (suc m) (x ∷ l) low = ap suc (go zero m l (omega (arith, low)) ∙ (let k : m - 0 ≡ m = omega arith in k)) ∙ (let k : suc m ≡ suc m - 0 = omega arith in k)
     go (suc n) (suc m) (x ∷ l) low = go n m l (omega (arith, low)) ∙ (let k : m - n ≡ suc m - suc n = omega arith in k)
-
-pub each_more : {A : Type 0} → {B : Type 0} (Holds : A → B → Type 0) (xs : List A) (ys : List B) (x : A) (y : B) → Each Holds xs ys → Holds x y → Each Holds (xs ++ x ∷ []) (ys ++ y ∷ [])
-each_more Holds [] [] x y h k = (k, tt)
-each_more Holds [] (b ∷ ys) x y h k = absurd h
-each_more Holds (a ∷ xs) [] x y h k = absurd h
-each_more Holds (a ∷ xs) (b ∷ ys) x y h k = (h.0, each_more Holds xs ys x y h.1 k)
 
 pub each_length : {A : Type 0} → {B : Type 0} (Holds : A → B → Type 0) (xs : List A) (ys : List B) → Each Holds xs ys → length ys ≡ length xs
 each_length Holds [] [] h = refl

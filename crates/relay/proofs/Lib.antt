@@ -1,6 +1,7 @@
 pub mod FanLemmas
 pub mod LaneLemmas
 pub mod LastLemmas
-pub mod RoundLemmas
+pub mod ReadLemmas
 pub mod RouteLemmas
+pub mod SlotLemmas
 pub mod WindowLemmas

@@ -2,6 +2,7 @@
 use Rattle.std.specs.Prelude.{◌≡◌, ◌⊎◌, ◌<◌, ◌≤◌, ◌+◌, ◌-◌, ℕ, suc, List, [], ◌∷◌, ◌++◌, length, take, drop, slice_get, Some}
 use Rattle.std.specs.List.{AllByRecursion}
 use Rattle.attributes.specs.Event.{EventValue}
+use Rattle.site.specs.Gate.{LetsThrough}
 use Rattle.relay.specs.Relay.{Marked, max_page}
 use Rattle.relay.specs.Route.{Has, AreIn, AreOf}
 use Rattle.relay.specs.declared.fault.RelayFault.{RelayFault}
@@ -57,46 +58,67 @@ abbrev pub Closes : {R : Type 0} → (R → R → Type 0) → R → R → End �
 Closes has_failed before route Done = route ≡ before
 Closes has_failed before route (Failed f) = HasCause has_failed before route f
 
+-- the calls of a worker that ended so: one for each page that was accepted, and the one that failed
+abbrev pub calls_of : End → ℕ → ℕ
+calls_of Done pages = pages
+calls_of (Failed OutOfMemory) pages = pages
+calls_of (Failed RouteFailed) pages = pages + 1
+calls_of (Failed Stranger) pages = pages
+calls_of (Failed Store) pages = pages
+calls_of (Failed NoThread) pages = pages
+calls_of (Failed GateShut) pages = pages
+
+-- the gate let a worker make just its calls, counted from 1, and was told of each; it was shut before
+-- the next one where the worker ended at a shut gate
+pub record IsGated (lets shuts heard : ℕ → ℕ → Type 0) (worker pages : ℕ) (end : End) : Type 0 where
+  pub through : LetsThrough lets heard worker 0 (calls_of end pages)
+  pub shut : end ≡ Failed GateShut → shuts worker (pages + 1)
+
 -- a route was handed these pages and then nothing more, but for one that failed where the end is
--- that it failed
+-- that it failed, and each of them through the gate
 pub record Hands {R : Type 0} (takes : R → List EventValue → R → Type 0)
-    (has_failed : R → R → Type 0) (route back : R) (end : End) (pages : List (List EventValue))
-    : Type 0 where
+    (has_failed : R → R → Type 0) (lets shuts heard : ℕ → ℕ → Type 0) (worker : ℕ)
+    (route back : R) (end : End) (pages : List (List EventValue)) : Type 0 where
   pub before : R
   pub taken : TakesAll takes route pages before
   pub closed : Closes has_failed before back end
   pub sized : AllByRecursion IsPage pages
+  pub gated : IsGated lets shuts heard worker (length pages) end
 
--- a relay and its route, before and after, whatever the disk did: the mark doesn't fall, nothing
--- that was accepted is lost, and the route was handed pages, each once
+-- a relay and its route at this place, before and after, whatever the disk did: the mark doesn't
+-- fall, nothing that was accepted is lost, and the route was handed pages, each once. The worker's
+-- number is the place
 pub record Leaves {R : Type 0} (accepted : R → List EventValue)
     (takes : R → List EventValue → R → Type 0) (has_failed : R → R → Type 0)
-    (old new : Marked) (route back : R) (end : End) : Type 0 where
+    (lets shuts heard : ℕ → ℕ → Type 0) (place : ℕ) (old new : Marked) (route back : R) (end : End)
+    : Type 0 where
   pub site : new.site ≡ old.site
   pub forward : old.mark ≤ new.mark
   pub kept : AreIn (accepted route) (accepted back)
-  pub handed : (pages : List (List EventValue)) × Hands takes has_failed route back end pages
+  pub handed : (pages : List (List EventValue))
+      × Hands takes has_failed lets shuts heard place route back end pages
 
 -- a relay and its route, before and after, over the rows of a service: the rows between the marks
 -- are accepted, what is new is of the rows, the pages that the route was handed are just the rows
 -- between the marks, a mark doesn't rise past the last row, and the end is done only where no row
 -- is left
 pub record Delivers {R : Type 0} (accepted : R → List EventValue)
-    (takes : R → List EventValue → R → Type 0) (has_failed : R → R → Type 0) (base : ℕ)
-    (rows : List EventValue) (old new : Marked) (route back : R) (end : End) : Type 0 where
+    (takes : R → List EventValue → R → Type 0) (has_failed : R → R → Type 0)
+    (lets shuts heard : ℕ → ℕ → Type 0) (base : ℕ) (rows : List EventValue) (place : ℕ)
+    (old new : Marked) (route back : R) (end : End) : Type 0 where
   pub sent : AreSent base rows old.mark new.mark (accepted back)
   pub new_rows : AreOf (accepted back) (accepted route) rows
   pub handed : (pages : List (List EventValue))
-      × (Hands takes has_failed route back end pages
+      × (Hands takes has_failed lets shuts heard place route back end pages
       × (joined pages ≡ rows_between base rows old.mark new.mark))
   pub reached : (new.mark ≡ old.mark) ⊎ (new.mark ≤ base + length rows)
   pub done : end ≡ Done → IsAtEnd base rows new.mark
 
 -- this holds at each place: of a relay before and after, its route before and after, and its end
 abbrev pub AtEach : {R : Type 0} → List Marked → List Marked → List R → List R → List End
-    → (Marked → Marked → R → R → End → Type 0) → Type 0
+    → (ℕ → Marked → Marked → R → R → End → Type 0) → Type 0
 AtEach {R} olds news routes backs ends Holds =
     (i : ℕ) (old new : Marked) (route back : R) (end : End)
     → slice_get olds i ≡ Some old → slice_get news i ≡ Some new
     → slice_get routes i ≡ Some route → slice_get backs i ≡ Some back
-    → slice_get ends i ≡ Some end → Holds old new route back end
+    → slice_get ends i ≡ Some end → Holds i old new route back end

@@ -1,11 +1,11 @@
 //! The rows of one outbox, sent to several routes at the same time.
 
+mod desk;
 mod lane;
-mod round;
+mod slot;
 mod window;
-mod worker;
 
-ghost use Rattle.std.specs.Prelude.{◌≡◌, ◌⊎◌, ◌≤◌, [], List, length, map, unwrap_or, option_map, IfSome, None, All};
+ghost use Rattle.std.specs.Prelude.{◌≡◌, ◌⊎◌, ◌<◌, ◌≤◌, ◌++◌, ◌∷◌, [], List, length, map, unwrap_or, option_map, IfSome, None, All};
 ghost use Rattle.std.specs.Vec.{vec_capacity, vec_len};
 ghost use Rattle.sqlite.specs.State.{HasCleanDisk};
 ghost use Rattle.sqlite.specs.Held.{state};
@@ -14,19 +14,23 @@ ghost use Rattle.outbox.specs.Row.{rows_of};
 ghost use Rattle.outbox.specs.Service.{IsService};
 ghost use Rattle.outbox.specs.Call.{IsSame};
 ghost use Rattle.relay.specs.Fan.{AtEach, Leaves, Delivers};
-ghost use Rattle.relay.specs.steps.Lane.{end_of};
+ghost use Rattle.relay.specs.steps.Lane.{ArePlaced, end_of};
+ghost use Rattle.relay.specs.steps.Slot.{IsEnded};
+ghost use Rattle.relay.specs.declared.fan.slot.Slot.TheVariants.{Ended, Waiting};
 
+use crate::fan::desk::run_slots;
 use crate::fan::lane::Lane;
-use crate::fan::round::run_rounds;
-use crate::fan::worker::put;
+use crate::fan::slot::Slot;
 use crate::fault::RelayFault;
 use crate::relay::Relay;
 use crate::route::Route;
+use crossbeam_channel::{Receiver, Sender, bounded};
 use outbox::Service;
 use site::Gate;
 use sqlite::Alter;
 use std::alloc::Global;
 use std::sync::Wait;
+use std::sync::atomic::AtomicBool;
 use std::thread::Threads;
 
 /// Relays in an order.
@@ -52,22 +56,65 @@ pub struct FanOut<R> {
     pub ends: Vec<End>,
 }
 
-/// Room for the lanes of a fan-out, and for what is left of it.
+/// Room for so many lanes and for what is left of them, and what their workers share.
 #[derive(Drop)]
-struct Room<R> {
+struct Room<R: Route + Drop, G: Gate> {
     lanes: Vec<Lane<R>>,
+    slots: Vec<Slot<R, G>>,
+    ended: Vec<Lane<R>>,
     routes: Routes<R>,
     ends: Vec<End>,
+    shared: Shared,
+}
+
+/// What workers share with the caller's thread.
+#[derive(Drop)]
+struct Shared {
+    /// For each lane whether a thread for it couldn't be made.
+    refused: Vec<AtomicBool>,
+    /// Where a worker tells its place, with room for all.
+    done: Sender<u64, Global>,
+    told: Receiver<u64, Global>,
+}
+
+/// A flag for each of so many lanes, and a channel with room for them. None for want of memory.
+fn shared_for(alloc: Global, count: usize) -> Option<Shared>
+    ensures { IfSome result (λ s. length s.refused.items ≡ count) }
+{
+    let Ok(mut refused) = Vec::with_capacity(alloc, count) else {
+        return None;
+    };
+    for _lane in 0..count {
+        let Ok(()) = refused.push(AtomicBool::new(false)) else {
+            return None;
+        };
+    }
+    match bounded(alloc, count) {
+        Ok((done, told)) => Some(Shared {
+            refused,
+            done,
+            told,
+        }),
+        Err(_) => None,
+    }
 }
 
 /// Room for so many lanes. None for want of memory.
-fn room_for<R: Drop>(alloc: Global, count: usize) -> Option<Room<R>>
-    ensures empty { IfSome result (λ r.
-        (r.lanes.items ≡ []) × (r.routes.items ≡ []) × (r.ends.items ≡ [])) }
+fn room_for<R: Route + Drop, G: Gate>(alloc: Global, count: usize) -> Option<Room<R, G>>
+    ensures empty { IfSome result (λ r. (r.lanes.items ≡ []) × (r.slots.items ≡ [])
+        × (r.ended.items ≡ []) × (r.routes.items ≡ []) × (r.ends.items ≡ [])) }
     ensures room { IfSome result (λ r. (count ≤ vec_capacity r.lanes)
+        × (count ≤ vec_capacity r.slots) × (count ≤ vec_capacity r.ended)
         × (count ≤ vec_capacity r.routes) × (count ≤ vec_capacity r.ends)) }
+    ensures shared { IfSome result (λ r. length r.shared.refused.items ≡ count) }
 {
     let Ok(lanes) = Vec::with_capacity(alloc, count) else {
+        return None;
+    };
+    let Ok(slots) = Vec::with_capacity(alloc, count) else {
+        return None;
+    };
+    let Ok(ended) = Vec::with_capacity(alloc, count) else {
         return None;
     };
     let Ok(routes) = Vec::with_capacity(alloc, count) else {
@@ -76,11 +123,28 @@ fn room_for<R: Drop>(alloc: Global, count: usize) -> Option<Room<R>>
     let Ok(ends) = Vec::with_capacity(alloc, count) else {
         return None;
     };
-    Some(Room {
-        lanes,
-        routes,
-        ends,
-    })
+    match shared_for(alloc, count) {
+        Some(shared) => Some(Room {
+            lanes,
+            slots,
+            ended,
+            routes,
+            ends,
+            shared,
+        }),
+        None => None,
+    }
+}
+
+/// Adds a value where there is room for it.
+fn put<T: Drop>(list: &mut Vec<T>, value: T)
+    requires { vec_len list.old < vec_capacity list.old }
+    ensures items { list.new.items ≡ list.old.items ++ value ∷ [] }
+    ensures room { vec_capacity list.old ≤ vec_capacity list.new }
+{
+    let Ok(()) = list.push(value) else {
+        unreachable!()
+    };
 }
 
 /// A lane for each relay and its route, in the room that was made for them.
@@ -90,7 +154,8 @@ fn lanes_of<R: Drop>(relays: &Relays, routes: Routes<R>, room: Vec<Lane<R>>) -> 
     requires room { length routes.items ≤ vec_capacity room }
     ensures relays { map (λ l. l.relay) result.items ≡ relays.now.items }
     ensures routes { map (λ l. l.route) result.items ≡ routes.items }
-    ensures going { All (λ l. l.fault ≡ None) result.items }
+    ensures fresh { All (λ l. (l.fault ≡ None) × (l.calls ≡ 0)) result.items }
+    ensures placed { ArePlaced 0 result.items }
 {
     let mut lanes = room;
     let mut place = 0;
@@ -98,6 +163,7 @@ fn lanes_of<R: Drop>(relays: &Relays, routes: Routes<R>, room: Vec<Lane<R>>) -> 
         put(
             &mut lanes,
             Lane {
+                place: place as u64,
                 relay: relays[place],
                 route,
                 calls: 0,
@@ -109,20 +175,49 @@ fn lanes_of<R: Drop>(relays: &Relays, routes: Routes<R>, room: Vec<Lane<R>>) -> 
     lanes
 }
 
-/// How a lane ended; `end` is for those that didn't stop.
-fn end_at<R>(lane: &Lane<R>, end: End) -> End
-    ensures { result ≡ end_of end lane.now }
+/// The lanes, each waiting to go on, in the room that was made for them.
+fn slots_of<R: Route + Drop, G: Gate>(lanes: Vec<Lane<R>>, room: Vec<Slot<R, G>>) -> Vec<Slot<R, G>>
+    requires empty { room.items ≡ [] }
+    requires room { length lanes.items ≤ vec_capacity room }
+    ensures { result.items ≡ map Waiting lanes.items }
+{
+    let mut slots = room;
+    for lane in lanes {
+        put(&mut slots, Slot::Waiting(lane));
+    }
+    slots
+}
+
+/// The lanes once all have ended, in the room that was made for them.
+fn lanes_back<R: Route + Drop, G: Gate>(slots: Vec<Slot<R, G>>, room: Vec<Lane<R>>) -> Vec<Lane<R>>
+    requires ended { All IsEnded slots.items }
+    requires empty { room.items ≡ [] }
+    requires room { length slots.items ≤ vec_capacity room }
+    ensures { map Ended result.items ≡ slots.items }
+{
+    let mut lanes = room;
+    for slot in slots {
+        let Slot::Ended(lane) = slot else {
+            unreachable!()
+        };
+        put(&mut lanes, lane);
+    }
+    lanes
+}
+
+/// How a lane ended.
+fn end_at<R>(lane: &Lane<R>) -> End
+    ensures { result ≡ end_of lane.now }
 {
     match lane.fault {
         Some(fault) => End::Failed(fault),
-        None => end,
+        None => End::Done,
     }
 }
 
 /// The relays, routes and ends of the lanes, in the room that was made for them.
 fn settle<R: Drop>(
     lanes: Vec<Lane<R>>,
-    end: End,
     relays: &mut Relays,
     routes: Routes<R>,
     ends: Vec<End>,
@@ -132,13 +227,14 @@ fn settle<R: Drop>(
         × (length lanes.items ≤ vec_capacity routes) × (length lanes.items ≤ vec_capacity ends) }
     ensures relays { relays.new.items ≡ map (λ l. l.relay) lanes.items }
     ensures routes { result.routes.items ≡ map (λ l. l.route) lanes.items }
-    ensures ends { result.ends.items ≡ map (end_of end) lanes.items }
+    ensures ends { result.ends.items ≡ map end_of lanes.items }
 {
     let mut routes = routes;
     let mut ends = ends;
     for lane in lanes {
-        put(&mut ends, end_at(&lane, end));
+        put(&mut ends, end_at(&lane));
         let Lane {
+            place: _,
             relay,
             route,
             calls: _,
@@ -150,9 +246,10 @@ fn settle<R: Drop>(
     FanOut { routes, ends }
 }
 
-/// Sends the rows after each relay's mark to its route, a thread for each route, until no row is
-/// left or the route fails; the others then go on. Marks rise as the routes accept. The connection
-/// stays with the caller's thread, which reads a window of rows at a time, once for all routes.
+/// Sends the rows after each relay's mark to its route, in a thread for each route, until no row is
+/// left or the route fails; none waits for another. Marks rise as the routes accept. The connection
+/// stays with the caller's thread, which reads a window of at most 1,000 rows for each route that
+/// comes back over a channel.
 ///
 /// A worker's number is its route's place, from 0, and each page of at most 100 rows is a call,
 /// from 1; the gate is asked before it and told after it. Each page is handed to its route once.
@@ -161,8 +258,8 @@ fn settle<R: Drop>(
 /// read, and `OutOfMemory` for want of memory; those leave the route as it was. The routes
 /// come back whatever fails. It may wait for as long as routes and gate do.
 ///
-/// Memory for one window and for a page a route; the time is that of the slowest route of each
-/// window, and of reading each row once.
+/// Memory for a window and a page a route; the time is that of the slowest route, or of reading
+/// each row once for each route.
 pub fn fan_out<H: Threads + Wait + Sync, S: Alter, R: Route + Drop + Send, G: Gate + Sync>(
     rt: &H,
     alloc: Global,
@@ -183,11 +280,13 @@ pub fn fan_out<H: Threads + Wait + Sync, S: Alter, R: Route + Drop + Send, G: Ga
     ensures not_begun { result.ends.items ≡ []
         → (result.routes.items ≡ routes.items) × (relays.new.items ≡ relays.old.items) }
     ensures each { AtEach relays.old.items relays.new.items routes.items result.routes.items
-        result.ends.items (Leaves R.accepted R.takes R.has_failed) }
+        result.ends.items (Leaves R.accepted R.takes R.has_failed (G.lets gate.now)
+        (G.shuts gate.now) (G.heard gate.now)) }
     ensures sent { HasCleanDisk (state S.Store service.new.conn) → (commands : List Accepted)
         → IsService (state S.Store service.old.conn).now service.old.source service.old.base commands
         → AtEach relays.old.items relays.new.items routes.items result.routes.items
-        result.ends.items (Delivers R.accepted R.takes R.has_failed service.old.base
+        result.ends.items (Delivers R.accepted R.takes R.has_failed (G.lets gate.now)
+        (G.shuts gate.now) (G.heard gate.now) service.old.base
         (rows_of service.old.source service.old.base commands)) }
 {
     // What needs memory comes first, so that nothing that was sent goes unreported.
@@ -199,11 +298,21 @@ pub fn fan_out<H: Threads + Wait + Sync, S: Alter, R: Route + Drop + Send, G: Ga
     };
     let Room {
         lanes,
+        slots,
+        ended,
         routes: back,
         ends,
+        shared,
     } = room;
     let lanes = lanes_of(relays, routes, lanes);
-    let (lanes, end) = run_rounds(rt, alloc, service, gate, lanes);
+    let slots = slots_of(lanes, slots);
+    let Shared {
+        refused,
+        done,
+        told,
+    } = shared;
+    let slots = run_slots(rt, alloc, gate, &done, &told, &refused, service, slots);
+    let lanes = lanes_back(slots, ended);
     relays.clear();
-    settle(lanes, end, relays, back, ends)
+    settle(lanes, relays, back, ends)
 }

@@ -1,16 +1,18 @@
 -- Relays and their routes on their way through the rows.
-use Rattle.std.specs.Prelude.{◌≡◌, ◌⊎◌, ◌≤◌, ◌+◌, ◌-◌, ⊤, ℕ, suc, List, [], ◌∷◌, length, ◌++◌, drop, Option, Some, None, MatchOption, IsSome, All}
+use Rattle.std.specs.Prelude.{◌≡◌, ◌⊎◌, ◌≤◌, ◌+◌, ◌-◌, ⊤, ℕ, suc, List, [], ◌∷◌, length, ◌++◌, drop, Option, Some, None, MatchOption, IsSome, IsTrue}
 use Rattle.attributes.specs.Event.{EventValue}
+use Rattle.site.specs.Gate.{LetsThrough}
 use Rattle.sqlite.specs.Effect.{Database}
 use Rattle.sqlite.specs.State.{State, HasCleanDisk}
-use Rattle.outbox.specs.Call.{IsSame}
 use Rattle.outbox.specs.Order.{Accepted}
 use Rattle.outbox.specs.Row.{rows_of}
 use Rattle.outbox.specs.Service.{IsService}
+use Rattle.outbox.specs.Layout.{ServiceLayout, schema_in}
 use Rattle.relay.specs.Route.{AreIn, AreOf}
 use Rattle.std.specs.List.{AllByRecursion}
-use Rattle.relay.specs.Fan.{AreSent, HasCause, IsAtEnd, IsPage, TakesAll, joined, rows_between}
+use Rattle.relay.specs.Fan.{AreSent, HasCause, IsAtEnd, IsPage, TakesAll, calls_of, joined, rows_between}
 use Rattle.relay.specs.declared.fault.RelayFault.{RelayFault}
+use Rattle.relay.specs.declared.fault.RelayFault.TheVariants.{OutOfMemory, RouteFailed, Stranger, Store, NoThread, GateShut}
 use Rattle.relay.specs.declared.fan.End.{End}
 use Rattle.relay.specs.declared.fan.End.TheVariants.{Done, Failed}
 use Rattle.relay.specs.declared.fan.lane.Lane.{Lane}
@@ -20,21 +22,32 @@ abbrev pub IsClosed : {R : Type 0} → (R → R → Type 0) → R → Lane R →
 IsClosed has_failed before lane =
     MatchOption lane.fault (lane.route ≡ before) (HasCause has_failed before lane.route)
 
+-- the calls that a lane made of late: one for each page that was accepted, and the one that failed
+abbrev pub calls_to : Option RelayFault → ℕ → ℕ
+calls_to None pages = pages
+calls_to (Some f) pages = calls_of (Failed f) pages
+
 -- the route of a lane that went on was handed these pages and then nothing more, but for one that
--- failed where the lane stopped for it
+-- failed where the lane stopped for it. Each was a call that the gate let through, after the calls
+-- before
 pub record Hands {R : Type 0} (takes : R → List EventValue → R → Type 0)
-    (has_failed : R → R → Type 0) (old new : Lane R) (pages : List (List EventValue))
-    : Type 0 where
+    (has_failed : R → R → Type 0) (lets shuts heard : ℕ → ℕ → Type 0) (old new : Lane R)
+    (pages : List (List EventValue)) : Type 0 where
   pub before : R
   pub taken : TakesAll takes old.route pages before
   pub closed : IsClosed has_failed before new
   pub sized : AllByRecursion IsPage pages
+  pub counted : new.fault ≡ None → new.calls ≡ old.calls + length pages
+  pub through : LetsThrough lets heard old.place old.calls (calls_to new.fault (length pages))
+  pub shut : new.fault ≡ Some GateShut → shuts old.place (old.calls + length pages + 1)
 
 -- a lane that went on was handed pages of which this holds
 abbrev pub HandsOver : {R : Type 0} → (R → List EventValue → R → Type 0) → (R → R → Type 0)
+    → (ℕ → ℕ → Type 0) → (ℕ → ℕ → Type 0) → (ℕ → ℕ → Type 0)
     → (List (List EventValue) → Type 0) → Lane R → Lane R → Type 0
-HandsOver takes has_failed Fits old new = old.fault ≡ None
-    → (pages : List (List EventValue)) × (Hands takes has_failed old new pages × Fits pages)
+HandsOver takes has_failed lets shuts heard Fits old new = old.fault ≡ None
+    → (pages : List (List EventValue))
+    × (Hands takes has_failed lets shuts heard old new pages × Fits pages)
 
 -- any pages
 abbrev pub Whatever : List (List EventValue) → Type 0
@@ -47,33 +60,40 @@ AreBetween base rows from to pages = joined pages ≡ rows_between base rows fro
 -- a lane before and after, whatever its rows are
 pub record Moves {R : Type 0} (accepted : R → List EventValue)
     (takes : R → List EventValue → R → Type 0) (has_failed : R → R → Type 0)
-    (old new : Lane R) : Type 0 where
+    (lets shuts heard : ℕ → ℕ → Type 0) (old new : Lane R) : Type 0 where
+  pub place : new.place ≡ old.place
   pub site : new.relay.site ≡ old.relay.site
   pub forward : old.relay.mark ≤ new.relay.mark
   pub kept : AreIn (accepted old.route) (accepted new.route)
-  pub handed : HandsOver takes has_failed Whatever old new
+  pub handed : HandsOver takes has_failed lets shuts heard Whatever old new
   pub idle : IsSome old.fault → new ≡ old
 
--- a lane before and after a window of rows, whose numbers are those after `start`
+-- a lane before and after rows, a window of them or all, whose numbers are those after `start`
 pub record Carries {R : Type 0} (accepted : R → List EventValue)
     (takes : R → List EventValue → R → Type 0) (has_failed : R → R → Type 0)
-    (start : ℕ) (rows : List EventValue) (old new : Lane R) : Type 0 where
-  pub moves : Moves accepted takes has_failed old new
+    (lets shuts heard : ℕ → ℕ → Type 0) (start : ℕ) (rows : List EventValue) (old new : Lane R)
+    : Type 0 where
+  pub moves : Moves accepted takes has_failed lets shuts heard old new
   pub within : (new.relay.mark ≡ old.relay.mark) ⊎ (new.relay.mark ≤ start + length rows)
   pub sent : AreSent start rows old.relay.mark new.relay.mark (accepted new.route)
   pub new_rows : AreOf (accepted new.route) (accepted old.route) rows
-  pub handed : HandsOver takes has_failed
+  pub handed : HandsOver takes has_failed lets shuts heard
       (AreBetween start rows old.relay.mark new.relay.mark) old new
 
--- a lane before and after, over the rows of a service
-pub record Sends {R : Type 0} (accepted : R → List EventValue)
-    (takes : R → List EventValue → R → Type 0) (has_failed : R → R → Type 0) (base : ℕ)
-    (rows : List EventValue) (old new : Lane R) : Type 0 where
-  pub sent : AreSent base rows old.relay.mark new.relay.mark (accepted new.route)
-  pub new_rows : AreOf (accepted new.route) (accepted old.route) rows
-  pub handed : HandsOver takes has_failed
-      (AreBetween base rows old.relay.mark new.relay.mark) old new
-  pub reached : (new.relay.mark ≡ old.relay.mark) ⊎ (new.relay.mark ≤ base + length rows)
+-- why a call of a worker failed, or wasn't made: the route failed in it, or the gate was shut before
+abbrev pub StopsAt : {R : Type 0} → (R → R → Type 0) → (ℕ → ℕ → Type 0) → (ℕ → ℕ → Type 0)
+    → (ℕ → ℕ → Type 0) → ℕ → ℕ → R → R → RelayFault → Type 0
+StopsAt has_failed lets shuts heard worker call old new OutOfMemory = ⊥
+StopsAt has_failed lets shuts heard worker call old new RouteFailed =
+    has_failed old new × (lets worker call × heard worker call)
+StopsAt has_failed lets shuts heard worker call old new Stranger = ⊥
+StopsAt has_failed lets shuts heard worker call old new Store = ⊥
+StopsAt has_failed lets shuts heard worker call old new NoThread = ⊥
+StopsAt has_failed lets shuts heard worker call old new GateShut = (new ≡ old) × shuts worker call
+
+-- it never came to a call: memory, the rows or a thread weren't to be had
+abbrev pub IsQuiet : RelayFault → Type 0
+IsQuiet f = (f ≡ OutOfMemory) ⊎ ((f ≡ Store) ⊎ (f ≡ NoThread))
 
 -- how many steps a lane takes at most over so many numbers: one more to stop, none once stopped
 abbrev pub steps_left : Option RelayFault → ℕ → ℕ
@@ -103,47 +123,43 @@ abbrev pub ShowsWindow : List ℕ → ℕ → ℕ → Database → List EventVal
 ShowsWindow source base start db rows = (commands : List Accepted)
     → IsService db source base commands → IsWindow base (rows_of source base commands) start rows
 
--- a lane that goes on isn't behind this mark
-abbrev pub IsAhead : {R : Type 0} → ℕ → Lane R → Type 0
-IsAhead mark lane = lane.fault ≡ None → mark ≤ lane.relay.mark
+-- while the disk is honest and the database open, it is what it was, if that was a service's
+abbrev pub IsStill : Database → State → Type 0
+IsStill db s = HasCleanDisk s → IsTrue s.is_open → (layout : ServiceLayout)
+    → db.schema ≡ schema_in layout → s.now ≡ db
 
--- the lane stopped
-abbrev pub IsStopped : {R : Type 0} → Lane R → Type 0
-IsStopped lane = IsSome lane.fault
+-- this holds of the rows of the service that a database stands for, while the disk is honest up to
+-- this state
+abbrev pub Honestly : List ℕ → ℕ → Database → State → (List EventValue → Type 0) → Type 0
+Honestly source base db s Holds = HasCleanDisk s → (commands : List Accepted)
+    → IsService db source base commands → Holds (rows_of source base commands)
 
--- the least mark of the lanes that go on; none where all stopped
-abbrev pub IsLeast : {R : Type 0} → List (Lane R) → Option ℕ → Type 0
-IsLeast lanes least =
-    MatchOption least (All IsStopped lanes) (λ mark. All (IsAhead mark) lanes)
-
--- a lane that goes on has no row left
-abbrev pub HasSent : {R : Type 0} → ℕ → List EventValue → Lane R → Type 0
-HasSent base rows lane = lane.fault ≡ None → IsAtEnd base rows lane.relay.mark
-
--- from one state of the database to another the lanes went on, over the rows of the service
-pub record Goes {R : Type 0} (accepted : R → List EventValue)
+-- a lane before and after, over the rows of the service
+pub record Comes {R : Type 0} (accepted : R → List EventValue)
     (takes : R → List EventValue → R → Type 0) (has_failed : R → R → Type 0)
-    (source : List ℕ) (base : ℕ) (old new : State) (olds news : List (Lane R)) : Type 0 where
-  pub same : IsSame old new
-  pub moves : Each (Moves accepted takes has_failed) olds news
-  pub sends : HasCleanDisk new → (commands : List Accepted)
-      → IsService old.now source base commands
-      → Each (Sends accepted takes has_failed base (rows_of source base commands)) olds news
+    (lets shuts heard : ℕ → ℕ → Type 0) (source : List ℕ) (base : ℕ) (db : Database)
+    (s : State) (old new : Lane R) : Type 0 where
+  pub moves : Moves accepted takes has_failed lets shuts heard old new
+  pub carries : Honestly source base db s (λ rows.
+      Carries accepted takes has_failed lets shuts heard base rows old new)
 
--- they went on to their end: where it is done, those that didn't stop have no row left
-pub record Ends {R : Type 0} (accepted : R → List EventValue)
+-- so it went on to its end: if it didn't stop, no row is left
+pub record Rests {R : Type 0} (accepted : R → List EventValue)
     (takes : R → List EventValue → R → Type 0) (has_failed : R → R → Type 0)
-    (source : List ℕ) (base : ℕ) (old new : State) (olds news : List (Lane R)) (end : End)
-    : Type 0 where
-  pub goes : Goes accepted takes has_failed source base old new olds news
-  pub done : end ≡ Done → HasCleanDisk new → (commands : List Accepted)
-      → IsService old.now source base commands
-      → All (HasSent base (rows_of source base commands)) news
+    (lets shuts heard : ℕ → ℕ → Type 0) (source : List ℕ) (base : ℕ) (db : Database)
+    (s : State) (old new : Lane R) : Type 0 where
+  pub comes : Comes accepted takes has_failed lets shuts heard source base db s old new
+  pub done : new.fault ≡ None → Honestly source base db s (λ rows. IsAtEnd base rows new.relay.mark)
 
--- how a lane ended, where this is the end of those that didn't stop
-abbrev pub end_after : Option RelayFault → End → End
-end_after None end = end
-end_after (Some f) end = Failed f
+-- how a lane ended
+abbrev pub end_after : Option RelayFault → End
+end_after None = Done
+end_after (Some f) = Failed f
 
-abbrev pub end_of : {R : Type 0} → End → Lane R → End
-end_of end lane = end_after lane.fault end
+abbrev pub end_of : {R : Type 0} → Lane R → End
+end_of lane = end_after lane.fault
+
+-- the lanes stand in their order, the first at this place
+abbrev pub ArePlaced : {R : Type 0} → ℕ → List (Lane R) → Type 0
+ArePlaced place [] = ⊤
+ArePlaced place (x ∷ xs) = (x.place ≡ place) × ArePlaced (suc place) xs

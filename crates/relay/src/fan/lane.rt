@@ -1,9 +1,10 @@
 //! A relay and its route, on their way through a window of rows.
 
-ghost use Rattle.std.specs.Prelude.{◌≡◌, ◌⊎◌, ◌<◌, ◌≤◌, ◌-◌, ◌+◌, length, None, OnOk, IfOk, IfErr};
+ghost use Rattle.std.specs.Prelude.{◌≡◌, ◌⊎◌, ◌<◌, ◌≤◌, ◌-◌, ◌+◌, ℕ, List, length, None, Some, OnOk, IfOk, IfErr};
+ghost use Rattle.attributes.specs.Event.{EventValue};
 ghost use Rattle.relay.specs.Route.{AreIn, AreOf};
-ghost use Rattle.relay.specs.Fan.{AreSent, HasCause, IsPage, rows_between};
-ghost use Rattle.relay.specs.steps.Lane.{Carries, left};
+ghost use Rattle.relay.specs.Fan.{AreSent, IsPage, rows_between};
+ghost use Rattle.relay.specs.steps.Lane.{Carries, IsQuiet, StopsAt, left};
 ghost use Rattle.relay.specs.declared.fault.RelayFault.TheVariants.{OutOfMemory, Store};
 
 use crate::fault::RelayFault;
@@ -16,6 +17,8 @@ use std::alloc::{AllocError, Global};
 /// A relay, its route, and how far they are.
 #[derive(Drop)]
 pub(crate) struct Lane<R> {
+    /// The number of its worker: its place among the lanes, from 0.
+    pub(crate) place: u64,
     pub(crate) relay: Relay,
     pub(crate) route: R,
     /// How many pages were sent, or tried.
@@ -82,7 +85,9 @@ fn send_page<R: Route, G: Gate>(
     ensures kept { AreIn (R.accepted route.old) (R.accepted route.new) }
     ensures new { AreOf (R.accepted route.new) (R.accepted route.old) page.now }
     ensures took { OnOk result (R.takes route.old page.now route.new) }
-    ensures fault { IfErr result (HasCause R.has_failed route.old route.new) }
+    ensures gated { OnOk result (G.lets gate.now worker call × G.heard gate.now worker call) }
+    ensures fault { IfErr result (StopsAt R.has_failed (G.lets gate.now) (G.shuts gate.now)
+        (G.heard gate.now) worker call route.old route.new) }
 {
     match gate.before(worker, call) {
         Ok(()) => {}
@@ -96,68 +101,92 @@ fn send_page<R: Route, G: Gate>(
     }
 }
 
+/// The lane, stopped for a fault that came to no call.
+pub(super) fn stopped<R: Route, G: Gate>(gate: &G, lane: Lane<R>, fault: RelayFault) -> Lane<R>
+    requires going { lane.fault ≡ None }
+    requires quiet { IsQuiet fault }
+    ensures carried { (start : ℕ) (rows : List EventValue)
+        → Carries R.accepted R.takes R.has_failed (G.lets gate.now) (G.shuts gate.now)
+        (G.heard gate.now) start rows lane result }
+    ensures fault { result.fault ≡ Some fault }
+{
+    let _ = gate;
+    let Lane {
+        place,
+        relay,
+        route,
+        calls,
+        fault: _,
+    } = lane;
+    Lane {
+        place,
+        relay,
+        route,
+        calls,
+        fault: Some(fault),
+    }
+}
+
 /// Sends the next page of a lane that goes on, and raises its mark to the last row.
 fn send_next<R: Route, G: Gate>(
     alloc: Global,
     rows: &Batch,
     start: u64,
     gate: &G,
-    worker: u64,
     lane: Lane<R>,
 ) -> Lane<R>
     requires going { lane.fault ≡ None }
     requires more { lane.relay.mark - start < length rows.now }
-    ensures carried { Carries R.accepted R.takes R.has_failed start rows.now lane result }
+    ensures carried { Carries R.accepted R.takes R.has_failed (G.lets gate.now) (G.shuts gate.now)
+        (G.heard gate.now) start rows.now lane result }
     ensures less { left start rows.now result < left start rows.now lane }
 {
+    let page = match next_page(alloc, rows, start, lane.relay.mark()) {
+        Ok(page) => page,
+        Err(fault) => return stopped(gate, lane, fault),
+    };
+    let Some(call) = lane.calls.checked_add(1) else {
+        return stopped(gate, lane, RelayFault::Store);
+    };
     let Lane {
+        place,
         relay,
         mut route,
-        calls,
+        calls: _,
         fault: _,
     } = lane;
-    let page = match next_page(alloc, rows, start, relay.mark()) {
-        Ok(page) => page,
-        Err(fault) => {
-            return Lane {
-                relay,
-                route,
-                calls,
-                fault: Some(fault),
-            };
-        }
-    };
-    let calls = calls.saturating_add(1);
-    match send_page(gate, worker, calls, &page.rows, &mut route) {
+    match send_page(gate, place, call, &page.rows, &mut route) {
         Ok(()) => Lane {
+            place,
             relay: Relay::at(relay.site(), page.last),
             route,
-            calls,
+            calls: call,
             fault: None,
         },
         Err(fault) => Lane {
+            place,
             relay,
             route,
-            calls,
+            calls: call,
             fault: Some(fault),
         },
     }
 }
 
 /// Sends page after page, until all rows are sent or the lane stops.
-pub(crate) fn carry_lane<R: Route, G: Gate>(
+pub(super) fn carry_lane<R: Route, G: Gate>(
     alloc: Global,
     rows: &Batch,
     start: u64,
     gate: &G,
-    worker: u64,
     lane: Lane<R>,
 ) -> Lane<R>
-    ensures { Carries R.accepted R.takes R.has_failed start rows.now lane result }
+    ensures { Carries R.accepted R.takes R.has_failed (G.lets gate.now) (G.shuts gate.now)
+        (G.heard gate.now) start rows.now lane result }
 {
     let mut lane = lane;
     'pages: while lane.fault.is_none() && lane.relay.mark().saturating_sub(start) < rows.len() {
-        lane = send_next(alloc, rows, start, gate, worker, lane);
+        lane = send_next(alloc, rows, start, gate, lane);
     }
     lane
 }

@@ -13,8 +13,8 @@ use attributes::Batch;
 use outbox::Service;
 use sqlite::Alter;
 
-/// The most pages of a window: 5,000 rows.
-const MAX_PAGES: u64 = 50;
+/// The most pages of a window: 1,000 rows.
+const MAX_PAGES: u64 = 10;
 
 /// Moves events behind others.
 fn append_page(rows: &mut Batch, page: Batch) -> Result<(), RelayFault>
@@ -64,7 +64,7 @@ fn add_page<S: Alter>(
     }
 }
 
-/// The next rows after a number, which the base doesn't exceed: all, or some 5,000.
+/// The next rows after a number, which the base doesn't exceed: all, or some 1,000.
 pub(crate) fn read_window<S: Alter>(
     service: &mut Service<S>,
     start: u64,

@@ -1,26 +1,63 @@
 use Rattle.std.proofs.Common.{◌≡◌, ◌∙◌, List, ap, arith, inr, length, map, sym}
 use Rattle.std.proofs.lemmas.List.{length-map}
-use Rattle.outbox.specs.Row.{rows_of}
 use Rattle.std.proofs.lemmas.Grind.{common_steps}
-use Rattle.relay.specs.steps.Lane.{Each, Moves, end_of}
+use Rattle.sqlite.specs.Held.{state}
+use Rattle.relay.specs.steps.Lane.{end_of}
 use Rattle.relay.specs.declared.fan.lane.Lane.{Lane}
-use Rattle.relay.specs.declared.fan.End.{End}
-use Rattle.relay.proofs.LaneLemmas.{each_length}
+use Rattle.relay.specs.declared.fan.slot.Slot.{Slot}
+use Rattle.relay.specs.declared.fan.slot.Slot.TheVariants.{Ended, Waiting}
 use Rattle.relay.proofs.FanLemmas.{fan_leaves, fan_delivers}
+use Rattle.relay.proofs.SlotLemmas.{fan_many, fan_rests}
 use Rattle.relay.proofs.fan.fan_out.Goals as goal
 
 -- as many lanes as routes
-counted : {R : Type 0} (Holds : Lane R → Lane R → Type 0) (lanes news : List (Lane R)) (routes : List R) → Each Holds lanes news → map (λ l. l.route) lanes ≡ routes → length news ≡ length routes
-counted Holds lanes news routes moves are = each_length Holds lanes news moves ∙ (sym (length-map lanes (λ l. l.route)) ∙ ap length are)
+counted : {R : Type 0} (lanes : List (Lane R)) (routes : List R) → map (λ l. l.route) lanes ≡ routes → length lanes ≡ length routes
+counted lanes routes are = sym (length-map lanes (λ l. l.route)) ∙ ap length are
+
+-- and as many come back
+back_again : {R G : Type 0} (lanes news : List (Lane R)) (routes : List R) (last : List (Slot R G)) → map (λ l. l.route) lanes ≡ routes → map Ended news ≡ last → length last ≡ length lanes → length news ≡ length routes
+back_again lanes news routes last are ended many = sym (length-map news Ended) ∙ ap length ended ∙ many ∙ counted lanes routes are
+
+pub slots_of-slots-requires-clause-room : goal.slots_of-slots-requires-clause-room
+slots_of-slots-requires-clause-room g c =
+    let count = counted c.lanes_of-lanes.result.items c.args.routes.items c.lanes_of-lanes.ensures.routes in
+    omega (arith, count, c.len.ensures, c.in-Some.ensures.room.1)
+
+pub run_slots-slots-requires : goal.run_slots-slots-requires
+run_slots-slots-requires g c =
+    let count = counted c.lanes_of-lanes.result.items c.args.routes.items c.lanes_of-lanes.ensures.routes in
+    let many : length c.slots_of-slots.result.items ≡ length c.lanes_of-lanes.result.items = ap length c.slots_of-slots.ensures ∙ length-map c.lanes_of-lanes.result.items Waiting in
+    let flags : length c.slots_of-slots.result.items ≡ length c.in-Some.room.shared.refused.items = omega (arith, count, many, c.len.ensures, c.in-Some.ensures.shared) in
+    (c.type_bounds.send-R, (c.type_bounds.sync-H, (c.type_bounds.sync-G, flags)))
+
+pub lanes_back-lanes-requires-clause-room : goal.lanes_back-lanes-requires-clause-room
+lanes_back-lanes-requires-clause-room g c =
+    let count = counted c.lanes_of-lanes.result.items c.args.routes.items c.lanes_of-lanes.ensures.routes in
+    let many = fan_many g.R.Route.accepted g.R.Route.takes g.R.Route.has_failed g.G.Gate.lets g.G.Gate.shuts g.G.Gate.heard c.args.gate.now c.args.service.now.source c.args.service.now.base _ _ _ c.lanes_of-lanes.result.items c.slots_of-slots.result.items c.run_slots-slots.result.items c.slots_of-slots.ensures (c.run_slots-slots.ensures.goes c.lanes_of-lanes.result.items) in
+    omega (arith, count, many, c.len.ensures, c.in-Some.ensures.room.2)
 
 pub returns-clause-each : goal.returns-clause-each
-returns-clause-each g c = fan_leaves g.R.Route.accepted g.R.Route.takes g.R.Route.has_failed c.run_rounds-lanes.result.1 c.lanes_of-lanes.result.items c.run_rounds-lanes.result.0.items c.args.relays.now.items c.settle.new.relays.items c.args.routes.items c.settle.result.routes.items c.settle.result.ends.items
-    c.run_rounds-lanes.ensures.fault c.lanes_of-lanes.ensures.going c.run_rounds-lanes.ensures.ends.goes.moves
+returns-clause-each g c =
+    let gate = c.args.gate.now in
+    let olds = c.lanes_of-lanes.result.items in
+    let news = c.lanes_back-lanes.result.items in
+    let before = state g.S.Store c.args.service.now.conn in
+    let after = state g.S.Store c.run_slots-slots.new.service.conn in
+    fan_leaves g.R.Route.accepted g.R.Route.takes g.R.Route.has_failed (g.G.Gate.lets gate) (g.G.Gate.shuts gate) (g.G.Gate.heard gate) c.args.service.now.source c.args.service.now.base before.now after olds news c.args.relays.now.items c.settle.new.relays.items c.args.routes.items c.settle.result.routes.items c.settle.result.ends.items
+    c.lanes_of-lanes.ensures.fresh c.lanes_of-lanes.ensures.placed
+    (fan_rests g.R.Route.accepted g.R.Route.takes g.R.Route.has_failed g.G.Gate.lets g.G.Gate.shuts g.G.Gate.heard gate c.args.service.now.source c.args.service.now.base before.now before after olds news c.slots_of-slots.result.items c.run_slots-slots.result.items c.slots_of-slots.ensures c.lanes_back-lanes.ensures (c.run_slots-slots.ensures.goes olds))
     c.lanes_of-lanes.ensures.relays c.settle.ensures.relays c.lanes_of-lanes.ensures.routes c.settle.ensures.routes c.settle.ensures.ends
 
 pub returns-clause-sent : goal.returns-clause-sent
-returns-clause-sent g c clean commands is = fan_delivers g.R.Route.accepted g.R.Route.takes g.R.Route.has_failed c.args.service.now.base (rows_of c.args.service.now.source c.args.service.now.base commands) c.run_rounds-lanes.result.1 c.lanes_of-lanes.result.items c.run_rounds-lanes.result.0.items c.args.relays.now.items c.settle.new.relays.items c.args.routes.items c.settle.result.routes.items c.settle.result.ends.items
-    c.run_rounds-lanes.ensures.fault c.lanes_of-lanes.ensures.going (c.run_rounds-lanes.ensures.ends.goes.sends clean commands is) (λ done. c.run_rounds-lanes.ensures.ends.done done clean commands is)
+returns-clause-sent g c clean commands is =
+    let gate = c.args.gate.now in
+    let olds = c.lanes_of-lanes.result.items in
+    let news = c.lanes_back-lanes.result.items in
+    let before = state g.S.Store c.args.service.now.conn in
+    let after = state g.S.Store c.run_slots-slots.new.service.conn in
+    fan_delivers g.R.Route.accepted g.R.Route.takes g.R.Route.has_failed (g.G.Gate.lets gate) (g.G.Gate.shuts gate) (g.G.Gate.heard gate) c.args.service.now.source c.args.service.now.base before.now after commands olds news c.args.relays.now.items c.settle.new.relays.items c.args.routes.items c.settle.result.routes.items c.settle.result.ends.items
+    clean is c.lanes_of-lanes.ensures.fresh c.lanes_of-lanes.ensures.placed
+    (fan_rests g.R.Route.accepted g.R.Route.takes g.R.Route.has_failed g.G.Gate.lets g.G.Gate.shuts g.G.Gate.heard gate c.args.service.now.source c.args.service.now.base before.now before after olds news c.slots_of-slots.result.items c.run_slots-slots.result.items c.slots_of-slots.ensures c.lanes_back-lanes.ensures (c.run_slots-slots.ensures.goes olds))
     c.lanes_of-lanes.ensures.relays c.settle.ensures.relays c.lanes_of-lanes.ensures.routes c.settle.ensures.routes c.settle.ensures.ends
 
 pub returns-in_default-clause-kept_service : goal.returns-in_default-clause-kept_service
@@ -52,29 +89,33 @@ returns-clause-service g c = grind (arith, common_steps)
 
 pub settle-requires-clause-room : goal.settle-requires-clause-room
 settle-requires-clause-room g c =
-    let count = counted (Moves g.R.Route.accepted g.R.Route.takes g.R.Route.has_failed) c.lanes_of-lanes.result.items c.run_rounds-lanes.result.0.items c.args.routes.items c.run_rounds-lanes.ensures.ends.goes.moves c.lanes_of-lanes.ensures.routes in (
+    let count = back_again c.lanes_of-lanes.result.items c.lanes_back-lanes.result.items c.args.routes.items c.run_slots-slots.result.items c.lanes_of-lanes.ensures.routes c.lanes_back-lanes.ensures
+    (fan_many g.R.Route.accepted g.R.Route.takes g.R.Route.has_failed g.G.Gate.lets g.G.Gate.shuts g.G.Gate.heard c.args.gate.now c.args.service.now.source c.args.service.now.base _ _ _ c.lanes_of-lanes.result.items c.slots_of-slots.result.items c.run_slots-slots.result.items c.slots_of-slots.ensures (c.run_slots-slots.ensures.goes c.lanes_of-lanes.result.items)) in (
       omega (arith, count, c.requires.paired, c.args.relays.now.ok.0, c.clear.ensures.capacity),
-      omega (arith, count, c.len.ensures, c.in-Some.ensures.room.1),
-      omega (arith, count, c.len.ensures, c.in-Some.ensures.room.2),
+      omega (arith, count, c.len.ensures, c.in-Some.ensures.room.3),
+      omega (arith, count, c.len.ensures, c.in-Some.ensures.room.4),
     )
 
 pub returns-clause-back : goal.returns-clause-back
 returns-clause-back g c =
-    let lanes = c.run_rounds-lanes.result.0.items in
-    let count = counted (Moves g.R.Route.accepted g.R.Route.takes g.R.Route.has_failed) c.lanes_of-lanes.result.items lanes c.args.routes.items c.run_rounds-lanes.ensures.ends.goes.moves c.lanes_of-lanes.ensures.routes in (
+    let lanes = c.lanes_back-lanes.result.items in
+    let count = back_again c.lanes_of-lanes.result.items c.lanes_back-lanes.result.items c.args.routes.items c.run_slots-slots.result.items c.lanes_of-lanes.ensures.routes c.lanes_back-lanes.ensures
+    (fan_many g.R.Route.accepted g.R.Route.takes g.R.Route.has_failed g.G.Gate.lets g.G.Gate.shuts g.G.Gate.heard c.args.gate.now c.args.service.now.source c.args.service.now.base _ _ _ c.lanes_of-lanes.result.items c.slots_of-slots.result.items c.run_slots-slots.result.items c.slots_of-slots.ensures (c.run_slots-slots.ensures.goes c.lanes_of-lanes.result.items)) in (
       ap length c.settle.ensures.relays ∙ (length-map lanes (λ l. l.relay) ∙ (count ∙ sym c.requires.paired)),
       ap length c.settle.ensures.routes ∙ (length-map lanes (λ l. l.route) ∙ count),
     )
 
 pub returns-clause-ends : goal.returns-clause-ends
 returns-clause-ends g c =
-    let lanes = c.run_rounds-lanes.result.0.items in
-    let count = counted (Moves g.R.Route.accepted g.R.Route.takes g.R.Route.has_failed) c.lanes_of-lanes.result.items lanes c.args.routes.items c.run_rounds-lanes.ensures.ends.goes.moves c.lanes_of-lanes.ensures.routes in
-    inr (ap length c.settle.ensures.ends ∙ (length-map lanes (end_of c.run_rounds-lanes.result.1) ∙ count))
+    let lanes = c.lanes_back-lanes.result.items in
+    let count = back_again c.lanes_of-lanes.result.items c.lanes_back-lanes.result.items c.args.routes.items c.run_slots-slots.result.items c.lanes_of-lanes.ensures.routes c.lanes_back-lanes.ensures
+    (fan_many g.R.Route.accepted g.R.Route.takes g.R.Route.has_failed g.G.Gate.lets g.G.Gate.shuts g.G.Gate.heard c.args.gate.now c.args.service.now.source c.args.service.now.base _ _ _ c.lanes_of-lanes.result.items c.slots_of-slots.result.items c.run_slots-slots.result.items c.slots_of-slots.ensures (c.run_slots-slots.ensures.goes c.lanes_of-lanes.result.items)) in
+    inr (ap length c.settle.ensures.ends ∙ (length-map lanes end_of ∙ count))
 
 pub returns-clause-not_begun : goal.returns-clause-not_begun
 returns-clause-not_begun g c none =
-    let lanes = c.run_rounds-lanes.result.0.items in
-    let count = counted (Moves g.R.Route.accepted g.R.Route.takes g.R.Route.has_failed) c.lanes_of-lanes.result.items lanes c.args.routes.items c.run_rounds-lanes.ensures.ends.goes.moves c.lanes_of-lanes.ensures.routes in
-    let ends : length c.settle.result.ends.items ≡ length c.args.routes.items = ap length c.settle.ensures.ends ∙ (length-map lanes (end_of c.run_rounds-lanes.result.1) ∙ count) in
+    let lanes = c.lanes_back-lanes.result.items in
+    let count = back_again c.lanes_of-lanes.result.items c.lanes_back-lanes.result.items c.args.routes.items c.run_slots-slots.result.items c.lanes_of-lanes.ensures.routes c.lanes_back-lanes.ensures
+    (fan_many g.R.Route.accepted g.R.Route.takes g.R.Route.has_failed g.G.Gate.lets g.G.Gate.shuts g.G.Gate.heard c.args.gate.now c.args.service.now.source c.args.service.now.base _ _ _ c.lanes_of-lanes.result.items c.slots_of-slots.result.items c.run_slots-slots.result.items c.slots_of-slots.ensures (c.run_slots-slots.ensures.goes c.lanes_of-lanes.result.items)) in
+    let ends : length c.settle.result.ends.items ≡ length c.args.routes.items = ap length c.settle.ensures.ends ∙ (length-map lanes end_of ∙ count) in
     absurd (omega (arith, sym ends ∙ ap length none, c.requires.few.0))

@@ -24,7 +24,7 @@ pub loop-route-preserved : goal.loop-route-preserved
 loop-route-preserved g c =
     let low = filled_low c.args.relays.now.items c.args.routes.items c.loop-route.lanes.items c.loop-route.place c.loop-route.route-iterator.rest.items c.next.new.self.rest.items c.in-Some.route c.loop-route.invariant.0 c.in-Some.ensures.steps.0 in
     let near : c.loop-route.place < length c.args.relays.now.items = omega (arith, low, c.requires.paired) in
-    (filled_more c.args.relays.now.items c.args.routes.items c.loop-route.lanes.items c.put.new.list.items c.loop-route.place c.loop-route.route-iterator.rest.items c.next.new.self.rest.items _ c.loop-route.invariant.0 c.in-Some.ensures.steps.0 near c.index.ensures refl c.put.ensures.items, omega (arith, c.loop-route.invariant.1, c.put.ensures.room))
+    (filled_more c.args.relays.now.items c.args.routes.items c.loop-route.lanes.items c.put.new.list.items c.loop-route.place c.loop-route.route-iterator.rest.items c.next.new.self.rest.items _ c.loop-route.invariant.0 c.in-Some.ensures.steps.0 near c.index.ensures refl refl refl c.put.ensures.items, omega (arith, c.loop-route.invariant.1, c.put.ensures.room))
 
 pub returns-clause-relays : goal.returns-clause-relays
 returns-clause-relays g c =

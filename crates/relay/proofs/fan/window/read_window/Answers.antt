@@ -1,7 +1,7 @@
 use Rattle.std.proofs.Common.{◌∙◌, arith}
 use Rattle.sqlite.specs.Held.{state}
 use Rattle.outbox.specs.Row.{rows_of}
-use Rattle.relay.proofs.RoundLemmas.{same_then, reads_on}
+use Rattle.relay.proofs.ReadLemmas.{same_then, reads_on}
 use Rattle.relay.proofs.WindowLemmas.{first_rows}
 use Rattle.relay.proofs.fan.window.read_window.Goals as goal
 

@@ -1,6 +1,6 @@
 use Rattle.std.proofs.Common.{◌≡◌}
 use Rattle.sqlite.specs.Held.{state}
-use Rattle.relay.proofs.RoundLemmas.{Reads}
+use Rattle.relay.proofs.ReadLemmas.{Reads}
 use Rattle.relay.proofs.fan.window.read_window.Given as goal
 
 abbrev pub invariant-loop-page : goal.invariant-loop-page
