@@ -10,7 +10,6 @@ and misses what comes, and one service sends everything twice. What the broker t
 services. Where there is no Mosquitto it says so and tries nothing. The last line is 'N passed, M failed'.
 """
 import argparse
-import json
 import os
 import pwd
 import shutil
