@@ -1,5 +1,6 @@
 -- The rows of a service, page after page.
 use Rattle.std.proofs.Common.{◌≡◌, ◌∙◌, ◌≤◌, ◌<◌, ◌+◌, ◌*◌, ◌-◌, ◌++◌, ℕ, zero, suc, List, [], ◌∷◌, IsTrue, ap, arith, drop, length, refl, subst, sym, take, append_assoc, append-nil, length-append, take-append-drop}
+use Rattle.std.specs.Prelude.{Option, None, Some}
 use Rattle.std.proofs.lemmas.List.{drop-append-le, drop-drop, drop_all, length-drop, take-append-le, take_all}
 use Rattle.sqlite.specs.Effect.{Database}
 use Rattle.sqlite.specs.State.{State, HasCleanDisk}
@@ -13,6 +14,7 @@ use Rattle.relay.proofs.RoundLemmas.{same_none, same_then, service_then}
 use Rattle.database_commands.specs.Held.{ForAllRows, KeepsRows, ShowsAllRows}
 use Rattle.database_commands.specs.Pages.{max_page, pages_below, pages_text}
 use Rattle.database_commands.specs.Print.{batch_line}
+use Rattle.database_commands.specs.steps.Left.{IsNextPage}
 use Rattle.database_commands.proofs.PageLemmas.{all_pages}
 
 -- ---- the texts of pages
@@ -126,6 +128,29 @@ module _ (source : List ℕ) (base after : ℕ) (start now new : State) (text mo
         let short : length (take max_page left) < max_page = subst (λ (l : List EventValue). length l < max_page) page few in
         ap (λ l. sent.events ++ l) (page ∙ short_page max_page left short) ∙ sent.rest (clean_before clean) commands is,
   )
+
+-- the same of the rows that a page was put behind the text of, of a service that has this source and base
+pub sent_next : (source : List ℕ) (base after : ℕ) (start now new : State) (text more : List ℕ) (mark : ℕ) (s : List ℕ) (b : ℕ) (o : Option ℕ) (next : ℕ)
+    → s ≡ source → b ≡ base → Some next ≡ o → IsSent source base after start now text mark
+    → IsNextPage text more mark o (λ rows. HasCleanDisk new → ShowsAfter s b mark max_page now.now rows) → IsSame now new → (HasCleanDisk new → IsTrue now.is_open)
+    → IsSent source base after start new more next
+sent_next source base after start now new text more mark s b o next same_source same_base is sent page same opened =
+    let here : IsNextPage text more mark (Some next) (λ rows. HasCleanDisk new → ShowsAfter source base mark max_page now.now rows) =
+    subst (λ q. IsNextPage text more mark q (λ rows. HasCleanDisk new → ShowsAfter source base mark max_page now.now rows)) (sym is)
+    (subst (λ n. IsNextPage text more mark o (λ rows. HasCleanDisk new → ShowsAfter source n mark max_page now.now rows)) same_base
+    (subst (λ x. IsNextPage text more mark o (λ rows. HasCleanDisk new → ShowsAfter x b mark max_page now.now rows)) same_source page)) in
+    sent_more source base after start now new text more mark here.0 sent same opened here.3 here.1 next here.2.0 here.2.1
+
+pub sent_last : (source : List ℕ) (base after : ℕ) (start now new : State) (text more : List ℕ) (mark : ℕ) (s : List ℕ) (b : ℕ) (o : Option ℕ)
+    → s ≡ source → b ≡ base → ◌≡◌ {A = Option ℕ} None o → IsSent source base after start now text mark
+    → IsNextPage text more mark o (λ rows. HasCleanDisk new → ShowsAfter s b mark max_page now.now rows) → IsSame now new → (HasCleanDisk new → IsTrue now.is_open)
+    → (events : List EventValue) × (more ≡ pages_text events) × (HasCleanDisk new → ForAllRows source base after start.now (λ all. events ≡ all))
+sent_last source base after start now new text more mark s b o same_source same_base is sent page same opened =
+    let here : IsNextPage text more mark None (λ rows. HasCleanDisk new → ShowsAfter source base mark max_page now.now rows) =
+    subst (λ q. IsNextPage text more mark q (λ rows. HasCleanDisk new → ShowsAfter source base mark max_page now.now rows)) (sym is)
+    (subst (λ n. IsNextPage text more mark o (λ rows. HasCleanDisk new → ShowsAfter source n mark max_page now.now rows)) same_base
+    (subst (λ x. IsNextPage text more mark o (λ rows. HasCleanDisk new → ShowsAfter x b mark max_page now.now rows)) same_source page)) in
+    sent_all source base after start now new text more mark here.0 sent same opened here.3 here.1 here.2
 
 -- ---- the service of a database
 
