@@ -25,7 +25,9 @@ pub fn numbered_files<'a>(alloc: Global) -> Arg<'a>
 {
     Arg::new(alloc, "file")
         .value_name("FILE")
-        .help("Files of CloudEvents in JSON, each with a sequence of twenty digits, as 00000000000000000001; - is standard input")
+        .help(
+            "Files of CloudEvents in JSON, each with a sequence of twenty digits, as 00000000000000000001; - is standard input",
+        )
         .action(ArgAction::Append)
         .required(true)
 }

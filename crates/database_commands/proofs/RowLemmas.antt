@@ -1,15 +1,17 @@
 -- The rows of a service, page after page.
-use Rattle.std.proofs.Common.{◌≡◌, ◌∙◌, ◌≤◌, ◌<◌, ◌+◌, ◌*◌, ◌-◌, ◌++◌, ℕ, zero, suc, List, [], ◌∷◌, IsTrue, ap, arith, drop, length, refl, subst, sym, take, append_assoc, append-nil, length-append, take-append-drop}
+use Rattle.std.proofs.Common.{◌≡◌, ◌∙◌, ◌≤◌, ◌<◌, ◌+◌, ◌*◌, ◌-◌, ◌++◌, ℕ, zero, suc, List, [], ◌∷◌, IsTrue, ap, arith, drop, length, refl, subst, sym, take, append_assoc, append-nil, length-append, take-append-drop, Bool, true, false}
 use Rattle.std.specs.Prelude.{Option, None, Some}
 use Rattle.std.proofs.lemmas.List.{drop-append-le, drop-drop, drop_all, length-drop, take-append-le, take_all}
 use Rattle.sqlite.specs.Effect.{Database}
 use Rattle.sqlite.specs.State.{State, HasCleanDisk}
 use Rattle.attributes.specs.Event.{EventValue}
+use Rattle.database_layout.specs.Layout.{has_name}
 use Rattle.outbox.specs.Call.{IsSame, ShowsAfter}
 use Rattle.outbox.specs.Order.{Accepted}
 use Rattle.outbox.specs.Row.{rows_of}
 use Rattle.outbox.specs.Service.{IsService}
 use Rattle.outbox.specs.Shown.{HasNoOther}
+use Rattle.outbox.proofs.FoundLemmas.{has_all}
 use Rattle.relay.proofs.RoundLemmas.{same_none, same_then, service_then}
 use Rattle.database_commands.specs.Held.{ForAllRows, KeepsRows, ShowsAllRows}
 use Rattle.database_commands.specs.Pages.{max_page, pages_below, pages_text}
@@ -163,6 +165,10 @@ shown_all old mid source base after text events only is lines all s b commands b
     subst (λ x. IsService mid x base commands) (sym same.0) (subst (λ n. IsService mid s n commands) (sym same.1) (subst (λ db. IsService db s b commands) (sym is) box)) in
     let told : text ≡ pages_text (drop (after - base) (rows_of source base commands)) = lines ∙ ap pages_text (all commands here) in
     subst (λ x. text ≡ pages_text (drop (after - b) (rows_of x b commands))) same.0 (subst (λ n. text ≡ pages_text (drop (after - n) (rows_of source n commands))) same.1 told)
+
+-- a database without a table of a service's names has no service
+pub no_service : (db : Database) (source : List ℕ) (base : ℕ) (commands : List Accepted) (A : Type 0) → has_name db.schema ≡ false → IsService db source base commands → A
+no_service db source base commands A lacks box = absurd (let e : ◌≡◌ {A = Bool} true false = sym (ap has_name box.schema ∙ has_all box.layout) ∙ lacks in cc)
 
 -- a database that is as it was
 pub rows_kept : (old new : Database) → new ≡ old → KeepsRows old new
