@@ -10,8 +10,8 @@ pub returns-in-Ok-open-clause-until : goal.returns-in-Ok-open-clause-until
 returns-in-Ok-open-clause-until g c =
     IfErr-weaker c.follow-conn.result.outcome _ _ (λ f until. until_begun _ _ _ _ f c.in-Ok.ensures until) c.follow-conn.ensures.until
 
-pub returns-in-Err-open-clause-until : goal.returns-in-Err-open-clause-until
-returns-in-Err-open-clause-until g c = tells_none (g.R.Read.remaining c.args.input.now) (g.W.Write.contents c.args.out.now)
+pub returns-clause-until : goal.returns-clause-until
+returns-clause-until g c = tells_none (g.R.Read.remaining c.args.input.now) (g.W.Write.contents c.args.out.now)
 
 pub returns-in-Err-clause-until : goal.returns-in-Err-clause-until
 returns-in-Err-clause-until g c = tells_none (g.R.Read.remaining c.args.input.now) (g.W.Write.contents c.args.out.now)
