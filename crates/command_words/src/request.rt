@@ -46,10 +46,12 @@ pub enum Plan {
     },
     /// A command to the service of a database.
     Order(Request),
-    /// The rows of a service's outbox with a number greater than `after`.
+    /// The rows of a service's outbox with a number greater than `after`: the next page of them, or
+    /// all.
     Relay {
         db: Text,
         after: u64,
+        is_all: bool,
     },
 }
 

@@ -2,3 +2,4 @@ mod HeldLemmas
 mod StreamLemmas
 mod PageLemmas
 mod ServedLemmas
+mod RowLemmas
