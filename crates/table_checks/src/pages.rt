@@ -1,7 +1,7 @@
 //! What no contract says of the commands that only read a database: that calls succeed with ample
 //! memory, that pages have the numbers of events that are meant, and that no inbox is made.
 
-use crate::fixture::{C1, E1, OUTBOX, database, event, has, with_old_inbox};
+use crate::fixture::{C1, E1, INBOX, OLD_C1, OLD_E1, OUTBOX, database, event, has};
 use crate::tables::created;
 use attributes::{Batch, Text};
 use coverage::Summary;
@@ -213,7 +213,7 @@ fn a_database_without_an_inbox_has_no_pages(rt: HostRuntime) {
 
 #[test]
 fn an_old_inbox_is_held(rt: HostRuntime) {
-    let old = with_old_inbox(&rt, database(&rt, &[]), &[("a1", 1, E1), ("c", 1024, C1)]);
+    let old = database(&rt, &[INBOX, OLD_E1, OLD_C1]);
     let Contents { conn: _, events } = held(rt.alloc(), old);
     assert!(rt; are(&events, &[E1, C1]));
 }
