@@ -3,7 +3,7 @@
 //! is one, in [`ran`].
 
 use crate::files::{Work, found, worked};
-use crate::stops::{Call, call_made, looked, prepared};
+use crate::stops::{Call, call_made, looked_over, prepared};
 use sqlite::{Alter, Connection, FileStore, Files, Options};
 use sqlite_disk::{Disk, Fuse, Memory};
 use std::process::Abort;
@@ -57,7 +57,7 @@ fn acted<R: AllocGlobal + Wait + Abort, S: Alter + Drop>(
             is_done: true,
         },
         Act::Make(call) => call_made(rt, conn, call),
-        Act::Look(call, is_done) => looked(rt, conn, call, is_done),
+        Act::Look(call, is_done) => looked_over(rt, conn, call, is_done),
     }
 }
 

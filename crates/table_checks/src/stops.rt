@@ -401,7 +401,7 @@ fn has_one_version<S: Alter>(conn: &mut Connection<S>, call: Call, is_done: bool
 }
 
 /// Looks at the rows of the service and the events of the inbox.
-fn held<R: AllocGlobal, S: Alter + Drop>(rt: &R, conn: Connection<S>) -> (Connection<S>, Held) {
+fn held_by<R: AllocGlobal, S: Alter + Drop>(rt: &R, conn: Connection<S>) -> (Connection<S>, Held) {
     let Looked { conn, part: rows } = looked_at_rows(rt, conn);
     let Looked { conn, part: events } = looked_at_events(rt, conn);
     (conn, Held { rows, events })
@@ -415,7 +415,7 @@ fn made_again<R: AllocGlobal + Wait + Abort, S: Alter + Drop>(
     after: Held,
 ) -> Tried<S> {
     let Tried { conn, is_done } = call_made(rt, conn, call);
-    let (conn, held) = held(rt, conn);
+    let (conn, held) = held_by(rt, conn);
     let is_done = is_done && held == after;
     Tried { conn, is_done }
 }
@@ -423,7 +423,7 @@ fn made_again<R: AllocGlobal + Wait + Abort, S: Alter + Drop>(
 /// Whether a database that a stop left has what it had before the call, where the call didn't
 /// answer, or what the call commits. From before the call it is made again, and then goes through:
 /// so it is seen that a table that isn't there can be made.
-pub(crate) fn looked<R: AllocGlobal + Wait + Abort, S: Alter + Drop>(
+pub(crate) fn looked_over<R: AllocGlobal + Wait + Abort, S: Alter + Drop>(
     rt: &R,
     conn: Connection<S>,
     call: Call,
@@ -432,7 +432,7 @@ pub(crate) fn looked<R: AllocGlobal + Wait + Abort, S: Alter + Drop>(
     let mut conn = conn;
     let has_one = has_one_version(&mut conn, call, is_done);
     let (before, after) = before_and_after(call);
-    let (conn, held) = held(rt, conn);
+    let (conn, held) = held_by(rt, conn);
     if has_one && held == before && held != after && !is_done {
         return made_again(rt, conn, call, after);
     }
