@@ -9,7 +9,7 @@ ghost use Rattle.sqlite.specs.Held.{state};
 ghost use Rattle.keeper.specs.Keep.{KeepsUp};
 
 use crate::disks::{Act, Run, Tried, empty, file_of, ran};
-use crate::fixture::{E1, E2, E3, INBOX, after, batch};
+use crate::fixture::{E1, E2, E3, INBOX, after, batch, has};
 use crate::keepers::take;
 use crate::orders::{accepts_now, created as new_service};
 use crate::tables::created as new_table;
@@ -73,7 +73,7 @@ pub(crate) enum Call {
 }
 
 /// What a file has of a list.
-#[derive(Clone, Copy, Debug, PartialEq)]
+#[derive(Clone, Copy, PartialEq)]
 enum Part {
     /// No table of it.
     Absent,
@@ -83,7 +83,7 @@ enum Part {
 }
 
 /// What a file has: the rows of the service, the events of the inbox.
-#[derive(Clone, Copy, Debug, PartialEq)]
+#[derive(Clone, Copy, PartialEq)]
 struct Held {
     rows: Part,
     events: Part,
@@ -335,13 +335,8 @@ pub(crate) fn call_made<R: AllocGlobal + Wait + Abort, S: Alter + Drop>(
 /// How many of the texts the events are, from the first on.
 fn first_of(events: &Batch, texts: &[&str; 3]) -> Part {
     let count = events.len();
-    if count > 3 {
+    if count > 3 || !has(events, &texts[..count as usize]) {
         return Part::Other;
-    }
-    for (i, text) in (0u64..3).zip(texts) {
-        if i < count && events.at(i).event().text() != *text {
-            return Part::Other;
-        }
     }
     Part::First(count)
 }
@@ -447,18 +442,30 @@ fn copy<R: AllocGlobal + Abort>(rt: &R, bytes: &[u8]) -> Vec<u8> {
     copy
 }
 
+/// The byte at a place of a mixture: the written one, or at an odd place the one that was synced, or
+/// another behind the end of those.
+fn mixed(written: u8, synced: &[u8], place: usize) -> u8 {
+    if place % 2 == 0 {
+        return written;
+    }
+    match synced.get(place) {
+        Some(byte) => *byte,
+        None => 0xa5,
+    }
+}
+
+/// Makes the written bytes a mixture.
+fn mix(bytes: &mut [u8], synced: &[u8]) {
+    for place in 0..bytes.len() {
+        bytes[place] = mixed(bytes[place], synced, place);
+    }
+}
+
 /// The written bytes, and at odd places those that were synced, or others behind their end. Where
 /// both agree nothing may have changed, and so nothing is.
 fn mixture<R: AllocGlobal + Abort>(rt: &R, written: &[u8], synced: &[u8]) -> Vec<u8> {
-    let mut mixture = Vec::new(rt.alloc());
-    for i in 0..written.len() {
-        let byte = match synced.get(i) {
-            Some(byte) => *byte,
-            None => 0xa5,
-        };
-        let byte = if i % 2 == 0 { written[i] } else { byte };
-        assert!(rt; mixture.push(byte).is_ok());
-    }
+    let mut mixture = copy(rt, written);
+    mix(mixture.as_mut_slice(), synced);
     mixture
 }
 

@@ -34,6 +34,17 @@ impl Gate for First {
     fn after(&self, _worker: u64, _call: u64) {}
 }
 
+/// Feeds a site these bytes.
+fn fed_bytes<G: Gate>(
+    alloc: Global,
+    site: &mut Site,
+    gate: &G,
+    worker: u64,
+    bytes: &[u8],
+) -> Report {
+    feed(alloc, site, gate, worker, bytes)
+}
+
 /// Feeds a site the batch of so many events, with the numbers from `first` on.
 fn fed<G: Gate>(
     alloc: Global,
@@ -44,7 +55,7 @@ fn fed<G: Gate>(
     count: u64,
 ) -> Option<Report> {
     match json_batch(alloc, first, count) {
-        Ok(text) => Some(feed(alloc, site, gate, worker, text.as_str().as_bytes())),
+        Ok(text) => Some(fed_bytes(alloc, site, gate, worker, text.as_str().as_bytes())),
         Err(_) => None,
     }
 }
@@ -86,16 +97,15 @@ fn an_event_without_a_number_is_refused(rt: HostRuntime) {
     let text = "[{\"specversion\":\"1.0\",\"id\":\"x\",\"source\":\"/orders\",\"type\":\"t.a\"},
         {\"specversion\":\"1.0\",\"id\":\"e1\",\"source\":\"/orders\",\"type\":\"t.a\",
         \"sequence\":\"00000000000000000001\"}]";
-    let done = feed(rt.alloc(), &mut site, &Wide, 0, text.as_bytes());
-    assert!(rt; done == report(1, 0, 1, Ended::Done));
-    assert!(rt; done.read == 2);
+    let done = fed_bytes(rt.alloc(), &mut site, &Wide, 0, text.as_bytes());
+    assert!(rt; done == report(1, 0, 1, Ended::Done) && done.read == 2);
     assert!(rt; site.arrived() == 1);
 }
 
 #[test]
 fn an_input_that_spells_no_events_is_named(rt: HostRuntime) {
     let mut site = Site::empty(rt.alloc());
-    let bad = feed(rt.alloc(), &mut site, &Wide, 0, "[1".as_bytes());
+    let bad = fed_bytes(rt.alloc(), &mut site, &Wide, 0, "[1".as_bytes());
     assert!(rt; bad == report(0, 0, 0, Ended::BadInput(ReadFault::NotJson)));
     assert!(rt; site.arrived() == 0);
 }
