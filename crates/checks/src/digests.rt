@@ -47,7 +47,7 @@ fn has_none(alloc: Global, batch: &Batch, source: &str, k: u64) -> bool {
 
 /// Events of one source: three in its first block, of which one comes twice and two have one
 /// number; the first number of the next block; and the greatest number.
-const ROWS: [Row<'static>; 6] = [
+static ROWS: [Row<'static>; 6] = [
     ("m", "09223372036854775807", "t.a", "", ""),
     ("a3", "00000000000000001024", "t.a", "", ""),
     ("z1", "00000000000000000001", "t.a", "", ""),
@@ -218,15 +218,23 @@ fn are_kept(alloc: Global, blocks: &Blocks, inbox: &Inbox, first: &str) -> bool 
         && is_kept(alloc, blocks, inbox, 9007199254740991, LAST)
 }
 
+/// Notes and takes the events of the rows but the one that comes twice, and answers whether it did.
+fn note_all(alloc: Global, blocks: &mut Blocks, inbox: &mut Inbox) -> bool {
+    for i in 0..ROWS.len() {
+        let is_new = i != 4;
+        if is_new && !(note(alloc, blocks, inbox, ROWS[i]) && take(alloc, inbox, ROWS[i])) {
+            return false;
+        }
+    }
+    true
+}
+
 #[test]
 fn an_event_more_changes_the_digest_of_its_own_block(rt: HostRuntime) {
     let alloc = rt.alloc();
     let mut blocks = Blocks::empty(alloc);
     let mut inbox = Inbox::empty(alloc);
-    for i in [0, 1, 2, 3, 5] {
-        assert!(rt; note(alloc, &mut blocks, &inbox, ROWS[i]));
-        assert!(rt; take(alloc, &mut inbox, ROWS[i]));
-    }
+    assert!(rt; note_all(alloc, &mut blocks, &mut inbox));
     assert!(rt; are_kept(alloc, &blocks, &inbox, FIRST));
     assert!(rt; blocks.mend(&inbox).is_ok() && are_kept(alloc, &blocks, &inbox, FIRST));
     assert!(rt; note(alloc, &mut blocks, &inbox, MORE) && forget(alloc, &mut blocks, MORE));

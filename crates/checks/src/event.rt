@@ -17,22 +17,23 @@ pub fn set(alloc: Global, parts: &mut Parts, name: &str, text: &str) -> Result<(
     parts.set(name, given(alloc, text)?)
 }
 
+/// Sets an attribute, if the text isn't empty.
+fn set_some(alloc: Global, parts: &mut Parts, name: &str, text: &str) -> Result<(), AllocError> {
+    if text.is_empty() {
+        return Ok(());
+    }
+    set(alloc, parts, name, text)
+}
+
 /// Sets the attributes of a row.
 fn set_row(alloc: Global, parts: &mut Parts, row: Row<'_>) -> Result<(), AllocError> {
-    for (name, text) in [
-        ("specversion", "1.0"),
-        ("source", "/orders"),
-        ("id", row.0),
-        ("sequence", row.1),
-        ("type", row.2),
-        ("subject", row.3),
-        ("time", row.4),
-    ] {
-        if !text.is_empty() {
-            set(alloc, parts, name, text)?;
-        }
-    }
-    Ok(())
+    set(alloc, parts, "specversion", "1.0")?;
+    set(alloc, parts, "source", "/orders")?;
+    set_some(alloc, parts, "id", row.0)?;
+    set_some(alloc, parts, "sequence", row.1)?;
+    set_some(alloc, parts, "type", row.2)?;
+    set_some(alloc, parts, "subject", row.3)?;
+    set_some(alloc, parts, "time", row.4)
 }
 
 /// The event of parts that have no fault.

@@ -1,5 +1,5 @@
 use crate::event::{is_text, is_written};
-use attributes::{Batch, Event, Fault, Sequenced};
+use attributes::{Batch, Event, Events, Fault, Sequenced};
 use event_json::{ReadFault, read_events, write_batch, write_event, write_sequenced};
 use std::alloc::{AllocError, Global};
 
@@ -205,23 +205,23 @@ fn deep_batch(alloc: Global, depth: u64) -> Result<String, AllocError> {
     format!(in alloc; "[{event}]")
 }
 
-// The event's object is a level of its own, and so is a batch.
+// How deep an event's data is, and the answers to the event and to its batch. The event's object is
+// a level of its own, and so is a batch.
+static DEPTHS: [(u64, &str, &str); 5] = [
+    (120, "1 read", "1 read"),
+    (121, "event 0: TooDeep", "event 0: TooDeep"),
+    (125, "event 0: TooDeep", "event 0: TooDeep"),
+    (126, "event 0: TooDeep", "not JSON"),
+    (127, "not JSON", "not JSON"),
+];
+
 #[test]
 fn deep_data_are_refused(rt: HostRuntime) {
     let alloc = rt.alloc();
-    for (depth, want, in_batch) in [
-        (120, "1 read", "1 read"),
-        (121, "event 0: TooDeep", "event 0: TooDeep"),
-        (125, "event 0: TooDeep", "event 0: TooDeep"),
-        (126, "event 0: TooDeep", "not JSON"),
-        (127, "not JSON", "not JSON"),
-    ] {
+    for (depth, want, in_batch) in &DEPTHS {
         assert!(rt;
-            text_answers(alloc, deep_event(alloc, depth), want),
-            "at {depth}"
-        );
-        assert!(rt;
-            text_answers(alloc, deep_batch(alloc, depth), in_batch),
+            text_answers(alloc, deep_event(alloc, *depth), want)
+                && text_answers(alloc, deep_batch(alloc, *depth), in_batch),
             "at {depth}"
         );
     }
@@ -260,27 +260,30 @@ fn long_texts_are_refused(rt: HostRuntime) {
     assert!(rt; spaces_answer(alloc, 33_554_433, "too large"));
 }
 
+// Whether a refusal has this number and these words.
+fn is_called(alloc: Global, refusal: ReadFault, number: u8, words: &str) -> bool {
+    refusal.number() == number && is_written(format!(in alloc; "{refusal}"), words)
+}
+
+static REFUSALS: [(ReadFault, u8, &str); 5] = [
+    (ReadFault::OutOfMemory, 1, "out of memory"),
+    (ReadFault::NotJson, 2, "not JSON"),
+    (ReadFault::NotEvent, 3, "not an event or a batch"),
+    (
+        ReadFault::BadEvent {
+            index: 7,
+            fault: Fault::TooLarge,
+        },
+        4,
+        "event 7: TooLarge",
+    ),
+    (ReadFault::InputTooLarge, 5, "too large"),
+];
+
 #[test]
 fn refusals_are_numbered(rt: HostRuntime) {
-    for (refusal, number, words) in [
-        (ReadFault::OutOfMemory, 1, "out of memory"),
-        (ReadFault::NotJson, 2, "not JSON"),
-        (ReadFault::NotEvent, 3, "not an event or a batch"),
-        (
-            ReadFault::BadEvent {
-                index: 7,
-                fault: Fault::TooLarge,
-            },
-            4,
-            "event 7: TooLarge",
-        ),
-        (ReadFault::InputTooLarge, 5, "too large"),
-    ] {
-        assert_eq!(rt; refusal.number(), number);
-        assert!(rt;
-            is_written(format!(in rt.alloc(); "{refusal}"), words),
-            "{words}"
-        );
+    for (refusal, number, words) in &REFUSALS {
+        assert!(rt; is_called(rt.alloc(), *refusal, *number, words), "{words}");
     }
 }
 
@@ -302,13 +305,11 @@ fn is_batch_written(alloc: Global, text: &str) -> bool {
 
 #[test]
 fn events_are_written(rt: HostRuntime) {
-    assert_eq!(rt; CANONICAL.len(), 111);
+    assert!(rt; CANONICAL.len() == 111);
     for (text, want) in &WRITTEN {
         assert!(rt; is_event_written(rt.alloc(), text, want), "{want}");
     }
-    for text in ["[]", PAIR] {
-        assert!(rt; is_batch_written(rt.alloc(), text), "{text}");
-    }
+    assert!(rt; is_batch_written(rt.alloc(), "[]") && is_batch_written(rt.alloc(), PAIR));
 }
 
 // The copy of an event with a number.
@@ -346,18 +347,26 @@ fn numbered_events_are_written(rt: HostRuntime) {
     assert!(rt; is_text(write_sequenced(alloc, &batch), want.as_str()));
 }
 
+// Whether the batch of the one event is written with its length, where there is memory.
+fn has_its_length(alloc: Global, events: &Events) -> bool {
+    match write_batch(alloc, events) {
+        Ok(text) => text.as_str().len() == 113,
+        Err(_) => true,
+    }
+}
+
+// Whether the one event is read and written, where there is memory, and nothing else is refused.
+fn is_read_or_short(alloc: Global) -> bool {
+    match read_events(alloc, LONG.as_bytes()) {
+        Ok(events) => events.len() == 1 && has_its_length(alloc, &events),
+        Err(refusal) => refusal == ReadFault::OutOfMemory,
+    }
+}
+
 // With any one allocation refused, this still ends well or by want of memory.
 #[test]
 fn want_of_memory_is_no_other_refusal(rt: HostRuntime) {
-    match read_events(rt.alloc(), LONG.as_bytes()) {
-        Ok(events) => {
-            assert_eq!(rt; events.len(), 1);
-            if let Ok(text) = write_batch(rt.alloc(), &events) {
-                assert_eq!(rt; text.as_str().len(), 113);
-            }
-        }
-        Err(refusal) => assert_eq!(rt; refusal, ReadFault::OutOfMemory),
-    }
+    assert!(rt; is_read_or_short(rt.alloc()));
 }
 
 const SHORT: &str = r#"{"id":"1","source":"/o","specversion":"1.0","type":"t"}"#;

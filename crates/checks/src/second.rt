@@ -100,6 +100,15 @@ static READ: [(&str, &str); 5] = [
     ),
 ];
 
+// Blocks, and whether their numbers are among those four.
+static BLOCKS: [(u64, bool); 5] = [
+    (0, true),
+    (1, true),
+    (2, false),
+    (9_007_199_254_740_991, true),
+    (9_007_199_254_740_992, false),
+];
+
 #[test]
 fn texts_with_digests_are_read_back(rt: HostRuntime) {
     let alloc = rt.alloc();
@@ -107,14 +116,8 @@ fn texts_with_digests_are_read_back(rt: HostRuntime) {
         assert!(rt; is_read_back(alloc, *row), "{}", row.0);
     }
     assert!(rt; is_read_back(alloc, FOUR));
-    for (k, wanted) in [
-        (0, true),
-        (1, true),
-        (2, false),
-        (9_007_199_254_740_991, true),
-        (9_007_199_254_740_992, false),
-    ] {
-        assert!(rt; has_digest(alloc, FOUR, k) == Some(wanted), "{k}");
+    for (k, wanted) in &BLOCKS {
+        assert!(rt; has_digest(alloc, FOUR, *k) == Some(*wanted), "{k}");
     }
 }
 
@@ -156,24 +159,25 @@ static NOT_CANONICAL: [(&str, &str); 17] = [
     ),
 ];
 
+// What stands in place of a digest.
+static DIGITS: [&str; 4] = [CAPITAL, SHORT, OTHER, ""];
+
+// Members in another order, and a space.
+static OTHER_ORDER: [&str; 2] = [
+    r#"{"sources":{},"blocks":{},"version":2}"#,
+    r#"{"blocks":{},"sources":{},"version": 2}"#,
+];
+
 #[test]
 fn texts_that_no_digests_have_are_refused(rt: HostRuntime) {
     let alloc = rt.alloc();
-    for row in &NOT_CANONICAL {
-        assert!(rt;
-            is_not_canonical(alloc, *row, DIGEST),
-            "{} {}",
-            row.0,
-            row.1
-        );
+    for i in 0..NOT_CANONICAL.len() {
+        assert!(rt; is_not_canonical(alloc, NOT_CANONICAL[i], DIGEST), "at {i}");
     }
-    for digits in [CAPITAL, SHORT, OTHER, ""] {
+    for digits in &DIGITS {
         assert!(rt; is_not_canonical(alloc, READ[1], digits), "{digits}");
     }
-    for text in [
-        r#"{"sources":{},"blocks":{},"version":2}"#,
-        r#"{"blocks":{},"sources":{},"version": 2}"#,
-    ] {
+    for text in &OTHER_ORDER {
         assert!(rt;
             is_refused(alloc, text, SummaryFault::NotCanonical),
             "{text}"
@@ -196,16 +200,18 @@ static SHAPELESS: [&str; 12] = [
     r#"{"blocks":{},"sources":{},"version":1}"#,
 ];
 
+static OTHER_VERSIONS: [&str; 2] = [
+    r#"{"blocks":{},"sources":{},"version":3}"#,
+    r#"{"blocks":{},"sources":{},"version":0}"#,
+];
+
 #[test]
 fn texts_of_other_members_are_refused(rt: HostRuntime) {
     let alloc = rt.alloc();
     for text in &SHAPELESS {
         assert!(rt; is_refused(alloc, text, SummaryFault::Shape), "{text}");
     }
-    for text in [
-        r#"{"blocks":{},"sources":{},"version":3}"#,
-        r#"{"blocks":{},"sources":{},"version":0}"#,
-    ] {
+    for text in &OTHER_VERSIONS {
         assert!(rt; is_refused(alloc, text, SummaryFault::Version), "{text}");
     }
 }

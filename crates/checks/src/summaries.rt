@@ -88,7 +88,7 @@ fn a_union_is_a_set_of_its_own(rt: HostRuntime) {
         .expect(&rt, "no memory")
         .union(&held)
         .expect(&rt, "no memory");
-    assert_eq!(rt; all.size(), 5);
+    assert!(rt; all.size() == 5);
     assert!(rt; unites(alloc, &all, &[], &[(1, 5)]));
     assert!(rt; is_set(all.copy(), &[(1, 5)]));
     assert!(rt; is_same(alloc, &all, &[(1, 5)]) == Some(true));
@@ -112,8 +112,8 @@ fn differences(rt: HostRuntime) {
     let mut late = Intervals::empty(alloc);
     assert!(rt; fill(&mut late, &[(4, 5)]));
     assert!(rt; is_set(late.missing(), &[(1, 3)]));
-    assert_eq!(rt; late.greatest(), Some(5));
-    assert_eq!(rt; Intervals::empty(alloc).greatest(), None);
+    assert!(rt; late.greatest() == Some(5));
+    assert!(rt; Intervals::empty(alloc).greatest().is_none());
 }
 
 /// Whether a set contains a number.
@@ -167,21 +167,19 @@ fn is_odd(set: &Intervals) -> bool {
 #[test]
 fn odd_numbers_and_then_even_ones(rt: HostRuntime) {
     let mut held = Intervals::empty(rt.alloc());
-    assert!(rt; fill_odd(&mut held));
-    assert!(rt; is_odd(&held));
-    assert_eq!(rt; held.size(), 100);
-    assert!(rt; fill_even(&mut held));
-    assert!(rt; has(&held, &[(1, 199)]));
-    assert_eq!(rt; held.size(), 199);
+    assert!(rt; fill_odd(&mut held) && is_odd(&held) && held.size() == 100);
+    assert!(rt; fill_even(&mut held) && has(&held, &[(1, 199)]) && held.size() == 199);
 }
 
 #[test]
 fn next_spans(rt: HostRuntime) {
     let mut held = Intervals::empty(rt.alloc());
     assert!(rt; fill(&mut held, &[(1, 2), (5, 5)]));
-    assert_eq!(rt; held.next_span(1), Some((1, 2)));
-    assert_eq!(rt; held.next_span(2), Some((5, 5)));
-    assert_eq!(rt; held.next_span(6), None);
+    assert!(rt;
+        held.next_span(1) == Some((1, 2))
+            && held.next_span(2) == Some((5, 5))
+            && held.next_span(6).is_none()
+    );
 }
 
 /// The plain program: a sorted list of pairs, joined anew at each insert.
@@ -397,13 +395,15 @@ fn is_read_back(alloc: Global, text: &str) -> bool {
     }
 }
 
+static READ: [&str; 3] = [
+    r#"{"sources":{},"version":1}"#,
+    r#"{"sources":{"/orders":[[1,2],[5,5]]},"version":1}"#,
+    r#"{"sources":{"/a":[[1,1]],"/orders":[[3,4],[9,9223372036854775807]]},"version":1}"#,
+];
+
 #[test]
 fn texts_are_read_back(rt: HostRuntime) {
-    for text in [
-        r#"{"sources":{},"version":1}"#,
-        r#"{"sources":{"/orders":[[1,2],[5,5]]},"version":1}"#,
-        r#"{"sources":{"/a":[[1,1]],"/orders":[[3,4],[9,9223372036854775807]]},"version":1}"#,
-    ] {
+    for text in &READ {
         assert!(rt; is_read_back(rt.alloc(), text), "{text}");
     }
 }
@@ -433,6 +433,13 @@ static SHAPELESS: [&str; 9] = [
     r#"{"sources":{},"version":null}"#,
 ];
 
+static OTHERS: [(&str, SummaryFault); 4] = [
+    (r#"{"sources":{},"version":3}"#, SummaryFault::Version),
+    (r#"{"version":3,"x":0}"#, SummaryFault::Version),
+    ("{", SummaryFault::NotJson),
+    ("", SummaryFault::NotJson),
+];
+
 #[test]
 fn texts_are_refused(rt: HostRuntime) {
     let alloc = rt.alloc();
@@ -444,30 +451,28 @@ fn texts_are_refused(rt: HostRuntime) {
         let found = fault_of(alloc, text);
         assert!(rt; found == Some(SummaryFault::Shape), "{text}");
     }
-    for (text, wanted) in [
-        (r#"{"sources":{},"version":3}"#, SummaryFault::Version),
-        (r#"{"version":3,"x":0}"#, SummaryFault::Version),
-        ("{", SummaryFault::NotJson),
-        ("", SummaryFault::NotJson),
-    ] {
-        assert!(rt; fault_of(alloc, text) == Some(wanted), "{text}");
+    for (text, wanted) in &OTHERS {
+        assert!(rt; fault_of(alloc, text) == Some(*wanted), "{text}");
     }
 }
 
+/// Whether a fault has this number and this name.
+fn is_called(alloc: Global, fault: SummaryFault, number: u8, name: &str) -> bool {
+    fault.number() == number && is_written(format!(in alloc; "{fault}"), name)
+}
+
+static FAULTS: [(SummaryFault, u8, &str); 5] = [
+    (SummaryFault::OutOfMemory, 1, "OutOfMemory"),
+    (SummaryFault::NotJson, 2, "NotJson"),
+    (SummaryFault::Shape, 3, "Shape"),
+    (SummaryFault::Version, 4, "Version"),
+    (SummaryFault::NotCanonical, 5, "NotCanonical"),
+];
+
 #[test]
 fn faults_have_numbers_and_names(rt: HostRuntime) {
-    for (fault, number, name) in [
-        (SummaryFault::OutOfMemory, 1, "OutOfMemory"),
-        (SummaryFault::NotJson, 2, "NotJson"),
-        (SummaryFault::Shape, 3, "Shape"),
-        (SummaryFault::Version, 4, "Version"),
-        (SummaryFault::NotCanonical, 5, "NotCanonical"),
-    ] {
-        assert_eq!(rt; fault.number(), number);
-        assert!(rt;
-            is_written(format!(in rt.alloc(); "{fault}"), name),
-            "{name}"
-        );
+    for (fault, number, name) in &FAULTS {
+        assert!(rt; is_called(rt.alloc(), *fault, *number, name), "{name}");
     }
 }
 
@@ -557,8 +562,7 @@ fn sources_in_any_order(rt: HostRuntime) {
     let mut ascending = Summary::empty(rt.alloc());
     assert!(rt; add_stepped(rt.alloc(), &mut ascending, 1));
     assert!(rt; is_in_place(rt.alloc(), &ascending));
-    assert_eq!(rt; ascending.len(), 500);
-    assert_eq!(rt; ascending.source_at(499), "/source/0499");
+    assert!(rt; ascending.len() == 500 && ascending.source_at(499) == "/source/0499");
     assert!(rt; is_same_in_order(rt.alloc(), &ascending, 499));
     assert!(rt; is_same_in_order(rt.alloc(), &ascending, 137));
 }

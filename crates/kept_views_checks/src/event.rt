@@ -18,22 +18,23 @@ fn set_number(alloc: Global, parts: &mut Parts, number: u64) -> Result<(), Alloc
     set(alloc, parts, "sequence", digits.as_str())
 }
 
+/// Sets an attribute, if the text isn't empty.
+fn set_some(alloc: Global, parts: &mut Parts, name: &str, text: &str) -> Result<(), AllocError> {
+    if text.is_empty() {
+        return Ok(());
+    }
+    set(alloc, parts, name, text)
+}
+
 /// Sets the attributes of a row.
 fn set_row(alloc: Global, parts: &mut Parts, row: Row<'_>) -> Result<(), AllocError> {
     let (id, number, kind, subject) = row;
     set_number(alloc, parts, number)?;
-    for (name, text) in [
-        ("specversion", "1.0"),
-        ("source", "/orders"),
-        ("id", id),
-        ("type", kind),
-        ("subject", subject),
-    ] {
-        if !text.is_empty() {
-            set(alloc, parts, name, text)?;
-        }
-    }
-    Ok(())
+    set(alloc, parts, "specversion", "1.0")?;
+    set(alloc, parts, "source", "/orders")?;
+    set_some(alloc, parts, "id", id)?;
+    set_some(alloc, parts, "type", kind)?;
+    set_some(alloc, parts, "subject", subject)
 }
 
 /// The event of parts that have no fault.

@@ -27,7 +27,7 @@ struct Stop {
 }
 
 // The site that restarts without a flush, after how many steps, and what the sites cover then.
-const UNFLUSHED: [(u32, u32, [&str; 3]); 18] = [
+static UNFLUSHED: [(u32, u32, [&str; 3]); 18] = [
     // It has nothing yet, and so loses nothing.
     (0, 0, [ALL, LAST, ALL]),
     (1, 0, [ALL, LAST, ALL]),
@@ -57,7 +57,7 @@ const UNFLUSHED: [(u32, u32, [&str; 3]); 18] = [
 
 // The site that restarts directly after a flush, after how many steps, and how many events it
 // keeps.
-const FLUSHED: [(u32, u32, u64); 18] = [
+static FLUSHED: [(u32, u32, u64); 18] = [
     (0, 0, 0),
     (0, 1, 2),
     (0, 2, 2),
@@ -80,7 +80,7 @@ const FLUSHED: [(u32, u32, u64); 18] = [
 
 // A site, after how many steps it is flushed, after how many it restarts, what the sites cover
 // then, and how many events it keeps.
-const APART: [(u32, u32, u32, [&str; 3], u64); 8] = [
+static APART: [(u32, u32, u32, [&str; 3], u64); 8] = [
     (0, 0, 1, [LAST, LAST, LAST], 0),
     (0, 1, 2, [ALL, LAST, ALL], 2),
     (0, 1, 5, [FIRST, LAST, ALL], 2),
@@ -153,45 +153,39 @@ fn leaves(alloc: Global, stop: Stop, covers: [&str; 3], kept: u64) -> bool {
 
 #[test]
 fn a_restart_without_a_flush_loses_all(rt: HostRuntime) {
-    for (site, restart, covers) in UNFLUSHED {
+    for i in 0..UNFLUSHED.len() {
+        let (site, restart, covers) = UNFLUSHED[i];
         let stop = Stop {
             site,
             flush: None,
             restart,
         };
-        assert!(rt;
-            leaves(rt.alloc(), stop, covers, 0),
-            "{site} after {restart}"
-        );
+        assert!(rt; leaves(rt.alloc(), stop, covers, 0), "at {i}");
     }
 }
 
 #[test]
 fn a_restart_directly_after_a_flush_loses_nothing(rt: HostRuntime) {
-    for (site, restart, kept) in FLUSHED {
+    for i in 0..FLUSHED.len() {
+        let (site, restart, kept) = FLUSHED[i];
         let stop = Stop {
             site,
             flush: Some(restart),
             restart,
         };
-        assert!(rt;
-            leaves(rt.alloc(), stop, [ALL, LAST, ALL], kept),
-            "{site} after {restart}"
-        );
+        assert!(rt; leaves(rt.alloc(), stop, [ALL, LAST, ALL], kept), "at {i}");
     }
 }
 
 #[test]
 fn a_restart_loses_what_came_after_the_flush(rt: HostRuntime) {
-    for (site, flush, restart, covers, kept) in APART {
+    for i in 0..APART.len() {
+        let (site, flush, restart, covers, kept) = APART[i];
         let stop = Stop {
             site,
             flush: Some(flush),
             restart,
         };
-        assert!(rt;
-            leaves(rt.alloc(), stop, covers, kept),
-            "{site} after {flush} and {restart}"
-        );
+        assert!(rt; leaves(rt.alloc(), stop, covers, kept), "at {i}");
     }
 }

@@ -57,7 +57,7 @@ fn add_three_sites(alloc: Global, steps: &mut Steps) -> bool {
 fn three_sites_exchange(rt: HostRuntime) {
     let mut steps = Steps::empty(rt.alloc());
     assert!(rt; add_three_sites(rt.alloc(), &mut steps));
-    assert_eq!(rt; steps.len(), 5);
+    assert!(rt; steps.len() == 5);
     assert!(rt; !steps.fits(2));
     let world = world_of(rt.alloc(), 3, &steps).expect(&rt, "no memory");
     let all = "{\"sources\":{\"/orders\":[[1,3]]},\"version\":1}";
@@ -115,5 +115,5 @@ fn a_site_exchanges_with_itself(rt: HostRuntime) {
 #[test]
 fn a_world_may_have_no_site(rt: HostRuntime) {
     let world = world_of(rt.alloc(), 0, &Steps::empty(rt.alloc())).expect(&rt, "no memory");
-    assert_eq!(rt; world.sites(), 0);
+    assert!(rt; world.sites() == 0);
 }

@@ -14,7 +14,7 @@ const WORLDS: u64 = 1_000;
 
 /// The events that come. The first two have one source and id, the first three one number. The last
 /// two stand in a block of their own.
-const ROWS: [Row<'static>; 8] = [
+static ROWS: [Row<'static>; 8] = [
     ("a1", 1, "t.a", "x"),
     ("a1", 1, "t.b", "y"),
     ("p", 1, "t.a", "x"),
@@ -263,14 +263,30 @@ fn add_event(alloc: Global, events: &mut Vec<Sequenced>, row: Row<'_>) -> bool {
     }
 }
 
+/// Adds the events of all rows, and answers whether it did.
+fn add_events(alloc: Global, events: &mut Vec<Sequenced>) -> bool {
+    for row in &ROWS {
+        if !add_event(alloc, events, *row) {
+            return false;
+        }
+    }
+    true
+}
+
+/// Whether all random schedules give what a plain reader expects.
+fn are_good(alloc: Global, dice: &mut Dice, events: &[Sequenced]) -> bool {
+    for _world in 0..WORLDS {
+        if !is_good(alloc, dice, events) {
+            return false;
+        }
+    }
+    true
+}
+
 #[test]
 fn random_worlds_are_what_their_steps_give(rt: HostRuntime) {
     let mut events = Vec::new(rt.alloc());
     let mut dice = Dice { state: 1 };
-    for row in ROWS {
-        assert!(rt; add_event(rt.alloc(), &mut events, row));
-    }
-    for _world in 0..WORLDS {
-        assert!(rt; is_good(rt.alloc(), &mut dice, &events));
-    }
+    assert!(rt; add_events(rt.alloc(), &mut events));
+    assert!(rt; are_good(rt.alloc(), &mut dice, &events));
 }

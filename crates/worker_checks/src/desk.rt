@@ -86,10 +86,10 @@ const FIRST: &str = concat!(
 fn ask_desk(rt: &impl Abort, alloc: Global, site: &mut Site, peer: &Summary) {
     assert!(rt; takes_three(alloc, site));
     assert!(rt; is_text(peer.to_text(), FIRST));
-    assert_eq!(rt; delta_digits(site, peer, 0), Some(123));
-    assert_eq!(rt; delta_digits(site, peer, 1), Some(23));
-    assert_eq!(rt; page_digits(site, 0), Some(12));
-    assert_eq!(rt; page_digits(site, 2), Some(3));
+    assert!(rt; delta_digits(site, peer, 0) == Some(123));
+    assert!(rt; delta_digits(site, peer, 1) == Some(23));
+    assert!(rt; page_digits(site, 0) == Some(12));
+    assert!(rt; page_digits(site, 2) == Some(3));
     assert!(rt; are_kinds(alloc, site, "[\"t.a\",3]\n"));
 }
 
@@ -104,6 +104,6 @@ fn a_site_is_a_desk(rt: HostRuntime) {
 #[test]
 fn the_fault_of_a_desk_has_a_number(rt: HostRuntime) {
     let fault = DeskFault::OutOfMemory { taken: 7, fresh: 3 };
-    assert_eq!(rt; fault.number(), 1);
+    assert!(rt; fault.number() == 1);
     assert!(rt; Wide.before(0, 1).is_ok());
 }

@@ -17,16 +17,11 @@ fn set_number(alloc: Global, parts: &mut Parts, number: u64) -> Result<(), Alloc
 /// Sets the attributes of an event of the source `/orders`, of type t.a and subject x.
 fn set_all(alloc: Global, parts: &mut Parts, id: &str, number: u64) -> Result<(), AllocError> {
     set_number(alloc, parts, number)?;
-    for (name, text) in [
-        ("specversion", "1.0"),
-        ("source", "/orders"),
-        ("id", id),
-        ("type", "t.a"),
-        ("subject", "x"),
-    ] {
-        set(alloc, parts, name, text)?;
-    }
-    Ok(())
+    set(alloc, parts, "specversion", "1.0")?;
+    set(alloc, parts, "source", "/orders")?;
+    set(alloc, parts, "id", id)?;
+    set(alloc, parts, "type", "t.a")?;
+    set(alloc, parts, "subject", "x")
 }
 
 /// The event of parts that have no fault.

@@ -270,10 +270,10 @@ fn workers_run_at_the_same_time(rt: HostRuntime) {
     // The peer is asked for its summary and for two pages, of which the first is handed over.
     assert!(rt; gate.has_calls(1, 2, 4, 1));
     assert!(rt; aside.count >= 3);
-    assert_eq!(rt; shared.turns(&mut pass), 6);
+    assert!(rt; shared.turns(&mut pass) == 6);
     let lines = "{\"sources\":{\"/orders\":[[1,203]]},\"version\":1}\n";
     assert!(rt; covers(&rt, alloc, &shared, &mut pass, lines));
-    assert_eq!(rt; shared.close(&rt, pass).arrived(), 203);
+    assert!(rt; shared.close(&rt, pass).arrived() == 203);
 }
 
 #[test]
@@ -291,6 +291,6 @@ fn no_jobs_are_done_at_once(rt: HostRuntime) {
     )
     .expect(&rt, "no memory");
     assert!(rt; served.reports.is_empty() && served.asked.is_empty());
-    assert_eq!(rt; ServeFault::OutOfMemory.number(), 1);
-    assert_eq!(rt; ServeFault::NoThread.number(), 2);
+    assert!(rt; ServeFault::OutOfMemory.number() == 1);
+    assert!(rt; ServeFault::NoThread.number() == 2);
 }
