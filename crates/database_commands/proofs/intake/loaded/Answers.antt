@@ -41,7 +41,7 @@ returns-then-has_inbox-clause-crash_refused g c =
 pub returns-in-Ok-clause-held : goal.returns-in-Ok-clause-held
 returns-in-Ok-clause-held g c clean =
     let absent : has_inbox (state g.S.Store c.args.conn).now.schema ≡ false = search rules in
-    absent_holds _ absent
+    subst (λ l. Holds (state g.S.Store c.args.conn).now l) (sym c.empty-events.ensures) (absent_holds (state g.S.Store c.args.conn).now absent)
 
 pub returns-in-Ok-clause-crash : goal.returns-in-Ok-clause-crash
 returns-in-Ok-clause-crash g c =
