@@ -1,4 +1,4 @@
-use Rattle.std.proofs.Common.{◌≡◌, ◌∙◌, List, [], length, ap, subst, inr}
+use Rattle.std.proofs.Common.{◌≡◌, ◌∙◌, List, [], length, ap, subst, sym, inr}
 use Rattle.std.proofs.lemmas.Result.{IfErr-weaker}
 use Rattle.sqlite.specs.Held.{Held, state}
 use Rattle.sqlite.specs.State.{HasCleanDisk, State}
@@ -95,3 +95,14 @@ returns-in-Ok-share-clause-grows g c =
     ap (λ (k : Kept _). k.rows) c.in-Ok.ensures.keeper ∙ c.requires.count (subst (λ (k : Kept _). HasCleanDisk (at k.conn)) c.in-Ok.ensures.keeper clean) in
     let last : Kept _ = record { conn = c.ended.result.conn; rows = c.ended.ensures.kept.0 } in
     subst (λ (k : Kept _). Grows (at k.conn) (at c.ended.result.conn)) c.in-Ok.ensures.keeper (grown at c.args.jobs.feeds c.args.jobs.peers held closed.site c.in-Ok.kept.keeper closed.keeper last closed.served closed.stopped c.ended.result.stopped c.len-feeds.result c.ended.result.outcome is c.ended.ensures.kept.1 count c.len-feeds.ensures c.ended.ensures.told)
+
+pub returns-in-Err-share-clause-grows : goal.returns-in-Err-share-clause-grows
+returns-in-Err-share-clause-grows g c =
+    let back : c.in-Err-share.keeper ≡ c.args.table = c.in-Err-share.ensures.err ∙ c.in-Ok.ensures.keeper in
+    let same : c.into_connection.result ≡ c.args.table.conn = c.into_connection.ensures ∙ ap (λ (k : Kept _). k.conn) (c.into_table.ensures ∙ back) in
+    subst (λ (z : Held _). Grows (state g.S.Store c.args.table.conn) (state g.S.Store z)) (sym (ap (λ z. z.conn) c.unbegun.ensures ∙ same)) (grows_none _)
+
+pub returns-in-Err-clause-grows : goal.returns-in-Err-clause-grows
+returns-in-Err-clause-grows g c =
+    let same : c.into_connection-in-Err.result ≡ c.args.table.conn = c.into_connection-in-Err.ensures ∙ ap (λ (k : Kept _). k.conn) c.in-Err.ensures.back in
+    subst (λ (z : Held _). Grows (state g.S.Store c.args.table.conn) (state g.S.Store z)) (sym (ap (λ z. z.conn) c.unbegun-in-Err.ensures ∙ same)) (grows_none _)
