@@ -78,7 +78,6 @@ ROWS_OF_ALL = [
     Row(["order", "--db", "o.db", "--at", AT, "cancel", "7"], PLACED, ROWS),
     Row(["order", "--db", "o.db", "--at", AT, "place", "7"], PLACED, ROWS),
     Row(["relay", "--db", "o.db", "--after", "0"], PLACED),
-    Row(["relay", "--db", "o.db", "--after", "0", "--all"], PLACED),
     Row(["run", "--db", "s.db", "--peer", "peer.json", "two.json", "more.json"], THREE, HELD),
 ]
 

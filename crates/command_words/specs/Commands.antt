@@ -82,5 +82,4 @@ app_for Run = with_rule (with_rule (with_db Run) (option_rule (codes "peer"))) f
 app_for Order = with_rule (with_rule (with_rule (with_rule (with_db Order)
     (default_rule (codes "source") (codes "/orders"))) (needed_rule (codes "at")))
     (place_rule (codes "action"))) (place_rule (codes "order"))
-app_for Relay =
-    with_rule (with_rule (with_db Relay) (needed_rule (codes "after"))) (flag_rule (codes "all"))
+app_for Relay = with_rule (with_db Relay) (needed_rule (codes "after"))

@@ -32,7 +32,7 @@ command_of (plan.Delta db which summary) = command.Delta
 command_of (plan.Scrub db which) = command.Scrub
 command_of (plan.Run db peer files) = command.Run
 command_of (plan.Order request) = command.Order
-command_of (plan.Relay db after is_all) = command.Relay
+command_of (plan.Relay db after) = command.Relay
 
 -- ---- values
 
@@ -129,8 +129,8 @@ HasTextsOf rows (plan.Run db peer files) =
     (db ≡ text_in rows (codes "db")) × (peer ≡ first_of (codes "peer") rows)
     × (files ≡ texts_in rows (codes "file")) × AreFew (is_some peer) (length files)
 HasTextsOf rows (plan.Order request) = HasRequestOf rows request
-HasTextsOf rows (plan.Relay db after is_all) = (db ≡ text_in rows (codes "db"))
-    × IsNumber (text_in rows (codes "after")) after × (is_all ≡ is_given rows (codes "all"))
+HasTextsOf rows (plan.Relay db after) =
+    (db ≡ text_in rows (codes "db")) × IsNumber (text_in rows (codes "after")) after
 
 -- clap's rule for the command finds no fault in the words, and the plan is that command with the
 -- texts that the rule matches

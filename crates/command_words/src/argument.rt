@@ -18,20 +18,6 @@ pub fn files<'a>(alloc: Global) -> Arg<'a>
         .required(true)
 }
 
-/// `FILE..`, one or more, whose events all have numbers.
-pub fn numbered_files<'a>(alloc: Global) -> Arg<'a>
-    ensures rule { rule_of result ≡ files_rule }
-    ensures local { result.global ≡ false }
-{
-    Arg::new(alloc, "file")
-        .value_name("FILE")
-        .help(
-            "Files of CloudEvents in JSON, each with a sequence of twenty digits, as 00000000000000000001; - is standard input",
-        )
-        .action(ArgAction::Append)
-        .required(true)
-}
-
 /// `FILE..`, which a question over a database may have none of.
 pub fn question_files<'a>(alloc: Global) -> Arg<'a>
     ensures rule { rule_of result ≡ question_files_rule }

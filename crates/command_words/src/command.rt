@@ -5,8 +5,8 @@ ghost use Rattle.command_words.specs.Commands.{app_for, needed_rule, place_rule,
 ghost use Rattle.command_words.specs.declared.command.Command.{Command};
 
 use crate::argument::{
-    action, after, all, at, db, files, from, lines, numbered_files, order, peer, question_db,
-    question_files, read_db, source, summary,
+    action, after, all, at, db, files, from, lines, order, peer, question_db, question_files,
+    read_db, source, summary,
 };
 use std::alloc::{AllocError, Global};
 use views::Query;
@@ -31,7 +31,7 @@ pub enum Command {
     Run,
     /// `order --db DB [--source S] --at TIME ACTION ORDER`: a command to a service.
     Order,
-    /// `relay --db DB --after N [--all]`: the next rows of a service's outbox.
+    /// `relay --db DB --after N`: the next rows of a service's outbox.
     Relay,
 }
 
@@ -187,7 +187,7 @@ impl<'a> Row<'a> {
         match self.command {
             Command::Ask(_) => bare.arg(question_db(alloc))?.arg(question_files(alloc)),
             Command::Summary => bare.arg(read_db(alloc)),
-            Command::Take => bare.arg(db(alloc))?.arg(numbered_files(alloc)),
+            Command::Take => bare.arg(db(alloc))?.arg(files(alloc)),
             Command::Follow => bare.arg(db(alloc))?.arg(lines(alloc)),
             Command::Delta => {
                 let begun = bare.arg(db(alloc))?.arg(from(alloc))?;
@@ -199,7 +199,7 @@ impl<'a> Row<'a> {
                 let begun = bare.arg(db(alloc))?.arg(source(alloc))?;
                 with_request(alloc, begun)
             }
-            Command::Relay => bare.arg(db(alloc))?.arg(after(alloc))?.arg(all(alloc)),
+            Command::Relay => bare.arg(db(alloc))?.arg(after(alloc)),
         }
     }
 

@@ -46,12 +46,10 @@ pub enum Plan {
     },
     /// A command to the service of a database.
     Order(Request),
-    /// The rows of a service's outbox with a number greater than `after`: the next page of them, or
-    /// all.
+    /// The rows of a service's outbox with a number greater than `after`.
     Relay {
         db: Text,
         after: u64,
-        is_all: bool,
     },
 }
 

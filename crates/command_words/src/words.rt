@@ -100,9 +100,8 @@ fn matched(alloc: Global, command: Command, matches: &ArgMatches<'_>) -> Result<
         },
         Command::Relay => {
             let db = text_of(alloc, matches, "db")?;
-            let is_all = is_given(matches, "all");
             match number(alloc, "--after <N>", str_of(matches, "after")) {
-                Ok(after) => Ok(Plan::Relay { db, after, is_all }),
+                Ok(after) => Ok(Plan::Relay { db, after }),
                 Err(faulty) => Err(faulty),
             }
         }

@@ -2,4 +2,3 @@ mod HeldLemmas
 mod StreamLemmas
 mod PageLemmas
 mod ServedLemmas
-mod RowLemmas

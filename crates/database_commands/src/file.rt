@@ -4,7 +4,7 @@ ghost use Rattle.attributes.specs.Character.{is_filled};
 ghost use Rattle.attributes.specs.Event.{EventValue};
 ghost use Rattle.attributes.specs.Sequence.{max_sequence};
 ghost use Rattle.line_intake.specs.Acknowledged.{TellsAll};
-ghost use Rattle.database_commands.specs.Held.{HasDelta, HasEvents, SaysAllRows, SaysDelta, SaysOrder, SaysPage, SaysSummary};
+ghost use Rattle.database_commands.specs.Held.{HasDelta, HasEvents, SaysDelta, SaysOrder, SaysPage, SaysSummary};
 ghost use Rattle.database_commands.specs.Name.{IsNoFile};
 ghost use Rattle.database_commands.specs.declared.fault.CommandFault.TheVariants as CommandFault;
 ghost use Rattle.database_commands.specs.Print.{batch_line, counts_line};
@@ -15,8 +15,8 @@ use crate::fault::{CommandFault, of_kind, of_store};
 use crate::intake::take;
 use crate::page::{Contents, Paged, delta, delta_pages, held, scrub, scrub_pages, summary};
 use crate::pages::EventPages;
-use crate::service::{order, relay, relay_all};
-use crate::stream::{StreamFault, Streamed, begun, follow};
+use crate::service::{order, relay};
+use crate::stream::{StreamFault, Streamed, follow};
 use attributes::{Batch, Moment, Text};
 use coverage::Summary;
 use inbox_table::Watch;
@@ -33,10 +33,9 @@ use std::io::{ErrorKind, Read, Write};
 
 /// The bytes of a database's page.
 const PAGE: u64 = 4_096;
-/// How many bytes a stream is taken to add for each that its first read brings, for the size of the
-/// cache alone, which is made whole when the file is opened. One line and then a wait brings some 200
-/// bytes, a stream that is sent without waiting up to 64 KiB, and so room for 64 MiB.
-const STREAM_GROWTH: u64 = 1_024;
+/// About how many bytes a stream may add, for the size of the cache alone: all that a cache may
+/// have.
+const STREAM_GROWTH: u64 = 268_435_456;
 /// The fewest pages that are kept in memory.
 const LEAST_PAGES: u64 = 200;
 /// The most pages that are kept in memory, 256 MiB. The cache is made once the first page is found
@@ -136,10 +135,6 @@ pub trait Databases {
     ) -> Result<Text, CommandFault>
         requires { (is_filled source.now ≡ true) × (length source.now ≤ 1024) }
         ensures { IfOk result (λ text. (events : List EventValue) × (text ≡ batch_line events)) };
-
-    /// As [`crate::relay_all`]. A file that isn't there is not made: `CannotRead`.
-    fn relay_all(&self, alloc: Global, name: &str, after: u64) -> Result<Text, CommandFault>
-        ensures { IfOk result SaysAllRows };
 }
 
 impl Databases for HostRuntime {
@@ -165,14 +160,9 @@ impl Databases for HostRuntime {
         input: &mut R,
         out: &mut W,
     ) -> Result<u64, StreamFault> {
-        let mut lines = match begun(alloc, input) {
-            Ok(lines) => lines,
-            Err(why) => return Err(StreamFault::Input(why)),
-        };
-        let first = lines.buffer().len() as u64;
-        match open(self, name, first.saturating_mul(STREAM_GROWTH)) {
+        match open(self, name, STREAM_GROWTH) {
             Ok(conn) => {
-                let Streamed { conn, outcome } = follow(alloc, conn, &mut lines, out);
+                let Streamed { conn, outcome } = follow(alloc, conn, input, out);
                 let _closed = conn.close();
                 outcome
             }
@@ -262,13 +252,6 @@ impl Databases for HostRuntime {
     ) -> Result<Text, CommandFault> {
         match open(self, name, 0) {
             Ok(conn) => closed(relay(alloc, conn, source, after)),
-            Err(fault) => Err(fault),
-        }
-    }
-
-    fn relay_all(&self, alloc: Global, name: &str, after: u64) -> Result<Text, CommandFault> {
-        match open_there(self, name) {
-            Ok(conn) => closed(relay_all(alloc, conn, after)),
             Err(fault) => Err(fault),
         }
     }

@@ -17,7 +17,7 @@ pub use intake::{loaded, take};
 pub use outbox::Status;
 pub use page::{Contents, Paged, delta, delta_pages, held, scrub, scrub_pages, summary};
 pub use pages::EventPages;
-pub use service::{order, relay, relay_all};
+pub use service::{order, relay};
 use sqlite::{Alter, Connection};
 pub use stream::{StreamFault, Streamed, follow};
 pub use text::summary_of;

@@ -68,7 +68,7 @@ module _ (C : List ℕ → List ℕ → Type 0) (U : List ℕ → Unread → Typ
   follows (plan.Scrub db which) h = absurd h
   follows (plan.Run db peer files) h = absurd h
   follows (plan.Order request) h = absurd h
-  follows (plan.Relay db after is_all) h = absurd h
+  follows (plan.Relay db after) h = absurd h
 
   said_within : (p : Plan) (why : Refusal) → SaysRefusal p why r err err' → r ≤ 2
   said_within p why (inl w) = written_within r 1 err err' (line_of p why) (omega arith) w
@@ -165,5 +165,5 @@ allowed_by words (plan.Order request) h = let r = h.1.texts in record {
   high = r.order.high;
   at = r.time.short;
 }
-allowed_by words (plan.Relay db after is_all) h = tt
+allowed_by words (plan.Relay db after) h = tt
 allowed_by words (plan.Run db peer files) h = h.1.texts.3

@@ -62,11 +62,6 @@ RefusesQuery C U db files (refusal.Lines faults) = ⊥
 abbrev pub PrintsBatch : List ℕ → Type 0
 PrintsBatch text = (events : List EventValue) × (text ≡ batch_line events)
 
--- the text is a batch, or all pages of some events
-abbrev pub SaysRows : Bool → List ℕ → Type 0
-SaysRows false text = PrintsBatch text
-SaysRows true text = (events : List EventValue) × (text ≡ pages_text events)
-
 -- the status that an order gets by what is done with it
 abbrev pub status_of : Action → Status
 status_of action.Place = status.Placed
@@ -211,7 +206,7 @@ AnswersPlan C (plan.Delta db which summary) text = AnswersDelta C which summary 
 AnswersPlan C (plan.Scrub db which) text = SaysPages which text
 AnswersPlan C (plan.Run db peer files) text = AnswersRun C peer files text
 AnswersPlan C (plan.Order request) text = AnswersOrder request text
-AnswersPlan C (plan.Relay db after is_all) text = SaysRows is_all text
+AnswersPlan C (plan.Relay db after) text = PrintsBatch text
 
 -- this is why the plan, which is no stream, has no answer
 abbrev pub RefusesPlan : (List ℕ → List ℕ → Type 0) → (List ℕ → Unread → Type 0)
@@ -224,7 +219,7 @@ RefusesPlan C U (plan.Delta db which summary) refusal = RefusesDelta C U summary
 RefusesPlan C U (plan.Scrub db which) refusal = IsOfDatabase refusal
 RefusesPlan C U (plan.Run db peer files) refusal = RefusesRun C U peer files refusal
 RefusesPlan C U (plan.Order request) refusal = IsOfDatabase refusal
-RefusesPlan C U (plan.Relay db after is_all) refusal = IsOfDatabase refusal
+RefusesPlan C U (plan.Relay db after) refusal = IsOfDatabase refusal
 
 -- whether the plan is a run
 abbrev pub is_run : Plan → Bool
@@ -236,7 +231,7 @@ is_run (plan.Delta db which summary) = false
 is_run (plan.Scrub db which) = false
 is_run (plan.Run db peer files) = true
 is_run (plan.Order request) = false
-is_run (plan.Relay db after is_all) = false
+is_run (plan.Relay db after) = false
 
 -- whether the plan is a stream, which is answered line by line
 abbrev pub is_stream : Plan → Bool
@@ -253,4 +248,4 @@ IsAllowed (plan.Delta db which summary) = Unit {0}
 IsAllowed (plan.Scrub db which) = Unit {0}
 IsAllowed (plan.Run db peer files) = AreFew (is_some peer) (length files)
 IsAllowed (plan.Order request) = IsAllowedRequest request
-IsAllowed (plan.Relay db after is_all) = Unit {0}
+IsAllowed (plan.Relay db after) = Unit {0}

@@ -115,7 +115,7 @@ name_in (plan.Delta db which name) file = name
 name_in (plan.Scrub db which) file = []
 name_in (plan.Run db peer files) file = name_at (names_of peer files) file
 name_in (plan.Order request) file = []
-name_in (plan.Relay db after is_all) file = []
+name_in (plan.Relay db after) file = []
 
 -- the database of a plan; empty where it has none
 abbrev pub db_in : Plan → List ℕ
@@ -127,7 +127,7 @@ db_in (plan.Delta db which name) = db
 db_in (plan.Scrub db which) = db
 db_in (plan.Run db peer files) = db
 db_in (plan.Order request) = request.db
-db_in (plan.Relay db after is_all) = db
+db_in (plan.Relay db after) = db
 
 -- the order of a plan; 0 where it has none
 abbrev pub order_in : Plan → ℕ
@@ -139,7 +139,7 @@ order_in (plan.Delta db which name) = 0
 order_in (plan.Scrub db which) = 0
 order_in (plan.Run db peer files) = 0
 order_in (plan.Order request) = request.order
-order_in (plan.Relay db after is_all) = 0
+order_in (plan.Relay db after) = 0
 
 -- the one line of a plan's refusal
 abbrev pub line_of : Plan → Refusal → List ℕ

@@ -1,7 +1,7 @@
 //! The commands over a database.
-ghost use Rattle.std.specs.Prelude.{◌≡◌, IfErr, IfOk, false, true};
+ghost use Rattle.std.specs.Prelude.{◌≡◌, IfErr, IfOk};
 ghost use Rattle.database_commands.specs.Held.{SaysSummary};
-ghost use Rattle.site_commands.specs.Answers.{AnswersDelta, AnswersOrder, AnswersTake, HasSummary, IsAllowedRequest, IsOfDatabase, RefusesDelta, RefusesTake, SaysLacking, SaysPages, SaysRows, status_of};
+ghost use Rattle.site_commands.specs.Answers.{AnswersDelta, AnswersOrder, AnswersTake, HasSummary, IsAllowedRequest, IsOfDatabase, PrintsBatch, RefusesDelta, RefusesTake, SaysLacking, SaysPages, status_of};
 ghost use Rattle.site_commands.specs.Printed.{printed};
 
 use crate::line::Refusal;
@@ -171,48 +171,14 @@ pub fn order<D: Databases>(alloc: Global, databases: &D, request: &Request) -> R
     }
 }
 
-/// The rows of a database's outbox with a greater number: the next page of at most 100, or all pages,
-/// each as a line.
+/// The rows of a database's outbox with a greater number, at most 100.
 pub fn relay<D: Databases>(
     alloc: Global,
     databases: &D,
     db: &str,
     after: u64,
-    is_all: bool,
 ) -> Result<Text, Refusal>
-    ensures ok { IfOk result (SaysRows is_all) }
-    ensures err { IfErr result IsOfDatabase }
-{
-    if is_all {
-        return all_rows(alloc, databases, db, after);
-    }
-    next_rows(alloc, databases, db, after)
-}
-
-/// All rows of a database's outbox with a greater number.
-fn all_rows<D: Databases>(
-    alloc: Global,
-    databases: &D,
-    db: &str,
-    after: u64,
-) -> Result<Text, Refusal>
-    ensures ok { IfOk result (SaysRows true) }
-    ensures err { IfErr result IsOfDatabase }
-{
-    match databases.relay_all(alloc, db, after) {
-        Ok(text) => Ok(text),
-        Err(why) => Err(Refusal::Database(why)),
-    }
-}
-
-/// The rows of a database's outbox with a greater number, at most 100.
-fn next_rows<D: Databases>(
-    alloc: Global,
-    databases: &D,
-    db: &str,
-    after: u64,
-) -> Result<Text, Refusal>
-    ensures ok { IfOk result (SaysRows false) }
+    ensures ok { IfOk result PrintsBatch }
     ensures err { IfErr result IsOfDatabase }
 {
     let Ok(source) = Text::of(alloc, "/orders") else {

@@ -256,9 +256,7 @@ fn carried_out<S: Shelf, D: Databases, P: Progress>(
         Plan::Run { .. } => unreachable!(),
         Plan::Follow { .. } => unreachable!(),
         Plan::Order(request) => lined(order(alloc, databases, request)),
-        Plan::Relay { db, after, is_all } => {
-            lined(relay(alloc, databases, db.as_str(), *after, *is_all))
-        }
+        Plan::Relay { db, after } => lined(relay(alloc, databases, db.as_str(), *after)),
     }
 }
 

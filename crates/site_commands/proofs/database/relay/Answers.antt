@@ -2,7 +2,7 @@ use Rattle.std.proofs.Common.{◌≡◌, ◌≤◌, ◌∙◌, ℕ, List, ap, sy
 use Rattle.std.specs.Prelude.{codes}
 use Rattle.std.specs.Str.{chars}
 use Rattle.attributes.specs.Character.{is_filled}
-use Rattle.site_commands.proofs.database.next_rows.Goals as goal
+use Rattle.site_commands.proofs.database.relay.Goals as goal
 
 filled : is_filled (codes "/orders") ≡ true
 unfolding chars
