@@ -4,8 +4,6 @@
 #![tactic(auto)]
 
 #[cfg(test)]
-mod disks;
-#[cfg(test)]
 mod fans;
 #[cfg(test)]
 mod files;
