@@ -1,5 +1,5 @@
 -- What a run whose workers have ended comes to.
-use Rattle.std.proofs.Common.{◌≡◌, ◌+◌, ◌-◌, ◌≤◌, ℕ, List, [], ◌∷◌, ◌++◌, refl, sym, ap, subst, ◌∙◌, append-nil, arith, length, take, slice_get, true, false, Option, None, Some, Result, Ok, Err, IfErr, IfOk, IsOk, IsTrue, OnOk, zero, suc, inl, inr, ⊥}
+use Rattle.std.proofs.Common.{◌≡◌, ◌+◌, ◌-◌, ◌≤◌, ℕ, List, [], ◌∷◌, ◌++◌, refl, sym, ap, subst, ◌∙◌, append-nil, arith, length, take, slice_get, true, false, Option, None, Some, Result, Ok, Err, IfErr, IfOk, IsOk, IsTrue, OnOk, zero, suc, inl}
 use Rattle.std.specs.Option.{option_or}
 use Rattle.std.specs.Prelude.{IsSome}
 use Rattle.std.proofs.Math.Seq.{take-append-add, take-length}
