@@ -188,8 +188,9 @@ def main():
     call, names = words_of(given.name, os.path.abspath(given.keep), given.jobs)
     call += [word for it in given.only for word in ("--only", it)] + ["--test"] * given.test
     ran = subprocess.Popen(call, cwd=f"{TOP}/crates/{given.name}", env=names, stdout=subprocess.PIPE, stderr=subprocess.STDOUT, text=True)
-    left = set()
+    left, is_judged = set(), False
     for line in ran.stdout:
+        is_judged = is_judged or re.match(r"only=\d|holes=\d|logic=", line) is not None
         if line.startswith(f"{given.keep}/below") or f"={given.keep}/below" in line:
             continue
         own = re.match(rf"fn ({given.name}::\S+): (not proved|no proof|could not tell)", line.removeprefix("so far: "))
@@ -203,6 +204,9 @@ def main():
     ran.wait()
     for function, seconds in seconds_by_function(f"{given.keep}/{given.name}").most_common(given.dear):
         print(f"{seconds:7.1f} s  {function}")
+    if not is_judged and not left:
+        print("nothing was judged: the check stopped before, at what it says of the copies below", flush=True)
+        return 2
     print(f"as it stands: {len(left)} of {given.name} not proved", flush=True)
     return 1 if left else 0
 
