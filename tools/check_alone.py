@@ -7,7 +7,7 @@ The crates below it are read as sources, as copies in which a hole stands for ea
 contracts are taken as they are written and nothing of them is proved. What is left is the crate's own: a function with
 `--only` in a minute, where the libraries would first take half an hour on a new machine. It proves nothing: the holes
 do, if ever. So it prints what the check says of the crate itself and ends with one line, `as it stands: N of NAME not
-proved`, with status 1 where that isn't 0.
+proved`, with status 1 where that isn't 0. A check that stops before it judges anything is told so, with status 2.
 
 What was checked is kept in FOLDER (by default under the system's folder for temporary files), by the crate, so a
 second call takes what didn't change. With --dear it also lists the N functions that took longest, by the times at
