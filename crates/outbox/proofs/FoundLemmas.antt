@@ -11,7 +11,7 @@ use Rattle.database_layout.specs.Layout.{HasService, has_name, lacks_name, schem
 use Rattle.database_layout.specs.declared.layout.Layout.{Layout}
 use Rattle.outbox.specs.Layout.{first_tree, schema_in}
 use Rattle.outbox.specs.Service.{service_row, outbox_rows, AreOrders, IsService}
-use Rattle.outbox.specs.Shown.{HasNoOther, IsAllowed, IsNoService, Stands}
+use Rattle.outbox.specs.Shown.{CountsOrders, HasNoOther, IsAllowed, IsNoService, Stands}
 use Rattle.outbox.specs.Call.{IsSame, Leaves, LeavesAsBefore}
 use Rattle.outbox.specs.steps.Change.{ShowOrders, shown_rows, shown_service}
 use Rattle.outbox.specs.steps.Replay.{IsReplay}
@@ -21,15 +21,16 @@ use Rattle.database_layout.specs.declared.layout.Layout.TheVariants.{Service, In
 use Rattle.sqlite_tied.specs.Compute.{everything}
 use Rattle.outbox.proofs.AdoptLemmas.{adopts_rows, adopts_orders, adopts_service, loads_orders, loads_service}
 use Rattle.outbox.proofs.LoadLemmas.{loads_rows}
+use Rattle.outbox.proofs.CountLemmas.{counts_all}
 use Rattle.outbox.proofs.ReplayLemmas.{rows_tell}
 use Rattle.outbox.proofs.TextLemmas.{all_rows_text, all_orders_text, service_row_text}
 
-pub found : (a b c d : State) (l : ServiceLayout) (source : List ℕ) (base : ℕ) (services rows orders : List Row) (r : Replayed) → a.now.schema ≡ schema_in l → HasCleanDisk d → IsTrue d.is_open
+pub found_table : (a b c d : State) (l : ServiceLayout) (source : List ℕ) (base : ℕ) (services rows orders : List Row) (r : Replayed) → a.now.schema ≡ schema_in l → HasCleanDisk d → IsTrue d.is_open
     → IsSame a b → IsSame b c → IsSame c d → IsLive a → IsLive b → IsLive c
     → (HasCleanDisk b → Shown service_row_text [] a b services) → (HasCleanDisk c → Shown all_rows_text [] b c rows) → (HasCleanDisk d → Shown all_orders_text [] c d orders)
-    → services ≡ shown_service source base ∷ [] → IsReplay base rows r
-    → ((commands : List Accepted) → ((order : ℕ) → get nat_cmp r.statuses order ≡ status_of commands order) → ShowOrders orders commands) → Stands d.now source base r.last
-found a b c d l source base services rows orders r has clean still one two three live_a live_b live_c shows_a shows_b shows_c service_is replay told =
+    → services ≡ shown_service source base ∷ [] → (replay : IsReplay base rows r)
+    → ((commands : List Accepted) → ((order : ℕ) → get nat_cmp r.statuses order ≡ status_of commands order) → ShowOrders orders commands) → IsService d.now source base replay.commands
+found_table a b c d l source base services rows orders r has clean still one two three live_a live_b live_c shows_a shows_b shows_c service_is replay told =
     let clean_c : HasCleanDisk c = omega (arith, three.clean, clean) in
     let clean_b : HasCleanDisk b = omega (arith, two.clean, clean_c) in
     let open_c = three.was_open clean still in
@@ -44,17 +45,31 @@ found a b c d l source base services rows orders r has clean still one two three
     let second : IsPermutation (outbox_rows (suc base) replay.commands) (b.now.trees (suc (suc (first_tree l)))) = adopts_rows b c l (suc base) replay.commands has_b (live_b open_b).0 (subst (Shown all_rows_text [] b c) replay.rows_are (shows_b clean_c)) in
     let third : AreOrders (c.now.trees (suc (first_tree l))) replay.commands = adopts_orders c d l orders replay.commands has_c (live_c open_c).0 (shows_c clean) (told replay.commands replay.statuses) in
     record {
-      commands = replay.commands;
-      table = record {
-        layout = l;
-        schema = ap (λ (x : Database). x.schema) cd ∙ has_c;
-        service = ap (λ (x : Database). x.trees (first_tree l)) (cd ∙ bc ∙ ab) ∙ first;
-        orders = subst (λ (x : Database). AreOrders (x.trees (suc (first_tree l))) replay.commands) (sym cd) third;
-        outbox = subst (λ (x : Database). IsPermutation (outbox_rows (suc base) replay.commands) (x.trees (suc (suc (first_tree l))))) (sym (cd ∙ bc)) second;
-        accepted = replay.accepted;
-      };
-      count = replay.last;
+      layout = l;
+      schema = ap (λ (x : Database). x.schema) cd ∙ has_c;
+      service = ap (λ (x : Database). x.trees (first_tree l)) (cd ∙ bc ∙ ab) ∙ first;
+      orders = subst (λ (x : Database). AreOrders (x.trees (suc (first_tree l))) replay.commands) (sym cd) third;
+      outbox = subst (λ (x : Database). IsPermutation (outbox_rows (suc base) replay.commands) (x.trees (suc (suc (first_tree l))))) (sym (cd ∙ bc)) second;
+      accepted = replay.accepted;
     }
+
+pub found : (a b c d : State) (l : ServiceLayout) (source : List ℕ) (base : ℕ) (services rows orders : List Row) (r : Replayed) → a.now.schema ≡ schema_in l → HasCleanDisk d → IsTrue d.is_open
+    → IsSame a b → IsSame b c → IsSame c d → IsLive a → IsLive b → IsLive c
+    → (HasCleanDisk b → Shown service_row_text [] a b services) → (HasCleanDisk c → Shown all_rows_text [] b c rows) → (HasCleanDisk d → Shown all_orders_text [] c d orders)
+    → services ≡ shown_service source base ∷ [] → IsReplay base rows r
+    → ((commands : List Accepted) → ((order : ℕ) → get nat_cmp r.statuses order ≡ status_of commands order) → ShowOrders orders commands) → Stands d.now source base r.last
+found a b c d l source base services rows orders r has clean still one two three live_a live_b live_c shows_a shows_b shows_c service_is replay told = record {
+  commands = replay.commands;
+  table = found_table a b c d l source base services rows orders r has clean still one two three live_a live_b live_c shows_a shows_b shows_c service_is replay told;
+  count = replay.last;
+}
+
+pub found_counts : (a b c d : State) (l : ServiceLayout) (source : List ℕ) (base : ℕ) (services rows orders : List Row) (r : Replayed) → a.now.schema ≡ schema_in l → HasCleanDisk d → IsTrue d.is_open
+    → IsSame a b → IsSame b c → IsSame c d → IsLive a → IsLive b → IsLive c
+    → (HasCleanDisk b → Shown service_row_text [] a b services) → (HasCleanDisk c → Shown all_rows_text [] b c rows) → (HasCleanDisk d → Shown all_orders_text [] c d orders)
+    → services ≡ shown_service source base ∷ [] → IsReplay base rows r
+    → ((commands : List Accepted) → ((order : ℕ) → get nat_cmp r.statuses order ≡ status_of commands order) → ShowOrders orders commands) → CountsOrders d.now source base r.orders
+found_counts a b c d l source base services rows orders r has clean still one two three live_a live_b live_c shows_a shows_b shows_c service_is replay told = counts_all d.now source base r.orders replay.commands (found_table a b c d l source base services rows orders r has clean still one two three live_a live_b live_c shows_a shows_b shows_c service_is replay told) replay.orders
 
 -- ---- readings leave the database alone
 

@@ -9,6 +9,7 @@ pub mod WriteLemmas
 pub mod LoadLemmas
 pub mod SameLemmas
 pub mod ServiceLemmas
+pub mod CountLemmas
 pub mod AdoptLemmas
 pub mod ReplayLemmas
 pub mod FoundLemmas

@@ -10,7 +10,7 @@ use Rattle.sqlite_value.specs.declared.value.Value.TheVariants.{Int}
 use Rattle.std.specs.Option.{option_or}
 use Rattle.sqlite_rules.specs.Lists.{Has}
 use Rattle.attributes.specs.Sequence.{max_sequence}
-use Rattle.outbox.specs.Order.{Accepted, AreAccepted, IsCommand, refusal, status_fault, status_of}
+use Rattle.outbox.specs.Order.{Accepted, AreAccepted, IsCommand, orders_of, placed_by, refusal, status_fault, status_of}
 use Rattle.outbox.specs.Service.{code}
 use Rattle.outbox.specs.declared.fault.OutboxFault.{OutboxFault}
 use Rattle.outbox.specs.steps.Change.{shown_row, shown_rows, shown_order, ShowOrders}
@@ -20,6 +20,7 @@ use Rattle.outbox.specs.declared.status.Status.{Status}
 use Rattle.outbox.proofs.ListLemmas.{has_left, has_right, has_either}
 use Rattle.outbox.proofs.PutLemmas.{status_snoc, accepted_snoc}
 use Rattle.outbox.proofs.ServiceLemmas.{not_full, refused_none, same_status}
+use Rattle.outbox.proofs.CountLemmas.{orders_snoc}
 
 shown_snoc : (n : ℕ) (commands : List Accepted) (c : Accepted) → shown_rows n (commands ++ c ∷ []) ≡ shown_rows n commands ++ shown_row (n + length commands) c ∷ []
 shown_snoc n [] c = ap (λ k. shown_row k c ∷ []) (let e : n ≡ n + 0 = omega arith in e)
@@ -29,13 +30,15 @@ shown_snoc n (d ∷ commands) c =
 at_is : (m n : ℕ) → is_eq (nat_cmp m n) ≡ eqb m n
 at_is m n = grind (arith, nat_tests)
 
-pub replay_on : (base : ℕ) (rows : List Row) (at : ℕ) (m new : BTreeMap ℕ Status) (last : ℕ) (row : Row) (c : Accepted) → at < length rows → row ≡ get_or rows at row → last < max_sequence → row ≡ shown_row (last + 1) c → IsCommand c
-    → status_fault c.status (get nat_cmp m c.order) ≡ None → ((q : ℕ) → get nat_cmp new q ≡ cond (is_eq (nat_cmp c.order q)) (Some c.status) (get nat_cmp m q)) → HasReplayed base rows at m last → HasReplayed base rows (at + 1) new (last + 1)
-replay_on base rows at m new last row c low is room shown command fits updates h = record {
+pub replay_on : (base : ℕ) (rows : List Row) (at : ℕ) (m new : BTreeMap ℕ Status) (orders placed last : ℕ) (row : Row) (c : Accepted) → at < length rows → row ≡ get_or rows at row → last < max_sequence → row ≡ shown_row (last + 1) c → IsCommand c
+    → status_fault c.status (get nat_cmp m c.order) ≡ None → ((q : ℕ) → get nat_cmp new q ≡ cond (is_eq (nat_cmp c.order q)) (Some c.status) (get nat_cmp m q)) → placed ≡ length (placed_by c.status c.order) → placed ≤ 1 → HasReplayed base rows at m orders last → HasReplayed base rows (at + 1) new (orders + placed) (last + 1)
+replay_on base rows at m new orders placed last row c low is room shown command fits updates placed_is one h = record {
   commands = h.commands ++ c ∷ [];
   rows_are = take_more rows at row low ∙ ap (λ r. take at rows ++ r ∷ []) (sym is) ∙ ap (λ xs. xs ++ row ∷ []) h.rows_are ∙ ap (λ r. shown_rows (suc base) h.commands ++ r ∷ []) (shown ∙ ap (λ k. shown_row k c) number) ∙ sym (shown_snoc (suc base) h.commands c);
   accepted = accepted_snoc base [] h.commands c h.accepted command (refused_none base h.commands c.status c.order (ap (status_fault c.status) (sym (h.statuses c.order)) ∙ fits) (omega (arith, room, h.last_is)));
   statuses = λ order. updates order ∙ ap (λ b. cond b (Some c.status) (get nat_cmp m order)) (at_is c.order order) ∙ ap (λ o. cond (eqb c.order order) (Some c.status) o) (h.statuses order) ∙ sym (status_snoc h.commands c order);
+  orders_are = (let e : orders + placed ≡ length (orders_of (h.commands ++ c ∷ [])) = omega (arith, placed_is, h.orders_are, orders_snoc h.commands c) in e);
+  few = (let e : base + (orders + placed) ≤ last + 1 = omega (arith, one, h.few) in e);
   last_is = (let e : last + 1 ≡ base + length (h.commands ++ c ∷ []) = omega (arith, h.last_is, Rattle.std.proofs.Common.length-append h.commands (c ∷ [])) in e);
   high = omega (arith, room);
 }
@@ -43,8 +46,8 @@ replay_on base rows at m new last row c low is room shown command fits updates h
     number : last + 1 ≡ suc base + length h.commands
     number = omega (arith, h.last_is)
 
-pub replay_all : (base : ℕ) (rows : List Row) (at : ℕ) (r : Replayed) → length rows ≤ at → HasReplayed base rows at r.statuses r.last → IsReplay base rows r
-replay_all base rows at r high h = record { commands = h.commands; rows_are = sym (take_all at rows high) ∙ h.rows_are; accepted = h.accepted; statuses = h.statuses; last = h.last_is }
+pub replay_all : (base : ℕ) (rows : List Row) (at : ℕ) (r : Replayed) → length rows ≤ at → HasReplayed base rows at r.statuses r.orders r.last → IsReplay base rows r
+replay_all base rows at r high h = record { commands = h.commands; rows_are = sym (take_all at rows high) ∙ h.rows_are; accepted = h.accepted; statuses = h.statuses; orders = h.orders_are; last = h.last_is }
 
 -- ---- a row that stops a replay
 
@@ -86,36 +89,36 @@ accepted_at base before (a ∷ A) c after h =
     (it.0, subst (λ l. refusal base l c.status c.order ≡ None) (append_assoc before (a ∷ []) A) it.1)
 
 -- the next row of a service is that of a command that is not refused
-pub next_row : (base : ℕ) (rows : List Row) (at : ℕ) (m : BTreeMap ℕ Status) (last : ℕ) (row : Row) (l : List Accepted) → at < length rows → row ≡ get_or rows at row → (h : HasReplayed base rows at m last) → AreAccepted base [] l → rows ≡ shown_rows (suc base) l
+pub next_row : (base : ℕ) (rows : List Row) (at : ℕ) (m : BTreeMap ℕ Status) (orders last : ℕ) (row : Row) (l : List Accepted) → at < length rows → row ≡ get_or rows at row → (h : HasReplayed base rows at m orders last) → AreAccepted base [] l → rows ≡ shown_rows (suc base) l
     → (c : Accepted) × IsCommand c × (refusal base h.commands c.status c.order ≡ None) × (row ≡ shown_row (last + 1) c)
-next_row base rows at m last row l low is h accepted shown =
+next_row base rows at m orders last row l low is h accepted shown =
     let cut : take at rows ++ row ∷ drop (suc at) rows ≡ rows = ap (λ r. take at rows ++ r ∷ drop (suc at) rows) is ∙ ap (λ xs. take at rows ++ xs) (sym (drop-cons rows at row low)) ∙ take-append-drop at rows in
     let it = met (suc base) h.commands row (drop (suc at) rows) l (ap (λ xs. xs ++ row ∷ drop (suc at) rows) (sym h.rows_are) ∙ cut ∙ shown) in
     let one = accepted_at base [] h.commands it.0 it.1 (subst (AreAccepted base []) it.2 accepted) in
     (it.0, one.0, one.1, it.3 ∙ ap (λ k. shown_row k it.0) (let e : suc base + length h.commands ≡ last + 1 = omega (arith, h.last_is) in e))
 
-pub stops_full : (base : ℕ) (rows : List Row) (at : ℕ) (m : BTreeMap ℕ Status) (last : ℕ) (row : Row) (l : List Accepted) → at < length rows → row ≡ get_or rows at row → HasReplayed base rows at m last → last ≡ max_sequence → AreAccepted base [] l
+pub stops_full : (base : ℕ) (rows : List Row) (at : ℕ) (m : BTreeMap ℕ Status) (orders last : ℕ) (row : Row) (l : List Accepted) → at < length rows → row ≡ get_or rows at row → HasReplayed base rows at m orders last → last ≡ max_sequence → AreAccepted base [] l
     → rows ≢ shown_rows (suc base) l
-stops_full base rows at m last row l low is h full accepted shown =
-    let it = next_row base rows at m last row l low is h accepted shown in
+stops_full base rows at m orders last row l low is h full accepted shown =
+    let it = next_row base rows at m orders last row l low is h accepted shown in
     let apart = not_full (status_fault it.0.status (status_of h.commands it.0.order)) _ it.2 in
     let same : eqb (base + length h.commands) max_sequence ≡ true = grind (arith, nat_tests, full, h.last_is) in
     absurd (let e : ◌≡◌ {A = Bool} true false = sym same ∙ apart in cc)
 
-pub stops_at : (base : ℕ) (rows : List Row) (at : ℕ) (m : BTreeMap ℕ Status) (last : ℕ) (row : Row) (l : List Accepted) → at < length rows → row ≡ get_or rows at row → HasReplayed base rows at m last → ((c : Accepted) → IsCommand c → row ≢ shown_row (last + 1) c)
+pub stops_at : (base : ℕ) (rows : List Row) (at : ℕ) (m : BTreeMap ℕ Status) (orders last : ℕ) (row : Row) (l : List Accepted) → at < length rows → row ≡ get_or rows at row → HasReplayed base rows at m orders last → ((c : Accepted) → IsCommand c → row ≢ shown_row (last + 1) c)
     → AreAccepted base [] l → rows ≢ shown_rows (suc base) l
-stops_at base rows at m last row l low is h none accepted shown =
-    let it = next_row base rows at m last row l low is h accepted shown in
+stops_at base rows at m orders last row l low is h none accepted shown =
+    let it = next_row base rows at m orders last row l low is h accepted shown in
     none it.0 it.1 it.3
 
-first_none : (x : Option OutboxFault) (y : Option OutboxFault) → option_or x y ≡ None → x ≡ None
+pub first_none : (x : Option OutboxFault) (y : Option OutboxFault) → option_or x y ≡ None → x ≡ None
 first_none None y h = refl
 first_none (Some f) y h = absurd (cc)
 
-pub stops_refused : (base : ℕ) (rows : List Row) (at : ℕ) (m : BTreeMap ℕ Status) (last : ℕ) (row : Row) (l : List Accepted) (c : Accepted) (f : OutboxFault) → at < length rows → row ≡ get_or rows at row → HasReplayed base rows at m last
+pub stops_refused : (base : ℕ) (rows : List Row) (at : ℕ) (m : BTreeMap ℕ Status) (orders last : ℕ) (row : Row) (l : List Accepted) (c : Accepted) (f : OutboxFault) → at < length rows → row ≡ get_or rows at row → HasReplayed base rows at m orders last
     → row ≡ shown_row (last + 1) c → status_fault c.status (get nat_cmp m c.order) ≡ Some f → AreAccepted base [] l → rows ≢ shown_rows (suc base) l
-stops_refused base rows at m last row l c f low is h here refused accepted shown =
-    let it = next_row base rows at m last row l low is h accepted shown in
+stops_refused base rows at m orders last row l c f low is h here refused accepted shown =
+    let it = next_row base rows at m orders last row l low is h accepted shown in
     let same : c ≡ it.0 = row_tells (last + 1) (last + 1) c it.0 (sym here ∙ it.3) in
     let none : status_fault it.0.status (status_of h.commands it.0.order) ≡ None = first_none _ _ it.2 in
     let some : status_fault it.0.status (status_of h.commands it.0.order) ≡ Some f = subst (λ d. status_fault d.status (status_of h.commands d.order) ≡ Some f) same (ap (status_fault c.status) (sym (h.statuses c.order)) ∙ refused) in

@@ -1,8 +1,8 @@
 -- What holds of services, whatever was done.
-use Rattle.std.specs.Prelude.{◌≡◌, ◌⊎◌, ℕ, List, [], ◌∷◌, ◌++◌}
+use Rattle.std.specs.Prelude.{◌≡◌, ◌⊎◌, ◌==◌, ℕ, List, [], ◌∷◌, ◌++◌, count_by, if◌then◌else◌, is_some}
 use Rattle.sqlite.specs.Effect.{Database, IsDatabase}
 use Rattle.outbox.specs.Call.{MayAccept}
-use Rattle.outbox.specs.Order.{Accepted}
+use Rattle.outbox.specs.Order.{Accepted, AreAccepted, orders_of, status_of}
 use Rattle.outbox.specs.Service.{IsService}
 
 -- a command was given to a service with these commands, and stopped at any write: what it left is what
@@ -14,3 +14,10 @@ StopsLeaveAService = (source : List ℕ) (base : ℕ) (commands : List Accepted)
     → IsService old source base commands
     → (again.trees ≡ old.trees) ⊎ MayAccept source base c old again.trees
     → IsService again source base commands ⊎ IsService again source base (commands ++ c ∷ [])
+
+-- of commands that were accepted one after another, the orders are those that have a status, each
+-- once
+abbrev pub OrdersHaveAStatus : Type 0
+OrdersHaveAStatus = (base : ℕ) (commands : List Accepted) → AreAccepted base [] commands
+    → (order : ℕ) → count_by (λ n. n == order) (orders_of commands)
+    ≡ (if is_some (status_of commands order) then 1 else 0)

@@ -1,5 +1,5 @@
 -- Orders, the commands that a service accepts, and why it refuses one.
-use Rattle.std.specs.Prelude.{◌≡◌, ◌≢◌, ⊤, IsUtf8, ℕ, ◌+◌, ◌≤◌, ◌==◌, List, [], ◌∷◌, ◌++◌, length, fold, Option, Some, None, if◌then◌else◌}
+use Rattle.std.specs.Prelude.{◌≡◌, ◌≢◌, ⊤, IsUtf8, ℕ, ◌+◌, ◌≤◌, ◌==◌, List, [], ◌∷◌, ◌++◌, flat_map, length, fold, Option, Some, None, if◌then◌else◌}
 use Rattle.std.specs.Option.{option_or}
 use Rattle.attributes.specs.Sequence.{max_sequence}
 use Rattle.attributes.specs.Time.{time_day}
@@ -26,6 +26,16 @@ pub record IsCommand (c : Accepted) : Type 0 where
 abbrev pub status_of : List Accepted → ℕ → Option Status
 status_of commands order =
     fold (λ s c. if c.order == order then Some c.status else s) None commands
+
+-- the order that a command with this status places, where it places one
+abbrev pub placed_by : Status → ℕ → List ℕ
+placed_by Placed order = order ∷ []
+placed_by Shipped order = []
+placed_by Cancelled order = []
+
+-- the orders of a service: those that its commands placed, as they came
+abbrev pub orders_of : List Accepted → List ℕ
+orders_of commands = flat_map (λ c. placed_by c.status c.order) commands
 
 -- an order is placed once, and leaves the status Placed once
 abbrev pub status_fault : Status → Option Status → Option OutboxFault

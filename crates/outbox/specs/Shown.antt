@@ -6,7 +6,7 @@ use Rattle.sqlite.specs.State.{State, HasCleanDisk}
 use Rattle.sqlite.specs.Held.{Held, held_code}
 use Rattle.attributes.specs.Character.{is_filled}
 use Rattle.attributes.specs.Sequence.{max_sequence}
-use Rattle.outbox.specs.Order.{Accepted}
+use Rattle.outbox.specs.Order.{Accepted, orders_of}
 use Rattle.outbox.specs.Service.{IsService}
 
 -- what a `Service` shows: its connection, source and base, and the number of its last row, which
@@ -52,6 +52,16 @@ pub record Stands (db : Database) (source : List ℕ) (base last : ℕ) : Type 0
   pub table : IsService db source base commands
   pub count : last ≡ base + length commands
 
+-- a service with this source and base that the database is has so many orders
+abbrev pub CountsOrders : Database → List ℕ → ℕ → ℕ → Type 0
+CountsOrders db source base n = (commands : List Accepted)
+    → IsService db source base commands → n ≡ length (orders_of commands)
+
+-- and so many rows, one for each command
+abbrev pub CountsRows : Database → List ℕ → ℕ → ℕ → Type 0
+CountsRows db source base n = (commands : List Accepted)
+    → IsService db source base commands → n ≡ length commands
+
 -- the source is allowed and the numbers are in range; and while the disk is honest and the
 -- database open, it is that of the service
 pub record StandsFor (s : State) (source : List ℕ) (base last : ℕ) : Type 0 where
@@ -60,3 +70,8 @@ pub record StandsFor (s : State) (source : List ℕ) (base last : ℕ) : Type 0 
   pub low : base ≤ last
   pub high : last ≤ max_sequence
   pub stands : HasCleanDisk s → IsTrue s.is_open → Stands s.now source base last
+
+-- each order has a row; and while the disk is honest and the database open, so many are its orders
+pub record KeepsCount (s : State) (source : List ℕ) (base last orders : ℕ) : Type 0 where
+  pub few : base + orders ≤ last
+  pub exact : HasCleanDisk s → IsTrue s.is_open → CountsOrders s.now source base orders

@@ -1,6 +1,6 @@
 //! A service of the tables that a database has.
 
-ghost use Rattle.std.specs.Prelude.{◌≡◌, ◌⊎◌, IsTrue, false, true, [], ◌∷◌, ◌≤◌, ◌≢◌, ◌↔◌, ℕ, suc, List, None, Err, length, IfOk, IfErr, IfSome, IfNone, OnOk};
+ghost use Rattle.std.specs.Prelude.{◌≡◌, ◌⊎◌, IsTrue, false, true, [], ◌∷◌, ◌+◌, ◌≤◌, ◌≢◌, ◌↔◌, ℕ, suc, List, None, Err, length, IfOk, IfErr, IfSome, IfNone, OnOk};
 ghost use Rattle.std.specs.BTreeMap.{get};
 ghost use Rattle.std.specs.Result.{IsErrAnd};
 ghost use Rattle.std.specs.Ordering.{nat_cmp};
@@ -13,7 +13,7 @@ ghost use Rattle.attributes.specs.Sequence.{max_sequence};
 ghost use Rattle.attributes.specs.Time.{time_day};
 ghost use Rattle.outbox.specs.Order.{Accepted, AreAccepted, IsCommand, status_of};
 ghost use Rattle.database_layout.specs.Layout.{HasService, lacks_name, schema_in as whole_schema};
-ghost use Rattle.outbox.specs.Shown.{HasNoOther, IsAllowed, IsNoService, Stands, StandsFor, max_source};
+ghost use Rattle.outbox.specs.Shown.{CountsOrders, HasNoOther, IsAllowed, IsNoService, Stands, StandsFor, max_source};
 ghost use Rattle.outbox.specs.Call.{IsSame, Leaves, LeavesAsBefore};
 ghost use Rattle.outbox.specs.steps.Change.{ShowOrders, shown_row, shown_rows, shown_service};
 ghost use Rattle.outbox.specs.steps.Replay.{IsReplay};
@@ -30,10 +30,11 @@ use sqlite::{Alter, Connection, Row};
 use std::alloc::Global;
 use std::collections::BTreeMap;
 
-/// The status of each order, and the number of the last row.
+/// The status of each order, how many there are, and the number of the last row.
 #[derive(Drop)]
 pub(crate) struct Replayed {
     pub(crate) statuses: BTreeMap<u64, Status>,
+    pub(crate) orders: u64,
     pub(crate) last: u64,
 }
 
@@ -95,12 +96,13 @@ pub(crate) fn replay(
 ) -> Result<Option<Replayed>, OutboxFault>
     requires { base ≤ max_sequence }
     ensures replay { IfOk result (λ o. IfSome o (IsReplay base rows.now)) }
-    ensures range { IfOk result (λ o. IfSome o (λ r. (base ≤ r.last) × (r.last ≤ max_sequence))) }
+    ensures range { IfOk result (λ o. IfSome o (λ r. (base + r.orders ≤ r.last) × (r.last ≤ max_sequence))) }
     ensures none { IfOk result (λ o. IfNone o ((commands : List Accepted)
         → AreAccepted base [] commands → rows.now ≢ shown_rows (suc base) commands)) }
     ensures fault { IfErr result (λ f. f ≡ OutOfMemory) }
 {
     let mut statuses = BTreeMap::new(alloc);
+    let mut orders = 0u64;
     let mut last = base;
     for row in rows {
         if last == MAX {
@@ -120,9 +122,14 @@ pub(crate) fn replay(
             Ok(_) => {}
             Err(_) => return Err(OutboxFault::OutOfMemory),
         }
+        orders = orders + stored.status.placed();
         last = last + 1;
     }
-    Ok(Some(Replayed { statuses, last }))
+    Ok(Some(Replayed {
+        statuses,
+        orders,
+        last,
+    }))
 }
 
 /// Whether the rows of `orders` are just those of the orders and their statuses.
@@ -156,6 +163,7 @@ pub(crate) struct Found {
     pub(crate) source: Text,
     pub(crate) base: u64,
     pub(crate) last: u64,
+    pub(crate) orders: u64,
 }
 
 /// The source and base in the one row of `service`, where a call can have left them so.
@@ -213,8 +221,12 @@ pub(crate) fn found_in<S: Alter>(
     ensures stands { HasCleanDisk (state S.Store conn.new) → IfOk result (λ o. IfSome o (λ f.
         IsTrue (state S.Store conn.new).is_open
         → Stands (state S.Store conn.new).now f.source f.base f.last)) }
+    ensures counts { HasCleanDisk (state S.Store conn.new) → IfOk result (λ o. IfSome o (λ f.
+        IsTrue (state S.Store conn.new).is_open
+        → CountsOrders (state S.Store conn.new).now f.source f.base f.orders)) }
     ensures range { IfOk result (λ o. IfSome o (λ f. (is_filled f.source ≡ true)
-        × (length f.source ≤ max_source) × (f.base ≤ f.last) × (f.last ≤ max_sequence))) }
+        × (length f.source ≤ max_source) × (f.base + f.orders ≤ f.last)
+        × (f.last ≤ max_sequence))) }
     ensures none { HasCleanDisk (state S.Store conn.new) → IfOk result (λ o.
         IfNone o (IsNoService (state S.Store conn.old).now)) }
     ensures exact { HasCleanDisk (state S.Store conn.new) → IfOk result (λ o. IfSome o (λ f.
@@ -236,9 +248,18 @@ pub(crate) fn found_in<S: Alter>(
         return Ok(None);
     };
     let orders = all_of(conn, "SELECT number, state FROM orders ORDER BY number")?;
-    let Replayed { statuses, last } = replayed;
+    let Replayed {
+        statuses,
+        orders: count,
+        last,
+    } = replayed;
     if are_orders(&orders, statuses)? {
-        Ok(Some(Found { source, base, last }))
+        Ok(Some(Found {
+            source,
+            base,
+            last,
+            orders: count,
+        }))
     } else {
         Ok(None)
     }
@@ -250,8 +271,12 @@ fn read<S: Alter>(alloc: Global, conn: &mut Connection<S>) -> Result<Found, Outb
     ensures stands { HasCleanDisk (state S.Store conn.new) → IfOk result (λ f.
         IsTrue (state S.Store conn.new).is_open
         → Stands (state S.Store conn.new).now f.source f.base f.last) }
+    ensures counts { HasCleanDisk (state S.Store conn.new) → IfOk result (λ f.
+        IsTrue (state S.Store conn.new).is_open
+        → CountsOrders (state S.Store conn.new).now f.source f.base f.orders) }
     ensures range { IfOk result (λ f. (is_filled f.source ≡ true)
-        × (length f.source ≤ max_source) × (f.base ≤ f.last) × (f.last ≤ max_sequence)) }
+        × (length f.source ≤ max_source) × (f.base + f.orders ≤ f.last)
+        × (f.last ≤ max_sequence)) }
     ensures left { Leaves (state S.Store conn.old) (state S.Store conn.new) }
     ensures foreign { HasCleanDisk (state S.Store conn.new) → IfErr result (λ f.
         f ≡ Foreign → IsNoService (state S.Store conn.old).now) }
@@ -312,12 +337,18 @@ impl<S: Alter + Drop> Service<S> {
         let mut conn = conn;
         match read(alloc, &mut conn) {
             Ok(found) => {
-                let Found { source, base, last } = found;
+                let Found {
+                    source,
+                    base,
+                    last,
+                    orders,
+                } = found;
                 Ok(Service {
                     conn,
                     source,
                     base,
                     last,
+                    orders,
                     alloc,
                 })
             }

@@ -171,6 +171,7 @@ impl<S: Alter + Drop> Service<S> {
                 source: copy,
                 base,
                 last: base,
+                orders: 0,
                 alloc,
             }),
             Err(fault) => Err(NotMade { conn, fault }),

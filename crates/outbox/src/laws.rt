@@ -1,6 +1,6 @@
 //! Laws of services, each as the contract of a function that does nothing.
 
-ghost use Rattle.outbox.specs.Law.{StopsLeaveAService};
+ghost use Rattle.outbox.specs.Law.{OrdersHaveAStatus, StopsLeaveAService};
 
 use database_layout::laws::trees_tell_tables;
 
@@ -14,3 +14,9 @@ pub fn stops_leave_a_service()
 {
     trees_tell_tables();
 }
+
+/// The orders of a service, of which [`crate::Service::orders`] tells how many, are those that have a
+/// status: each was placed once.
+pub fn orders_have_a_status()
+    ensures { OrdersHaveAStatus }
+{}

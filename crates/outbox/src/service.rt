@@ -1,6 +1,6 @@
 //! A service: its orders, and the rows of its outbox.
 
-ghost use Rattle.std.specs.Prelude.{◌≡◌, ◌≢◌, ◌⊎◌, ◌<◌, ◌≤◌, ◌^◌, ◌+◌, ℕ, suc, pos, List, length, string_bytes, Some, None, IsTrue, OnOk, OnErr, IfOk, IfErr};
+ghost use Rattle.std.specs.Prelude.{◌≡◌, ◌≢◌, ◌⊎◌, ◌<◌, ◌≤◌, ◌^◌, ◌+◌, ◌-◌, ℕ, suc, pos, List, length, string_bytes, Some, None, IsTrue, OnOk, OnErr, IfOk, IfErr};
 ghost use Rattle.sqlite_value.specs.declared.value.Value.TheVariants.{Int, Text as Words};
 ghost use Rattle.sqlite_value.specs.Order.{column};
 ghost use Rattle.sqlite.specs.State.{HasCleanDisk};
@@ -9,7 +9,7 @@ ghost use Rattle.attributes.specs.Sequence.{max_sequence};
 ghost use Rattle.outbox.specs.Order.{Accepted, status_of, refusal};
 ghost use Rattle.outbox.specs.Row.{row_event, events_from};
 ghost use Rattle.outbox.specs.Service.{code, IsService};
-ghost use Rattle.outbox.specs.Shown.{StandsFor};
+ghost use Rattle.outbox.specs.Shown.{CountsOrders, CountsRows, StandsFor};
 ghost use Rattle.outbox.specs.Call.{CommandCall, CommandEffect, IsSame, LeavesAsBefore, ShowsAfter};
 ghost use Rattle.outbox.specs.steps.Change.{shown_row, shown_rows};
 ghost use Rattle.outbox.specs.declared.fault.OutboxFault.TheVariants.{OutOfMemory, Store, Foreign};
@@ -37,12 +37,14 @@ pub struct Service<S: Alter> {
     pub(crate) source: Text,
     pub(crate) base: u64,
     pub(crate) last: u64,
+    /// How many orders there are: kept, so that telling it costs nothing.
+    pub(crate) orders: u64,
     pub(crate) alloc: Global,
 }
 
 impl<S: Alter> Model for Service<S> {
     ghost use Rattle.sqlite.specs.Held.{state};
-    ghost use Rattle.outbox.specs.Shown.{Shown, shown_code, StandsFor};
+    ghost use Rattle.outbox.specs.Shown.{KeepsCount, Shown, shown_code, StandsFor};
 
     ghost Value = { Shown S };
 
@@ -50,7 +52,8 @@ impl<S: Alter> Model for Service<S> {
 
     ghost view = { λ t. record { conn = t.conn; source = t.source; base = t.base; last = t.last } };
 
-    ghost invariant = { λ t. StandsFor (state S.Store t.conn) t.source t.base t.last };
+    ghost invariant = { λ t. StandsFor (state S.Store t.conn) t.source t.base t.last
+        × KeepsCount (state S.Store t.conn) t.source t.base t.last t.orders };
 }
 
 impl<S: Alter + Drop> Drop for Service<S> {
@@ -60,6 +63,7 @@ impl<S: Alter + Drop> Drop for Service<S> {
             source: _,
             base: _,
             last: _,
+            orders: _,
             alloc: _,
         } = self;
     }
@@ -196,6 +200,26 @@ impl<S: Alter> Service<S> {
         self.base
     }
 
+    /// How many orders it has, whatever their status. The time is constant.
+    pub fn orders(&self) -> u64
+        ensures orders { HasCleanDisk (state S.Store self.now.conn)
+            → IsTrue (state S.Store self.now.conn).is_open → CountsOrders
+            (state S.Store self.now.conn).now self.now.source self.now.base result }
+        ensures few { self.now.base + result ≤ self.now.last }
+    {
+        self.orders
+    }
+
+    /// How many rows its outbox has: one for each accepted command. The time is constant.
+    pub fn rows(&self) -> u64
+        ensures rows { HasCleanDisk (state S.Store self.now.conn)
+            → IsTrue (state S.Store self.now.conn).is_open → CountsRows
+            (state S.Store self.now.conn).now self.now.source self.now.base result }
+        ensures numbers { result ≡ self.now.last - self.now.base }
+    {
+        self.last - self.base
+    }
+
     /// Gives the connection back, with its tables as they are.
     pub fn into_connection(self) -> Connection<S>
         ensures { result ≡ self.conn }
@@ -205,6 +229,7 @@ impl<S: Alter> Service<S> {
             source: _,
             base: _,
             last: _,
+            orders: _,
             alloc: _,
         } = self;
         conn
@@ -270,6 +295,7 @@ impl<S: Alter> Service<S> {
             Ok(()) => {}
             Err(error) => return Err(OutboxFault::from(error)),
         }
+        self.orders = self.orders + status.placed();
         self.last = number;
         Ok(event)
     }

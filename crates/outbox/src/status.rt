@@ -1,7 +1,7 @@
 //! The statuses of orders.
 
-ghost use Rattle.std.specs.Prelude.{◌≡◌, ◌≢◌, pos, IfSome, IfNone};
-ghost use Rattle.outbox.specs.Order.{status_fault};
+ghost use Rattle.std.specs.Prelude.{◌≡◌, ◌≢◌, ◌≤◌, ℕ, length, pos, IfSome, IfNone};
+ghost use Rattle.outbox.specs.Order.{placed_by, status_fault};
 ghost use Rattle.outbox.specs.Service.{code};
 ghost use Rattle.outbox.specs.declared.status.Status.{Status};
 
@@ -38,6 +38,18 @@ impl Status {
             2 => Some(Status::Shipped),
             3 => Some(Status::Cancelled),
             _ => None,
+        }
+    }
+
+    /// How many orders a command with this status places.
+    pub(crate) fn placed(self) -> u64
+        ensures few { result ≤ 1 }
+        ensures placed { (order : ℕ) → result ≡ length (placed_by self order) }
+    {
+        match self {
+            Status::Placed => 1,
+            Status::Shipped => 0,
+            Status::Cancelled => 0,
         }
     }
 

@@ -5,28 +5,31 @@ use Rattle.std.specs.BTreeMap.{BTreeMap}
 use Rattle.std.specs.Ordering.{nat_cmp}
 use Rattle.sqlite_value.specs.Order.{Row}
 use Rattle.attributes.specs.Sequence.{max_sequence}
-use Rattle.outbox.specs.Order.{Accepted, status_of, AreAccepted}
+use Rattle.outbox.specs.Order.{Accepted, orders_of, status_of, AreAccepted}
 use Rattle.outbox.specs.declared.status.Status.{Status}
 use Rattle.outbox.specs.steps.Change.{shown_rows, shown_order}
 use Rattle.sqlite_rules.specs.Lists.{Has}
 use Rattle.outbox.specs.declared.adoption.Replayed.{Replayed}
 
--- the rows are those of commands, each accepted after those before it, and these are the statuses
--- and the last number
+-- the rows are those of commands, each accepted after those before it, and these are the statuses,
+-- how many orders there are, and the last number
 pub record IsReplay (base : ℕ) (rows : List Row) (r : Replayed) : Type 0 where
   pub commands : List Accepted
   pub rows_are : rows ≡ shown_rows (suc base) commands
   pub accepted : AreAccepted base [] commands
   pub statuses : (order : ℕ) → get nat_cmp r.statuses order ≡ status_of commands order
+  pub orders : r.orders ≡ length (orders_of commands)
   pub last : r.last ≡ base + length commands
 
 -- the same of the first rows
-pub record HasReplayed (base : ℕ) (rows : List Row) (at : ℕ) (m : BTreeMap ℕ Status) (last : ℕ)
-    : Type 0 where
+pub record HasReplayed (base : ℕ) (rows : List Row) (at : ℕ) (m : BTreeMap ℕ Status)
+    (orders last : ℕ) : Type 0 where
   pub commands : List Accepted
   pub rows_are : take at rows ≡ shown_rows (suc base) commands
   pub accepted : AreAccepted base [] commands
   pub statuses : (order : ℕ) → get nat_cmp m order ≡ status_of commands order
+  pub orders_are : orders ≡ length (orders_of commands)
+  pub few : base + orders ≤ last
   pub last_is : last ≡ base + length commands
   pub high : last ≤ max_sequence
 

@@ -4,7 +4,7 @@ use Rattle.sqlite.specs.State.{HasCleanDisk}
 use Rattle.sqlite.specs.Held.{state}
 use Rattle.outbox.specs.steps.Change.{ShowOrders, shown_service}
 use Rattle.outbox.specs.steps.Replay.{IsReplay}
-use Rattle.outbox.proofs.FoundLemmas.{all_leave, found, not_both, no_orders, no_other, no_rows, no_source, one_leaves, two_leave}
+use Rattle.outbox.proofs.FoundLemmas.{all_leave, found, found_counts, not_both, no_orders, no_other, no_rows, no_source, one_leaves, two_leave}
 use Rattle.outbox.proofs.TextLemmas.{all_orders_is, all_rows_is, service_row_is}
 use Rattle.outbox.proofs.adoption.found_in.Goals as goal
 
@@ -22,6 +22,14 @@ returns-then-branch-clause-stands g c clean still =
     let service_is : c.in_ok-services.services.items ≡ shown_service c.in-Some.source c.in-Some.base ∷ [] = sym c.deref.ensures.value ∙ (rw c.in-Some.is at c.in_ok-source.ensures.row) in
     let replayed : IsReplay c.in-Some.base c.in_ok-rows.rows.items c.in-Some-2.replayed = rw (c.in-Some-2.is, c.deref-2.ensures.value) at c.in_ok-replayed.ensures.replay in
     found (state g.S.Store c.args.conn.now) (state g.S.Store c.all_of.new.conn) (state g.S.Store c.all_of-2.new.conn) (state g.S.Store c.all_of-3.new.conn) (c.args.layout, c.requires.there) c.in-Some.source c.in-Some.base c.in_ok-services.services.items c.in_ok-rows.rows.items
+    c.in_ok-orders.orders.items c.in-Some-2.replayed c.requires.schema clean still c.all_of.ensures.same c.all_of-2.ensures.same c.all_of-3.ensures.same c.all_of.ensures.live c.all_of-2.ensures.live c.all_of-3.ensures.live c.in_ok-services.ensures.shown
+    c.in_ok-rows.ensures.shown c.in_ok-orders.ensures.shown service_is replayed (λ commands told. rw c.deref-3.ensures.value at ((c.in_ok-are_orders.ensures.orders commands told).0 c.if-branch.true))
+
+pub returns-then-branch-clause-counts : goal.returns-then-branch-clause-counts
+returns-then-branch-clause-counts g c clean still =
+    let service_is : c.in_ok-services.services.items ≡ shown_service c.in-Some.source c.in-Some.base ∷ [] = sym c.deref.ensures.value ∙ (rw c.in-Some.is at c.in_ok-source.ensures.row) in
+    let replayed : IsReplay c.in-Some.base c.in_ok-rows.rows.items c.in-Some-2.replayed = rw (c.in-Some-2.is, c.deref-2.ensures.value) at c.in_ok-replayed.ensures.replay in
+    found_counts (state g.S.Store c.args.conn.now) (state g.S.Store c.all_of.new.conn) (state g.S.Store c.all_of-2.new.conn) (state g.S.Store c.all_of-3.new.conn) (c.args.layout, c.requires.there) c.in-Some.source c.in-Some.base c.in_ok-services.services.items c.in_ok-rows.rows.items
     c.in_ok-orders.orders.items c.in-Some-2.replayed c.requires.schema clean still c.all_of.ensures.same c.all_of-2.ensures.same c.all_of-3.ensures.same c.all_of.ensures.live c.all_of-2.ensures.live c.all_of-3.ensures.live c.in_ok-services.ensures.shown
     c.in_ok-rows.ensures.shown c.in_ok-orders.ensures.shown service_is replayed (λ commands told. rw c.deref-3.ensures.value at ((c.in_ok-are_orders.ensures.orders commands told).0 c.if-branch.true))
 

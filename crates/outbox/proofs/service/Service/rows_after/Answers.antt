@@ -13,7 +13,7 @@ pub returns-clause-rows : goal.returns-clause-rows
 returns-clause-rows g c clean =
     let near : c.args.after ≤ max_sequence → c.min.result ≡ c.args.after = λ low. omega (arith, c.min.ensures, low) in
     let far : max_sequence < c.args.after → c.min.result ≡ max_sequence = λ high. omega (arith, c.min.ensures, high) in
-    let low : c.self.inside.base ≤ max_sequence = omega (arith, c.self.invariant.low, c.self.invariant.high) in
+    let low : c.self.inside.base ≤ max_sequence = omega (arith, c.self.invariant.0.low, c.self.invariant.0.high) in
     subst
     (λ (v : Shown _). IfOk c.stored_events.result (λ batch. (commands : List Accepted) → IsService (state g.S.Store v.conn).now v.source v.base commands → batch ≡ rows_after v.source v.base commands c.args.after c.args.limit))
     c.self.view_is
