@@ -7,6 +7,7 @@ use Rattle.inbox.specs.KeyOrder.{key_cmp}
 use Rattle.inbox.specs.Ordered.{append_new}
 use Rattle.inbox.specs.Sets.{set_of}
 use Rattle.views.specs.Question.{IsTrueOf, query_of}
+use Rattle.site.specs.Arrival.{AreDistinct, AreNumbered}
 use Rattle.site.specs.Delta.{delta}
 use Rattle.site.specs.Page.{page}
 use Rattle.site.specs.declared.call.Call.{Call}
@@ -55,7 +56,9 @@ abbrev pub Runs : List EventValue → List Call → List EventValue → Type 0
 Runs A [] B = B ≡ A
 Runs A (c ∷ cs) B = Answers A c × Runs (arrivals_after A c) cs B
 
--- others added to the arrivals, and then came the call
+-- others added to the arrivals, and then came the call; what is there now are events with numbers,
+-- each once, so nobody added one that was there
 abbrev pub Follows : List EventValue → Call → List EventValue → Type 0
 Follows A c B =
     (others : List EventValue) × Answers (A ++ others) c × (B ≡ arrivals_after (A ++ others) c)
+    × AreDistinct B × AreNumbered B

@@ -44,7 +44,7 @@ impl From<AllocError> for DeskFault {
 
 /// Takes events and answers about them. It means a list of arrivals, which others may add to
 /// between its calls. Each call comes after all that was added by then, and is one call of the site
-/// machine.
+/// machine. After it the arrivals are events with numbers, each once.
 pub trait Desk {
     ghost use Rattle.std.specs.Prelude.{List, [], ◌++◌};
     ghost use Rattle.attributes.specs.Event.{EventValue};
@@ -120,7 +120,9 @@ impl Desk for Site {
     ghost goes_on = { λ s t u m n. runs-append s t u m n };
 
     fn take(&mut self, batch: &mut Batch) -> Result<Counts, DeskFault> {
-        match self.take_batch(batch) {
+        let taken = self.take_batch(batch);
+        let _arrived = self.arrived();
+        match taken {
             Ok(counts) => Ok(counts),
             Err(short) => Err(DeskFault::OutOfMemory {
                 taken: short.taken,
@@ -130,18 +132,22 @@ impl Desk for Site {
     }
 
     fn summary(&mut self) -> Result<Summary, DeskFault> {
+        let _arrived = self.arrived();
         Ok(Site::summary(self)?)
     }
 
     fn delta_page(&mut self, peer: &Summary, from: u64, limit: u64) -> Result<Batch, DeskFault> {
+        let _arrived = self.arrived();
         Ok(self.next_delta_page(peer, from, limit)?)
     }
 
     fn page(&mut self, from: u64, limit: u64) -> Result<Batch, DeskFault> {
+        let _arrived = self.arrived();
         Ok(Site::page(self, from, limit)?)
     }
 
     fn query(&mut self, query: Query) -> Result<Answer, DeskFault> {
+        let _arrived = self.arrived();
         Ok(Site::query(self, query)?)
     }
 }

@@ -3,7 +3,7 @@ use Rattle.std.proofs.Common.{◌≡◌, ℕ, List, [], ◌∷◌, ◌++◌, sym
 use Rattle.std.specs.Prelude.{Option, Some}
 use Rattle.atomic_table.specs.Seated.{TableId}
 use Rattle.attributes.specs.Event.{EventValue}
-use Rattle.site.specs.Arrival.{AreDistinct}
+use Rattle.site.specs.Arrival.{AreDistinct, AreNumbered}
 use Rattle.site.specs.Machine.{Answers, arrivals_after}
 use Rattle.site.specs.declared.call.Call.{Call}
 use Rattle.turn_lock.specs.declared.machine.Entry.{Entry}
@@ -27,8 +27,8 @@ pub still_once : (m m1 : Seat) → IsAtRest m → Hears m.0 m1.0 → AreDistinct
 still_once m m1 rest heard = subst AreDistinct (sym heard.same.opening) rest.once
 
 made : (t t' : TableId) (m m1 m2 : Seat) (c : Call) (said : Option Call) → t' ≡ t → IsAtRest m → Hears m.0 m1.0 → said ≡ Some c
-    → ((n : List ℕ) (d : Call) → m1.0.number ≡ Some n → said ≡ Some d → Adds n d m1.0 m2.0) → IsAtRest m2 → Made (shown t m.0) (shown t' m2.0) c
-made t t' m m1 m2 c said same rest heard says adds rest' =
+    → ((n : List ℕ) (d : Call) → m1.0.number ≡ Some n → said ≡ Some d → Adds n d m1.0 m2.0) → IsAtRest m2 → AreNumbered (leave m2.0.opening m2.0.seen) → Made (shown t m.0) (shown t' m2.0) c
+made t t' m m1 m2 c said same rest heard says adds rest' numbered =
     let v : SiteView = m.0 in let n : List ℕ = rest.idle.number in let named = rest.idle.named in let num : n ≡ number_of v.number = ap number_of (sym named) in
     let a : Adds n c m1.0 m2.0 = adds n c (heard.same.number ∙ named) says in record {
       others = heard.others;
@@ -38,11 +38,13 @@ made t t' m m1 m2 c said same rest heard says adds rest' =
       splits = a.splits ∙ heard.splits;
       same = record { table = same; number = ap number_of (a.same.number ∙ heard.same.number); opening = a.same.opening ∙ heard.same.opening };
       legal = rest'.idle.rests.legal;
+      distinct = leave_distinct (m2.0).opening (m2.0).seen rest'.once;
+      numbered = numbered;
     }
 
 pub made_from : (t t' : TableId) (p : Shown) (m m1 m2 : Seat) (c : Call) (said : Option Call) → shown t m.0 ≡ p → t' ≡ t → IsAtRest m → Hears m.0 m1.0 → said ≡ Some c
-    → ((n : List ℕ) (d : Call) → m1.0.number ≡ Some n → said ≡ Some d → Adds n d m1.0 m2.0) → IsAtRest m2 → Made p (shown t' m2.0) c
-made_from t t' p m m1 m2 c said is same rest heard says adds rest' = subst (λ (q : Shown). Made q (shown t' m2.0) c) is (made t t' m m1 m2 c said same rest heard says adds rest')
+    → ((n : List ℕ) (d : Call) → m1.0.number ≡ Some n → said ≡ Some d → Adds n d m1.0 m2.0) → IsAtRest m2 → AreNumbered (leave m2.0.opening m2.0.seen) → Made p (shown t' m2.0) c
+made_from t t' p m m1 m2 c said is same rest heard says adds rest' numbered = subst (λ (q : Shown). Made q (shown t' m2.0) c) is (made t t' m m1 m2 c said same rest heard says adds rest' numbered)
 
 true_of : (t : TableId) (m : Seat) → IsAtRest m → IsTrueOf (shown t m.0)
 true_of t m rest = let v : SiteView = m.0 in let n : List ℕ = rest.idle.number in let named = rest.idle.named in let num : n ≡ number_of v.number = ap number_of (sym named) in record {
@@ -93,3 +95,9 @@ pub shows_site : (t : TableId) (m m' : Seat) (A : List EventValue) (c : Call) (s
 shows_site t m m' A c said turn says adds =
     let v : SiteView = m.0 in let a : Adds turn.number c m.0 m'.0 = adds turn.number c turn.named says in
     sym ((λ i. leave (a.same.opening i) (a.seen i)) ∙ (leave-append v.opening v.seen (entry turn.number c ∷ []) ∙ ap (λ (z : List EventValue). arrivals_after z c) (sym turn.stands)))
+
+-- the site that goes back has numbers, so the arrivals after the pass's history have them
+pub leaves_numbered : (m m' : Seat) (B : List EventValue) (said : Option Call) → AreNumbered B → ((c : Call) × (said ≡ Some c) × MayEnd m B c)
+    → ((n : List ℕ) (d : Call) → m.0.number ≡ Some n → said ≡ Some d → Adds n d m.0 m'.0) → AreNumbered (leave m'.0.opening m'.0.seen)
+leaves_numbered m m' B said numbered may adds = let v : SiteView = m.0 in let turn = may.2.1 in let a : Adds turn.number may.0 m.0 m'.0 = adds turn.number may.0 turn.named may.1 in
+    subst AreNumbered (may.2.2 ∙ sym ((λ i. leave (a.same.opening i) (a.seen i)) ∙ (leave-append v.opening v.seen (entry turn.number may.0 ∷ []) ∙ ap (λ (z : List EventValue). arrivals_after z may.0) (sym turn.stands)))) numbered

@@ -28,4 +28,6 @@ made_follows p q c m = let all : List (Entry Call) = p.seen ++ m.others in let e
       g.0,
       subst (λ (z : List EventValue). Answers z c) opens (last_answers q.opening all e (subst (IsHistory q.opening) m.seen m.legal)),
       (ap (leave q.opening) m.seen ∙ leave-append q.opening all (e ∷ [])) ∙ ap (λ (z : List EventValue). arrivals_after z c) opens,
+      m.distinct,
+      m.numbered,
     )

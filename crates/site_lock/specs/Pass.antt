@@ -3,7 +3,7 @@
 use Rattle.std.specs.Prelude.{◌≡◌, ◌⊎◌, ℕ, ◌+◌, List, [], ◌∷◌, ◌++◌, map}
 use Rattle.atomic_table.specs.Seated.{TableId}
 use Rattle.attributes.specs.Event.{EventValue}
-use Rattle.site.specs.Arrival.{AreDistinct}
+use Rattle.site.specs.Arrival.{AreDistinct, AreNumbered}
 use Rattle.site.specs.Machine.{Answers, arrivals_after}
 use Rattle.site.specs.declared.call.Call.{Call}
 use Rattle.turn_lock.specs.declared.machine.Entry.{Entry}
@@ -56,7 +56,8 @@ pub record IsTrueOf (p : Shown) : Type 0 where
   pub below : GoesOnBelow p.number p.splits p.seen
   pub distinct : AreDistinct (leaves p)
 
--- from p to q the pass made the call c: it has seen entries of others, and then its own
+-- from p to q the pass made the call c: it has seen entries of others, and then its own; the
+-- arrivals after it are events with numbers, each once
 pub record Made (p q : Shown) (c : Call) : Type 0 where
   pub others : List (Entry Call)
   pub foreign : made_by p.number others ≡ []
@@ -65,6 +66,8 @@ pub record Made (p q : Shown) (c : Call) : Type 0 where
   pub splits : q.splits ≡ p.splits
   pub same : IsSame p q
   pub legal : IsHistory q.opening q.seen
+  pub distinct : AreDistinct (leaves q)
+  pub numbered : AreNumbered (leaves q)
 
 -- from p to q the pass gave a number away, and nothing else changed
 pub record Splits (p q : Shown) : Type 0 where

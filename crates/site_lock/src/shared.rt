@@ -1,10 +1,10 @@
 //! The shared site and its passes.
 
 ghost use Rattle.std.specs.Prelude.{◌≡◌, ◌≤◌, length, IfErr, IfOk, IsOk, ℕ, List, Some};
-ghost use Rattle.site.specs.Arrival.{AreDistinct};
+ghost use Rattle.site.specs.Arrival.{AreDistinct, AreNumbered};
 ghost use Rattle.site.specs.declared.call.Call.{Call};
 ghost use Rattle.turn_lock.specs.Turn.{Adds};
-ghost use Rattle.site_lock.specs.Pass.{Closes, IsFirst, IsSplitOff, Meets, Splits};
+ghost use Rattle.site_lock.specs.Pass.{Closes, IsFirst, IsSplitOff, Meets, Splits, leave};
 ghost use Rattle.site_lock.specs.Seat.{IsAtRest, MayEnd};
 
 mod answer;
@@ -128,9 +128,12 @@ impl SharedSite {
         ensures rest { IsAtRest seat.new.me }
         ensures ended { (n : List ℕ) (c : Call) → seat.old.me.0.number ≡ Some n → W.call ≡ Some c
             → Adds n c seat.old.me.0 seat.new.me.0 }
+        ensures numbered { AreNumbered (leave seat.new.me.0.opening seat.new.me.0.seen) }
     {
         let _ = command;
         let _ = reply;
+        // The arrivals have numbers.
+        let _arrived = site.arrived();
         self.turns.leave::<W>(seat, Held { site });
     }
 }

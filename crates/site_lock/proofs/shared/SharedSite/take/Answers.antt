@@ -11,7 +11,7 @@ use Rattle.site_lock.proofs.shared.SharedSite.take.Goals as goal
 pub returns-clause-made : goal.returns-clause-made
 returns-clause-made g c =
     made_from _ _ _ c.pass.inside.seat.me c.enter-site.new.pass.me c.end.new.seat.me _ _ c.pass.view_is (c.end.ensures.own.0 ∙ c.enter-site.ensures.own.0)
-    c.pass.invariant c.enter-site.ensures.hears (ap (λ l. Some (call (command.Take l) (took c.take_batch-reply.result))) c.of-before.ensures) c.end.ensures.ended c.end.ensures.rest
+    c.pass.invariant c.enter-site.ensures.hears (ap (λ l. Some (call (command.Take l) (took c.take_batch-reply.result))) c.of-before.ensures) c.end.ensures.ended c.end.ensures.rest c.end.ensures.numbered
 
 pub returns-clause-short_of_new : goal.returns-clause-short_of_new
 returns-clause-short_of_new g c =
