@@ -1,22 +1,17 @@
 -- What a step is to a flusher.
-use Rattle.std.proofs.Common.{◌≡◌, ◌+◌, ◌-◌, ◌≤◌, ℕ, [], ◌∷◌, ◌++◌, true, false, length, refl, ap, ◌∙◌, subst, append_assoc, arith, Option, Some, None}
+use Rattle.std.proofs.Common.{◌≡◌, ◌+◌, ◌-◌, ◌*◌, ◌≤◌, ℕ, true, false, length, refl, ap, ◌∙◌, subst, arith, Option, Some, None}
 use Rattle.std.specs.Prelude.{IsSome, IsTrue, min}
 use Rattle.sqlite.specs.Held.{Held}
 use Rattle.sqlite.specs.State.{State, HasCleanDisk}
 use Rattle.atomic_table.specs.Seated.{TableId}
 use Rattle.inbox_table.specs.Calls.{Kept}
-use Rattle.site.specs.Machine.{call}
-use Rattle.site.specs.declared.call.Command.TheVariants as command
-use Rattle.turn_lock.specs.History.{StartsWith, entry}
 use Rattle.site_lock.specs.Pass.{Shown, leaves}
-use Rattle.keeper.specs.Flush.{Flushes, Flushing, Turns}
-use Rattle.keeper.specs.Keep.{Asks, Grows, max_page}
+use Rattle.keeper.proofs.GatherLemmas.{pages_leave}
+use Rattle.keeper.specs.Flush.{Flushes, Flushing, Turns, max_pages}
+use Rattle.keeper.specs.Keep.{AsksPages, Grows, max_page}
 use Rattle.keeper.specs.declared.fault.KeepFault.{KeepFault}
 
-asked_more : (rows : ℕ) (p q : Shown) → Asks rows p q → StartsWith q.seen p.seen
-asked_more rows p q a = let e = entry p.number (call (command.Fresh rows max_page) a.0) in (a.1.others ++ e ∷ [], a.1.seen ∙ append_assoc p.seen a.1.others (e ∷ []))
-
-module _ {S : Type 0} (state : Held S → State) (site : TableId) (k l : Kept S) (p q : Shown) (fault : Option KeepFault) (none : fault ≡ None) (asked : Asks k.rows p q) (list : Grows (state k.conn) (state l.conn)) where
+module _ {S : Type 0} (state : Held S → State) (site : TableId) (k l : Kept S) (p q : Shown) (fault : Option KeepFault) (none : fault ≡ None) (asked : AsksPages max_pages k.rows p q) (list : Grows (state k.conn) (state l.conn)) where
   abbrev pub before : Flushing S
   before = record { site = site; keeper = k; pass = p; fault = fault }
 
@@ -24,18 +19,18 @@ module _ {S : Type 0} (state : Held S → State) (site : TableId) (k l : Kept S)
   no_fault some = let bad : false ≡ true = subst IsSome none some in cc
 
   flushes : (after : Option KeepFault) → k.rows ≤ l.rows → (HasCleanDisk (state l.conn) → after ≡ None → IsTrue (state l.conn).is_open) → Flushes state before record { site = site; keeper = l; pass = q; fault = after }
-  flushes after mark opens = record {
+  flushes after mark opens = let asks = pages_leave max_pages k.rows p q asked in record {
     site = refl;
-    same = asked.1.same;
-    splits = asked.1.splits;
-    seen = asked_more k.rows p q asked;
+    same = asks.same;
+    splits = asks.splits;
+    seen = asks.seen;
     mark = mark;
     list = list;
     stays_open = λ clean last is_open. opens clean last;
     stopped = λ some. absurd (no_fault some);
   }
 
-  pub stepped : (n : ℕ) → l.rows ≡ k.rows + n → (HasCleanDisk (state l.conn) → n ≡ min max_page (length (leaves q) - k.rows))
+  pub stepped : (n : ℕ) → l.rows ≡ k.rows + n → (HasCleanDisk (state l.conn) → n ≡ min (max_page * max_pages) (length (leaves q) - k.rows))
       → (HasCleanDisk (state l.conn) → IsTrue (state l.conn).is_open) → Turns state before record { site = site; keeper = l; pass = q; fault = fault } true
   stepped n grew page opens = record {
     flushes = flushes fault (omega (arith, grew)) (λ clean last. opens clean);

@@ -1,4 +1,5 @@
 mod NewLemmas
 mod PageLemmas
 mod FlushLemmas
+mod GatherLemmas
 pub mod LawLemmas

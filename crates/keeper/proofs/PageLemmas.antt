@@ -12,38 +12,30 @@ use Rattle.inbox.specs.Ordered.{append_new}
 use Rattle.inbox_table.specs.Calls.{AreFresh, MayTake, Takes}
 use Rattle.inbox_table.specs.Rows.{IsInbox}
 use Rattle.site.specs.Arrival.{AreDistinct}
-use Rattle.site.specs.Machine.{Follows, call}
 use Rattle.site.specs.Page.{page}
-use Rattle.site.specs.declared.call.Command.TheVariants as command
-use Rattle.site.specs.declared.call.Reply.{Reply}
-use Rattle.site.specs.declared.call.Reply.TheVariants.{Paged}
 use Rattle.keeper.proofs.NewLemmas.{all_new, grows}
-use Rattle.keeper.specs.Keep.{Grows, HasAll, HasFirst, KeepsUp, MayGrow, MayKeep, MayKeepAll, max_page}
+use Rattle.keeper.specs.Keep.{Grows, HasAll, HasFirst, KeepsUp, MayGrow, MayKeep, MayKeepAll}
 
 -- the page behind the first arrivals is new to them, and they are the first ones with it
-record IsNext (A : List EventValue) (rows : ℕ) (b : List EventValue) : Type 0 where
-  pub count : length b ≡ min max_page (length A - rows)
+record IsNext (A : List EventValue) (rows most : ℕ) (b : List EventValue) : Type 0 where
+  pub count : length b ≡ min most (length A - rows)
   pub some : rows + length b ≤ length A
   pub added : append_new key_cmp (take rows A) b ≡ take (rows + length b) A
 
-is_next : (A : List EventValue) (rows : ℕ) (b : List EventValue) → rows ≤ length A → b ≡ page A rows max_page → AreDistinct A → IsNext A rows b
-is_next A rows b low is once =
-    let k : List EventValue = take rows A in let l : List EventValue = drop rows A in let r : List EventValue = drop max_page l in
-    let rest : b ++ r ≡ l = ap (λ (z : List EventValue). z ++ r) is ∙ take-append-drop max_page l in
+is_next : (A : List EventValue) (rows most : ℕ) (b : List EventValue) → rows ≤ length A → b ≡ page A rows most → AreDistinct A → IsNext A rows most b
+is_next A rows most b low is once =
+    let k : List EventValue = take rows A in let l : List EventValue = drop rows A in let r : List EventValue = drop most l in
+    let rest : b ++ r ≡ l = ap (λ (z : List EventValue). z ++ r) is ∙ take-append-drop most l in
     let all : k ++ (b ++ r) ≡ A = ap (λ (z : List EventValue). k ++ z) rest ∙ take-append-drop rows A in
     let behind : (k ++ b) ++ r ≡ A = append_assoc k b r ∙ all in
     let count_k : length k ≡ rows = length-take-le rows A low in
     let both : length (k ++ b) ≡ rows + length b = length-append k b ∙ ap (λ n. n + length b) count_k in
     let whole = ap (λ (z : List EventValue). length z) behind in
     record {
-      count = ap (λ (z : List EventValue). length z) is ∙ (length-take max_page l ∙ ap (min max_page) (length-drop rows A));
+      count = ap (λ (z : List EventValue). length z) is ∙ (length-take most l ∙ ap (min most) (length-drop rows A));
       some = (let e = length-append (k ++ b) r in omega (arith, both, whole, e));
       added = all_new key_cmp k b r (subst (λ (z : List EventValue). append_new key_cmp [] z ≡ z) (sym all) once) ∙ (sym (take-append_seam (k ++ b) r) ∙ (λ i. take (both i) (behind i)));
     }
-
--- a question for a page only lets others add
-others_added : (A B : List EventValue) (rows : ℕ) (reply : Reply) → Follows A (call (command.Fresh rows max_page) reply) B → (others : List EventValue) × (B ≡ A ++ others)
-others_added A B rows reply f = (f.0, f.2)
 
 -- the first arrivals stay the first
 pub first_in : (db : Database) (rows : ℕ) (A B : List EventValue) (others : List EventValue) → B ≡ A ++ others → HasFirst db rows A → HasFirst db rows B
@@ -52,12 +44,11 @@ first_in db rows A B others is h = record {
   table = subst (IsInbox db) (sym (ap (take rows) is ∙ take-append-le rows A others h.some)) h.table;
 }
 
--- a question alone, after which the table has what it had
-pub still_first : (old new : State) (rows rows' : ℕ) (A B : List EventValue) (reply : Reply) → Follows A (call (command.Fresh rows max_page) reply) B → KeepsUp old rows A → (HasCleanDisk new → HasCleanDisk old)
+-- questions alone, after which the table has what it had
+pub still_first : (old new : State) (rows rows' : ℕ) (A B others : List EventValue) → B ≡ A ++ others → KeepsUp old rows A → (HasCleanDisk new → HasCleanDisk old)
     → (HasCleanDisk new → IsTrue new.is_open → IsTrue old.is_open) → (HasCleanDisk new → IsTrue new.is_open → new.now ≡ old.now) → rows' ≡ rows → KeepsUp new rows' B
-still_first old new rows rows' A B reply f first was_clean was_open same is clean is_open =
-    let o = others_added A B rows reply f in
-    let h : HasFirst old.now rows B = first_in old.now rows A B o.0 o.1 (first (was_clean clean) (was_open clean is_open)) in
+still_first old new rows rows' A B others added first was_clean was_open same is clean is_open =
+    let h : HasFirst old.now rows B = first_in old.now rows A B others added (first (was_clean clean) (was_open clean is_open)) in
     subst (λ n. HasFirst new.now n B) (sym is) (subst (λ d. HasFirst d rows B) (sym (same clean is_open)) h)
 
 -- what may be left, said in other words
@@ -137,14 +128,14 @@ caught_up old new rows rows' fresh A b is once first was_clean was_open stays ta
       count = omega (arith, grew, e, k, m);
     }
 
-module _ (old new : State) (rows rows' fresh : ℕ) (A B b : List EventValue) (f : Follows A (call (command.Fresh rows max_page) (Paged b)) B) (once : AreDistinct B) (first : KeepsUp old rows A)
+module _ (old new : State) (rows rows' fresh most : ℕ) (A B b others : List EventValue) (added : B ≡ A ++ others) (is_page : b ≡ page B rows most) (once : AreDistinct B) (first : KeepsUp old rows A)
     (was_clean : HasCleanDisk new → HasCleanDisk old) (was_open : HasCleanDisk new → IsTrue new.is_open → IsTrue old.is_open) (stays : HasCleanDisk new → IsTrue new.is_open)
     (takes : HasCleanDisk new → Takes b old.now new.now) (came : HasCleanDisk new → AreFresh b old.now fresh) (grew : rows' ≡ rows + fresh) where
   was : HasCleanDisk new → HasFirst old.now rows B
-  was clean = first_in old.now rows A B f.0 f.2 (first (was_clean clean) (was_open clean (stays clean)))
+  was clean = first_in old.now rows A B others added (first (was_clean clean) (was_open clean (stays clean)))
 
-  next : HasCleanDisk new → IsNext B rows b
-  next clean = is_next B rows b (was clean).some (f.1 ∙ ap (λ (z : List EventValue). page z rows max_page) (sym f.2)) once
+  next : HasCleanDisk new → IsNext B rows most b
+  next clean = is_next B rows most b (was clean).some is_page once
 
   fresh_is : HasCleanDisk new → fresh ≡ length b
   fresh_is clean =
@@ -158,7 +149,7 @@ module _ (old new : State) (rows rows' fresh : ℕ) (A B b : List EventValue) (f
       let to : rows + length b ≡ rows' = ap (λ k. rows + k) (sym (fresh_is clean)) ∙ sym grew in
       subst (λ k. HasFirst new.now k B) to record { some = n.some; table = subst (IsInbox new.now) n.added (takes clean (take rows B) w.table) }
 
-  pub page_count : HasCleanDisk new → fresh ≡ min max_page (length B - rows)
+  pub page_count : HasCleanDisk new → fresh ≡ min most (length B - rows)
   page_count clean = fresh_is clean ∙ (next clean).count
 
   pub page_grows : Survives old new (λ trees. IsTrue old.is_open → MayTake b old.now trees) → Grows old new
@@ -167,12 +158,12 @@ module _ (old new : State) (rows rows' fresh : ℕ) (A B b : List EventValue) (f
 pub survives_same : (s : State) (P : Trees → Type 0) → Survives s s P
 survives_same s P = record { clean = omega arith; shield = λ h. h; counts = omega arith; limit = refl; closes = λ clean h. inl h; crash = λ clean db h. inl h }
 
--- what a crash may leave of a page that is being kept
-pub page_crash : (old new : State) (rows : ℕ) (A B b : List EventValue) → Follows A (call (command.Fresh rows max_page) (Paged b)) B → AreDistinct B → KeepsUp old rows A
-    → Survives old new (λ trees. IsTrue old.is_open → MayTake b old.now trees) → Survives old new (λ trees. IsTrue old.is_open → MayKeep rows B old.now trees)
-page_crash old new rows A B b f once first s = survives_as old new _ _ s (λ clean trees takes is_open.
-    let w : HasFirst old.now rows B = first_in old.now rows A B f.0 f.2 (first clean is_open) in
-    let n : IsNext B rows b = is_next B rows b w.some (f.1 ∙ ap (λ (z : List EventValue). page z rows max_page) (sym f.2)) once in
+-- what a crash may leave of pages that are being kept
+pub page_crash : (old new : State) (rows most : ℕ) (A B b others : List EventValue) → B ≡ A ++ others → b ≡ page B rows most → AreDistinct B → KeepsUp old rows A
+    → Survives old new (λ trees. IsTrue old.is_open → MayTake b old.now trees) → Survives old new (λ trees. IsTrue old.is_open → MayKeep most rows B old.now trees)
+page_crash old new rows most A B b others added is_page once first s = survives_as old new _ _ s (λ clean trees takes is_open.
+    let w : HasFirst old.now rows B = first_in old.now rows A B others added (first clean is_open) in
+    let n : IsNext B rows most b = is_next B rows most b w.some is_page once in
     let m = takes is_open in
     record {
       db = m.db;

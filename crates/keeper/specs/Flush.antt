@@ -1,13 +1,17 @@
 -- What a flusher shows, and what its turns do.
-use Rattle.std.specs.Prelude.{◌≡◌, ◌+◌, ◌-◌, ◌≤◌, Bool, true, false, length, min, Option, None, IsSome, IsTrue}
+use Rattle.std.specs.Prelude.{◌≡◌, ◌+◌, ◌-◌, ◌*◌, ◌≤◌, ℕ, Bool, true, false, length, min, Option, None, IsSome, IsTrue}
 use Rattle.sqlite.specs.Held.{Held}
 use Rattle.sqlite.specs.State.{State, HasCleanDisk}
 use Rattle.atomic_table.specs.Seated.{TableId}
 use Rattle.inbox_table.specs.Calls.{Kept}
 use Rattle.turn_lock.specs.History.{StartsWith}
 use Rattle.site_lock.specs.Pass.{IsSame, Shown, leaves}
-use Rattle.keeper.specs.Keep.{Asks, Grows, max_page}
+use Rattle.keeper.specs.Keep.{AsksPages, Grows, max_page}
 use Rattle.keeper.specs.declared.fault.KeepFault.{KeepFault}
+
+-- the most pages that a turn keeps
+abbrev pub max_pages : ℕ
+max_pages = 10
 
 -- the shared site, the keeper as its table, the pass, and the refusal of a step, if one came
 pub record Flushing (S : Type 0) : Type 0 where
@@ -31,16 +35,16 @@ module _ {S : Type 0} (state : Held S → State) where
         → IsTrue (state f.keeper.conn).is_open → IsTrue (state g.keeper.conn).is_open
     pub stopped : IsSome f.fault → g ≡ f
 
-  -- one step was made: the pass asked once; it is refused exactly where the answer is false, and
-  -- then the mark stays; else the mark grew by the page
+  -- steps were made in one: the pass asked for pages, and for nothing else; it is refused exactly
+  -- where the answer is false, and then the mark stays; else the mark grew by the pages
   pub record Steps (f g : Flushing S) (answer : Bool) : Type 0 where
-    pub asked : Asks f.keeper.rows f.pass g.pass
+    pub asked : AsksPages max_pages f.keeper.rows f.pass g.pass
     pub went : answer ≡ true → g.fault ≡ None
     pub refused : answer ≡ false → IsSome g.fault × (g.keeper.rows ≡ f.keeper.rows)
     pub page : answer ≡ true → HasCleanDisk (state g.keeper.conn) → g.keeper.rows
-        ≡ f.keeper.rows + min max_page (length (leaves g.pass) - f.keeper.rows)
+        ≡ f.keeper.rows + min (max_page * max_pages) (length (leaves g.pass) - f.keeper.rows)
 
-  -- a turn is one step, unless one was refused before: then it does nothing and answers false
+  -- a turn makes steps in one, unless one was refused before: then it does nothing and answers false
   pub record Turns (f g : Flushing S) (answer : Bool) : Type 0 where
     pub flushes : Flushes f g
     pub step : f.fault ≡ None → Steps f g answer

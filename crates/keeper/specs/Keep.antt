@@ -1,5 +1,5 @@
 -- What a table has of the arrivals of a site.
-use Rattle.std.specs.Prelude.{◌≡◌, ◌+◌, ◌-◌, ◌≤◌, ℕ, List, ◌++◌, length, min, take, IsTrue}
+use Rattle.std.specs.Prelude.{◌≡◌, ◌+◌, ◌-◌, ◌*◌, ◌≤◌, ℕ, zero, suc, List, ◌++◌, length, min, take, IsTrue}
 use Rattle.sqlite_trees.specs.Tree.{Trees}
 use Rattle.sqlite.specs.Effect.{Database, IsDatabase}
 use Rattle.sqlite.specs.State.{State, HasCleanDisk, Survives}
@@ -35,6 +35,17 @@ pub record HasAll (s : State) (rows : ℕ) (arrivals : List EventValue) : Type 0
 abbrev pub Asks : ℕ → Shown → Shown → Type 0
 Asks rows p q = (reply : Reply) × Made p q (call (command.Fresh rows max_page) reply)
 
+-- it asked so many times, for page after page, and made no other call
+abbrev pub AsksTimes : ℕ → ℕ → Shown → Shown → Type 0
+AsksTimes zero rows p q = q ≡ p
+AsksTimes (suc times) rows p q = (between : Shown) × AsksTimes times rows p between
+    × Asks (rows + max_page * times) between q
+
+-- it did so once or more, so many times at most
+abbrev pub AsksPages : ℕ → ℕ → Shown → Shown → Type 0
+AsksPages pages rows p q =
+    (times : ℕ) × (1 ≤ times) × (times ≤ pages) × AsksTimes times rows p q
+
 -- these are the trees of a database that has whatever events the table had, and more behind them or
 -- none
 pub record MayGrow (old : Database) (trees : Trees) : Type 0 where
@@ -54,14 +65,14 @@ pub record Grows (old new : State) : Type 0 where
       → IsInbox old.now held → (more : List EventValue) × IsInbox new.now (held ++ more)
   pub survives : Survives old new (λ trees. IsTrue old.is_open → MayGrow old.now trees)
 
--- these are the trees of a database that has the first so many of the arrivals, and the page behind
--- them; what lies beside the table is as it was
-pub record MayKeep (rows : ℕ) (arrivals : List EventValue) (old : Database) (trees : Trees)
+-- these are the trees of a database that has the first so many of the arrivals, and behind them the
+-- next ones, `most` at most; what lies beside the table is as it was
+pub record MayKeep (most rows : ℕ) (arrivals : List EventValue) (old : Database) (trees : Trees)
     : Type 0 where
   pub db : Database
   pub are : trees ≡ db.trees
   pub sound : IsDatabase db
-  pub first : HasFirst db (rows + min max_page (length arrivals - rows)) arrivals
+  pub first : HasFirst db (rows + min most (length arrivals - rows)) arrivals
   pub beside : KeepsService old db
 
 -- and these those of one that has them all

@@ -14,8 +14,11 @@ use sqlite::Alter;
 use std::marker::Model;
 use std::sync::Wait;
 
-/// A keeper with a pass of its own: each turn is one step, until one is refused. Contracts see the
-/// shared site, the keeper, the pass, and the refusal, if one came.
+/// The most steps that a turn makes in one transaction.
+const MAX_PAGES: u64 = 10;
+
+/// A keeper with a pass of its own: each turn keeps what ten steps would, in one transaction, until
+/// one is refused. Contracts see the shared site, the keeper, the pass, and the refusal, if one came.
 #[derive(Drop)]
 pub struct Flusher<'a, R: Wait, S: Alter> {
     rt: &'a R,
@@ -76,14 +79,18 @@ impl<'a, R: Wait, S: Alter + Drop> Flusher<'a, R, S> {
         }
     }
 
-    /// One step, unless one was refused before. False where it is refused, or one was.
+    /// Ten steps in one transaction, unless one was refused before. False where they are refused, or
+    /// others were.
     pub fn flush(&mut self) -> bool
         ensures { Turns (λ conn. state S.Store conn) self.old self.new result }
     {
         if self.fault.is_some() {
             return false;
         }
-        match self.keeper.step(self.rt, self.shared, &mut self.pass) {
+        match self
+            .keeper
+            .steps(self.rt, self.shared, &mut self.pass, MAX_PAGES)
+        {
             Ok(_) => true,
             Err(fault) => {
                 self.fault = Some(fault);
@@ -135,7 +142,7 @@ impl<'a, R: Wait, S: Alter + Drop> Aside for Flusher<'a, R, S> {
 
     ghost goes_on = { λ f g h. flushes_on _ f g h };
 
-    /// One step, as [`Flusher::flush`].
+    /// A turn, as [`Flusher::flush`].
     fn turn(&mut self) -> bool
         ensures { Turns (λ conn. state S.Store conn) self.old self.new result }
     {

@@ -1,6 +1,6 @@
 //! A table that keeps up with a shared site.
 
-ghost use Rattle.std.specs.Prelude.{◌≡◌, ◌≢◌, ◌+◌, ◌-◌, ◌^◌, ◌≤◌, [], true, drop, length, min, List, IsTrue, IfErr, IfOk, OnErr, OnOk};
+ghost use Rattle.std.specs.Prelude.{◌≡◌, ◌≢◌, ◌+◌, ◌-◌, ◌*◌, ◌^◌, ◌≤◌, [], true, drop, length, min, List, IsTrue, IfErr, IfOk, OnErr, OnOk};
 ghost use Rattle.sqlite.specs.Held.{state};
 ghost use Rattle.sqlite.specs.State.{HasCleanDisk, Survives};
 ghost use Rattle.attributes.specs.Event.{EventValue};
@@ -11,22 +11,19 @@ ghost use Rattle.inbox_table.specs.Beside.{KeepsService};
 ghost use Rattle.inbox_table.specs.Calls.{IsSettled, IsTold, StandsFor};
 ghost use Rattle.inbox_table.specs.Rows.{IsInbox};
 ghost use Rattle.site_lock.specs.Pass.{leaves};
-ghost use Rattle.keeper.specs.Keep.{Asks, Grows, HasAll, KeepsUp, MayKeep, MayKeepAll, max_page};
+ghost use Rattle.keeper.specs.Keep.{Asks, AsksPages, Grows, HasAll, KeepsUp, MayKeep, MayKeepAll, max_page};
 ghost use Rattle.keeper.specs.declared.fault.KeepFault.TheVariants.{Foreign, OutOfMemory};
 
 use crate::fault::KeepFault;
+use crate::gathered::gathered;
 use attributes::{Batch, Sequenced};
 use inbox_table::{Listed, Table, Watch};
 use site::Site;
-use site_lock::laws::calls_follow;
 use site_lock::{Pass, SharedSite};
 use sqlite::Alter;
 use std::alloc::Global;
 use std::marker::Model;
 use std::sync::Wait;
-
-/// The most events that one step keeps.
-const MAX_PAGE: u64 = 100;
 
 /// A table that is kept up with a shared site. Contracts see it as its table: the connection, and
 /// the number of its events, which is the keeper's mark.
@@ -210,19 +207,57 @@ impl<S: Alter + Drop> Keeper<S> {
         ensures beside { HasCleanDisk (state S.Store self.new.conn) → OnOk result
             (KeepsService (state S.Store self.old.conn).now (state S.Store self.new.conn).now) }
         ensures crash { Survives (state S.Store self.old.conn) (state S.Store self.new.conn)
-            (λ trees. IsTrue (state S.Store self.old.conn).is_open → MayKeep self.old.rows
+            (λ trees. IsTrue (state S.Store self.old.conn).is_open → MayKeep max_page self.old.rows
             (leaves pass.new) (state S.Store self.old.conn).now trees) }
     {
-        calls_follow();
+        self.steps(rt, shared, pass, 1)
+    }
+
+    /// What so many steps take, kept in one transaction: it waits for a turn for each hundred events
+    /// that came to the site after the mark, so many hundreds at most. Answers how many they are.
+    ///
+    /// The table has the first arrivals after what the pass has seen, as for a step. A refusal, also
+    /// of memory for the last of them, leaves the mark. Memory for the events that are kept, until
+    /// they are.
+    pub fn steps<R: Wait>(
+        &mut self,
+        rt: &R,
+        shared: &SharedSite,
+        pass: &mut Pass,
+        pages: u64,
+    ) -> Result<u64, KeepFault>
+        requires own { pass.old.table ≡ shared.now }
+        requires first { KeepsUp (state S.Store self.old.conn) self.old.rows (leaves pass.old) }
+        requires some { 1 ≤ pages }
+        ensures asked { AsksPages pages self.old.rows pass.old pass.new }
+        ensures first { KeepsUp (state S.Store self.new.conn) self.new.rows (leaves pass.new) }
+        ensures grew { IfOk result (λ n. self.new.rows ≡ self.old.rows + n) }
+        ensures page { HasCleanDisk (state S.Store self.new.conn)
+            → IfOk result (λ n. n ≡ min (max_page * pages)
+            (length (leaves pass.new) - self.old.rows)) }
+        ensures stays_open { HasCleanDisk (state S.Store self.new.conn)
+            → OnOk result (IsTrue (state S.Store self.new.conn).is_open) }
+        ensures settled { HasCleanDisk (state S.Store self.new.conn)
+            → OnOk result (IsSettled (state S.Store self.new.conn)) }
+        ensures mark_same { OnErr result (self.new.rows ≡ self.old.rows) }
+        ensures same { HasCleanDisk (state S.Store self.new.conn)
+            → IsTrue (state S.Store self.new.conn).is_open
+            → OnErr result ((state S.Store self.new.conn).now
+            ≡ (state S.Store self.old.conn).now) }
+        ensures known { IfErr result (λ fault. fault ≢ Foreign) }
+        ensures list { Grows (state S.Store self.old.conn) (state S.Store self.new.conn) }
+        ensures beside { HasCleanDisk (state S.Store self.new.conn) → OnOk result
+            (KeepsService (state S.Store self.old.conn).now (state S.Store self.new.conn).now) }
+        ensures crash { Survives (state S.Store self.old.conn) (state S.Store self.new.conn)
+            (λ trees. IsTrue (state S.Store self.old.conn).is_open
+            → MayKeep (max_page * pages) self.old.rows (leaves pass.new) (state S.Store self.old.conn).now trees) }
+    {
         let mark = self.table.rows();
-        match shared.fresh(rt, pass, mark, MAX_PAGE) {
-            Ok(page) => {
-                pass.stands();
-                match self.table.keep(&page) {
-                    Ok(fresh) => Ok(fresh),
-                    Err(fault) => Err(KeepFault::from(fault)),
-                }
-            }
+        match gathered(rt, shared, pass, mark, pages) {
+            Ok(events) => match self.table.keep(&events) {
+                Ok(fresh) => Ok(fresh),
+                Err(fault) => Err(KeepFault::from(fault)),
+            },
             Err(fault) => Err(KeepFault::from(fault)),
         }
     }

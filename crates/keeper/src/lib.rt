@@ -3,6 +3,7 @@
 
 mod fault;
 mod flusher;
+mod gathered;
 mod keeper;
 pub mod laws;
 

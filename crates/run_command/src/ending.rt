@@ -42,8 +42,8 @@ pub struct RunEnded<S: Alter + Drop> {
 }
 
 /// Takes feeds side by side into the inbox of a database, each in a thread of its own, with the
-/// events of the peers, and keeps what came meanwhile, 100 events to a transaction; what is left in
-/// the end is kept in one. Answers how many events the feeds had, how many of them had no number,
+/// events of the peers, and keeps what came meanwhile, 1,000 events at most to a transaction; what is
+/// left in the end is kept in one. Answers how many events the feeds had, how many of them had no number,
 /// how many the inbox has now, and its summary. The table is made where there is none. At most 16
 /// jobs; what was asked is not told.
 ///
