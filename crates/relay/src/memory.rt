@@ -5,10 +5,11 @@ ghost use Rattle.relay.specs.Route.{AreIn, AreOf, CountRises};
 
 use crate::route::{Route, RouteFailed};
 use attributes::{Batch, Sequenced};
-use std::alloc::Global;
+use std::alloc::{AllocError, Global};
 use std::marker::Model;
 
-/// A route that appends what it is sent to a list. It fails for want of memory alone.
+/// A route that appends what it is sent to a list. It fails for want of memory alone, so whoever
+/// finds that it failed (`failures`) may tell want of memory.
 #[derive(Drop)]
 pub struct MemoryRoute {
     events: Batch,
@@ -27,21 +28,17 @@ impl Model for MemoryRoute {
 }
 
 /// Appends a copy of an event.
-fn append(events: &mut Batch, event: &Sequenced) -> Result<(), RouteFailed>
+fn append(events: &mut Batch, event: &Sequenced) -> Result<(), AllocError>
     ensures ok { OnOk result (events.new ≡ events.old ++ event.now ∷ []) }
     ensures err { OnErr result (events.new ≡ events.old) }
 {
-    let Ok(copy) = event.copy() else {
-        return Err(RouteFailed);
-    };
-    match events.push(copy) {
-        Ok(()) => Ok(()),
-        Err(_) => Err(RouteFailed),
-    }
+    let copy = event.copy()?;
+    events.push(copy)?;
+    Ok(())
 }
 
 /// Appends copies of the events, up to the first that memory is refused for.
-fn append_all(events: &mut Batch, batch: &Batch) -> Result<(), RouteFailed>
+fn append_all(events: &mut Batch, batch: &Batch) -> Result<(), AllocError>
     ensures appended { OnOk result (events.new ≡ events.old ++ batch.now) }
     ensures accepted { OnOk result (AreIn batch.now events.new) }
     ensures kept { AreIn events.old events.new }
@@ -70,6 +67,13 @@ impl MemoryRoute {
     {
         &self.events
     }
+
+    /// How many sends failed, each for want of memory; 2^64-1 stands for that many or more.
+    pub fn failures(&self) -> u64
+        ensures { result ≡ self.now.failures }
+    {
+        self.failures
+    }
 }
 
 impl Route for MemoryRoute {
@@ -85,9 +89,9 @@ impl Route for MemoryRoute {
     fn send(&mut self, batch: &Batch) -> Result<(), RouteFailed> {
         match append_all(&mut self.events, batch) {
             Ok(()) => Ok(()),
-            Err(failed) => {
+            Err(AllocError) => {
                 self.failures = self.failures.saturating_add(1);
-                Err(failed)
+                Err(RouteFailed)
             }
         }
     }
