@@ -2,3 +2,5 @@ mod HeldLemmas
 mod StreamLemmas
 mod PageLemmas
 mod ServedLemmas
+mod RowLemmas
+mod ToldLemmas

@@ -48,7 +48,7 @@ enough (suc m) (suc n) (e ∷ es) low high =
     ap (λ l. batch_line (take max_page (e ∷ es)) ++ l)
     (enough m n (drop max_page (e ∷ es)) (omega (arith, fewer, low)) (omega (arith, fewer, high)))
 
-all_pages : (n : ℕ) (es : List EventValue) → length es ≤ n → pages_text es ≡ pages_below n es
+pub all_pages : (n : ℕ) (es : List EventValue) → length es ≤ n → pages_text es ≡ pages_below n es
 all_pages n es high = enough (length es) n es (omega arith) high
 
 filter_within : {X : Type 0} (p : X → Bool) (xs : List X) → length (filter p xs) ≤ length xs

@@ -1,8 +1,8 @@
 -- What is said of a stream over a table, said of the database and the outcome of its command.
-use Rattle.std.proofs.Common.{◌≡◌, ◌⊎◌, ℕ, List, [], Ok, Err, Result, IfOk, MatchResult, inl, inr, refl, sym, ap, subst}
-use Rattle.std.specs.Prelude.{Option}
+use Rattle.std.proofs.Common.{◌≡◌, ◌⊎◌, ◌++◌, ℕ, List, [], ◌∷◌, Ok, Err, Result, IfOk, MatchResult, inl, inr, refl, sym, ap, subst}
+use Rattle.std.specs.Prelude.{Option, None, Some}
 use Rattle.std.specs.Result.{IfErr, OnOk}
-use Rattle.std.specs.Io.KnownBytes.{Keeps}
+use Rattle.std.specs.Io.KnownBytes.{Consumes, Keeps}
 use Rattle.std.proofs.KnownBytes.{Appends-nil, Consumes-nil, Keeps-refl}
 use Rattle.sqlite.specs.Effect.{Database}
 use Rattle.sqlite.specs.State.{State, HasCleanDisk}
@@ -10,8 +10,11 @@ use Rattle.attributes.specs.Event.{EventValue}
 use Rattle.inbox_table.specs.Calls.{IsAsItWas, IsSettled}
 use Rattle.inbox_table.specs.Rows.{IsInbox}
 use Rattle.inbox_table.specs.declared.fault.TableFault.{TableFault}
-use Rattle.line_intake.specs.Acknowledged.{TellsAll, TellsSome, TellsUntil}
+use Rattle.line_intake.specs.Acknowledged.{AreTold, TellsAll, TellsPart, TellsSome, TellsUntil}
 use Rattle.line_intake.specs.Follow.{AreKept, IsFollowed, KeepsTurns, Place, StopsStream, Turn}
+use Rattle.line_intake.specs.Judged.{TakesLines}
+use Rattle.line_intake.specs.Lines.{TakesLine}
+use Rattle.line_intake.specs.declared.answer.Told.{Told}
 use Rattle.line_intake.specs.declared.step.FollowFault.{FollowFault}
 use Rattle.line_intake.specs.declared.step.FollowFault.TheVariants.{Input, Table, Unwritten}
 use Rattle.database_commands.specs.Fault.{of_follow, of_table}
@@ -104,3 +107,70 @@ tells_none left out = record {
 
 pub stays_unread : (left out : Option (List ℕ)) (old new : State) (why : TableFault) (f : CommandFault) → f ≡ of_table why → IsAsItWas old new → StaysUnread left left out out old new (stream.Database f)
 stays_unread left out old new why f is same = record { why = why; is = ap (λ x. stream.Database x) is; unread = Keeps-refl left; unwritten = Keeps-refl out; same = same }
+
+-- ---- an input whose first bytes were read, and none taken
+
+consumes_begun : (a b c : Option (List ℕ)) (bs : List ℕ) → Keeps a b → Consumes b c bs → Consumes a c bs
+consumes_begun None b c bs same it = tt
+consumes_begun (Some xs) None c bs same it = absurd same
+consumes_begun (Some xs) (Some ys) c bs same it = subst (λ zs. Consumes (Some zs) c bs) same it
+
+line_begun : (a b c : Option (List ℕ)) (line : List ℕ) → Keeps a b → TakesLine b c line → TakesLine a c line
+line_begun a b c line same it = record {
+  plain = it.plain;
+  taken = elim it.taken [
+    | inl whole ↦ inl (consumes_begun a b c (line ++ 10 ∷ []) same whole)
+    | inr last ↦ inr (consumes_begun a b c line same last.0, last.1, last.2)
+  ];
+}
+
+lines_begun : (a b c : Option (List ℕ)) (lines : List (List ℕ)) → Keeps a b → TakesLines b lines c → TakesLines a lines c
+lines_begun a b c [] same it = consumes_begun a b c [] same it
+lines_begun a b c (l ∷ lines) same (mid, first, later) = (mid, line_begun a b mid l same first, later)
+
+told_begun : (a b c : Option (List ℕ)) (tells : List Told) (text : List ℕ) → Keeps a b → AreTold b c tells text → AreTold a c tells text
+told_begun a b c tells text same it = record {
+  lines = it.lines;
+  lists = it.lists;
+  each = it.each;
+  taken = lines_begun a b c it.lines same it.taken;
+  judged = it.judged;
+  one_each = it.one_each;
+  are = it.are;
+}
+
+-- what is acknowledged of what is read then is acknowledged of the input
+pub all_begun : (a b out out' : Option (List ℕ)) (faults : ℕ) → Keeps a b → TellsAll b out out' faults → TellsAll a out out' faults
+all_begun a b out out' faults same it = record {
+  left = it.left;
+  over = it.over;
+  tells = it.tells;
+  text = it.text;
+  told = told_begun a b it.left it.tells it.text same it.told;
+  written = it.written;
+  faulty = it.faulty;
+}
+
+some_begun : (a b out out' : Option (List ℕ)) → Keeps a b → TellsSome b out out' → TellsSome a out out'
+some_begun a b out out' same it = record {
+  left = it.left;
+  tells = it.tells;
+  text = it.text;
+  told = told_begun a b it.left it.tells it.text same it.told;
+  written = it.written;
+}
+
+part_begun : (a b out out' : Option (List ℕ)) → Keeps a b → TellsPart b out out' → TellsPart a out out'
+part_begun a b out out' same it = record {
+  left = it.left;
+  tells = it.tells;
+  text = it.text;
+  told = told_begun a b it.left it.tells it.text same it.told;
+  rest = it.rest;
+  written = it.written;
+}
+
+pub until_begun : (a b out out' : Option (List ℕ)) (f : StreamFault) → Keeps a b → AcknowledgesUntil f b out out' → AcknowledgesUntil f a out out'
+until_begun a b out out' (stream.Input why) same it = some_begun a b out out' same it
+until_begun a b out out' (stream.Database why) same it = some_begun a b out out' same it
+until_begun a b out out' stream.Unwritten same it = part_begun a b out out' same it

@@ -1,5 +1,5 @@
 -- What a database holds for a command.
-use Rattle.std.specs.Prelude.{◌≡◌, ◌≢◌, ◌⊎◌, ◌+◌, ◌++◌, ℕ, suc, Bool, List, [], ◌∷◌, Some, None, length, true, false, IsTrue}
+use Rattle.std.specs.Prelude.{◌≡◌, ◌≢◌, ◌⊎◌, ◌+◌, ◌-◌, ◌++◌, ℕ, suc, Bool, List, [], ◌∷◌, Some, None, drop, length, true, false, IsTrue}
 use Rattle.sqlite_trees.specs.Tree.{Trees}
 use Rattle.sqlite.specs.Effect.{Database, IsDatabase}
 use Rattle.attributes.specs.Event.{EventValue}
@@ -13,13 +13,13 @@ use Rattle.coverage.specs.Digests.{Digests}
 use Rattle.coverage.specs.SummaryText.{summary_text}
 use Rattle.inbox_table.specs.Rows.{IsAnyInbox, IsInbox}
 use Rattle.outbox.specs.Order.{Accepted, refusal}
-use Rattle.outbox.specs.Row.{row_event, rows_after}
+use Rattle.outbox.specs.Row.{row_event, rows_after, rows_of}
 use Rattle.database_layout.specs.Layout.{has_inbox, has_name}
 use Rattle.outbox.specs.Service.{IsService}
 use Rattle.outbox.specs.declared.fault.OutboxFault.{OutboxFault}
 use Rattle.outbox.specs.declared.status.Status.{Status}
 use Rattle.database_commands.specs.Fault.{of_outbox}
-use Rattle.database_commands.specs.Pages.{max_page}
+use Rattle.database_commands.specs.Pages.{max_page, pages_text}
 use Rattle.database_commands.specs.Print.{batch_line, counts_line, event_line}
 use Rattle.database_commands.specs.declared.fault.CommandFault.{CommandFault}
 use Rattle.database_commands.specs.declared.fault.CommandFault.TheVariants as command
@@ -173,3 +173,23 @@ abbrev pub ShowsRows : List ℕ → ℕ → Database → List ℕ → Type 0
 ShowsRows given after db text = (source : List ℕ) (base : ℕ) (commands : List Accepted)
     → Serves db given source base commands
     → text ≡ batch_line (rows_after source base commands after max_page)
+
+-- of a service with this source and base, these are all rows after a number
+abbrev pub ForAllRows : List ℕ → ℕ → ℕ → Database → (List EventValue → Type 0) → Type 0
+ForAllRows source base after db Are = (commands : List Accepted)
+    → IsService db source base commands → Are (drop (after - base) (rows_of source base commands))
+
+-- the text has all rows after a number of the service that the database has, each once and in their
+-- order, a page a line
+abbrev pub ShowsAllRows : ℕ → Database → List ℕ → Type 0
+ShowsAllRows after db text = (source : List ℕ) (base : ℕ)
+    → ForAllRows source base after db (λ rows. text ≡ pages_text rows)
+
+-- the text has some events, a page a line
+abbrev pub SaysAllRows : List ℕ → Type 0
+SaysAllRows text = (events : List EventValue) × (text ≡ pages_text events)
+
+-- a service that is there is as it was
+abbrev pub KeepsRows : Database → Database → Type 0
+KeepsRows old new = (source : List ℕ) (base : ℕ) (commands : List Accepted)
+    → IsService old source base commands → IsService new source base commands

@@ -1,6 +1,8 @@
 -- What the commands over a database print. Each line ends with LF.
 use Rattle.std.specs.Prelude.{◌≡◌, ◌≢◌, ◌⊎◌, ◌-◌, ℕ, List, [], ◌∷◌, ◌++◌, codes}
 use Rattle.std.specs.Fmt.{decimal}
+use Rattle.serde_json.specs.Data.{unsigned, Data, number, string, object, no_members, member}
+use Rattle.serde_json.specs.Written.{compact_text}
 use Rattle.attributes.specs.Event.{EventValue, text}
 use Rattle.event_json.specs.BatchText.{batch_text}
 
@@ -16,6 +18,20 @@ batch_line events = batch_text events ++ 10 ∷ []
 -- an event, as one line
 abbrev pub event_line : EventValue → List ℕ
 event_line e = text e ++ 10 ∷ []
+
+-- {"base":B,"orders":N,"rows":N,"source":S}
+abbrev pub service_data : List ℕ → ℕ → ℕ → ℕ → Data
+service_data source base orders rows =
+    object (member (codes "base") (number (unsigned base))
+    (member (codes "orders") (number (unsigned orders))
+    (member (codes "rows") (number (unsigned rows))
+    (member (codes "source") (string source) no_members))))
+
+-- what a service is: its source and base, how many orders it has, and how many rows; JSON without
+-- white space (RFC 8259), as one line
+unfoldable pub service_line : List ℕ → ℕ → ℕ → ℕ → List ℕ
+service_line source base orders rows =
+    compact_text (service_data source base orders rows) ++ 10 ∷ []
 
 -- the text is the rest of these bytes before one LF at their end, or all of them where none is there
 abbrev pub WithoutLineEnd : List ℕ → List ℕ → Type 0

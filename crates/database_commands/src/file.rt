@@ -1,13 +1,14 @@
 //! Databases by the names of their files.
-ghost use Rattle.std.specs.Prelude.{◌≡◌, ◌≤◌, ◌↔◌, ℕ, List, length, true, IfErr, IfOk, IsErrOf, IsTrue};
+ghost use Rattle.std.specs.Prelude.{◌≡◌, ◌≤◌, ◌↔◌, ℕ, List, length, true, IfErr, IfOk, IfSome, IsErrOf, IsTrue};
 ghost use Rattle.attributes.specs.Character.{is_filled};
 ghost use Rattle.attributes.specs.Event.{EventValue};
 ghost use Rattle.attributes.specs.Sequence.{max_sequence};
 ghost use Rattle.line_intake.specs.Acknowledged.{TellsAll};
-ghost use Rattle.database_commands.specs.Held.{HasDelta, HasEvents, SaysDelta, SaysOrder, SaysPage, SaysSummary};
+ghost use Rattle.database_commands.specs.Held.{HasDelta, HasEvents, SaysAllRows, SaysDelta, SaysOrder, SaysPage, SaysSummary};
 ghost use Rattle.database_commands.specs.Name.{IsNoFile};
 ghost use Rattle.database_commands.specs.declared.fault.CommandFault.TheVariants as CommandFault;
 ghost use Rattle.database_commands.specs.Print.{batch_line, counts_line};
+ghost use Rattle.database_commands.specs.Service.{SaysService};
 ghost use Rattle.database_commands.specs.Streams.{AcknowledgesUntil};
 
 use crate::Ended;
@@ -15,8 +16,9 @@ use crate::fault::{CommandFault, of_kind, of_store};
 use crate::intake::take;
 use crate::page::{Contents, Paged, delta, delta_pages, held, scrub, scrub_pages, summary};
 use crate::pages::EventPages;
-use crate::service::{order, relay};
-use crate::stream::{StreamFault, Streamed, follow};
+use crate::service::{order, relay, relay_all};
+use crate::stream::{StreamFault, Streamed, begun, follow};
+use crate::told::tell_service;
 use attributes::{Batch, Moment, Text};
 use coverage::Summary;
 use inbox_table::Watch;
@@ -33,9 +35,10 @@ use std::io::{ErrorKind, Read, Write};
 
 /// The bytes of a database's page.
 const PAGE: u64 = 4_096;
-/// About how many bytes a stream may add, for the size of the cache alone: all that a cache may
-/// have.
-const STREAM_GROWTH: u64 = 268_435_456;
+/// How many bytes a stream is taken to add for each that its first read brings, for the size of the
+/// cache alone, which is made whole when the file is opened. One line and then a wait brings some 200
+/// bytes, a stream that is sent without waiting up to 64 KiB, and so room for 64 MiB.
+const STREAM_GROWTH: u64 = 1_024;
 /// The fewest pages that are kept in memory.
 const LEAST_PAGES: u64 = 200;
 /// The most pages that are kept in memory, 256 MiB. The cache is made once the first page is found
@@ -125,6 +128,19 @@ pub trait Databases {
         ensures { IfOk result (SaysOrder is_source_named source.now
             (record { status = status; order = order; at = at.now })) };
 
+    /// As [`crate::tell_service`].
+    fn service(
+        &self,
+        alloc: Global,
+        name: &str,
+        source: &Text,
+        is_source_named: bool,
+        base: Option<u64>,
+    ) -> Result<Text, CommandFault>
+        requires source { (is_filled source.now ≡ true) × (length source.now ≤ 1024) }
+        requires base { IfSome base (λ n. n ≤ max_sequence) }
+        ensures { IfOk result (SaysService is_source_named source.now base) };
+
     /// As [`crate::relay`].
     fn relay(
         &self,
@@ -135,6 +151,10 @@ pub trait Databases {
     ) -> Result<Text, CommandFault>
         requires { (is_filled source.now ≡ true) × (length source.now ≤ 1024) }
         ensures { IfOk result (λ text. (events : List EventValue) × (text ≡ batch_line events)) };
+
+    /// As [`crate::relay_all`]. A file that isn't there is not made: `CannotRead`.
+    fn relay_all(&self, alloc: Global, name: &str, after: u64) -> Result<Text, CommandFault>
+        ensures { IfOk result SaysAllRows };
 }
 
 impl Databases for HostRuntime {
@@ -160,9 +180,14 @@ impl Databases for HostRuntime {
         input: &mut R,
         out: &mut W,
     ) -> Result<u64, StreamFault> {
-        match open(self, name, STREAM_GROWTH) {
+        let mut lines = match begun(alloc, input) {
+            Ok(lines) => lines,
+            Err(why) => return Err(StreamFault::Input(why)),
+        };
+        let first = lines.buffer().len() as u64;
+        match open(self, name, first.saturating_mul(STREAM_GROWTH)) {
             Ok(conn) => {
-                let Streamed { conn, outcome } = follow(alloc, conn, input, out);
+                let Streamed { conn, outcome } = follow(alloc, conn, &mut lines, out);
                 let _closed = conn.close();
                 outcome
             }
@@ -243,6 +268,20 @@ impl Databases for HostRuntime {
         }
     }
 
+    fn service(
+        &self,
+        alloc: Global,
+        name: &str,
+        source: &Text,
+        is_source_named: bool,
+        base: Option<u64>,
+    ) -> Result<Text, CommandFault> {
+        match open(self, name, 0) {
+            Ok(conn) => closed(tell_service(alloc, conn, source, is_source_named, base)),
+            Err(fault) => Err(fault),
+        }
+    }
+
     fn relay(
         &self,
         alloc: Global,
@@ -252,6 +291,13 @@ impl Databases for HostRuntime {
     ) -> Result<Text, CommandFault> {
         match open(self, name, 0) {
             Ok(conn) => closed(relay(alloc, conn, source, after)),
+            Err(fault) => Err(fault),
+        }
+    }
+
+    fn relay_all(&self, alloc: Global, name: &str, after: u64) -> Result<Text, CommandFault> {
+        match open_there(self, name) {
+            Ok(conn) => closed(relay_all(alloc, conn, after)),
             Err(fault) => Err(fault),
         }
     }

@@ -9,6 +9,7 @@ mod pages;
 mod service;
 mod stream;
 mod text;
+mod told;
 
 use attributes::Text;
 pub use fault::{CommandFault, of_table};
@@ -17,10 +18,11 @@ pub use intake::{loaded, take};
 pub use outbox::Status;
 pub use page::{Contents, Paged, delta, delta_pages, held, scrub, scrub_pages, summary};
 pub use pages::EventPages;
-pub use service::{order, relay};
+pub use service::{order, relay, relay_all};
 use sqlite::{Alter, Connection};
 pub use stream::{StreamFault, Streamed, follow};
 pub use text::summary_of;
+pub use told::tell_service;
 
 /// A command that came to its end: the connection, and the text to print or why there is none.
 #[derive(Drop)]

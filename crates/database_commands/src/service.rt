@@ -1,11 +1,11 @@
 //! The service of a database: commands on its orders, and the rows of its outbox.
-ghost use Rattle.std.specs.Prelude.{◌≡◌, ◌≢◌, ◌<◌, ◌≤◌, ◌↔◌, ◌⊎◌, ℕ, suc, List, length, true, IfErr, IfOk, IsTrue, OnErr, OnOk};
+ghost use Rattle.std.specs.Prelude.{◌≡◌, ◌≢◌, ◌<◌, ◌≤◌, ◌↔◌, ◌⊎◌, ◌++◌, ◌-◌, ℕ, suc, List, [], length, false, string_bytes, true, IfErr, IfOk, IsTrue, Ok, OnErr, OnOk};
 ghost use Rattle.sqlite.specs.Held.{state};
 ghost use Rattle.sqlite.specs.State.{HasCleanDisk};
 ghost use Rattle.attributes.specs.Character.{is_filled};
 ghost use Rattle.attributes.specs.Event.{EventValue};
 ghost use Rattle.attributes.specs.Sequence.{max_sequence};
-ghost use Rattle.outbox.specs.Call.{Accepts, IsAsItWas, IsSame, Refuses};
+ghost use Rattle.outbox.specs.Call.{Accepts, IsAsItWas, IsSame, Refuses, ShowsAfter};
 ghost use Rattle.outbox.specs.Row.{row_event};
 ghost use Rattle.database_layout.specs.Layout.{has_name};
 ghost use Rattle.outbox.specs.declared.fault.OutboxFault.{OutboxFault};
@@ -13,21 +13,27 @@ ghost use Rattle.outbox.specs.declared.fault.OutboxFault.TheVariants.{OutOfMemor
 ghost use Rattle.relay.specs.Relay.{ForNextRows};
 ghost use Rattle.database_commands.specs.declared.fault.CommandFault.TheVariants as command;
 ghost use Rattle.database_commands.specs.Fault.{of_outbox};
-ghost use Rattle.database_commands.specs.Held.{HasAnother, IsMeant, IsNoOrders, IsServed, KeepsService, Orders, RefusesOrder, SaysOrder, ShowsRows};
+ghost use Rattle.database_commands.specs.Held.{ForAllRows, HasAnother, IsMeant, IsNoOrders, IsServed, KeepsRows, KeepsService, Orders, RefusesOrder, SaysAllRows, SaysOrder, ShowsAllRows, ShowsRows};
+ghost use Rattle.database_commands.specs.Pages.{max_page, pages_text};
 ghost use Rattle.database_commands.specs.Print.{batch_line, event_line};
+ghost use Rattle.database_commands.specs.steps.Left.{IsNextPage};
 
 use crate::Ended;
 use crate::fault::{CommandFault, of_outbox, of_relay};
+use crate::pages::MAX_PAGE;
 use crate::text::{batch_line, event_line};
-use attributes::{Moment, Sequenced, Text};
+use attributes::{Batch, Moment, Sequenced, Text};
 use database_layout::has_name;
 use outbox::{NotMade, OutboxFault, Service, Status};
 use relay::{MemoryRoute, Relay};
 use sqlite::{Alter, Connection};
-use std::alloc::Global;
+use std::alloc::{AllocError, Global};
 
 /// The base of a service that is new: its first row has the number 1.
-const BASE: u64 = 0;
+pub(crate) const BASE: u64 = 0;
+
+/// The most pages of rows, which no service reaches.
+const PAGES: u64 = 18_446_744_073_709_551_615;
 
 /// A database whose service isn't to be had, and why.
 #[derive(Drop)]
@@ -37,7 +43,7 @@ struct NotServed<S: Alter> {
 }
 
 /// Whether the texts are the same.
-fn is_same(one: &Text, other: &Text) -> bool
+pub(crate) fn is_same(one: &Text, other: &Text) -> bool
     ensures { IsTrue result ↔ (one.now ≡ other.now) }
 {
     one.as_str() == other.as_str()
@@ -318,4 +324,135 @@ fn rows_line<S: Alter>(
         Ok(_) => Ok(batch_line(alloc, route.accepted())?),
         Err(fault) => Err(of_relay(fault)),
     }
+}
+
+/// All rows of a database's service with a greater number than `after`, in pages of 100, each as the
+/// line of a batch; nothing where there are none. Nothing is made: where there is no service, there
+/// are no rows. Time and memory in proportion to all rows, for the opening, and to the text.
+pub fn relay_all<S: Alter + Drop>(alloc: Global, conn: Connection<S>, after: u64) -> Ended<S>
+    ensures shown { HasCleanDisk (state S.Store result.conn) → IfOk result.outcome
+        (ShowsAllRows after (state S.Store conn).now) }
+    ensures kept { HasCleanDisk (state S.Store result.conn)
+        → IsTrue (state S.Store result.conn).is_open
+        → KeepsRows (state S.Store conn).now (state S.Store result.conn).now }
+    ensures without { has_name (state S.Store conn).now.schema ≡ false
+        → ((state S.Store result.conn).now ≡ (state S.Store conn).now)
+        × (result.outcome ≡ Ok []) }
+    ensures fault { IfErr result.outcome (λ f. f ≢ command.AnotherSource) }
+    ensures line { IfOk result.outcome SaysAllRows }
+{
+    if has_name(conn.schema()) {
+        return found_rows(alloc, conn, after);
+    }
+    Ended {
+        conn,
+        outcome: Ok(Text::from_string(String::new(alloc))),
+    }
+}
+
+/// All rows with a greater number of the service that is there.
+fn found_rows<S: Alter + Drop>(alloc: Global, conn: Connection<S>, after: u64) -> Ended<S>
+    ensures shown { HasCleanDisk (state S.Store result.conn) → IfOk result.outcome
+        (ShowsAllRows after (state S.Store conn).now) }
+    ensures kept { HasCleanDisk (state S.Store result.conn)
+        → IsTrue (state S.Store result.conn).is_open
+        → KeepsRows (state S.Store conn).now (state S.Store result.conn).now }
+    ensures fault { IfErr result.outcome (λ f. f ≢ command.AnotherSource) }
+    ensures line { IfOk result.outcome SaysAllRows }
+{
+    match Service::adopt(alloc, conn) {
+        Ok(mut service) => {
+            let outcome = row_lines(alloc, &mut service, after);
+            let conn = service.into_connection();
+            Ended { conn, outcome }
+        }
+        Err(refused) => {
+            let NotMade { conn, fault } = refused;
+            let outcome = Err(of_outbox(fault));
+            Ended { conn, outcome }
+        }
+    }
+}
+
+/// The mark to begin at: every row has a number above the base.
+fn first_mark(base: u64, after: u64) -> u64
+    ensures { (base ≤ result) × (result - base ≡ after - base) }
+{
+    if after < base { base } else { after }
+}
+
+/// The lines of all rows of a service with a greater number than `after`, 100 rows a line. Rows are
+/// numbered from the base on without a gap, so that behind a full page the mark is higher by 100.
+fn row_lines<S: Alter>(
+    alloc: Global,
+    service: &mut Service<S>,
+    after: u64,
+) -> Result<Text, CommandFault>
+    ensures rows { IfOk result (λ text. (events : List EventValue) × (text ≡ pages_text events)
+        × (HasCleanDisk (state S.Store service.new.conn) → ForAllRows service.old.source
+        service.old.base after (state S.Store service.old.conn).now (λ rows. events ≡ rows))) }
+    ensures same { IsSame (state S.Store service.old.conn) (state S.Store service.new.conn) }
+    ensures fault { IfErr result (λ f. f ≢ command.AnotherSource) }
+{
+    let mut lines = String::new(alloc);
+    let mut mark = first_mark(service.base(), after);
+    for _ in 0..PAGES {
+        match next_page(alloc, service, &mut lines, mark) {
+            Ok(Some(next)) => mark = next,
+            Ok(None) => return Ok(Text::from_string(lines)),
+            Err(fault) => return Err(fault),
+        }
+    }
+    Err(CommandFault::Store)
+}
+
+/// Puts the next rows after a mark behind lines, as a line, and answers the mark behind them where
+/// they are a full page.
+fn next_page<S: Alter>(
+    alloc: Global,
+    service: &mut Service<S>,
+    lines: &mut String,
+    mark: u64,
+) -> Result<Option<u64>, CommandFault>
+    ensures page { IfOk result (λ next. IsNextPage (string_bytes lines.old) (string_bytes lines.new)
+        mark next (λ rows. HasCleanDisk (state S.Store service.new.conn) → ShowsAfter
+        service.old.source service.old.base mark max_page (state S.Store service.old.conn).now rows)) }
+    ensures open { HasCleanDisk (state S.Store service.new.conn)
+        → OnOk result (IsTrue (state S.Store service.old.conn).is_open) }
+    ensures kept { (service.new.source ≡ service.old.source)
+        × (service.new.base ≡ service.old.base) }
+    ensures same { IsSame (state S.Store service.old.conn) (state S.Store service.new.conn) }
+    ensures fault { IfErr result (λ f. f ≢ command.AnotherSource) }
+{
+    let rows = match service.rows_after(mark, MAX_PAGE) {
+        Ok(rows) => rows,
+        Err(fault) => return Err(of_outbox(fault)),
+    };
+    let count = rows.len();
+    if count > MAX_PAGE {
+        return Err(CommandFault::Store);
+    }
+    push_page(alloc, lines, &rows)?;
+    if count < MAX_PAGE {
+        return Ok(None);
+    }
+    match mark.checked_add(MAX_PAGE) {
+        Some(next) => Ok(Some(next)),
+        None => Err(CommandFault::Store),
+    }
+}
+
+/// Puts a page behind lines, as a line; of no rows nothing.
+#[tactic(auto, using(crate::proofs::RowLemmas::one_line))]
+fn push_page(alloc: Global, lines: &mut String, rows: &Batch) -> Result<(), AllocError>
+    requires { length rows.now ≤ max_page }
+    ensures { OnOk result
+        (string_bytes lines.new ≡ string_bytes lines.old ++ pages_text rows.now) }
+{
+    if rows.is_empty() {
+        return Ok(());
+    }
+    let line = batch_line(alloc, rows)?;
+    lines.push_str(line.as_str())?;
+    Ok(())
 }

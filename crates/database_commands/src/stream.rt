@@ -1,5 +1,7 @@
 //! Lines that come into a database, each acknowledged when it is kept.
 ghost use Rattle.std.specs.Prelude.{◌≡◌, ◌⊎◌, Err, IfErr, IfOk, MatchResult, Ok, OnOk};
+ghost use Rattle.std.specs.Io.Buffered.{reader_remaining};
+ghost use Rattle.std.specs.Io.KnownBytes.{Keeps};
 ghost use Rattle.sqlite.specs.Held.{state};
 ghost use Rattle.sqlite.specs.State.{HasCleanDisk};
 ghost use Rattle.inbox_table.specs.Calls.{IsSettled};
@@ -14,8 +16,11 @@ use inbox_table::NotMade;
 use line_intake::{FollowFault, LineFault};
 use sqlite::{Alter, Connection};
 use std::alloc::Global;
-use std::io::{Read, Write};
+use std::io::{BufRead, BufReader, Read, Write};
 use thiserror::Error;
+
+/// The most bytes of an input that are read before its database is opened, 64 KiB.
+const FIRST: usize = 65_536;
 
 /// Why a stream ended before its input.
 #[derive(Clone, Copy, PartialEq, Eq, Debug, Drop, Error)]
@@ -58,6 +63,26 @@ fn outcome_of(ended: Result<u64, FollowFault>) -> Result<u64, StreamFault>
         Ok(faults) => Ok(faults),
         Err(fault) => Err(of_follow(fault)),
     }
+}
+
+/// Waits for the first bytes of an input, or for its end. Nothing is lost: what is read of the answer is
+/// what the input had.
+pub(crate) fn begun<'a, R: Read>(
+    alloc: Global,
+    input: &'a mut R,
+) -> Result<BufReader<&'a mut R>, LineFault>
+    ensures { IfOk result (λ lines. Keeps (R.remaining input.old)
+        (reader_remaining (λ r. R.remaining r.now) lines)) }
+{
+    let mut lines = match BufReader::with_capacity(alloc, FIRST, input) {
+        Ok(reader) => reader,
+        Err(_) => return Err(LineFault::OutOfMemory),
+    };
+    match lines.fill_buf() {
+        Ok(_) => {}
+        Err(_) => return Err(LineFault::CannotRead),
+    }
+    Ok(lines)
 }
 
 /// Takes the lines of an input into a database to the input's end, and acknowledges each on `out` once

@@ -1,9 +1,11 @@
 //! The printed texts, and the file of a summary.
-ghost use Rattle.std.specs.Prelude.{◌≡◌, IfOk};
-ghost use Rattle.database_commands.specs.Print.{WithoutLineEnd, batch_line, counts_line, event_line};
+ghost use Rattle.std.specs.Prelude.{◌≡◌, IfOk, string_bytes};
+ghost use Rattle.serde_json.specs.Written.{compact_text};
+ghost use Rattle.database_commands.specs.Print.{WithoutLineEnd, batch_line, counts_line, event_line, service_data, service_line};
 
 use attributes::{Batch, Sequenced, Text};
 use event_json::write_sequenced;
+use json::Writer;
 use std::alloc::{AllocError, Global};
 
 /// How many events were read, and how many of them were new.
@@ -30,6 +32,48 @@ pub fn event_line(alloc: Global, event: &Sequenced) -> Result<Text, AllocError>
 {
     let mut line = String::new(alloc);
     line.push_str(event.event().text())?;
+    line.push_str("\n")?;
+    Ok(Text::from_string(line))
+}
+
+/// A service as JSON.
+fn service_text(
+    alloc: Global,
+    source: &str,
+    base: u64,
+    orders: u64,
+    rows: u64,
+) -> Result<String, AllocError>
+    ensures { IfOk result (λ text. string_bytes text
+        ≡ compact_text (service_data source.now base orders rows)) }
+{
+    let mut out = Writer::new(Vec::new(alloc));
+    out.begin_object()?;
+    out.key("base")?;
+    out.u64(base)?;
+    out.key("orders")?;
+    out.u64(orders)?;
+    out.key("rows")?;
+    out.u64(rows)?;
+    out.key("source")?;
+    out.string(source)?;
+    out.end_object()?;
+    let text = String::from_utf8(out.into_inner()).unwrap();
+    Ok(text)
+}
+
+/// What a service is, as one line.
+#[tactic(auto, unfolding(crate::specs::Print::service_line))]
+pub fn service_line(
+    alloc: Global,
+    source: &str,
+    base: u64,
+    orders: u64,
+    rows: u64,
+) -> Result<Text, AllocError>
+    ensures { IfOk result (λ text. text ≡ service_line source.now base orders rows) }
+{
+    let mut line = service_text(alloc, source, base, orders, rows)?;
     line.push_str("\n")?;
     Ok(Text::from_string(line))
 }

@@ -1,7 +1,8 @@
--- Where pages of a site's events stand.
-use Rattle.std.specs.Prelude.{ℕ, List, Option, None, Some, drop}
+-- Where pages of a site's events, or of a service's rows, stand.
+use Rattle.std.specs.Prelude.{◌≡◌, ◌<◌, ◌+◌, ◌++◌, ℕ, List, Option, None, Some, drop, length}
 use Rattle.attributes.specs.Event.{EventValue}
 use Rattle.site.specs.Delta.{Tells, lacking_of}
+use Rattle.database_commands.specs.Pages.{max_page, pages_text}
 use Rattle.database_commands.specs.declared.pages.Compared.{Compared}
 
 -- the events of a set that are left from a place on: all, or those that a peer lacks
@@ -13,3 +14,13 @@ left_of E (Some both) place = lacking_of E both.peer (drop place E)
 abbrev pub AreCompared : List EventValue → Option Compared → Type 0
 AreCompared E None = Unit {0}
 AreCompared E (Some both) = Tells E both.peer both.own
+
+-- the mark behind rows, where they are a full page
+abbrev pub IsMarkBehind : ℕ → List EventValue → Option ℕ → Type 0
+IsMarkBehind mark rows None = length rows < max_page
+IsMarkBehind mark rows (Some next) = (length rows ≡ max_page) × (next ≡ mark + max_page)
+
+-- a page of rows was put behind a text, and this is the mark behind it; the rows are as R says
+abbrev pub IsNextPage : List ℕ → List ℕ → ℕ → Option ℕ → (List EventValue → Type 0) → Type 0
+IsNextPage old new mark next R = (rows : List EventValue) × (new ≡ old ++ pages_text rows)
+    × IsMarkBehind mark rows next × R rows

@@ -1,0 +1,29 @@
+-- What is told of a service.
+use Rattle.std.specs.Prelude.{◌≡◌, ℕ, Bool, List, IfSome, IsTrue, Option}
+use Rattle.sqlite.specs.Effect.{Database}
+use Rattle.sqlite.specs.State.{State, HasCleanDisk}
+use Rattle.outbox.specs.Order.{Accepted}
+use Rattle.outbox.specs.Service.{IsService}
+use Rattle.outbox.specs.Shown.{CountsOrders, CountsRows}
+use Rattle.database_commands.specs.Print.{service_line}
+use Rattle.database_commands.specs.Service.{TellsService}
+
+-- a service with this source and base has so many orders and so many rows
+abbrev pub Counts : State → List ℕ → ℕ → ℕ → ℕ → Type 0
+Counts s source base orders rows = HasCleanDisk s → IsTrue s.is_open
+    → CountsOrders s.now source base orders × CountsRows s.now source base rows
+
+-- the text is the line of a service with this source and base, which are those that are asked for
+pub record IsLineOf (s : State) (source : List ℕ) (base : ℕ) (is_named : Bool) (given : List ℕ)
+    (start : Option ℕ) (text : List ℕ) : Type 0 where
+  pub orders : ℕ
+  pub rows : ℕ
+  pub line : text ≡ service_line source base orders rows
+  pub counts : Counts s source base orders rows
+  pub meant : IsTrue is_named → source ≡ given
+  pub at : IfSome start (λ n. base ≡ n)
+
+-- the text tells of each service that the database may stand for
+abbrev pub TellsEach : Database → List ℕ → Type 0
+TellsEach db text = (source : List ℕ) (base : ℕ) (commands : List Accepted)
+    → IsService db source base commands → TellsService source base commands text
