@@ -3,7 +3,7 @@ use Rattle.std.specs.Prelude.{List, ℕ, [], ◌∷◌, codes, true, Some}
 use Rattle.clap.specs.Words.{App, Rule, new_app, new_rule, with_rule}
 use Rattle.clap.specs.declared.builder.action.ArgAction.TheVariants.{Append, SetTrue}
 use Rattle.command_words.specs.declared.command.Command.{Command}
-use Rattle.command_words.specs.declared.command.Command.TheVariants.{Ask, Delta, Follow, Order, Relay, Run, Scrub, Summary, Take}
+use Rattle.command_words.specs.declared.command.Command.TheVariants.{Ask, Delta, Follow, Order, Relay, Run, Scrub, Service, Summary, Take}
 use Rattle.views.specs.declared.query.Query.TheVariants.{Conflicts, Cover, Days, Gaps, Kinds, Latest, Shown}
 
 -- the word of a command
@@ -21,6 +21,7 @@ word_of Follow = codes "follow"
 word_of Delta = codes "delta"
 word_of Scrub = codes "scrub"
 word_of Run = codes "run"
+word_of Service = codes "service"
 word_of Order = codes "order"
 word_of Relay = codes "relay"
 
@@ -79,7 +80,10 @@ app_for Delta = with_rule (with_rule (with_rule (with_db Delta) from_rule)
     (flag_rule (codes "all"))) (place_rule (codes "summary"))
 app_for Scrub = with_rule (with_rule (with_db Scrub) from_rule) (flag_rule (codes "all"))
 app_for Run = with_rule (with_rule (with_db Run) (option_rule (codes "peer"))) files_rule
+app_for Service = with_rule (with_rule (with_db Service)
+    (default_rule (codes "source") (codes "/orders"))) (option_rule (codes "base"))
 app_for Order = with_rule (with_rule (with_rule (with_rule (with_db Order)
     (default_rule (codes "source") (codes "/orders"))) (needed_rule (codes "at")))
     (place_rule (codes "action"))) (place_rule (codes "order"))
-app_for Relay = with_rule (with_db Relay) (needed_rule (codes "after"))
+app_for Relay =
+    with_rule (with_rule (with_db Relay) (needed_rule (codes "after"))) (flag_rule (codes "all"))

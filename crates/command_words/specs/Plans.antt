@@ -18,21 +18,29 @@ use Rattle.command_words.specs.declared.request.Pages.{Pages}
 use Rattle.command_words.specs.declared.request.Pages.TheVariants as pages
 use Rattle.command_words.specs.declared.request.Plan.{Plan}
 use Rattle.command_words.specs.declared.request.Plan.TheVariants as plan
+use Rattle.command_words.specs.declared.request.Alone.TheVariants as alone
+use Rattle.command_words.specs.declared.request.Once.{Once}
+use Rattle.command_words.specs.declared.request.Once.TheVariants as once
 use Rattle.command_words.specs.declared.fault.Faulty.{Faulty}
 use Rattle.command_words.specs.declared.fault.Faulty.TheVariants as faulty
 use Rattle.command_words.specs.Commands.{app_for, word_of}
 
+-- the command of a plan with one answer
+abbrev pub once_of : Once → Command
+once_of (once.Ask query db files) = command.Ask query
+once_of (once.Summary db) = command.Summary
+once_of (once.Take db files) = command.Take
+once_of (once.Delta db which summary) = command.Delta
+once_of (once.Scrub db which) = command.Scrub
+once_of (once.Service db source is_named base) = command.Service
+once_of (once.Order request) = command.Order
+once_of (once.Relay db after is_all) = command.Relay
+
 -- the command of a plan
 abbrev pub command_of : Plan → Command
-command_of (plan.Ask query db files) = command.Ask query
-command_of (plan.Summary db) = command.Summary
-command_of (plan.Take db files) = command.Take
-command_of (plan.Follow db file) = command.Follow
-command_of (plan.Delta db which summary) = command.Delta
-command_of (plan.Scrub db which) = command.Scrub
-command_of (plan.Run db peer files) = command.Run
-command_of (plan.Order request) = command.Order
-command_of (plan.Relay db after) = command.Relay
+command_of (plan.Alone (alone.Once asked)) = once_of asked
+command_of (plan.Alone (alone.Follow lines)) = command.Follow
+command_of (plan.Run files) = command.Run
 
 -- ---- values
 
@@ -48,6 +56,18 @@ pub record IsOrderNumber (text : List ℕ) (n : ℕ) : Type 0 where
   pub is_number : IsNumber text n
   pub low : 1 ≤ n
   pub high : n ≤ max_sequence
+
+-- the number before a service's first row: at most 2^63-1
+pub record IsBaseNumber (text : List ℕ) (n : ℕ) : Type 0 where
+  pub is_number : IsNumber text n
+  pub high : n ≤ max_sequence
+
+-- the base is the number that the text writes; none where there is no text
+abbrev pub IsBase : Option (List ℕ) → Option ℕ → Type 0
+IsBase (Some text) (Some n) = IsBaseNumber text n
+IsBase None None = Unit {0}
+IsBase (Some text) None = ⊥
+IsBase None (Some n) = ⊥
 
 -- the word of what is done with an order
 abbrev pub action_word : Action → List ℕ
@@ -112,25 +132,34 @@ HasPages rows pages.All =
 abbrev pub AreSome : Option Text → List Text → Type 0
 AreSome db files = (is_some db ≡ true) ⊎ (files ≢ [])
 
--- the plan has the texts, and the values that they write, that were matched for its arguments
-abbrev pub HasTextsOf : List Row → Plan → Type 0
-HasTextsOf rows (plan.Ask query db files) = (db ≡ first_of (codes "db") rows)
+-- a plan with one answer has the texts, and the values that they write, that were matched for its
+-- arguments
+abbrev pub HasTextsOnce : List Row → Once → Type 0
+HasTextsOnce rows (once.Ask query db files) = (db ≡ first_of (codes "db") rows)
     × (files ≡ texts_in rows (codes "file")) × AreSome db files
-HasTextsOf rows (plan.Summary db) = db ≡ text_in rows (codes "db")
-HasTextsOf rows (plan.Take db files) =
+HasTextsOnce rows (once.Summary db) = db ≡ text_in rows (codes "db")
+HasTextsOnce rows (once.Take db files) =
     (db ≡ text_in rows (codes "db")) × (files ≡ texts_in rows (codes "file"))
-HasTextsOf rows (plan.Follow db file) =
-    (db ≡ text_in rows (codes "db")) × (file ≡ text_in rows (codes "file"))
-HasTextsOf rows (plan.Delta db which summary) = (db ≡ text_in rows (codes "db"))
+HasTextsOnce rows (once.Delta db which summary) = (db ≡ text_in rows (codes "db"))
     × HasPages rows which × (summary ≡ text_in rows (codes "summary"))
-HasTextsOf rows (plan.Scrub db which) =
+HasTextsOnce rows (once.Scrub db which) =
     (db ≡ text_in rows (codes "db")) × HasPages rows which
-HasTextsOf rows (plan.Run db peer files) =
-    (db ≡ text_in rows (codes "db")) × (peer ≡ first_of (codes "peer") rows)
-    × (files ≡ texts_in rows (codes "file")) × AreFew (is_some peer) (length files)
-HasTextsOf rows (plan.Order request) = HasRequestOf rows request
-HasTextsOf rows (plan.Relay db after) =
-    (db ≡ text_in rows (codes "db")) × IsNumber (text_in rows (codes "after")) after
+HasTextsOnce rows (once.Service db source is_named base) = (db ≡ text_in rows (codes "db"))
+    × (source ≡ text_in rows (codes "source")) × (is_named ≡ is_given rows (codes "source"))
+    × IsServiceSource source × IsBase (first_of (codes "base") rows) base
+HasTextsOnce rows (once.Order request) = HasRequestOf rows request
+HasTextsOnce rows (once.Relay db after is_all) = (db ≡ text_in rows (codes "db"))
+    × IsNumber (text_in rows (codes "after")) after × (is_all ≡ is_given rows (codes "all"))
+
+-- and so has any plan
+abbrev pub HasTextsOf : List Row → Plan → Type 0
+HasTextsOf rows (plan.Alone (alone.Once asked)) = HasTextsOnce rows asked
+HasTextsOf rows (plan.Alone (alone.Follow lines)) =
+    (lines.db ≡ text_in rows (codes "db")) × (lines.file ≡ text_in rows (codes "file"))
+HasTextsOf rows (plan.Run files) =
+    (files.db ≡ text_in rows (codes "db")) × (files.peer ≡ first_of (codes "peer") rows)
+    × (files.files ≡ texts_in rows (codes "file"))
+    × AreFew (is_some files.peer) (length files.files)
 
 -- clap's rule for the command finds no fault in the words, and the plan is that command with the
 -- texts that the rule matches

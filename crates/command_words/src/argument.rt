@@ -18,6 +18,20 @@ pub fn files<'a>(alloc: Global) -> Arg<'a>
         .required(true)
 }
 
+/// `FILE..`, one or more, whose events all have numbers.
+pub fn numbered_files<'a>(alloc: Global) -> Arg<'a>
+    ensures rule { rule_of result ≡ files_rule }
+    ensures local { result.global ≡ false }
+{
+    Arg::new(alloc, "file")
+        .value_name("FILE")
+        .help(
+            "Files of CloudEvents in JSON, each with a sequence of twenty digits, as 00000000000000000001; - is standard input",
+        )
+        .action(ArgAction::Append)
+        .required(true)
+}
+
 /// `FILE..`, which a question over a database may have none of.
 pub fn question_files<'a>(alloc: Global) -> Arg<'a>
     ensures rule { rule_of result ≡ question_files_rule }
@@ -129,6 +143,16 @@ pub fn source<'a>(alloc: Global) -> Arg<'a>
         .value_name("S")
         .help("The source of the service's events; a service that is there must have it")
         .default_value("/orders")
+}
+
+/// `--base N`
+pub fn base<'a>(alloc: Global) -> Arg<'a>
+    ensures rule { rule_of result ≡ option_rule (codes "base") }
+    ensures local { result.global ≡ false }
+{
+    Arg::new(alloc, "base").long("base").value_name("N").help(
+        "The number before the service's first row, 0 for a new one; a service that is there must have it",
+    )
 }
 
 /// `--at TIME`

@@ -5,8 +5,8 @@ ghost use Rattle.command_words.specs.Commands.{app_for, needed_rule, place_rule,
 ghost use Rattle.command_words.specs.declared.command.Command.{Command};
 
 use crate::argument::{
-    action, after, all, at, db, files, from, lines, order, peer, question_db, question_files,
-    read_db, source, summary,
+    action, after, all, at, base, db, files, from, lines, numbered_files, order, peer, question_db,
+    question_files, read_db, source, summary,
 };
 use std::alloc::{AllocError, Global};
 use views::Query;
@@ -29,9 +29,11 @@ pub enum Command {
     Scrub,
     /// `run --db DB [--peer FILE] FILE..`: takes files side by side into a database.
     Run,
+    /// `service --db DB [--source S] [--base N]`: the service of a database, made where there is none.
+    Service,
     /// `order --db DB [--source S] --at TIME ACTION ORDER`: a command to a service.
     Order,
-    /// `relay --db DB --after N`: the next rows of a service's outbox.
+    /// `relay --db DB --after N [--all]`: the next rows of a service's outbox.
     Relay,
 }
 
@@ -48,7 +50,7 @@ pub struct Row<'a> {
 }
 
 /// The words of all commands, in the order in which help lists them.
-pub const WORDS: [&str; 15] = [
+pub const WORDS: [&str; 16] = [
     "cover",
     "gaps",
     "shown",
@@ -62,6 +64,7 @@ pub const WORDS: [&str; 15] = [
     "delta",
     "scrub",
     "run",
+    "service",
     "order",
     "relay",
 ];
@@ -151,6 +154,12 @@ pub fn row_of<'a>(word: &str) -> Option<Row<'a>>
             full_name: "site run",
             about: "Takes files side by side into a database, and prints its summary",
         }),
+        "service" => Some(Row {
+            command: Command::Service,
+            word: "service",
+            full_name: "site service",
+            about: "Makes the service of a database, or tells which one is there",
+        }),
         "order" => Some(Row {
             command: Command::Order,
             word: "order",
@@ -187,7 +196,7 @@ impl<'a> Row<'a> {
         match self.command {
             Command::Ask(_) => bare.arg(question_db(alloc))?.arg(question_files(alloc)),
             Command::Summary => bare.arg(read_db(alloc)),
-            Command::Take => bare.arg(db(alloc))?.arg(files(alloc)),
+            Command::Take => bare.arg(db(alloc))?.arg(numbered_files(alloc)),
             Command::Follow => bare.arg(db(alloc))?.arg(lines(alloc)),
             Command::Delta => {
                 let begun = bare.arg(db(alloc))?.arg(from(alloc))?;
@@ -195,11 +204,15 @@ impl<'a> Row<'a> {
             }
             Command::Scrub => bare.arg(db(alloc))?.arg(from(alloc))?.arg(all(alloc)),
             Command::Run => bare.arg(db(alloc))?.arg(peer(alloc))?.arg(files(alloc)),
+            Command::Service => {
+                let begun = bare.arg(db(alloc))?.arg(source(alloc))?;
+                begun.arg(base(alloc))
+            }
             Command::Order => {
                 let begun = bare.arg(db(alloc))?.arg(source(alloc))?;
                 with_request(alloc, begun)
             }
-            Command::Relay => bare.arg(db(alloc))?.arg(after(alloc)),
+            Command::Relay => bare.arg(db(alloc))?.arg(after(alloc))?.arg(all(alloc)),
         }
     }
 

@@ -5,6 +5,24 @@ use views::Query;
 /// What the words ask for: a command, and the values of its arguments.
 #[derive(Drop)]
 pub enum Plan {
+    /// A command that starts no thread.
+    Alone(Alone),
+    /// Files taken side by side.
+    Run(Run),
+}
+
+/// A command that starts no thread.
+#[derive(Drop)]
+pub enum Alone {
+    /// A command with one answer, which is known before anything is written.
+    Once(Once),
+    /// Lines that are answered as they come.
+    Follow(Follow),
+}
+
+/// A command with one answer.
+#[derive(Drop)]
+pub enum Once {
     /// The answer to a query for the events of all files together, and those of a database where
     /// one is given; there is one, or a file.
     Ask {
@@ -21,11 +39,6 @@ pub enum Plan {
         db: Text,
         files: Texts,
     },
-    /// The lines of a file into a database, each acknowledged when it is kept.
-    Follow {
-        db: Text,
-        file: Text,
-    },
     /// The events of a database that a summary lacks.
     Delta {
         db: Text,
@@ -37,20 +50,41 @@ pub enum Plan {
         db: Text,
         pages: Pages,
     },
-    /// Files taken side by side into a database, each by a thread of its own, and with them the
-    /// events of another site's file, where one is given; 16 files at most, that one counted.
-    Run {
+    /// The service of a database, made where there is none.
+    Service {
         db: Text,
-        peer: Option<Text>,
-        files: Texts,
+        /// The source of its events: 1 to 1,024 bytes without a control character.
+        source: Text,
+        /// Whether the words named that source, so that a service with another one isn't meant.
+        is_source_named: bool,
+        /// The number before its first row, at most 2^63-1, where the words gave one.
+        base: Option<u64>,
     },
     /// A command to the service of a database.
     Order(Request),
-    /// The rows of a service's outbox with a number greater than `after`.
+    /// The rows of a service's outbox with a number greater than `after`: the next page of them, or
+    /// all.
     Relay {
         db: Text,
         after: u64,
+        is_all: bool,
     },
+}
+
+/// The lines of a file into a database, each acknowledged when it is kept.
+#[derive(Drop)]
+pub struct Follow {
+    pub db: Text,
+    pub file: Text,
+}
+
+/// Files taken side by side into a database, each by a thread of its own, and with them the events
+/// of another site's file, where one is given; 16 files at most, that one counted.
+#[derive(Drop)]
+pub struct Run {
+    pub db: Text,
+    pub peer: Option<Text>,
+    pub files: Texts,
 }
 
 /// Which pages of a list of events are printed.

@@ -1,6 +1,6 @@
 //! The values that texts of the command line write.
 ghost use Rattle.std.specs.Prelude.{◌≡◌, ◌≢◌, ℕ, true, IfErr, IfOk, IfSome, IsNone};
-ghost use Rattle.command_words.specs.Plans.{AreFew, Blames, IsNumber, IsOrderNumber, IsServiceSource, IsTime, action_word};
+ghost use Rattle.command_words.specs.Plans.{AreFew, Blames, IsBaseNumber, IsNumber, IsOrderNumber, IsServiceSource, IsTime, action_word};
 ghost use Rattle.command_words.specs.declared.request.Action.{Action};
 
 use crate::fault::Faulty;
@@ -10,7 +10,7 @@ use std::alloc::Global;
 
 /// The most digits of a number.
 const MAX_DIGITS: usize = 20;
-/// The greatest number of an order, 2^63 - 1.
+/// The greatest number of an order, and of a row, 2^63 - 1.
 const MAX_ORDER: u64 = 9_223_372_036_854_775_807;
 /// The most files of a run.
 const MAX_WORKERS: u64 = 16;
@@ -67,6 +67,32 @@ fn no_order(alloc: Global, text: &str) -> Faulty {
         "<ORDER>",
         text,
         "a number from 1 to 9223372036854775807",
+    )
+}
+
+/// The number before a service's first row.
+pub fn base(alloc: Global, text: &str) -> Result<u64, Faulty>
+    ensures ok { IfOk result (IsBaseNumber text.now) }
+    ensures err { IfErr result (Blames ((n : ℕ) → IsBaseNumber text.now n → ⊥)) }
+{
+    match number_of(text) {
+        Some(number) => {
+            if number > MAX_ORDER {
+                return Err(no_base(alloc, text));
+            }
+            Ok(number)
+        }
+        None => Err(no_base(alloc, text)),
+    }
+}
+
+/// What is said of a text that is no such number.
+fn no_base(alloc: Global, text: &str) -> Faulty {
+    not_allowed(
+        alloc,
+        "--base <N>",
+        text,
+        "a number from 0 to 9223372036854775807",
     )
 }
 

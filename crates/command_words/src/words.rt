@@ -1,19 +1,23 @@
 //! From the words of the command line to a plan.
-ghost use Rattle.std.specs.Prelude.{◌≡◌, IfOk, IfErr, map};
-ghost use Rattle.clap.specs.Words.{found_of, rows_of};
+ghost use Rattle.std.specs.Prelude.{◌≡◌, ℕ, IfOk, IfErr, Option, codes, map};
+ghost use Rattle.clap.specs.Words.{first_of, found_of, rows_of};
 ghost use Rattle.command_words.specs.Commands.{word_of};
-ghost use Rattle.command_words.specs.Plans.{AreFaulty, AreSome, Blames, HasPages, HasRequestOf, HasTextsOf, HaveNoPlan, IsPlan, IsPlanFor, command_of};
+ghost use Rattle.command_words.specs.Plans.{AreFaulty, AreSome, Blames, HasPages, HasRequestOf, HasTextsOf, HaveNoPlan, IsBase, IsPlan, IsPlanFor, command_of};
 ghost use Rattle.command_words.specs.declared.command.Command.TheVariants as command;
 ghost use Rattle.command_words.specs.declared.request.Pages.{Pages};
+ghost use Rattle.command_words.specs.declared.request.Alone.TheVariants as alone;
 ghost use Rattle.command_words.specs.declared.request.Plan.{Plan};
+ghost use Rattle.command_words.specs.declared.request.Plan.TheVariants as plan;
 ghost use Rattle.command_words.specs.declared.request.Request.{Request};
 
 use crate::command::{Command, row_of};
 use crate::fault::Faulty;
 use crate::matched::{given_text_of, is_given, str_of, text_of, texts_of};
 use crate::program::{faulty_of, no_command};
-use crate::request::{Pages, Plan, Request};
-use crate::value::{action, both_pages, no_events, number, order_number, source, time, workers};
+use crate::request::{Alone, Follow, Once, Pages, Plan, Request, Run};
+use crate::value::{
+    action, base, both_pages, no_events, number, order_number, source, time, workers,
+};
 use attributes::Text;
 use clap::ArgMatches;
 use std::alloc::{AllocError, Global};
@@ -62,50 +66,59 @@ fn matched(alloc: Global, command: Command, matches: &ArgMatches<'_>) -> Result<
             if db.is_none() && files.is_empty() {
                 return Err(no_events(alloc));
             }
-            Ok(Plan::Ask { query, db, files })
+            Ok(once(Once::Ask { query, db, files }))
         }
         Command::Summary => {
             let db = text_of(alloc, matches, "db")?;
-            Ok(Plan::Summary { db })
+            Ok(once(Once::Summary { db }))
         }
         Command::Take => {
             let db = text_of(alloc, matches, "db")?;
             let files = texts_of(alloc, matches, "file")?;
-            Ok(Plan::Take { db, files })
+            Ok(once(Once::Take { db, files }))
         }
         Command::Follow => {
             let db = text_of(alloc, matches, "db")?;
             let file = text_of(alloc, matches, "file")?;
-            Ok(Plan::Follow { db, file })
+            Ok(Plan::Alone(Alone::Follow(Follow { db, file })))
         }
         Command::Delta => {
             let db = text_of(alloc, matches, "db")?;
             let summary = text_of(alloc, matches, "summary")?;
             match pages(alloc, matches) {
-                Ok(pages) => Ok(Plan::Delta { db, pages, summary }),
+                Ok(pages) => Ok(once(Once::Delta { db, pages, summary })),
                 Err(faulty) => Err(faulty),
             }
         }
         Command::Scrub => {
             let db = text_of(alloc, matches, "db")?;
             match pages(alloc, matches) {
-                Ok(pages) => Ok(Plan::Scrub { db, pages }),
+                Ok(pages) => Ok(once(Once::Scrub { db, pages })),
                 Err(faulty) => Err(faulty),
             }
         }
         Command::Run => run(alloc, matches),
+        Command::Service => service(alloc, matches),
         Command::Order => match request(alloc, matches) {
-            Ok(request) => Ok(Plan::Order(request)),
+            Ok(request) => Ok(once(Once::Order(request))),
             Err(faulty) => Err(faulty),
         },
         Command::Relay => {
             let db = text_of(alloc, matches, "db")?;
+            let is_all = is_given(matches, "all");
             match number(alloc, "--after <N>", str_of(matches, "after")) {
-                Ok(after) => Ok(Plan::Relay { db, after }),
+                Ok(after) => Ok(once(Once::Relay { db, after, is_all })),
                 Err(faulty) => Err(faulty),
             }
         }
     }
+}
+
+/// The plan of a command with one answer.
+fn once(command: Once) -> Plan
+    ensures { result ≡ plan.Alone (alone.Once command) }
+{
+    Plan::Alone(Alone::Once(command))
 }
 
 /// Which pages are printed.
@@ -136,8 +149,47 @@ fn run(alloc: Global, matches: &ArgMatches<'_>) -> Result<Plan, Faulty>
     let peer = given_text_of(alloc, matches, "peer")?;
     let files = texts_of(alloc, matches, "file")?;
     match workers(alloc, peer.is_some(), files.len()) {
-        Ok(()) => Ok(Plan::Run { db, peer, files }),
+        Ok(()) => Ok(Plan::Run(Run { db, peer, files })),
         Err(faulty) => Err(faulty),
+    }
+}
+
+/// The plan of a database's service. Its values are tested in this order: the source, the base.
+fn service(alloc: Global, matches: &ArgMatches<'_>) -> Result<Plan, Faulty>
+    ensures command { IfOk result (λ plan. command_of plan ≡ command.Service) }
+    ensures texts { IfOk result (HasTextsOf (rows_of (found_of matches.now))) }
+    ensures err { IfErr result
+        (Blames (HaveNoPlan (rows_of (found_of matches.now)) command.Service)) }
+{
+    let db = text_of(alloc, matches, "db")?;
+    let source = match source(alloc, str_of(matches, "source")) {
+        Ok(source) => source,
+        Err(faulty) => return Err(faulty),
+    };
+    let is_source_named = is_given(matches, "source");
+    match given_base(alloc, matches) {
+        Ok(base) => Ok(once(Once::Service {
+            db,
+            source,
+            is_source_named,
+            base,
+        })),
+        Err(faulty) => Err(faulty),
+    }
+}
+
+/// The base of a service, where the words gave one.
+fn given_base(alloc: Global, matches: &ArgMatches<'_>) -> Result<Option<u64>, Faulty>
+    ensures ok { IfOk result (IsBase (first_of (codes "base") (rows_of (found_of matches.now)))) }
+    ensures err { IfErr result (Blames ((b : Option ℕ)
+        → IsBase (first_of (codes "base") (rows_of (found_of matches.now))) b → ⊥)) }
+{
+    match matches.get_str("base") {
+        Some(text) => match base(alloc, text) {
+            Ok(number) => Ok(Some(number)),
+            Err(faulty) => Err(faulty),
+        },
+        None => Ok(None),
     }
 }
 

@@ -1,18 +1,27 @@
 -- What the status of a run says of its ending.
 use Rattle.std.proofs.Common.{◌≡◌, ◌≤◌, ℕ, List, inl, inr, arith, refl, sym, subst, ◌∙◌, true, false}
-use Rattle.std.specs.Prelude.{Option}
-use Rattle.command_words.specs.Plans.{AreFaulty, Blames}
+use Rattle.std.specs.Prelude.{IfSome, None, Option, Some, length}
+use Rattle.attributes.specs.Sequence.{max_sequence}
+use Rattle.std.specs.Option.{is_some}
+use Rattle.command_words.specs.Plans.{AreFaulty, AreFew, Blames, IsBase}
 use Rattle.command_words.specs.declared.fault.Faulty.{Faulty as FaultyWords}
 use Rattle.command_words.specs.declared.fault.Faulty.TheVariants as faulty
 use Rattle.file_reports.specs.declared.input.Unread.{Unread}
 use Rattle.site_commands.specs.Endings.{Ends, EndsStream, SaysRefusal, Writes}
 use Rattle.site_commands.specs.Lines.{line_of, memory_line}
-use Rattle.site_commands.specs.Runs.{IsEnding, IsLine, IsPlanEnding, PrintsAnswer, RunsPlan, RunsWords, said}
-use Rattle.site_commands.specs.Answers.{IsAllowed, RefusesPlan}
+use Rattle.site_commands.specs.Names.{Names, of_follow, of_plan}
+use Rattle.site_commands.specs.Runs.{ComesTo, IsEnding, IsLine, PrintsAnswer, RunsAlone, RunsBeside, RunsWords, said}
+use Rattle.site_commands.specs.Answers.{AnswersPlan, IsAllowed, IsAllowedAlone, RefusesPlan}
 use Rattle.site_commands.specs.declared.ending.Ending.{Ending}
 use Rattle.site_commands.specs.declared.ending.Ending.TheVariants.{Answer, Pages, Help, Faulty, Refused, NoMemory}
 use Rattle.database_commands.specs.Pages.{pages_text}
 use Rattle.site_commands.specs.declared.line.Refusal.{Refusal}
+use Rattle.command_words.specs.declared.request.Alone.{Alone}
+use Rattle.command_words.specs.declared.request.Alone.TheVariants as alone
+use Rattle.command_words.specs.declared.request.Follow.{Follow}
+use Rattle.command_words.specs.declared.request.Once.{Once}
+use Rattle.command_words.specs.declared.request.Once.TheVariants as once
+use Rattle.command_words.specs.declared.request.Run.{Run}
 use Rattle.command_words.specs.declared.request.Plan.{Plan}
 use Rattle.command_words.specs.declared.request.Plan.TheVariants as plan
 use Rattle.command_words.specs.Plans.{IsPlan}
@@ -53,82 +62,70 @@ module _ (C : List ℕ → List ℕ → Type 0) (U : List ℕ → Unread → Typ
 
 -- ---- streams
 
--- how a plan that is a stream ends
-abbrev EndsFollow : (List ℕ → List ℕ → Type 0) → (List ℕ → Unread → Type 0) → List ℕ → List ℕ → ℕ → Option (List ℕ) → Option (List ℕ) → Option (List ℕ) → Option (List ℕ) → Type 0
-EndsFollow C U db file r out out' err err' = EndsStream C U (plan.Follow db file) r out out' err err'
-
 module _ (C : List ℕ → List ℕ → Type 0) (U : List ℕ → Unread → Type 0) (words : List (List ℕ)) (r : ℕ) (out out' err err' : Option (List ℕ)) where
-  -- it follows lines
-  follows : (p : Plan) → EndsStream C U p r out out' err err' → (db : List ℕ) × (file : List ℕ) × (p ≡ plan.Follow db file) × EndsFollow C U db file r out out' err err'
-  follows (plan.Ask query db files) h = absurd h
-  follows (plan.Summary db) h = absurd h
-  follows (plan.Take db files) h = absurd h
-  follows (plan.Follow db file) h = (db, file, refl, h)
-  follows (plan.Delta db which summary) h = absurd h
-  follows (plan.Scrub db which) h = absurd h
-  follows (plan.Run db peer files) h = absurd h
-  follows (plan.Order request) h = absurd h
-  follows (plan.Relay db after) h = absurd h
+  said_within : (n : Names) (why : Refusal) → SaysRefusal n why r err err' → r ≤ 2
+  said_within n why (inl w) = written_within r 1 err err' (line_of n why) (omega arith) w
+  said_within n why (inr w) = written_within r 1 err err' memory_line (omega arith) w
 
-  said_within : (p : Plan) (why : Refusal) → SaysRefusal p why r err err' → r ≤ 2
-  said_within p why (inl w) = written_within r 1 err err' (line_of p why) (omega arith) w
-  said_within p why (inr w) = written_within r 1 err err' memory_line (omega arith) w
+  said_never : (n : Names) (why : Refusal) (q : ℕ) (A : Type 0) → SaysRefusal n why r err err' → (q ≡ 1 → ⊥) → r ≡ q → A
+  said_never n why q A (inl w) not_one done = never_ends r 1 q err err' (line_of n why) A w not_one not_one done
+  said_never n why q A (inr w) not_one done = never_ends r 1 q err err' memory_line A w not_one not_one done
 
-  said_never : (p : Plan) (why : Refusal) (q : ℕ) (A : Type 0) → SaysRefusal p why r err err' → (q ≡ 1 → ⊥) → r ≡ q → A
-  said_never p why q A (inl w) not_one done = never_ends r 1 q err err' (line_of p why) A w not_one not_one done
-  said_never p why q A (inr w) not_one done = never_ends r 1 q err err' memory_line A w not_one not_one done
+  follow_within : (f : Follow) → EndsStream C U f r out out' err err' → r ≤ 2
+  follow_within f (inl w) = omega (arith, w.0)
+  follow_within f (inr (inl w)) = said_within (of_follow f) w.0 w.2
+  follow_within f (inr (inr w)) = omega (arith, w.0)
 
-  follow_within : (db file : List ℕ) → EndsFollow C U db file r out out' err err' → r ≤ 2
-  follow_within db file (inl w) = omega (arith, w.0)
-  follow_within db file (inr (inl w)) = said_within (plan.Follow db file) w.0 w.2
-  follow_within db file (inr (inr w)) = omega (arith, w.0)
-
-  follow_printed : (db file : List ℕ) → IsPlan words (plan.Follow db file) → EndsFollow C U db file r out out' err err' → r ≡ 0 → PrintsAnswer C words out out'
-  follow_printed db file p (inl w) done =
+  follow_printed : (f : Follow) → IsPlan words (plan.Alone (alone.Follow f)) → EndsStream C U f r out out' err err' → r ≡ 0 → PrintsAnswer C words out out'
+  follow_printed f p (inl w) done =
       let all = w.1.tells in (
         all.text,
         record {
-          plan = plan.Follow db file;
+          plan = plan.Alone (alone.Follow f);
           planned = p;
           answered = record { bytes = w.1.bytes; of_file = w.1.of_file; left = all.left; over = all.over; tells = all.tells; told = all.told; faultless = sym all.faulty };
         },
         all.written,
       )
-  follow_printed db file p (inr (inl w)) done = said_never (plan.Follow db file) w.0 0 _ w.2 (λ e. omega arith) done
-  follow_printed db file p (inr (inr w)) done = absurd (omega (arith, w.0, done))
+  follow_printed f p (inr (inl w)) done = said_never (of_follow f) w.0 0 _ w.2 (λ e. omega arith) done
+  follow_printed f p (inr (inr w)) done = absurd (omega (arith, w.0, done))
 
-  follow_faulty : (db file : List ℕ) → EndsFollow C U db file r out out' err err' → r ≡ 2 → AreFaulty words
-  follow_faulty db file (inl w) done = absurd (omega (arith, w.0, done))
-  follow_faulty db file (inr (inl w)) done = said_never (plan.Follow db file) w.0 2 _ w.2 (λ e. omega arith) done
-  follow_faulty db file (inr (inr w)) done = absurd (omega (arith, w.0, done))
+  follow_faulty : (f : Follow) → EndsStream C U f r out out' err err' → r ≡ 2 → AreFaulty words
+  follow_faulty f (inl w) done = absurd (omega (arith, w.0, done))
+  follow_faulty f (inr (inl w)) done = said_never (of_follow f) w.0 2 _ w.2 (λ e. omega arith) done
+  follow_faulty f (inr (inr w)) done = absurd (omega (arith, w.0, done))
 
   -- ---- runs
 
   pub run_within : RunsWords C U words r out out' err err' → r ≤ 2
   run_within (inl w) = status_within C U words r out out' err err' w.ending w.ends
-  run_within (inr w) = (let f = follows w.plan w.ends in follow_within f.0 f.1 f.3)
+  run_within (inr w) = follow_within w.lines w.ends
 
   pub run_printed : RunsWords C U words r out out' err err' → r ≡ 0 → PrintsAnswer C words out out'
   run_printed (inl w) done = answer_printed C U words r out out' err err' w.ending w.is_ending w.ends done
-  run_printed (inr w) done = (let f = follows w.plan w.ends in follow_printed f.0 f.1 (subst (IsPlan words) f.2 w.planned) f.3 done)
+  run_printed (inr w) done = follow_printed w.lines w.planned w.ends done
 
   pub run_faulty : RunsWords C U words r out out' err err' → r ≡ 2 → AreFaulty words
   run_faulty (inl w) done = words_faulty C U words r out out' err err' w.ending w.is_ending w.ends done
-  run_faulty (inr w) done = (let f = follows w.plan w.ends in follow_faulty f.0 f.1 f.3 done)
+  run_faulty (inr w) done = follow_faulty w.lines w.ends done
 
--- the line of a refused plan is the ending of its words
-pub refused_ending : (C : List ℕ → List ℕ → Type 0) (U : List ℕ → Unread → Type 0) (plan : Plan) (refusal : Refusal) (e : Ending)
-    → RefusesPlan C U plan refusal → IsLine plan refusal e → IsPlanEnding C U plan e
-refused_ending C U plan refusal (Answer text) r line = absurd line
-refused_ending C U plan refusal (Pages events) r line = absurd line
-refused_ending C U plan refusal (Help text) r line = absurd line
-refused_ending C U plan refusal (Faulty text) r line = absurd line
-refused_ending C U plan refusal (Refused text) r line = (refusal, r, line)
-refused_ending C U plan refusal NoMemory r line = tt
+-- the line of a refused plan is its ending
+refused_ending : (A : List ℕ → Type 0) (R : Refusal → Type 0) (n : Names) (refusal : Refusal) (e : Ending)
+    → R refusal → IsLine n refusal e → ComesTo A R n e
+refused_ending A R n refusal (Answer text) r line = absurd line
+refused_ending A R n refusal (Pages events) r line = absurd line
+refused_ending A R n refusal (Help text) r line = absurd line
+refused_ending A R n refusal (Faulty text) r line = absurd line
+refused_ending A R n refusal (Refused text) r line = (refusal, r, line)
+refused_ending A R n refusal NoMemory r line = tt
+
+pub named_ending : (A : List ℕ → Type 0) (R : Refusal → Type 0) (m n : Names) (refusal : Refusal) (e : Ending)
+    → m ≡ n → R refusal → IsLine m refusal e → ComesTo A R n e
+named_ending A R m n refusal e is r line = subst (λ z. ComesTo A R z e) is (refused_ending A R m refusal e r line)
 
 -- what the plan comes to, its words come to
-pub planned_ending : (C : List ℕ → List ℕ → Type 0) (U : List ℕ → Unread → Type 0) (words : List (List ℕ)) (plan : Plan) (e : Ending)
-    → IsPlan words plan → IsPlanEnding C U plan e → IsEnding C U words e
+planned_ending : (C : List ℕ → List ℕ → Type 0) (U : List ℕ → Unread → Type 0) (words : List (List ℕ)) (plan : Plan) (e : Ending)
+    → IsPlan words plan → ComesTo (AnswersPlan C plan) (RefusesPlan C U plan) (of_plan plan) e → IsEnding C U words e
 planned_ending C U words plan (Answer text) p h = record { plan = plan; planned = p; answered = h }
 planned_ending C U words plan (Pages events) p h = record { plan = plan; planned = p; answered = h }
 planned_ending C U words plan (Help text) p h = absurd h
@@ -136,10 +133,14 @@ planned_ending C U words plan (Faulty text) p h = absurd h
 planned_ending C U words plan (Refused text) p h = record { plan = plan; planned = p; refusal = h.0; refused = h.1; is_line = h.2 }
 planned_ending C U words plan NoMemory p h = tt
 
--- a plan that ran is what its words come to
-pub planned_run : (C : List ℕ → List ℕ → Type 0) (U : List ℕ → Unread → Type 0) (words : List (List ℕ)) (p : Plan) (r : ℕ) (out out' err err' : Option (List ℕ)) → IsPlan words p → RunsPlan C U p r out out' err err' → RunsWords C U words r out out' err err'
-planned_run C U words p r out out' err err' planned (inl w) = inl (record { ending = w.0; is_ending = planned_ending C U words p w.0 planned w.1; ends = w.2 })
-planned_run C U words p r out out' err err' planned (inr w) = inr (record { plan = p; planned = planned; ends = w })
+-- a plan that one thread carried out is what its words come to
+pub planned_alone : (C : List ℕ → List ℕ → Type 0) (U : List ℕ → Unread → Type 0) (words : List (List ℕ)) (p : Alone) (r : ℕ) (out out' err err' : Option (List ℕ)) → IsPlan words (plan.Alone p) → RunsAlone C U p r out out' err err' → RunsWords C U words r out out' err err'
+planned_alone C U words (alone.Once asked) r out out' err err' planned w = inl (record { ending = w.0; is_ending = planned_ending C U words (plan.Alone (alone.Once asked)) w.0 planned w.1; ends = w.2 })
+planned_alone C U words (alone.Follow lines) r out out' err err' planned w = inr (record { lines = lines; planned = planned; ends = w })
+
+-- and so is a run
+pub planned_run : (C : List ℕ → List ℕ → Type 0) (U : List ℕ → Unread → Type 0) (words : List (List ℕ)) (p : Run) (r : ℕ) (out out' err err' : Option (List ℕ)) → IsPlan words (plan.Run p) → RunsBeside C U p r out out' err err' → RunsWords C U words r out out' err err'
+planned_run C U words p r out out' err err' planned w = inl (record { ending = w.0; is_ending = planned_ending C U words (plan.Run p) w.0 planned w.1; ends = w.2 })
 
 faulty_ending : (C : List ℕ → List ℕ → Type 0) (U : List ℕ → Unread → Type 0) (words : List (List ℕ)) (f : FaultyWords) → Blames (AreFaulty words) f → IsEnding C U words (said f)
 faulty_ending C U words (faulty.Words text true) b = b
@@ -150,20 +151,34 @@ faulty_ending C U words faulty.OutOfMemory b = tt
 pub faulty_run : (C : List ℕ → List ℕ → Type 0) (U : List ℕ → Unread → Type 0) (words : List (List ℕ)) (f : FaultyWords) (e : Ending) (r : ℕ) (out out' err err' : Option (List ℕ)) → Blames (AreFaulty words) f → e ≡ said f → Ends e r out out' err err' → RunsWords C U words r out out' err err'
 faulty_run C U words f e r out out' err err' b is ends = inl (record { ending = e; is_ending = subst (IsEnding C U words) (sym is) (faulty_ending C U words f b); ends = ends })
 
+-- a base that the words wrote is one that a service may have
+base_low : (text : Option (List ℕ)) (base : Option ℕ) → IsBase text base → IfSome base (λ n. n ≤ max_sequence)
+base_low (Some text) (Some n) h = h.high
+base_low None None h = tt
+base_low (Some text) None h = tt
+base_low None (Some n) h = absurd h
+
 -- what the words ask for is within what a service allows
-pub allowed_by : (words : List (List ℕ)) (p : Plan) → IsPlan words p → IsAllowed p
-allowed_by words (plan.Ask query db files) h = tt
-allowed_by words (plan.Summary db) h = tt
-allowed_by words (plan.Take db files) h = tt
-allowed_by words (plan.Follow db file) h = tt
-allowed_by words (plan.Delta db which summary) h = tt
-allowed_by words (plan.Scrub db which) h = tt
-allowed_by words (plan.Order request) h = let r = h.1.texts in record {
+once_allowed : (words : List (List ℕ)) (o : Once) → IsPlan words (plan.Alone (alone.Once o)) → IsAllowed o
+once_allowed words (once.Ask query db files) h = tt
+once_allowed words (once.Summary db) h = tt
+once_allowed words (once.Take db files) h = tt
+once_allowed words (once.Delta db which summary) h = tt
+once_allowed words (once.Scrub db which) h = tt
+once_allowed words (once.Service db source is_named base) h = let t = h.1.texts in (t.3.filled, t.3.short, base_low _ base t.4)
+once_allowed words (once.Order request) h = let r = h.1.texts in record {
   filled = r.allowed.filled;
   short = r.allowed.short;
   low = r.order.low;
   high = r.order.high;
   at = r.time.short;
 }
-allowed_by words (plan.Relay db after) h = tt
-allowed_by words (plan.Run db peer files) h = h.1.texts.3
+once_allowed words (once.Relay db after is_all) h = tt
+
+pub alone_allowed : (words : List (List ℕ)) (p : Alone) → IsPlan words (plan.Alone p) → IsAllowedAlone p
+alone_allowed words (alone.Once o) h = once_allowed words o h
+alone_allowed words (alone.Follow lines) h = tt
+
+-- and so many files are few
+pub run_allowed : (words : List (List ℕ)) (p : Run) → IsPlan words (plan.Run p) → AreFew (is_some p.peer) (length p.files)
+run_allowed words p h = h.1.texts.3

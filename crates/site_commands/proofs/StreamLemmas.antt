@@ -3,8 +3,7 @@ use Rattle.std.proofs.Common.{◌≡◌, ◌≢◌, ◌⊎◌, ℕ, zero, suc, L
 use Rattle.std.specs.Result.{IfErr}
 use Rattle.std.specs.List.{AllByRecursion, flat_map}
 use Rattle.std.specs.Io.KnownBytes.{IsAtEnd}
-use Rattle.command_words.specs.declared.request.Plan.{Plan}
-use Rattle.command_words.specs.declared.request.Plan.TheVariants as plan
+use Rattle.command_words.specs.declared.request.Follow.{Follow}
 use Rattle.file_reports.specs.declared.input.Unread.{Unread}
 use Rattle.line_intake.specs.Acknowledged.{AreTold, TellsAll, TellsPart, TellsSome}
 use Rattle.line_intake.specs.Judged.{TakesLines}
@@ -17,6 +16,7 @@ use Rattle.database_commands.specs.declared.stream.StreamFault.{StreamFault}
 use Rattle.database_commands.specs.declared.stream.StreamFault.TheVariants as stream
 use Rattle.site_commands.specs.Endings.{EndsStream, SaysRefusal}
 use Rattle.site_commands.specs.Inputs.{MayGive}
+use Rattle.site_commands.specs.Names.{Names, of_follow}
 use Rattle.site_commands.specs.Streams.{EndsSo, FollowsAll, FollowsPart, FollowsSome, RefusesFollow, end_at, end_of}
 use Rattle.site_commands.specs.declared.line.Refusal.{Refusal}
 use Rattle.site_commands.specs.declared.line.Refusal.TheVariants as refusal
@@ -96,8 +96,7 @@ module _ (C : List ℕ → List ℕ → Type 0) (U : List ℕ → Unread → Typ
   ends_so (Err why) so all until is = subst (λ e. EndsSo C U file e out out') (sym is) (ends_until why until)
 
 -- what is refused is said
-pub refused_stream : (C : List ℕ → List ℕ → Type 0) (U : List ℕ → Unread → Type 0) (p : Plan) (db file name : List ℕ) (why : Refusal) (r : ℕ) (out out' err err' : Option (List ℕ)) → p ≡ plan.Follow db file → name ≡ file → RefusesFollow C U name why out out' → SaysRefusal p why r err err'
-    → EndsStream C U p r out out' err err'
-refused_stream C U p db file name why r out out' err err' is same refuses says =
-    subst (λ q. EndsStream C U q r out out' err err') (sym is)
-    (inr (inl (why, subst (λ f. RefusesFollow C U f why out out') same refuses, subst (λ q. SaysRefusal q why r err err') is says)))
+pub refused_stream : (C : List ℕ → List ℕ → Type 0) (U : List ℕ → Unread → Type 0) (f : Follow) (name : List ℕ) (n : Names) (why : Refusal) (r : ℕ) (out out' err err' : Option (List ℕ)) → name ≡ f.file → n ≡ of_follow f
+    → RefusesFollow C U name why out out' → SaysRefusal n why r err err' → EndsStream C U f r out out' err err'
+refused_stream C U f name n why r out out' err err' same named refuses says =
+    inr (inl (why, subst (λ z. RefusesFollow C U z why out out') same refuses, subst (λ z. SaysRefusal z why r err err') named says))

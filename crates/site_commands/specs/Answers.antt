@@ -1,6 +1,6 @@
 -- What the plans of the program are answered with, and why they are refused. C says what a name is
 -- read as, U why a name isn't read.
-use Rattle.std.specs.Prelude.{◌≡◌, ◌≤◌, ◌+◌, ◌⊎◌, Bool, List, ℕ, drop, length, slice_get, take, false, true, Option, None, Some}
+use Rattle.std.specs.Prelude.{◌≡◌, ◌≤◌, ◌+◌, ◌⊎◌, Bool, IfSome, List, ℕ, drop, length, slice_get, take, false, true, Option, None, Some}
 use Rattle.std.specs.Option.{is_some}
 use Rattle.attributes.specs.Character.{is_filled}
 use Rattle.attributes.specs.Event.{EventValue}
@@ -19,9 +19,14 @@ use Rattle.command_words.specs.declared.request.Pages.TheVariants as pages
 use Rattle.database_commands.specs.Held.{HasDelta, HasEvents, SaysDelta, SaysOrder, SaysPage, SaysSummary}
 use Rattle.database_commands.specs.Pages.{pages_text}
 use Rattle.database_commands.specs.Print.{WithoutLineEnd, batch_line, counts_line}
+use Rattle.database_commands.specs.Service.{SaysService}
 use Rattle.command_words.specs.declared.request.Request.{Request}
 use Rattle.command_words.specs.declared.request.Plan.{Plan}
 use Rattle.command_words.specs.declared.request.Plan.TheVariants as plan
+use Rattle.command_words.specs.declared.request.Alone.{Alone}
+use Rattle.command_words.specs.declared.request.Alone.TheVariants as alone
+use Rattle.command_words.specs.declared.request.Once.{Once}
+use Rattle.command_words.specs.declared.request.Once.TheVariants as once
 use Rattle.command_words.specs.Plans.{AreFew}
 use Rattle.file_reports.specs.Shelves.{AreContents, IsUnreadAt}
 use Rattle.file_reports.specs.Reports.{EachReads, IsRefusal, IsReport, IsReportWith, SpellAll}
@@ -61,6 +66,11 @@ RefusesQuery C U db files (refusal.Lines faults) = ⊥
 -- the text is a batch, as one line
 abbrev pub PrintsBatch : List ℕ → Type 0
 PrintsBatch text = (events : List EventValue) × (text ≡ batch_line events)
+
+-- the text is a batch, or all pages of some events
+abbrev pub SaysRows : Bool → List ℕ → Type 0
+SaysRows false text = PrintsBatch text
+SaysRows true text = (events : List EventValue) × (text ≡ pages_text events)
 
 -- the status that an order gets by what is done with it
 abbrev pub status_of : Action → Status
@@ -196,56 +206,55 @@ RefusesRun C U peer files (refusal.Unread at) = IsUnreadAt C U (names_of peer fi
 RefusesRun C U peer files refusal = (contents : List (List ℕ))
     × AreContents C (names_of peer files) contents × RefusesJobs (is_some peer) contents refusal
 
+-- the text is the answer to the plan, which has one
+abbrev pub AnswersOnce : (List ℕ → List ℕ → Type 0) → Once → List ℕ → Type 0
+AnswersOnce C (once.Ask query db files) text = AnswersQuery C query db files text
+AnswersOnce C (once.Summary db) text = SaysSummary text
+AnswersOnce C (once.Take db files) text = AnswersTake C files text
+AnswersOnce C (once.Delta db which summary) text = AnswersDelta C which summary text
+AnswersOnce C (once.Scrub db which) text = SaysPages which text
+AnswersOnce C (once.Service db source is_named base) text = SaysService is_named source base text
+AnswersOnce C (once.Order request) text = AnswersOrder request text
+AnswersOnce C (once.Relay db after is_all) text = SaysRows is_all text
+
 -- the text is the answer to the plan
 abbrev pub AnswersPlan : (List ℕ → List ℕ → Type 0) → Plan → List ℕ → Type 0
-AnswersPlan C (plan.Ask query db files) text = AnswersQuery C query db files text
-AnswersPlan C (plan.Summary db) text = SaysSummary text
-AnswersPlan C (plan.Take db files) text = AnswersTake C files text
-AnswersPlan C (plan.Follow db file) text = AnswersFollow C file text
-AnswersPlan C (plan.Delta db which summary) text = AnswersDelta C which summary text
-AnswersPlan C (plan.Scrub db which) text = SaysPages which text
-AnswersPlan C (plan.Run db peer files) text = AnswersRun C peer files text
-AnswersPlan C (plan.Order request) text = AnswersOrder request text
-AnswersPlan C (plan.Relay db after) text = PrintsBatch text
+AnswersPlan C (plan.Alone (alone.Once asked)) text = AnswersOnce C asked text
+AnswersPlan C (plan.Alone (alone.Follow lines)) text = AnswersFollow C lines.file text
+AnswersPlan C (plan.Run run) text = AnswersRun C run.peer run.files text
 
--- this is why the plan, which is no stream, has no answer
+-- this is why the plan, which would have one answer, has none
+abbrev pub RefusesOnce : (List ℕ → List ℕ → Type 0) → (List ℕ → Unread → Type 0)
+    → Once → Refusal → Type 0
+RefusesOnce C U (once.Ask query db files) refusal = RefusesQuery C U db files refusal
+RefusesOnce C U (once.Summary db) refusal = IsOfDatabase refusal
+RefusesOnce C U (once.Take db files) refusal = RefusesTake C U files refusal
+RefusesOnce C U (once.Delta db which summary) refusal = RefusesDelta C U summary refusal
+RefusesOnce C U (once.Scrub db which) refusal = IsOfDatabase refusal
+RefusesOnce C U (once.Service db source is_named base) refusal = IsOfDatabase refusal
+RefusesOnce C U (once.Order request) refusal = IsOfDatabase refusal
+RefusesOnce C U (once.Relay db after is_all) refusal = IsOfDatabase refusal
+
+-- this is why the plan has no answer; a stream says how it ended by itself
 abbrev pub RefusesPlan : (List ℕ → List ℕ → Type 0) → (List ℕ → Unread → Type 0)
     → Plan → Refusal → Type 0
-RefusesPlan C U (plan.Ask query db files) refusal = RefusesQuery C U db files refusal
-RefusesPlan C U (plan.Summary db) refusal = IsOfDatabase refusal
-RefusesPlan C U (plan.Take db files) refusal = RefusesTake C U files refusal
-RefusesPlan C U (plan.Follow db file) refusal = ⊥
-RefusesPlan C U (plan.Delta db which summary) refusal = RefusesDelta C U summary refusal
-RefusesPlan C U (plan.Scrub db which) refusal = IsOfDatabase refusal
-RefusesPlan C U (plan.Run db peer files) refusal = RefusesRun C U peer files refusal
-RefusesPlan C U (plan.Order request) refusal = IsOfDatabase refusal
-RefusesPlan C U (plan.Relay db after) refusal = IsOfDatabase refusal
+RefusesPlan C U (plan.Alone (alone.Once asked)) refusal = RefusesOnce C U asked refusal
+RefusesPlan C U (plan.Alone (alone.Follow lines)) refusal = ⊥
+RefusesPlan C U (plan.Run run) refusal = RefusesRun C U run.peer run.files refusal
 
--- whether the plan is a run
-abbrev pub is_run : Plan → Bool
-is_run (plan.Ask query db files) = false
-is_run (plan.Summary db) = false
-is_run (plan.Take db files) = false
-is_run (plan.Follow db file) = false
-is_run (plan.Delta db which summary) = false
-is_run (plan.Scrub db which) = false
-is_run (plan.Run db peer files) = true
-is_run (plan.Order request) = false
-is_run (plan.Relay db after) = false
+-- what is asked of a service or an order is within what a service allows
+abbrev pub IsAllowed : Once → Type 0
+IsAllowed (once.Ask query db files) = Unit {0}
+IsAllowed (once.Summary db) = Unit {0}
+IsAllowed (once.Take db files) = Unit {0}
+IsAllowed (once.Delta db which summary) = Unit {0}
+IsAllowed (once.Scrub db which) = Unit {0}
+IsAllowed (once.Service db source is_named base) = (is_filled source ≡ true)
+    × (length source ≤ 1024) × IfSome base (λ n. n ≤ max_sequence)
+IsAllowed (once.Order request) = IsAllowedRequest request
+IsAllowed (once.Relay db after is_all) = Unit {0}
 
--- whether the plan is a stream, which is answered line by line
-abbrev pub is_stream : Plan → Bool
-is_stream (plan.Follow db file) = true
-is_stream _ = false
-
--- what is asked of an order is within what a service allows, and of a run within what workers do
-abbrev pub IsAllowed : Plan → Type 0
-IsAllowed (plan.Ask query db files) = Unit {0}
-IsAllowed (plan.Summary db) = Unit {0}
-IsAllowed (plan.Take db files) = Unit {0}
-IsAllowed (plan.Follow db file) = Unit {0}
-IsAllowed (plan.Delta db which summary) = Unit {0}
-IsAllowed (plan.Scrub db which) = Unit {0}
-IsAllowed (plan.Run db peer files) = AreFew (is_some peer) (length files)
-IsAllowed (plan.Order request) = IsAllowedRequest request
-IsAllowed (plan.Relay db after) = Unit {0}
+-- what one thread is asked for is so
+abbrev pub IsAllowedAlone : Alone → Type 0
+IsAllowedAlone (alone.Once asked) = IsAllowed asked
+IsAllowedAlone (alone.Follow lines) = Unit {0}

@@ -5,11 +5,11 @@ use Rattle.database_commands.specs.Pages.{pages_text}
 use Rattle.std.specs.Io.KnownBytes.{Appends, Keeps}
 use Rattle.site_commands.specs.declared.ending.Ending.{Ending}
 use Rattle.site_commands.specs.declared.ending.Ending.TheVariants as ending
-use Rattle.command_words.specs.declared.request.Plan.{Plan}
-use Rattle.command_words.specs.declared.request.Plan.TheVariants as plan
+use Rattle.command_words.specs.declared.request.Follow.{Follow}
 use Rattle.file_reports.specs.declared.input.Unread.{Unread}
 use Rattle.line_intake.specs.Written.{Wrote}
 use Rattle.site_commands.specs.Lines.{line_of, memory_line}
+use Rattle.site_commands.specs.Names.{Names, of_follow}
 use Rattle.site_commands.specs.Streams.{FollowsAll, FollowsPart, RefusesFollow}
 use Rattle.site_commands.specs.declared.line.Refusal.{Refusal}
 
@@ -39,20 +39,19 @@ Ends (ending.Refused text) result out out' err err' = Writes result 1 err err' t
 Ends ending.NoMemory result out out' err err' =
     Writes result 1 err err' memory_line × Keeps out out'
 
--- standard error grew by the line of the plan's refusal, or, where memory was wanted for it, by the
--- line that says so; or by a front of it
-abbrev pub SaysRefusal : Plan → Refusal → ℕ → Option (List ℕ) → Option (List ℕ) → Type 0
-SaysRefusal plan refusal status err err' = Writes status 1 err err' (line_of plan refusal)
+-- standard error grew by the line of a refusal of a plan that names these, or, where memory was wanted
+-- for it, by the line that says so; or by a front of it
+abbrev pub SaysRefusal : Names → Refusal → ℕ → Option (List ℕ) → Option (List ℕ) → Type 0
+SaysRefusal names refusal status err err' = Writes status 1 err err' (line_of names refusal)
     ⊎ Writes status 1 err err' memory_line
 
 -- how a stream ends. The streams are standard output, then standard error, before and after: every line
 -- of the file is acknowledged and none at fault, or it is refused and the line of the refusal said, or
 -- an acknowledgement couldn't be written, and then nothing is said
-abbrev pub EndsStream : (List ℕ → List ℕ → Type 0) → (List ℕ → Unread → Type 0) → Plan → ℕ
+abbrev pub EndsStream : (List ℕ → List ℕ → Type 0) → (List ℕ → Unread → Type 0) → Follow → ℕ
     → Option (List ℕ) → Option (List ℕ) → Option (List ℕ) → Option (List ℕ) → Type 0
-EndsStream C U (plan.Follow db file) result out out' err err' =
-    ((result ≡ 0) × FollowsAll C file out out' 0 × Keeps err err')
-    ⊎ (((refusal : Refusal) × RefusesFollow C U file refusal out out'
-    × SaysRefusal (plan.Follow db file) refusal result err err')
-    ⊎ ((result ≡ 1) × FollowsPart C file out out' × Keeps err err'))
-EndsStream C U _ result out out' err err' = ⊥
+EndsStream C U lines result out out' err err' =
+    ((result ≡ 0) × FollowsAll C lines.file out out' 0 × Keeps err err')
+    ⊎ (((refusal : Refusal) × RefusesFollow C U lines.file refusal out out'
+    × SaysRefusal (of_follow lines) refusal result err err')
+    ⊎ ((result ≡ 1) × FollowsPart C lines.file out out' × Keeps err err'))

@@ -12,11 +12,9 @@ use Rattle.file_reports.specs.declared.refusal.ReportFault.TheVariants as report
 use Rattle.line_intake.specs.Words.{words_of}
 use Rattle.coverage.specs.declared.fault.SummaryFault.{SummaryFault}
 use Rattle.coverage.specs.declared.fault.SummaryFault.TheVariants as summary
-use Rattle.command_words.specs.declared.request.Plan.{Plan}
-use Rattle.command_words.specs.declared.request.Plan.TheVariants as plan
 use Rattle.database_commands.specs.declared.fault.CommandFault.{CommandFault}
 use Rattle.database_commands.specs.declared.fault.CommandFault.TheVariants as database
-use Rattle.site_commands.specs.Names.{names_of}
+use Rattle.site_commands.specs.Names.{Names}
 use Rattle.site_commands.specs.declared.line.Refusal.{Refusal}
 use Rattle.site_commands.specs.declared.line.Refusal.TheVariants as refusal
 
@@ -103,49 +101,11 @@ database_line db number database.RouteFailed = codes "site: route failed" ++ 10 
 database_line db number database.AnotherSource = file_line db (codes "another source")
 database_line db number database.CannotRead = file_line db (codes "cannot read")
 
--- ---- what a plan names
-
--- the file at a place of a plan
-abbrev pub name_in : Plan → ℕ → List ℕ
-name_in (plan.Ask query db files) file = name_at files file
-name_in (plan.Summary db) file = []
-name_in (plan.Take db files) file = name_at files file
-name_in (plan.Follow db name) file = name
-name_in (plan.Delta db which name) file = name
-name_in (plan.Scrub db which) file = []
-name_in (plan.Run db peer files) file = name_at (names_of peer files) file
-name_in (plan.Order request) file = []
-name_in (plan.Relay db after) file = []
-
--- the database of a plan; empty where it has none
-abbrev pub db_in : Plan → List ℕ
-db_in (plan.Ask query db files) = unwrap_or db []
-db_in (plan.Summary db) = db
-db_in (plan.Take db files) = db
-db_in (plan.Follow db name) = db
-db_in (plan.Delta db which name) = db
-db_in (plan.Scrub db which) = db
-db_in (plan.Run db peer files) = db
-db_in (plan.Order request) = request.db
-db_in (plan.Relay db after) = db
-
--- the order of a plan; 0 where it has none
-abbrev pub order_in : Plan → ℕ
-order_in (plan.Ask query db files) = 0
-order_in (plan.Summary db) = 0
-order_in (plan.Take db files) = 0
-order_in (plan.Follow db name) = 0
-order_in (plan.Delta db which name) = 0
-order_in (plan.Scrub db which) = 0
-order_in (plan.Run db peer files) = 0
-order_in (plan.Order request) = request.order
-order_in (plan.Relay db after) = 0
-
--- the one line of a plan's refusal
-abbrev pub line_of : Plan → Refusal → List ℕ
-line_of plan (refusal.Unread at) = unread_line (name_in plan at.file) at.why
-line_of plan (refusal.File refused) = fault_line (name_in plan refused.file) refused.fault
-line_of plan (refusal.Summary why) = summary_line (name_in plan 0) why
-line_of plan (refusal.Database why) = database_line (db_in plan) (order_in plan) why
-line_of plan refusal.NoThread = codes "site: no thread" ++ 10 ∷ []
-line_of plan (refusal.Lines faults) = lines_line faults
+-- the one line of a refusal of a plan that names these
+abbrev pub line_of : Names → Refusal → List ℕ
+line_of names (refusal.Unread at) = unread_line (name_at names.files at.file) at.why
+line_of names (refusal.File refused) = fault_line (name_at names.files refused.file) refused.fault
+line_of names (refusal.Summary why) = summary_line (name_at names.files 0) why
+line_of names (refusal.Database why) = database_line names.db names.order why
+line_of names refusal.NoThread = codes "site: no thread" ++ 10 ∷ []
+line_of names (refusal.Lines faults) = lines_line faults

@@ -1,7 +1,56 @@
--- The files that a plan names.
-use Rattle.std.specs.Prelude.{ℕ, List, ◌∷◌, Option, None, Some}
+-- What a plan names.
+use Rattle.std.specs.Prelude.{ℕ, List, [], ◌∷◌, Option, None, Some, unwrap_or}
+use Rattle.std.specs.Borrow.{Bor}
+use Rattle.command_words.specs.declared.request.Alone.TheVariants as alone
+use Rattle.command_words.specs.declared.request.Follow.{Follow}
+use Rattle.command_words.specs.declared.request.Once.{Once}
+use Rattle.command_words.specs.declared.request.Once.TheVariants as once
+use Rattle.command_words.specs.declared.request.Plan.{Plan}
+use Rattle.command_words.specs.declared.request.Plan.TheVariants as plan
+use Rattle.command_words.specs.declared.request.Run.{Run}
+use Rattle.site_commands.specs.declared.names.Names.{Names as Lent}
 
 -- the files of a run, its peer's first, where it has one
 abbrev pub names_of : Option (List ℕ) → List (List ℕ) → List (List ℕ)
 names_of None files = files
 names_of (Some peer) files = peer ∷ files
+
+-- a database, empty where there is none; an order, 0 where there is none; and files
+pub record Names : Type 0 where
+  pub db : List ℕ
+  pub order : ℕ
+  pub files : List (List ℕ)
+
+-- what a plan with one answer names
+abbrev pub of_once : Once → Names
+of_once (once.Ask query db files) = record { db = unwrap_or db []; order = 0; files = files }
+of_once (once.Summary db) = record { db = db; order = 0; files = [] }
+of_once (once.Take db files) = record { db = db; order = 0; files = files }
+of_once (once.Delta db which name) = record { db = db; order = 0; files = name ∷ [] }
+of_once (once.Scrub db which) = record { db = db; order = 0; files = [] }
+of_once (once.Service db source is_named base) = record { db = db; order = 0; files = [] }
+of_once (once.Order request) = record { db = request.db; order = request.order; files = [] }
+of_once (once.Relay db after is_all) = record { db = db; order = 0; files = [] }
+
+-- what a stream names
+abbrev pub of_follow : Follow → Names
+of_follow lines = record { db = lines.db; order = 0; files = lines.file ∷ [] }
+
+-- what a run names, its peer's file first
+abbrev pub of_run : Run → Names
+of_run run = record { db = run.db; order = 0; files = names_of run.peer run.files }
+
+-- what a plan names
+abbrev pub of_plan : Plan → Names
+of_plan (plan.Alone (alone.Once asked)) = of_once asked
+of_plan (plan.Alone (alone.Follow lines)) = of_follow lines
+of_plan (plan.Run run) = of_run run
+
+-- the files, one of them before the others where there is one
+abbrev first_of : Option (Bor (List ℕ)) → List (List ℕ) → List (List ℕ)
+first_of None files = files
+first_of (Some first) files = first.now ∷ files
+
+-- what is lent
+abbrev pub lent : Lent → Names
+lent names = record { db = names.db.now; order = names.order; files = first_of names.first names.files.now }

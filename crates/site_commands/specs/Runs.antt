@@ -4,12 +4,19 @@ use Rattle.std.specs.Io.KnownBytes.{Appends}
 use Rattle.command_words.specs.Plans.{AreFaulty, IsPlan}
 use Rattle.command_words.specs.declared.fault.Faulty.{Faulty}
 use Rattle.command_words.specs.declared.fault.Faulty.TheVariants as faulty
+use Rattle.command_words.specs.declared.request.Alone.{Alone}
+use Rattle.command_words.specs.declared.request.Alone.TheVariants as alone
+use Rattle.command_words.specs.declared.request.Follow.{Follow}
 use Rattle.command_words.specs.declared.request.Plan.{Plan}
+use Rattle.command_words.specs.declared.request.Plan.TheVariants as plan
+use Rattle.command_words.specs.declared.request.Run.{Run}
+use Rattle.command_words.specs.declared.request.Once.{Once}
 use Rattle.database_commands.specs.Pages.{pages_text}
 use Rattle.file_reports.specs.declared.input.Unread.{Unread}
-use Rattle.site_commands.specs.Answers.{AnswersPlan, RefusesPlan}
+use Rattle.site_commands.specs.Answers.{AnswersOnce, AnswersPlan, AnswersRun, RefusesOnce, RefusesPlan, RefusesRun}
 use Rattle.site_commands.specs.Endings.{Ends, EndsStream}
 use Rattle.site_commands.specs.Lines.{arguments_line, line_of}
+use Rattle.site_commands.specs.Names.{Names, of_once, of_plan, of_run}
 use Rattle.site_commands.specs.declared.ending.Ending.{Ending}
 use Rattle.site_commands.specs.declared.ending.Ending.TheVariants as ending
 use Rattle.site_commands.specs.declared.line.Refusal.{Refusal}
@@ -28,27 +35,39 @@ pub record RefusesWords (C : List ℕ → List ℕ → Type 0) (U : List ℕ →
   pub planned : IsPlan words plan
   pub refusal : Refusal
   pub refused : RefusesPlan C U plan refusal
-  pub is_line : text ≡ line_of plan refusal
+  pub is_line : text ≡ line_of (of_plan plan) refusal
 
--- the line of a refusal, or want of memory for it
-abbrev pub IsLine : Plan → Refusal → Ending → Type 0
-IsLine plan refusal (ending.Answer text) = ⊥
-IsLine plan refusal (ending.Pages events) = ⊥
-IsLine plan refusal (ending.Help text) = ⊥
-IsLine plan refusal (ending.Faulty text) = ⊥
-IsLine plan refusal (ending.Refused text) = text ≡ line_of plan refusal
-IsLine plan refusal ending.NoMemory = Unit {0}
+-- the line of a refusal of a plan that names these, or want of memory for it
+abbrev pub IsLine : Names → Refusal → Ending → Type 0
+IsLine names refusal (ending.Answer text) = ⊥
+IsLine names refusal (ending.Pages events) = ⊥
+IsLine names refusal (ending.Help text) = ⊥
+IsLine names refusal (ending.Faulty text) = ⊥
+IsLine names refusal (ending.Refused text) = text ≡ line_of names refusal
+IsLine names refusal ending.NoMemory = Unit {0}
 
--- what a plan comes to
-abbrev pub IsPlanEnding : (List ℕ → List ℕ → Type 0) → (List ℕ → Unread → Type 0)
-    → Plan → Ending → Type 0
-IsPlanEnding C U plan (ending.Answer text) = AnswersPlan C plan text
-IsPlanEnding C U plan (ending.Pages events) = AnswersPlan C plan (pages_text events)
-IsPlanEnding C U plan (ending.Help text) = ⊥
-IsPlanEnding C U plan (ending.Faulty text) = ⊥
-IsPlanEnding C U plan (ending.Refused text) =
-    (refusal : Refusal) × RefusesPlan C U plan refusal × (text ≡ line_of plan refusal)
-IsPlanEnding C U plan ending.NoMemory = Unit {0}
+-- what a plan comes to that names these, where the texts are its answers and the refusals why it has
+-- none
+abbrev pub ComesTo : (List ℕ → Type 0) → (Refusal → Type 0) → Names → Ending → Type 0
+ComesTo Answers Refuses names (ending.Answer text) = Answers text
+ComesTo Answers Refuses names (ending.Pages events) = Answers (pages_text events)
+ComesTo Answers Refuses names (ending.Help text) = ⊥
+ComesTo Answers Refuses names (ending.Faulty text) = ⊥
+ComesTo Answers Refuses names (ending.Refused text) =
+    (refusal : Refusal) × Refuses refusal × (text ≡ line_of names refusal)
+ComesTo Answers Refuses names ending.NoMemory = Unit {0}
+
+-- what a plan with one answer comes to
+abbrev pub IsOnceEnding : (List ℕ → List ℕ → Type 0) → (List ℕ → Unread → Type 0)
+    → Once → Ending → Type 0
+IsOnceEnding C U asked ending =
+    ComesTo (AnswersOnce C asked) (RefusesOnce C U asked) (of_once asked) ending
+
+-- what a run comes to
+abbrev pub IsRunEnding : (List ℕ → List ℕ → Type 0) → (List ℕ → Unread → Type 0)
+    → Run → Ending → Type 0
+IsRunEnding C U run ending = ComesTo (AnswersRun C run.peer run.files)
+    (RefusesRun C U run.peer run.files) (of_run run) ending
 
 -- what the words come to
 abbrev pub IsEnding : (List ℕ → List ℕ → Type 0) → (List ℕ → Unread → Type 0)
@@ -67,11 +86,18 @@ said (faulty.Words text false) = ending.Faulty text
 said faulty.OutOfMemory = ending.NoMemory
 
 -- the plan comes to an ending, and it is written; or it is a stream, which is written as it goes
-abbrev pub RunsPlan : (List ℕ → List ℕ → Type 0) → (List ℕ → Unread → Type 0) → Plan → ℕ
+abbrev pub RunsAlone : (List ℕ → List ℕ → Type 0) → (List ℕ → Unread → Type 0) → Alone → ℕ
     → Option (List ℕ) → Option (List ℕ) → Option (List ℕ) → Option (List ℕ) → Type 0
-RunsPlan C U plan status out out' err err' =
-    ((ending : Ending) × IsPlanEnding C U plan ending × Ends ending status out out' err err')
-    ⊎ EndsStream C U plan status out out' err err'
+RunsAlone C U (alone.Once asked) status out out' err err' =
+    (ending : Ending) × IsOnceEnding C U asked ending × Ends ending status out out' err err'
+RunsAlone C U (alone.Follow lines) status out out' err err' =
+    EndsStream C U lines status out out' err err'
+
+-- the run comes to an ending, and it is written
+abbrev pub RunsBeside : (List ℕ → List ℕ → Type 0) → (List ℕ → Unread → Type 0) → Run → ℕ
+    → Option (List ℕ) → Option (List ℕ) → Option (List ℕ) → Option (List ℕ) → Type 0
+RunsBeside C U run status out out' err err' =
+    (ending : Ending) × IsRunEnding C U run ending × Ends ending status out out' err err'
 
 -- the words come to an ending, and it is written; the streams are standard output, then standard error,
 -- before and after
@@ -84,9 +110,9 @@ pub record EndsWords (C : List ℕ → List ℕ → Type 0) (U : List ℕ → Un
 -- the words are a stream, which is written as it goes
 pub record StreamsWords (C : List ℕ → List ℕ → Type 0) (U : List ℕ → Unread → Type 0)
     (words : List (List ℕ)) (status : ℕ) (out out' err err' : Option (List ℕ)) : Type 0 where
-  pub plan : Plan
-  pub planned : IsPlan words plan
-  pub ends : EndsStream C U plan status out out' err err'
+  pub lines : Follow
+  pub planned : IsPlan words (plan.Alone (alone.Follow lines))
+  pub ends : EndsStream C U lines status out out' err err'
 
 -- the run ended as the words come to
 abbrev pub RunsWords : (List ℕ → List ℕ → Type 0) → (List ℕ → Unread → Type 0)

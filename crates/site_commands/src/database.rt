@@ -1,7 +1,10 @@
 //! The commands over a database.
-ghost use Rattle.std.specs.Prelude.{◌≡◌, IfErr, IfOk};
+ghost use Rattle.std.specs.Prelude.{◌≡◌, ◌≤◌, IfErr, IfOk, IfSome, false, length, true};
+ghost use Rattle.attributes.specs.Character.{is_filled};
+ghost use Rattle.attributes.specs.Sequence.{max_sequence};
 ghost use Rattle.database_commands.specs.Held.{SaysSummary};
-ghost use Rattle.site_commands.specs.Answers.{AnswersDelta, AnswersOrder, AnswersTake, HasSummary, IsAllowedRequest, IsOfDatabase, PrintsBatch, RefusesDelta, RefusesTake, SaysLacking, SaysPages, status_of};
+ghost use Rattle.database_commands.specs.Service.{SaysService};
+ghost use Rattle.site_commands.specs.Answers.{AnswersDelta, AnswersOrder, AnswersTake, HasSummary, IsAllowedRequest, IsOfDatabase, RefusesDelta, RefusesTake, SaysLacking, SaysPages, SaysRows, status_of};
 ghost use Rattle.site_commands.specs.Printed.{printed};
 
 use crate::line::Refusal;
@@ -150,6 +153,26 @@ fn status_of(action: Action) -> Status
     }
 }
 
+/// Makes the service of a database where there is none, and answers which one is there.
+pub fn service<D: Databases>(
+    alloc: Global,
+    databases: &D,
+    db: &str,
+    source: &Text,
+    is_source_named: bool,
+    base: Option<u64>,
+) -> Result<Text, Refusal>
+    requires source { (is_filled source.now ≡ true) × (length source.now ≤ 1024) }
+    requires base { IfSome base (λ n. n ≤ max_sequence) }
+    ensures ok { IfOk result (SaysService is_source_named source.now base) }
+    ensures err { IfErr result IsOfDatabase }
+{
+    match databases.service(alloc, db, source, is_source_named, base) {
+        Ok(text) => Ok(text),
+        Err(why) => Err(Refusal::Database(why)),
+    }
+}
+
 /// Places, ships or cancels an order, and answers its event.
 pub fn order<D: Databases>(alloc: Global, databases: &D, request: &Request) -> Result<Text, Refusal>
     requires { IsAllowedRequest request.now }
@@ -171,14 +194,48 @@ pub fn order<D: Databases>(alloc: Global, databases: &D, request: &Request) -> R
     }
 }
 
-/// The rows of a database's outbox with a greater number, at most 100.
+/// The rows of a database's outbox with a greater number: the next page of at most 100, or all pages,
+/// each as a line.
 pub fn relay<D: Databases>(
     alloc: Global,
     databases: &D,
     db: &str,
     after: u64,
+    is_all: bool,
 ) -> Result<Text, Refusal>
-    ensures ok { IfOk result PrintsBatch }
+    ensures ok { IfOk result (SaysRows is_all) }
+    ensures err { IfErr result IsOfDatabase }
+{
+    if is_all {
+        return all_rows(alloc, databases, db, after);
+    }
+    next_rows(alloc, databases, db, after)
+}
+
+/// All rows of a database's outbox with a greater number.
+fn all_rows<D: Databases>(
+    alloc: Global,
+    databases: &D,
+    db: &str,
+    after: u64,
+) -> Result<Text, Refusal>
+    ensures ok { IfOk result (SaysRows true) }
+    ensures err { IfErr result IsOfDatabase }
+{
+    match databases.relay_all(alloc, db, after) {
+        Ok(text) => Ok(text),
+        Err(why) => Err(Refusal::Database(why)),
+    }
+}
+
+/// The rows of a database's outbox with a greater number, at most 100.
+fn next_rows<D: Databases>(
+    alloc: Global,
+    databases: &D,
+    db: &str,
+    after: u64,
+) -> Result<Text, Refusal>
+    ensures ok { IfOk result (SaysRows false) }
     ensures err { IfErr result IsOfDatabase }
 {
     let Ok(source) = Text::of(alloc, "/orders") else {

@@ -1,9 +1,10 @@
 //! How a run ends, as a value, and the one place that writes it.
 ghost use Rattle.site_commands.specs.Endings.{Ends, EndsPages, SaysRefusal, Writes};
+ghost use Rattle.site_commands.specs.Names.{lent};
 
 use crate::line::{Refusal, line_of};
+use crate::names::Names;
 use attributes::Text;
-use command_words::Plan;
 use database_commands::EventPages;
 use line_intake::put;
 use std::alloc::Global;
@@ -88,11 +89,11 @@ fn print<W: Write>(to: &mut W, text: &str, status: u8) -> u8
     }
 }
 
-/// Writes the line of a plan's refusal, or, where memory is wanted for it, the line that says so.
-pub fn say<E: Write>(alloc: Global, plan: &Plan, refusal: Refusal, err: &mut E) -> u8
-    ensures { SaysRefusal plan.now refusal result (E.contents err.old) (E.contents err.new) }
+/// Writes the line of a refusal of a plan that names these, or, where memory is wanted for it, the line that says so.
+pub fn say<E: Write>(alloc: Global, names: Names<'_>, refusal: Refusal, err: &mut E) -> u8
+    ensures { SaysRefusal (lent names.entry) refusal result (E.contents err.old) (E.contents err.new) }
 {
-    match line_of(alloc, plan, refusal) {
+    match line_of(alloc, names, refusal) {
         Ok(line) => print(err, line.as_str(), REFUSED),
         Err(_) => print(err, NO_MEMORY, REFUSED),
     }

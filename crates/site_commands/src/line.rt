@@ -1,12 +1,12 @@
 //! The lines of refusals on standard error.
-ghost use Rattle.std.specs.Prelude.{◌≡◌, ◌<◌, ◌++◌, [], ◌∷◌, IfOk, OnOk, string_bytes, unwrap_or};
+ghost use Rattle.std.specs.Prelude.{◌≡◌, ◌<◌, ◌++◌, [], ◌∷◌, IfOk, OnOk, string_bytes};
 ghost use Rattle.std.specs.Char.{digit_char};
 ghost use Rattle.line_intake.specs.Words.{words_of};
-ghost use Rattle.site_commands.specs.Names.{names_of};
-ghost use Rattle.site_commands.specs.Lines.{database_line, db_in, fault_line, file_line, line_of, lines_line, name_at, name_char, name_in, order_in, order_line, other_char, printed_name, summary_line, unread_line};
+ghost use Rattle.site_commands.specs.Names.{lent};
+ghost use Rattle.site_commands.specs.Lines.{database_line, fault_line, file_line, line_of, lines_line, name_char, order_line, other_char, printed_name, summary_line, unread_line};
 
+use crate::names::Names;
 use attributes::Text;
-use command_words::Plan;
 use coverage::SummaryFault;
 use database_commands::CommandFault;
 use event_json::ReadFault;
@@ -31,92 +31,17 @@ pub enum Refusal {
     Lines(u64),
 }
 
-/// The line of a plan's refusal.
-pub fn line_of(alloc: Global, plan: &Plan, refusal: Refusal) -> Result<Text, AllocError>
-    ensures { IfOk result (λ text. text ≡ line_of plan.now refusal) }
+/// The line of a refusal of a plan that names these.
+pub fn line_of(alloc: Global, names: Names<'_>, refusal: Refusal) -> Result<Text, AllocError>
+    ensures { IfOk result (λ text. text ≡ line_of (lent names.entry) refusal) }
 {
     match refusal {
-        Refusal::Unread(at) => unread_line(alloc, name_in(plan, at.file), at.why),
-        Refusal::File(refused) => fault_line(alloc, name_in(plan, refused.file), refused.fault),
-        Refusal::Summary(why) => summary_line(alloc, name_in(plan, 0), why),
-        Refusal::Database(why) => database_line(alloc, db_in(plan), order_in(plan), why),
+        Refusal::Unread(at) => unread_line(alloc, names.file(at.file), at.why),
+        Refusal::File(refused) => fault_line(alloc, names.file(refused.file), refused.fault),
+        Refusal::Summary(why) => summary_line(alloc, names.file(0), why),
+        Refusal::Database(why) => database_line(alloc, names.db, names.order, why),
         Refusal::NoThread => Text::of(alloc, "site: no thread\n"),
         Refusal::Lines(faults) => lines_line(alloc, faults),
-    }
-}
-
-/// The file at a place of a plan, from 0; empty where there is none.
-fn name_in(plan: &Plan, file: u64) -> &str
-    ensures { result.now ≡ name_in plan.now file }
-{
-    match plan {
-        Plan::Ask { files, .. } => name_at(files.as_slice(), file),
-        Plan::Summary { .. } => "",
-        Plan::Take { files, .. } => name_at(files.as_slice(), file),
-        Plan::Follow { file, .. } => file.as_str(),
-        Plan::Delta { summary, .. } => summary.as_str(),
-        Plan::Scrub { .. } => "",
-        Plan::Run { peer, files, .. } => name_beside(peer, files.as_slice(), file),
-        Plan::Order(_) => "",
-        Plan::Relay { .. } => "",
-    }
-}
-
-/// The database of a plan; empty where it has none.
-fn db_in(plan: &Plan) -> &str
-    ensures { result.now ≡ db_in plan.now }
-{
-    match plan {
-        Plan::Ask { db, .. } => given_name(db),
-        Plan::Summary { db } => db.as_str(),
-        Plan::Take { db, .. } => db.as_str(),
-        Plan::Follow { db, .. } => db.as_str(),
-        Plan::Delta { db, .. } => db.as_str(),
-        Plan::Scrub { db, .. } => db.as_str(),
-        Plan::Run { db, .. } => db.as_str(),
-        Plan::Order(request) => request.db.as_str(),
-        Plan::Relay { db, .. } => db.as_str(),
-    }
-}
-
-/// The name that is given; empty where none is.
-fn given_name(name: &Option<Text>) -> &str
-    ensures { result.now ≡ unwrap_or name.now [] }
-{
-    match name {
-        Some(name) => name.as_str(),
-        None => "",
-    }
-}
-
-/// The order of a plan; 0 where it has none.
-fn order_in(plan: &Plan) -> u64
-    ensures { result ≡ order_in plan.now }
-{
-    match plan {
-        Plan::Order(request) => request.order,
-        _ => 0,
-    }
-}
-
-/// The name at a place of a run, from 0: its peer's is the first, where it has one.
-fn name_beside<'a>(peer: &'a Option<Text>, files: &'a [Text], file: u64) -> &'a str
-    ensures { result.now ≡ name_at (names_of peer.now files.now) file }
-{
-    match peer {
-        Some(name) if file == 0 => name.as_str(),
-        Some(_) => name_at(files, file - 1),
-        None => name_at(files, file),
-    }
-}
-
-/// The name at a place, from 0; empty where there is none.
-fn name_at(names: &[Text], file: u64) -> &str
-    ensures { result.now ≡ name_at names.now file }
-{
-    match names.get(file as usize) {
-        Some(name) => name.as_str(),
-        None => "",
     }
 }
 

@@ -1,23 +1,26 @@
 //! The whole program, over any runtime and writers.
-ghost use Rattle.std.specs.Prelude.{◌≡◌, ◌≤◌, false, true, Err, IfErr, IfOk, MatchResult, Ok};
+ghost use Rattle.std.specs.Prelude.{◌≡◌, ◌≤◌, Err, IfErr, IfOk, MatchResult, Ok, length};
+ghost use Rattle.std.specs.Option.{is_some};
 ghost use Rattle.std.specs.Process.{exit_status};
-ghost use Rattle.command_words.specs.Plans.{AreFaulty};
-ghost use Rattle.site_commands.specs.Answers.{AnswersPlan, IsAllowed, RefusesPlan, is_run, is_stream};
+ghost use Rattle.command_words.specs.Plans.{AreFaulty, AreFew};
+ghost use Rattle.site_commands.specs.Answers.{AnswersOnce, IsAllowed, IsAllowedAlone, RefusesOnce};
+ghost use Rattle.site_commands.specs.Names.{lent};
 ghost use Rattle.site_commands.specs.Printed.{printed};
 ghost use Rattle.site_commands.specs.declared.printed.Printed.TheVariants as Printed;
-ghost use Rattle.site_commands.specs.Runs.{EndsUnheard, IsLine, IsPlanEnding, IsUnheard, PrintsAnswer, RunsPlan, RunsWords, said};
+ghost use Rattle.site_commands.specs.Runs.{EndsUnheard, IsLine, IsOnceEnding, IsRunEnding, IsUnheard, PrintsAnswer, RunsAlone, RunsBeside, RunsWords, said};
 
-use crate::database::{delta, order, relay, scrub, summary, take};
+use crate::database::{delta, order, relay, scrub, service, summary, take};
 use crate::ending::{Ending, finish};
 use crate::files::SystemFiles;
 use crate::line::{Refusal, line_of};
+use crate::names::Names;
 use crate::printed::Printed;
 use crate::progress::Progress;
 use crate::query::ask;
 use crate::stream::follow;
 use crate::workers::run;
 use attributes::Text;
-use command_words::{Faulty, Plan, plan};
+use command_words::{Alone, Faulty, Once, Plan, Run, plan};
 use database_commands::Databases;
 use file_reports::Shelf;
 use run_command::Runs;
@@ -74,7 +77,8 @@ pub fn perform<
         (O.contents out.old) (O.contents out.new) (E.contents err.old) (E.contents err.new) }
 {
     match plan(rt.alloc(), words) {
-        Ok(plan) => carry_out(rt, &plan, out, err, progress),
+        Ok(Plan::Alone(plan)) => perform_alone(rt, &plan, out, err, progress),
+        Ok(Plan::Run(plan)) => perform_run(rt, &plan, out, err, progress),
         Err(faulty) => finish(said(faulty), out, err),
     }
 }
@@ -95,139 +99,123 @@ fn said(faulty: Faulty) -> Ending
     }
 }
 
-/// Carries a plan out, and answers the exit status. A stream is written as it goes; of every other
-/// plan it is known what it comes to before anything is written.
-fn carry_out<
-    R: AllocGlobal + Files + Databases + Runs + Threads + Wait + Sync,
+/// Carries out a plan that starts no thread, and answers the exit status, as [`perform`] does; it
+/// doesn't wait. A stream is written as it goes; of every other plan it is known what it comes to
+/// before anything is written.
+pub fn perform_alone<R: AllocGlobal + Files + Databases, O: Write, E: Write, P: Progress>(
+    rt: &R,
+    plan: &Alone,
+    out: &mut O,
+    err: &mut E,
+    progress: &P,
+) -> u8
+    requires { IsAllowedAlone plan.now }
+    ensures { RunsAlone (λ _ _. Unit {0}) (λ _ _. Unit {0}) plan.now result
+        (O.contents out.old) (O.contents out.new) (E.contents err.old) (E.contents err.new) }
+{
+    match plan {
+        Alone::Once(plan) => {
+            let left = Cell::new(long_files(plan));
+            let shelf = SystemFiles { rt, progress, left };
+            let ending = ending_of(rt.alloc(), &shelf, rt, plan, progress);
+            progress.over();
+            finish(ending, out, err)
+        }
+        Alone::Follow(plan) => {
+            let left = Cell::new(0);
+            let shelf = SystemFiles { rt, progress, left };
+            follow(rt.alloc(), &shelf, rt, plan, out, err)
+        }
+    }
+}
+
+/// Carries out a run, and answers the exit status. It waits.
+fn perform_run<
+    R: AllocGlobal + Files + Runs + Threads + Wait + Sync,
     O: Write,
     E: Write,
     P: Progress,
->(rt: &R, plan: &Plan, out: &mut O, err: &mut E, progress: &P) -> u8
-    requires { IsAllowed plan.now }
-    ensures { RunsPlan (λ _ _. Unit {0}) (λ _ _. Unit {0}) plan.now result
+>(rt: &R, plan: &Run, out: &mut O, err: &mut E, progress: &P) -> u8
+    requires { AreFew (is_some plan.now.peer) (length plan.now.files) }
+    ensures { RunsBeside (λ _ _. Unit {0}) (λ _ _. Unit {0}) plan.now result
         (O.contents out.old) (O.contents out.new) (E.contents err.old) (E.contents err.new) }
 {
-    let left = Cell::new(long_files(plan));
+    let left = Cell::new(plan.files.len().saturating_add(plan.peer.is_some() as u64));
     let shelf = SystemFiles { rt, progress, left };
-    if is_stream(plan) {
-        return follow(rt.alloc(), &shelf, rt, plan, out, err);
-    }
-    let ending = outcome(rt, &shelf, plan, progress);
+    let ending = ending_of_run(rt, rt.alloc(), &shelf, rt, plan, progress);
     progress.over();
     finish(ending, out, err)
 }
 
-/// What a plan that is no stream comes to, before anything is written.
-fn outcome<R: AllocGlobal + Databases + Runs + Threads + Wait + Sync, S: Shelf, P: Progress>(
-    rt: &R,
-    shelf: &S,
-    plan: &Plan,
-    progress: &P,
-) -> Ending
-    requires whole { is_stream plan.now ≡ false }
-    requires allowed { IsAllowed plan.now }
-    ensures { IsPlanEnding (S.is_content shelf.now) (S.is_unread shelf.now) plan.now result }
-{
-    if is_run(plan) {
-        return ending_of_run(rt, rt.alloc(), shelf, rt, plan, progress);
-    }
-    ending_of(rt.alloc(), shelf, rt, plan, progress)
-}
-
-/// Whether the plan is a stream, which is answered line by line.
-fn is_stream(plan: &Plan) -> bool
-    ensures { result ≡ is_stream plan.now }
-{
-    matches!(plan, Plan::Follow { .. })
-}
-
 /// How many files are read by a plan that may take long, so that it is worth while to tell how many
 /// are left.
-fn long_files(plan: &Plan) -> u64 {
+fn long_files(plan: &Once) -> u64 {
     match plan {
-        Plan::Take { db: _, files } => files.len(),
-        Plan::Run { db: _, peer, files } => files.len().saturating_add(peer.is_some() as u64),
+        Once::Take { db: _, files } => files.len(),
         _ => 0,
     }
 }
 
-/// Whether the plan is a run.
-fn is_run(plan: &Plan) -> bool
-    ensures { result ≡ is_run plan.now }
-{
-    matches!(plan, Plan::Run { .. })
-}
-
-/// What a plan that is neither a run nor a stream comes to over a shelf of files.
+/// What a plan with one answer comes to over a shelf of files, before anything is written.
 fn ending_of<S: Shelf, D: Databases, P: Progress>(
     alloc: Global,
     shelf: &S,
     databases: &D,
-    plan: &Plan,
+    plan: &Once,
     progress: &P,
 ) -> Ending
-    requires alone { is_run plan.now ≡ false }
-    requires whole { is_stream plan.now ≡ false }
-    requires allowed { IsAllowed plan.now }
-    ensures { IsPlanEnding (S.is_content shelf.now) (S.is_unread shelf.now) plan.now result }
+    requires { IsAllowed plan.now }
+    ensures { IsOnceEnding (S.is_content shelf.now) (S.is_unread shelf.now) plan.now result }
 {
     match carried_out(alloc, shelf, databases, plan, progress) {
         Ok(Printed::Line(text)) => Ending::Answer(text),
         Ok(Printed::Pages(events)) => Ending::Pages(events),
-        Err(refusal) => refused(alloc, plan, refusal),
+        Err(refusal) => refused(alloc, Names::of_once(plan), refusal),
     }
 }
 
-/// What a run comes to over a shelf of files.
+/// What a run comes to over a shelf of files, before anything is written.
 fn ending_of_run<R: Threads + Wait + Sync, S: Shelf, D: Runs, P: Progress>(
     rt: &R,
     alloc: Global,
     shelf: &S,
     databases: &D,
-    plan: &Plan,
+    plan: &Run,
     progress: &P,
 ) -> Ending
-    requires run { is_run plan.now ≡ true }
-    requires allowed { IsAllowed plan.now }
-    ensures { IsPlanEnding (S.is_content shelf.now) (S.is_unread shelf.now) plan.now result }
+    requires { AreFew (is_some plan.now.peer) (length plan.now.files) }
+    ensures { IsRunEnding (S.is_content shelf.now) (S.is_unread shelf.now) plan.now result }
 {
-    match plan {
-        Plan::Run { db, peer, files } => {
-            match run(
-                rt,
-                alloc,
-                shelf,
-                databases,
-                db.as_str(),
-                peer,
-                files.as_slice(),
-                progress,
-            ) {
-                Ok(text) => Ending::Answer(text),
-                Err(refusal) => refused(alloc, plan, refusal),
-            }
-        }
-        _ => unreachable!(),
+    match run(
+        rt,
+        alloc,
+        shelf,
+        databases,
+        plan.db.as_str(),
+        &plan.peer,
+        plan.files.as_slice(),
+        progress,
+    ) {
+        Ok(text) => Ending::Answer(text),
+        Err(refusal) => refused(alloc, Names::of_run(plan), refusal),
     }
 }
 
-/// The answer to a plan that is neither a run nor a stream.
+/// The answer to a plan that has one.
 fn carried_out<S: Shelf, D: Databases, P: Progress>(
     alloc: Global,
     shelf: &S,
     databases: &D,
-    plan: &Plan,
+    plan: &Once,
     progress: &P,
 ) -> Result<Printed, Refusal>
-    requires alone { is_run plan.now ≡ false }
-    requires whole { is_stream plan.now ≡ false }
-    requires allowed { IsAllowed plan.now }
-    ensures ok { IfOk result (λ p. AnswersPlan (S.is_content shelf.now) plan.now (printed p)) }
+    requires { IsAllowed plan.now }
+    ensures ok { IfOk result (λ p. AnswersOnce (S.is_content shelf.now) plan.now (printed p)) }
     ensures err { IfErr result
-        (RefusesPlan (S.is_content shelf.now) (S.is_unread shelf.now) plan.now) }
+        (RefusesOnce (S.is_content shelf.now) (S.is_unread shelf.now) plan.now) }
 {
     match plan {
-        Plan::Ask { query, db, files } => lined(ask(
+        Once::Ask { query, db, files } => lined(ask(
             alloc,
             shelf,
             databases,
@@ -235,7 +223,7 @@ fn carried_out<S: Shelf, D: Databases, P: Progress>(
             db,
             files.as_slice(),
         )),
-        Plan::Take { db, files } => lined(take(
+        Once::Take { db, files } => lined(take(
             alloc,
             shelf,
             databases,
@@ -243,8 +231,8 @@ fn carried_out<S: Shelf, D: Databases, P: Progress>(
             files.as_slice(),
             progress,
         )),
-        Plan::Summary { db } => lined(summary(alloc, databases, db.as_str())),
-        Plan::Delta { db, pages, summary } => delta(
+        Once::Summary { db } => lined(summary(alloc, databases, db.as_str())),
+        Once::Delta { db, pages, summary } => delta(
             alloc,
             shelf,
             databases,
@@ -252,11 +240,24 @@ fn carried_out<S: Shelf, D: Databases, P: Progress>(
             *pages,
             summary.as_str(),
         ),
-        Plan::Scrub { db, pages } => scrub(alloc, databases, db.as_str(), *pages),
-        Plan::Run { .. } => unreachable!(),
-        Plan::Follow { .. } => unreachable!(),
-        Plan::Order(request) => lined(order(alloc, databases, request)),
-        Plan::Relay { db, after } => lined(relay(alloc, databases, db.as_str(), *after)),
+        Once::Scrub { db, pages } => scrub(alloc, databases, db.as_str(), *pages),
+        Once::Service {
+            db,
+            source,
+            is_source_named,
+            base,
+        } => lined(service(
+            alloc,
+            databases,
+            db.as_str(),
+            source,
+            *is_source_named,
+            *base,
+        )),
+        Once::Order(request) => lined(order(alloc, databases, request)),
+        Once::Relay { db, after, is_all } => {
+            lined(relay(alloc, databases, db.as_str(), *after, *is_all))
+        }
     }
 }
 
@@ -271,10 +272,10 @@ fn lined(answer: Result<Text, Refusal>) -> Result<Printed, Refusal>
 }
 
 /// The ending of a refusal: its line, where memory is left for it.
-fn refused(alloc: Global, plan: &Plan, refusal: Refusal) -> Ending
-    ensures { IsLine plan.now refusal result }
+fn refused(alloc: Global, names: Names<'_>, refusal: Refusal) -> Ending
+    ensures { IsLine (lent names.entry) refusal result }
 {
-    match line_of(alloc, plan, refusal) {
+    match line_of(alloc, names, refusal) {
         Ok(line) => Ending::Refused(line),
         Err(_) => Ending::NoMemory,
     }

@@ -1,13 +1,13 @@
 //! The command that keeps lines as they come, and acknowledges each.
-ghost use Rattle.std.specs.Prelude.{◌≡◌, true, MatchResult};
-ghost use Rattle.site_commands.specs.Answers.{is_stream};
+ghost use Rattle.std.specs.Prelude.{◌≡◌, MatchResult};
 ghost use Rattle.site_commands.specs.Endings.{EndsStream};
 ghost use Rattle.site_commands.specs.Streams.{EndsSo, end_at, end_of, unread_of};
 
 use crate::ending::{DONE, REFUSED, say};
 use crate::files::Streams;
 use crate::line::Refusal;
-use command_words::Plan;
+use crate::names::Names;
+use command_words::Follow;
 use database_commands::{Databases, StreamFault};
 use file_reports::{Unread, UnreadAt};
 use line_intake::LineFault;
@@ -31,23 +31,24 @@ pub fn follow<S: Streams, D: Databases, O: Write, E: Write>(
     alloc: Global,
     shelf: &S,
     databases: &D,
-    plan: &Plan,
+    plan: &Follow,
     out: &mut O,
     err: &mut E,
 ) -> u8
-    requires { is_stream plan.now ≡ true }
     ensures { EndsStream (S.is_content shelf.now) (S.is_unread shelf.now) plan.now result
         (O.contents out.old) (O.contents out.new) (E.contents err.old) (E.contents err.new) }
 {
-    match plan {
-        Plan::Follow { db, file } => {
-            match kept(alloc, shelf, databases, db.as_str(), file.as_str(), out) {
-                StreamEnd::Done => DONE,
-                StreamEnd::Refused(refusal) => say(alloc, plan, refusal, err),
-                StreamEnd::Unwritten => REFUSED,
-            }
-        }
-        _ => unreachable!(),
+    match kept(
+        alloc,
+        shelf,
+        databases,
+        plan.db.as_str(),
+        plan.file.as_str(),
+        out,
+    ) {
+        StreamEnd::Done => DONE,
+        StreamEnd::Refused(refusal) => say(alloc, Names::of_follow(plan), refusal, err),
+        StreamEnd::Unwritten => REFUSED,
     }
 }
 

@@ -1,0 +1,132 @@
+//! What a plan names, for the lines that say why it has no answer.
+ghost use Rattle.std.specs.Prelude.{◌≡◌, [], unwrap_or};
+ghost use Rattle.site_commands.specs.Lines.{name_at};
+ghost use Rattle.site_commands.specs.Names.{lent, of_follow, of_once, of_run};
+
+use attributes::Text;
+use command_words::{Follow, Once, Run};
+
+/// What a plan names.
+#[derive(Clone, Copy)]
+pub struct Names<'a> {
+    /// The database; empty where there is none.
+    pub db: &'a str,
+    /// The number of the order; 0 where there is none.
+    pub order: u64,
+    /// The file before the others, where there is one.
+    first: Option<&'a str>,
+    files: &'a [Text],
+}
+
+impl<'a> Names<'a> {
+    /// A database alone.
+    fn of_db(db: &'a str) -> Names<'a>
+        ensures { lent result ≡ record { db = db.now; order = 0; files = [] } }
+    {
+        Names {
+            db,
+            order: 0,
+            first: None,
+            files: &[],
+        }
+    }
+
+    /// What a plan with one answer names.
+    pub fn of_once(plan: &'a Once) -> Names<'a>
+        ensures { lent result ≡ of_once plan.now }
+    {
+        match plan {
+            Once::Ask { db, files, .. } => Names {
+                db: given_name(db),
+                order: 0,
+                first: None,
+                files: files.as_slice(),
+            },
+            Once::Summary { db } => Names::of_db(db.as_str()),
+            Once::Take { db, files } => Names {
+                db: db.as_str(),
+                order: 0,
+                first: None,
+                files: files.as_slice(),
+            },
+            Once::Delta { db, summary, .. } => Names {
+                db: db.as_str(),
+                order: 0,
+                first: Some(summary.as_str()),
+                files: &[],
+            },
+            Once::Scrub { db, .. } => Names::of_db(db.as_str()),
+            Once::Service { db, .. } => Names::of_db(db.as_str()),
+            Once::Order(request) => Names {
+                db: request.db.as_str(),
+                order: request.order,
+                first: None,
+                files: &[],
+            },
+            Once::Relay { db, .. } => Names::of_db(db.as_str()),
+        }
+    }
+
+    /// What a stream names.
+    pub fn of_follow(plan: &'a Follow) -> Names<'a>
+        ensures { lent result ≡ of_follow plan.now }
+    {
+        Names {
+            db: plan.db.as_str(),
+            order: 0,
+            first: Some(plan.file.as_str()),
+            files: &[],
+        }
+    }
+
+    /// What a run names, its peer's file first.
+    pub fn of_run(plan: &'a Run) -> Names<'a>
+        ensures { lent result ≡ of_run plan.now }
+    {
+        match &plan.peer {
+            Some(peer) => Names {
+                db: plan.db.as_str(),
+                order: 0,
+                first: Some(peer.as_str()),
+                files: plan.files.as_slice(),
+            },
+            None => Names {
+                db: plan.db.as_str(),
+                order: 0,
+                first: None,
+                files: plan.files.as_slice(),
+            },
+        }
+    }
+
+    /// The file at a place, from 0; empty where there is none.
+    pub fn file(self, place: u64) -> &'a str
+        ensures { result.now ≡ name_at (lent self.entry).files place }
+    {
+        match self.first {
+            Some(first) if place == 0 => first,
+            Some(_) => name_at(self.files, place - 1),
+            None => name_at(self.files, place),
+        }
+    }
+}
+
+/// The name that is given; empty where none is.
+fn given_name(name: &Option<Text>) -> &str
+    ensures { result.now ≡ unwrap_or name.now [] }
+{
+    match name {
+        Some(name) => name.as_str(),
+        None => "",
+    }
+}
+
+/// The name at a place, from 0; empty where there is none.
+fn name_at(names: &[Text], place: u64) -> &str
+    ensures { result.now ≡ name_at names.now place }
+{
+    match names.get(place as usize) {
+        Some(name) => name.as_str(),
+        None => "",
+    }
+}
