@@ -8,9 +8,9 @@ use std::alloc::{AllocError, Global};
 use views::laws::{answers_are_alike, latest_are_greatest};
 use views::{Answer, Query, answer, print};
 
-const A1: Row<'static> = ("a1", "00000000000000000001", "t.a", "x", "");
+pub(crate) const A1: Row<'static> = ("a1", "00000000000000000001", "t.a", "x", "");
 
-const A2: Row<'static> = ("a2", "00000000000000000002", "t.b", "x", "");
+pub(crate) const A2: Row<'static> = ("a2", "00000000000000000002", "t.b", "x", "");
 
 const A3: Row<'static> = ("a3", "00000000000000000003", "t.a", "y", "");
 

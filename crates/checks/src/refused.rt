@@ -2,13 +2,13 @@
 //! wanted, and then what it was given is as it was and a second call answers. tools/try_refusals.py
 //! runs these tests with each allocation refused; with ample memory they compare the whole answers.
 
-use crate::answers::{ASKED, lines, take};
+use crate::answers::{A1, A2, ASKED, lines, take};
 use crate::event::Row;
 use crate::summaries::{fault_of, fill, has, insert};
 use attributes::Text;
 use coverage::{Interval, Intervals, Summary, SummaryFault};
 use event_json::{ReadFault, read_events, write_event};
-use inbox::Inbox;
+use inbox::{Counts, Inbox};
 use std::alloc::{AllocError, Global};
 use views::Query;
 
@@ -87,6 +87,48 @@ fn a_question_is_answered_whole_or_wants_memory(rt: HostRuntime) {
     for (rows, query, wanted) in &ASKED {
         assert!(rt; are_answered(rt.alloc(), rows, *query, wanted), "{wanted}");
     }
+}
+
+/// Whether an inbox merges another, with these counts; none where memory is refused at an event that
+/// it hasn't, behind one that it has.
+fn is_merged(inbox: &mut Inbox, other: &Inbox, wanted: Counts) -> Option<bool> {
+    match inbox.merge(other) {
+        Ok(counts) => Some(counts == wanted),
+        Err(short) => {
+            if short.taken == 1 && short.fresh == 0 && inbox.arrived() == 1 {
+                None
+            } else {
+                Some(false)
+            }
+        }
+    }
+}
+
+/// Whether an inbox of one event merges one of two, at the second time where memory is refused.
+fn merges(inbox: &mut Inbox, other: &Inbox) -> bool {
+    let wanted = Counts {
+        fresh: 1,
+        repeated: 1,
+    };
+    let is_right = match is_merged(inbox, other, wanted) {
+        Some(is_right) => is_right,
+        None => is_merged(inbox, other, wanted) == Some(true),
+    };
+    is_right && inbox.arrived() == 2 && other.arrived() == 2
+}
+
+/// The same of two new inboxes.
+fn merges_from_nothing(alloc: Global) -> bool {
+    let mut inbox = Inbox::empty(alloc);
+    let mut other = Inbox::empty(alloc);
+    take_all_in_the_end(alloc, &mut inbox, &[A1])
+        && take_all_in_the_end(alloc, &mut other, &[A2, A1])
+        && merges(&mut inbox, &other)
+}
+
+#[test]
+fn an_inbox_is_merged_or_its_front(rt: HostRuntime) {
+    assert!(rt; merges_from_nothing(rt.alloc()));
 }
 
 /// Texts of summaries, with the fault for which each is refused; none where it is read and written

@@ -1,7 +1,7 @@
 //! What no contract says of the words of a command line: that a plan of them is made.
 
 use attributes::Text;
-use command_words::{Command, Faulty, Pages, Plan, plan};
+use command_words::{Alone, Command, Faulty, Once, Pages, Plan, plan};
 use file_reports::Query;
 use std::alloc::Global;
 
@@ -43,7 +43,7 @@ fn is_given(name: &Option<Text>, want: &str) -> bool {
 /// Whether the plan asks the question about that database, if one is named, and these files.
 fn asks(plan: &Plan, want: Query, name: &str, names: &[&str]) -> bool {
     match plan {
-        Plan::Ask { query, db, files } => {
+        Plan::Alone(Alone::Once(Once::Ask { query, db, files })) => {
             *query == want && is_given(db, name) && are(files.as_slice(), names)
         }
         _ => false,
@@ -67,7 +67,9 @@ fn scrubs(alloc: Global, words: &[&str], want: Pages) -> bool {
         return false;
     };
     match plan(alloc, words.as_slice()) {
-        Ok(Plan::Scrub { db, pages }) => db.as_str() == "d" && pages == want,
+        Ok(Plan::Alone(Alone::Once(Once::Scrub { db, pages }))) => {
+            db.as_str() == "d" && pages == want
+        }
         _ => false,
     }
 }
@@ -78,7 +80,37 @@ fn follows(alloc: Global, words: &[&str], want: &str) -> bool {
         return false;
     };
     match plan(alloc, words.as_slice()) {
-        Ok(Plan::Follow { db, file }) => db.as_str() == "d" && file.as_str() == want,
+        Ok(Plan::Alone(Alone::Follow(lines))) => {
+            lines.db.as_str() == "d" && lines.file.as_str() == want
+        }
+        _ => false,
+    }
+}
+
+/// Whether the words are a plan that makes a service with the source `/orders` and this base, or tells
+/// of one; and whether they name that source.
+fn serves(alloc: Global, words: &[&str], is_named: bool, want: Option<u64>) -> bool {
+    let Some(words) = words_of(alloc, words) else {
+        return false;
+    };
+    match plan(alloc, words.as_slice()) {
+        Ok(
+            Plan::Alone(
+                Alone::Once(
+                    Once::Service {
+                        db,
+                        source,
+                        is_source_named,
+                        base,
+                    },
+                ),
+            ),
+        ) => {
+            db.as_str() == "d"
+                && source.as_str() == "/orders"
+                && is_source_named == is_named
+                && base == want
+        }
         _ => false,
     }
 }
@@ -134,4 +166,21 @@ fn lines_come_from_standard_input_where_no_file_is_named(rt: HostRuntime) {
     assert!(rt; follows(alloc, &["follow", "f", "--db", "d"], "f"));
     assert!(rt; is_faulty(alloc, &["follow", "--db", "d", "f", "g"]));
     assert!(rt; is_faulty(alloc, &["follow", "f"]));
+}
+
+#[test]
+fn a_service_has_a_source_and_a_base(rt: HostRuntime) {
+    let alloc = rt.alloc();
+    assert!(rt; serves(alloc, &["service", "--db", "d"], false, None));
+    let named = [
+        "service", "--source", "/orders", "--db", "d", "--base", "100",
+    ];
+    assert!(rt; serves(alloc, &named, true, Some(100)));
+    assert!(rt;
+        is_faulty(
+            alloc,
+            &["service", "--db", "d", "--base", "9223372036854775808"]
+        )
+    );
+    assert!(rt; is_faulty(alloc, &["service", "--db", "d", "--source", ""]));
 }

@@ -45,7 +45,7 @@ pub fn kept_at(world: &World, i: u64) -> Option<u64> {
 }
 
 /// Adds that two sites take events, and tell others; answers whether it did.
-fn add_three_sites(alloc: Global, steps: &mut Steps) -> bool {
+pub fn add_three_sites(alloc: Global, steps: &mut Steps) -> bool {
     then_deliver(alloc, steps, 0, &[A1, A2])
         && then_deliver(alloc, steps, 1, &[A2, A3])
         && then(steps, Step::Gossip { from: 0, to: 2 })
@@ -68,7 +68,7 @@ fn three_sites_exchange(rt: HostRuntime) {
 }
 
 /// Adds that a site takes an event, flushes, takes another and restarts; answers whether it did.
-fn add_restart(alloc: Global, steps: &mut Steps) -> bool {
+pub fn add_restart(alloc: Global, steps: &mut Steps) -> bool {
     then_deliver(alloc, steps, 0, &[A1])
         && then(steps, Step::Flush { site: 0 })
         && then_deliver(alloc, steps, 0, &[A2])

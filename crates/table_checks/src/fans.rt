@@ -103,6 +103,43 @@ impl Gate for ShutsAtSecond {
     }
 }
 
+/// Holds worker 0 before its first call until the others have made so many calls in all, and shuts
+/// where they don't.
+#[derive(Drop)]
+struct HoldsFirst {
+    made: AtomicU64,
+    wanted: u64,
+}
+
+impl Gate for HoldsFirst {
+    ghost use Rattle.std.specs.Prelude.{⊤};
+
+    ghost lets = { λ _ _ _. ⊤ };
+
+    ghost shuts = { λ _ _ _. ⊤ };
+
+    ghost heard = { λ _ _ _. ⊤ };
+
+    fn before(&self, worker: u64, call: u64) -> Result<(), GateShut> {
+        if worker != 0 || call != 1 {
+            return Ok(());
+        }
+        for _ in 0..100_000_000u64 {
+            if self.made.load(Ordering::SeqCst) >= self.wanted {
+                return Ok(());
+            }
+            thread::yield_now();
+        }
+        Err(GateShut)
+    }
+
+    fn after(&self, worker: u64, _call: u64) {
+        if worker != 0 {
+            self.made.fetch_add(1, Ordering::SeqCst);
+        }
+    }
+}
+
 /// Knows of two workers the calls that were let through and those that were made, and whether any
 /// was of another worker or out of order.
 #[derive(Drop)]
@@ -239,6 +276,19 @@ fn two_routes_are_sent_to_at_the_same_time(rt: HostRuntime) {
     };
     let want = [(End::Done, 150, 150), (End::Done, 150, 150)];
     assert!(rt; ends_as(&rt, &mut service, &gate, &[(0, 0), (0, 0)], &want));
+}
+
+#[test]
+fn no_route_waits_for_another(rt: HostRuntime) {
+    // The first route gets nothing before the others have every row, which are more than a window.
+    let mut service = placed(&rt, 1_150);
+    let gate = HoldsFirst {
+        made: AtomicU64::new(0),
+        wanted: 36,
+    };
+    let all = (End::Done, 1_150, 1_150);
+    let from = [(0, 0), (0, 0), (0, 0), (0, 0)];
+    assert!(rt; ends_as(&rt, &mut service, &gate, &from, &[all, all, all, all]));
 }
 
 #[test]

@@ -1,18 +1,17 @@
-//! What files hold that are closed and opened again. What is generic over the store is proved from
-//! its bounds; each call of it at the store of files is dear, so there are few.
+//! What files hold that are closed and opened again.
 
+use crate::disks::{Act, Tried, empty, ran};
 use crate::fixture::{E1, E2, E3};
 use crate::keepers::{before_a_step, turn_by_turn};
-use crate::orders::{placed, rows};
+use crate::orders::{has_rows, placed};
 use crate::tables::{filled, is_loaded};
-use sqlite::{Alter, Connection, FileStore, Files, Options};
-use sqlite_disk::Memory;
+use sqlite::{Alter, Connection};
 use std::process::Abort;
 use std::sync::Wait;
 
 /// What is done to a database.
 #[derive(Clone, Copy)]
-enum Work {
+pub(crate) enum Work {
     /// A new table gets three events.
     Fill,
     /// The site of a new table's keeper takes an event, and no step follows.
@@ -24,7 +23,7 @@ enum Work {
 }
 
 /// The database after the work.
-fn worked<R: AllocGlobal + Wait + Abort, S: Alter + Drop>(
+pub(crate) fn worked<R: AllocGlobal + Wait + Abort, S: Alter + Drop>(
     rt: &R,
     conn: Connection<S>,
     work: Work,
@@ -37,49 +36,42 @@ fn worked<R: AllocGlobal + Wait + Abort, S: Alter + Drop>(
     }
 }
 
-/// A database over two files in memory.
-fn opened<R: AllocGlobal + Abort>(rt: &R, files: Files<Memory>) -> Connection<FileStore<Memory>> {
-    assert!(rt; files.may_be_used());
-    match Connection::open_files(rt.alloc(), files, Options::new(1)) {
-        Ok(conn) => conn,
-        Err(_) => panic!(rt; "no database"),
+/// Whether a database has what the work left: the events of its table, or one row of its service.
+pub(crate) fn found<R: AllocGlobal + Wait + Abort, S: Alter + Drop>(
+    rt: &R,
+    conn: Connection<S>,
+    work: Work,
+) -> Tried<S> {
+    match work {
+        Work::Fill => is_loaded(rt, conn, &[E1, E2, E3]),
+        Work::NoStep => is_loaded(rt, conn, &[]),
+        Work::Turns => is_loaded(rt, conn, &[E1, E2]),
+        Work::Place => has_rows(rt, conn, 1),
     }
 }
 
-/// The files of a new database after the work, closed.
-fn files_after<R: AllocGlobal + Wait + Abort>(rt: &R, work: Work) -> Files<Memory> {
-    let files = Files {
-        log: Memory::new(rt.alloc()),
-        db: Memory::new(rt.alloc()),
-    };
-    match worked(rt, opened(rt, files), work).close_files() {
-        Ok(files) => files,
-        Err(_) => panic!(rt; "not closed"),
-    }
-}
-
-/// Whether the table in the files of a new database after the work has the events of these texts.
-fn leaves<R: AllocGlobal + Wait + Abort>(rt: &R, work: Work, texts: &[&str]) -> bool {
-    is_loaded(rt, opened(rt, files_after(rt, work)), texts)
+/// Whether the files of a new database are closed after the work, and hold what it left.
+fn leaves<R: AllocGlobal + Wait + Abort>(rt: &R, work: Work) -> bool {
+    let run = ran(rt, empty(rt), Act::Work(work));
+    run.is_through && ran(rt, run.files, Act::Find(work)).is_done
 }
 
 #[test]
 fn closed_files_hold_the_table(rt: HostRuntime) {
-    assert!(rt; leaves(&rt, Work::Fill, &[E1, E2, E3]));
+    assert!(rt; leaves(&rt, Work::Fill));
 }
 
 #[test]
 fn nothing_is_kept_before_a_step(rt: HostRuntime) {
-    assert!(rt; leaves(&rt, Work::NoStep, &[]));
+    assert!(rt; leaves(&rt, Work::NoStep));
 }
 
 #[test]
 fn a_flusher_keeps_turn_by_turn(rt: HostRuntime) {
-    assert!(rt; leaves(&rt, Work::Turns, &[E1, E2]));
+    assert!(rt; leaves(&rt, Work::Turns));
 }
 
 #[test]
 fn closed_files_are_opened_again(rt: HostRuntime) {
-    let files = files_after(&rt, Work::Place);
-    assert_eq!(rt; rows(&rt, opened(&rt, files)), Some(1));
+    assert!(rt; leaves(&rt, Work::Place));
 }

@@ -27,6 +27,18 @@ pub(crate) const F1: &str =
 pub(crate) const INBOX: &str =
     "CREATE TABLE inbox (place INTEGER PRIMARY KEY, source TEXT NOT NULL, id TEXT NOT NULL, number INTEGER NOT NULL, body TEXT NOT NULL, UNIQUE (source, id, body)) STRICT";
 
+/// The first event at the first place of the table of version 1.
+pub(crate) const OLD_E1: &str =
+    r#"INSERT INTO inbox (place, source, id, number, body) VALUES (1, '/orders', 'a1', 1, '{"id":"a1","sequence":"00000000000000000001","source":"/orders","specversion":"1.0","subject":"x","type":"t.a"}')"#;
+
+/// The event of the second block at its second place.
+pub(crate) const OLD_C1: &str =
+    r#"INSERT INTO inbox (place, source, id, number, body) VALUES (2, '/orders', 'c', 1024, '{"id":"c","sequence":"00000000000000001024","source":"/orders","specversion":"1.0","subject":"x","type":"t.a"}')"#;
+
+/// The second event at its third place.
+pub(crate) const OLD_E2: &str =
+    r#"INSERT INTO inbox (place, source, id, number, body) VALUES (3, '/orders', 'a2', 2, '{"id":"a2","sequence":"00000000000000000002","source":"/orders","specversion":"1.0","subject":"x","type":"t.b"}')"#;
+
 /// The table of the inbox, of version 2.
 pub(crate) const INBOX2: &str =
     "CREATE TABLE inbox2 (place INTEGER PRIMARY KEY, source TEXT NOT NULL, id TEXT NOT NULL, number INTEGER NOT NULL, body TEXT NOT NULL, block INTEGER NOT NULL, UNIQUE (source, id, body)) STRICT";
@@ -71,35 +83,31 @@ pub(crate) fn has(events: &Batch, texts: &[&str]) -> bool {
     true
 }
 
-/// A database in memory on which these texts have run.
-pub(crate) fn database<R: AllocGlobal + Abort>(rt: &R, texts: &[&str]) -> Connection<MemStore> {
-    let mut conn = Connection::open_in_memory(rt.alloc()).expect(rt, "a database");
+/// Runs these texts on a database, and answers whether they ran.
+fn runs_all<S: Alter>(conn: &mut Connection<S>, texts: &[&str]) -> bool {
     for text in texts {
-        assert!(rt; conn.execute_batch(text).is_ok());
+        if conn.execute_batch(text).is_err() {
+            return false;
+        }
     }
+    true
+}
+
+/// The database after these texts have run on it.
+pub(crate) fn after<R: Abort, S: Alter + Drop>(
+    rt: &R,
+    conn: Connection<S>,
+    texts: &[&str],
+) -> Connection<S> {
+    let mut conn = conn;
+    assert!(rt; runs_all(&mut conn, texts));
     conn
 }
 
-/// Adds the table of version 1 with these events of the source `/orders`, each given by its id, its
-/// number and its text, at the places 1, 2 and so on.
-pub(crate) fn with_old_inbox<R: AllocGlobal + Abort, S: Alter + Drop>(
-    rt: &R,
-    conn: Connection<S>,
-    events: &[(&str, u64, &str)],
-) -> Connection<S> {
-    let mut conn = conn;
-    assert!(rt; conn.execute_batch(INBOX).is_ok());
-    let insert = "INSERT INTO inbox (place, source, id, number, body) VALUES";
-    for (place, (id, number, text)) in (1u64..).zip(events) {
-        let row = format!(in rt.alloc();
-            "{insert} ({place}, '/orders', '{id}', {number}, '{text}')"
-        );
-        assert!(rt;
-            conn.execute_batch(row.expect(rt, "memory").as_str())
-                .is_ok()
-        );
-    }
-    conn
+/// A database in memory on which these texts have run.
+pub(crate) fn database<R: AllocGlobal + Abort>(rt: &R, texts: &[&str]) -> Connection<MemStore> {
+    let conn = Connection::open_in_memory(rt.alloc()).expect(rt, "a database");
+    after(rt, conn, texts)
 }
 
 /// Whether the statement runs.

@@ -70,8 +70,7 @@ pub(crate) fn before_a_step<R: AllocGlobal + Wait + Abort, S: Alter + Drop>(
 ) -> Connection<S> {
     let (keeper, begun) = begun(rt, created(rt, conn));
     let Begun { shared, mut pass } = begun;
-    assert_eq!(rt; take(rt, &shared, &mut pass, E1), 1);
-    assert!(rt; !keeper.acknowledged(1));
+    assert!(rt; take(rt, &shared, &mut pass, E1) == 1 && !keeper.acknowledged(1));
     keeper.into_table().into_connection()
 }
 
@@ -83,26 +82,23 @@ pub(crate) fn turn_by_turn<R: AllocGlobal + Wait + Abort, S: Alter + Drop>(
     let (keeper, begun) = begun(rt, created(rt, conn));
     let Begun { shared, mut pass } = begun;
     let mut flusher = flusher(rt, &shared, keeper, &mut pass);
-    assert_eq!(rt; take(rt, &shared, &mut pass, E1), 1);
-    assert!(rt; flusher.turn());
-    assert_eq!(rt; take(rt, &shared, &mut pass, E2), 1);
-    assert!(rt; flusher.turn());
-    assert!(rt; flusher.turn());
+    assert!(rt; take(rt, &shared, &mut pass, E1) == 1 && flusher.turn());
+    assert!(rt; take(rt, &shared, &mut pass, E2) == 1 && flusher.turn() && flusher.turn());
     let Flushed {
         keeper,
         pass: _,
         fault,
     } = flusher.end();
-    assert!(rt; fault.is_none());
-    assert_eq!(rt; keeper.kept(), 2);
-    assert!(rt; keeper.acknowledged(2));
-    assert!(rt; !keeper.acknowledged(3));
+    assert!(rt; fault.is_none() && keeper.kept() == 2);
+    assert!(rt; keeper.acknowledged(2) && !keeper.acknowledged(3));
     keeper.into_table().into_connection()
 }
 
 #[test]
 fn refusals_have_numbers(rt: HostRuntime) {
-    assert_eq!(rt; KeepFault::OutOfMemory.number(), 1);
-    assert_eq!(rt; KeepFault::Store.number(), 2);
-    assert_eq!(rt; KeepFault::Foreign.number(), 3);
+    assert!(rt;
+        KeepFault::OutOfMemory.number() == 1
+            && KeepFault::Store.number() == 2
+            && KeepFault::Foreign.number() == 3
+    );
 }

@@ -4,6 +4,8 @@
 #![tactic(auto)]
 
 #[cfg(test)]
+mod disks;
+#[cfg(test)]
 mod fans;
 #[cfg(test)]
 mod files;

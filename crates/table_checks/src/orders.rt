@@ -1,11 +1,13 @@
 //! What no contract says of an outbox: that calls succeed with ample memory, what the events look
 //! like, and which tables are taken for those of a service.
 
+use crate::disks::Tried;
 use crate::fixture::{INBOX, INBOX2, database, executes, has};
 use attributes::{Moment, Sequenced, Text};
 use outbox::{OutboxFault, Service};
 use relay::RelayFault;
 use sqlite::{Alter, Connection, MemStore};
+use std::alloc::Global;
 use std::process::Abort;
 
 const MAX: u64 = 9_223_372_036_854_775_807;
@@ -25,7 +27,7 @@ const LAST: &str =
     r#"{"id":"09223372036854775807","sequence":"09223372036854775807","source":"/orders","specversion":"1.0","subject":"1","time":"2024-02-29T10:00:00Z","type":"order.placed"}"#;
 
 // Changes after which the rows are no longer those that the calls of a service leave.
-const CHANGES: [&str; 13] = [
+static CHANGES: [&str; 13] = [
     "UPDATE orders SET state = 1 WHERE number = 7",
     "UPDATE orders SET number = 8 WHERE number = 7",
     "INSERT INTO orders (number, state) VALUES (8, 1)",
@@ -96,6 +98,17 @@ fn adoption_fault<R: AllocGlobal>(rt: &R, conn: Connection<MemStore>) -> Option<
     }
 }
 
+/// The fault with which no service is made over a database.
+fn creation_fault<R: AllocGlobal + Abort>(
+    rt: &R,
+    conn: Connection<MemStore>,
+) -> Option<OutboxFault> {
+    match create_in(rt, conn, 0) {
+        Ok(_) => None,
+        Err(fault) => Some(fault),
+    }
+}
+
 /// A command, by its word.
 fn command<S: Alter>(
     service: &mut Service<S>,
@@ -121,6 +134,16 @@ pub(crate) fn accepts<S: Alter>(
     at: &Moment,
 ) -> bool {
     command(service, word, order, at).is_ok()
+}
+
+/// Whether the command is accepted at the time of all commands.
+pub(crate) fn accepts_now<R: AllocGlobal + Abort, S: Alter>(
+    rt: &R,
+    service: &mut Service<S>,
+    word: &str,
+    order: u64,
+) -> bool {
+    accepts(service, word, order, &time(rt))
 }
 
 /// Whether the command is answered by the event with this text.
@@ -151,6 +174,21 @@ fn refuses<R: AllocGlobal + Abort>(
     }
 }
 
+/// How many of these commands for orders, from the first on, are refused for their faults.
+fn refused<R: AllocGlobal + Abort>(
+    rt: &R,
+    service: &mut Service<MemStore>,
+    rows: &[(&str, u64, OutboxFault)],
+) -> usize {
+    for i in 0..rows.len() {
+        let (word, order, want) = rows[i];
+        if !refuses(rt, service, word, order, want) {
+            return i;
+        }
+    }
+    rows.len()
+}
+
 /// Whether these are the rows after a number.
 pub(crate) fn has_after(service: &mut Service<MemStore>, after: u64, texts: &[&str]) -> bool {
     match service.rows_after(after, 100) {
@@ -159,65 +197,97 @@ pub(crate) fn has_after(service: &mut Service<MemStore>, after: u64, texts: &[&s
     }
 }
 
+/// How many of these numbers, from the first on, have these rows after them.
+fn followed(service: &mut Service<MemStore>, rows: &[(u64, &[&str])]) -> usize {
+    for i in 0..rows.len() {
+        let (after, texts) = rows[i];
+        if !has_after(service, after, texts) {
+            return i;
+        }
+    }
+    rows.len()
+}
+
+/// Whether order 7 is placed and shipped.
+fn is_shipped<R: AllocGlobal + Abort>(rt: &R, service: &mut Service<MemStore>) -> bool {
+    gives(rt, service, "place", 7, PLACED) && gives(rt, service, "ship", 7, SHIPPED)
+}
+
 /// A service in which order 7 was placed and shipped.
 pub(crate) fn shipped<R: AllocGlobal + Abort>(rt: &R) -> Service<MemStore> {
     let mut service = create(rt, 0);
-    assert!(rt; gives(rt, &mut service, "place", 7, PLACED));
-    assert!(rt; gives(rt, &mut service, "ship", 7, SHIPPED));
+    assert!(rt; is_shipped(rt, &mut service));
     service
 }
+
+// Commands behind the placing and the shipping of order 7, and why they are refused.
+static BEHIND_SHIPPED: [(&str, u64, OutboxFault); 4] = [
+    ("ship", 7, OutboxFault::WrongState),
+    ("cancel", 7, OutboxFault::WrongState),
+    ("place", 7, OutboxFault::OrderExists),
+    ("cancel", 8, OutboxFault::NoOrder),
+];
+
+// Numbers, and the rows after them then.
+static ROWS_SHIPPED: [(u64, &[&str]); 4] = [
+    (0, &[PLACED, SHIPPED]),
+    (1, &[SHIPPED]),
+    (2, &[]),
+    (u64::MAX, &[]),
+];
 
 #[test]
 fn an_order_is_placed_and_shipped_once(rt: HostRuntime) {
     let mut service = shipped(&rt);
-    assert!(rt; refuses(&rt, &mut service, "ship", 7, OutboxFault::WrongState));
-    assert!(rt; refuses(&rt, &mut service, "cancel", 7, OutboxFault::WrongState));
-    assert!(rt; refuses(&rt, &mut service, "place", 7, OutboxFault::OrderExists));
-    assert!(rt; refuses(&rt, &mut service, "cancel", 8, OutboxFault::NoOrder));
-    assert!(rt; has_after(&mut service, 0, &[PLACED, SHIPPED]));
-    assert!(rt; has_after(&mut service, 1, &[SHIPPED]));
-    assert!(rt; has_after(&mut service, 2, &[]));
-    assert!(rt; has_after(&mut service, u64::MAX, &[]));
-    assert_eq!(rt; service.source().as_str(), "/orders");
-    assert_eq!(rt; service.base(), 0);
+    assert!(rt; refused(&rt, &mut service, &BEHIND_SHIPPED) == BEHIND_SHIPPED.len());
+    assert!(rt; followed(&mut service, &ROWS_SHIPPED) == ROWS_SHIPPED.len());
+    assert!(rt; service.source().as_str() == "/orders" && service.base() == 0);
 }
 
 #[test]
 fn an_order_is_placed_and_cancelled(rt: HostRuntime) {
     let mut service = create(&rt, 0);
-    assert!(rt; accepts(&mut service, "place", 9, &time(&rt)));
-    assert!(rt; gives(&rt, &mut service, "cancel", 9, CANCELLED));
-    assert!(rt; refuses(&rt, &mut service, "ship", 9, OutboxFault::WrongState));
+    assert!(rt;
+        accepts_now(&rt, &mut service, "place", 9)
+            && gives(&rt, &mut service, "cancel", 9, CANCELLED)
+            && refuses(&rt, &mut service, "ship", 9, OutboxFault::WrongState)
+    );
 }
+
+// Commands behind the placing of order 1 with the last number, and why they are refused.
+static BEHIND_LAST: [(&str, u64, OutboxFault); 3] = [
+    ("place", 2, OutboxFault::Full),
+    ("place", 1, OutboxFault::OrderExists),
+    ("ship", 1, OutboxFault::Full),
+];
+
+// Numbers, and the rows after them then.
+static ROWS_LAST: [(u64, &[&str]); 2] = [(MAX - 1, &[LAST]), (MAX, &[])];
 
 #[test]
 fn numbers_end(rt: HostRuntime) {
     let mut service = create(&rt, MAX - 1);
     assert!(rt; gives(&rt, &mut service, "place", 1, LAST));
-    assert!(rt; refuses(&rt, &mut service, "place", 2, OutboxFault::Full));
-    assert!(rt; refuses(&rt, &mut service, "place", 1, OutboxFault::OrderExists));
-    assert!(rt; refuses(&rt, &mut service, "ship", 1, OutboxFault::Full));
-    assert!(rt; has_after(&mut service, MAX - 1, &[LAST]));
-    assert!(rt; has_after(&mut service, MAX, &[]));
+    assert!(rt; refused(&rt, &mut service, &BEHIND_LAST) == BEHIND_LAST.len());
+    assert!(rt; followed(&mut service, &ROWS_LAST) == ROWS_LAST.len());
 }
 
 #[test]
 fn a_service_is_adopted(rt: HostRuntime) {
     let mut service = adopted(&rt, shipped(&rt).into_connection());
-    assert!(rt; has_after(&mut service, 0, &[PLACED, SHIPPED]));
-    assert!(rt; refuses(&rt, &mut service, "ship", 7, OutboxFault::WrongState));
-    assert!(rt; accepts(&mut service, "place", 8, &time(&rt)));
-    assert_eq!(rt; adoption_fault(&rt, service.into_connection()), None);
+    assert!(rt;
+        has_after(&mut service, 0, &[PLACED, SHIPPED])
+            && refuses(&rt, &mut service, "ship", 7, OutboxFault::WrongState)
+            && accepts_now(&rt, &mut service, "place", 8)
+    );
+    assert!(rt; adoption_fault(&rt, service.into_connection()).is_none());
 }
 
 #[test]
 fn tables_are_made_once(rt: HostRuntime) {
     let conn = create(&rt, 0).into_connection();
-    assert_eq!(rt; create_in(&rt, conn, 0).err(), Some(OutboxFault::Foreign));
-    assert_eq!(rt;
-        adoption_fault(&rt, database(&rt, &[])),
-        Some(OutboxFault::Foreign)
-    );
+    assert!(rt; creation_fault(&rt, conn) == Some(OutboxFault::Foreign));
+    assert!(rt; adoption_fault(&rt, database(&rt, &[])) == Some(OutboxFault::Foreign));
 }
 
 /// The fault with which the tables aren't taken for those of a service after a change.
@@ -229,34 +299,34 @@ fn fault_after<R: AllocGlobal + Abort>(rt: &R, change: &str) -> Option<OutboxFau
 
 #[test]
 fn other_rows_are_foreign(rt: HostRuntime) {
-    for change in CHANGES {
-        assert_eq!(rt;
-            fault_after(&rt, change),
-            Some(OutboxFault::Foreign),
+    for change in &CHANGES {
+        assert!(rt;
+            fault_after(&rt, change) == Some(OutboxFault::Foreign),
             "{change}"
         );
     }
-    assert_eq!(rt; fault_after(&rt, INBOX), None);
-    assert_eq!(rt; fault_after(&rt, INBOX2), None);
+    assert!(rt; fault_after(&rt, INBOX).is_none() && fault_after(&rt, INBOX2).is_none());
     let other = "CREATE TABLE other (a INTEGER)";
-    assert_eq!(rt; fault_after(&rt, other), Some(OutboxFault::Store));
-    assert_eq!(rt;
-        fault_after(&rt, "DROP TABLE orders"),
-        Some(OutboxFault::Foreign)
+    assert!(rt;
+        fault_after(&rt, other) == Some(OutboxFault::Store)
+            && fault_after(&rt, "DROP TABLE orders") == Some(OutboxFault::Foreign)
     );
+}
+
+/// Whether orders are placed and shipped beside an inbox, and the service is then adopted.
+fn stands_beside<R: AllocGlobal + Abort>(rt: &R, inbox: &str) -> bool {
+    let mut service = created(rt, database(rt, &[inbox]), 0);
+    if !is_shipped(rt, &mut service) {
+        return false;
+    }
+    let mut again = adopted(rt, service.into_connection());
+    has_after(&mut again, 1, &[SHIPPED])
 }
 
 #[test]
 fn an_inbox_stands_beside_it(rt: HostRuntime) {
-    for inbox in [INBOX, INBOX2] {
-        let mut conn = database(&rt, &[]);
-        assert!(rt; executes(&mut conn, inbox));
-        let mut service = created(&rt, conn, 0);
-        assert!(rt; gives(&rt, &mut service, "place", 7, PLACED));
-        assert!(rt; gives(&rt, &mut service, "ship", 7, SHIPPED));
-        let mut again = adopted(&rt, service.into_connection());
-        assert!(rt; has_after(&mut again, 1, &[SHIPPED]));
-    }
+    assert!(rt; stands_beside(&rt, INBOX));
+    assert!(rt; stands_beside(&rt, INBOX2));
 }
 
 /// A database whose new service has placed order 7.
@@ -265,40 +335,50 @@ pub(crate) fn placed<R: AllocGlobal + Abort, S: Alter + Drop>(
     conn: Connection<S>,
 ) -> Connection<S> {
     let mut service = created(rt, conn, 0);
-    assert!(rt; accepts(&mut service, "place", 7, &time(rt)));
+    assert!(rt; accepts_now(rt, &mut service, "place", 7));
     service.into_connection()
 }
 
-/// How many rows the service of a database has, of at most 100.
-pub(crate) fn rows<R: AllocGlobal + Abort, S: Alter + Drop>(
+/// Whether the service of a database has so many rows, of at most 100.
+pub(crate) fn has_rows<R: AllocGlobal + Abort, S: Alter + Drop>(
     rt: &R,
     conn: Connection<S>,
-) -> Option<u64> {
+    count: u64,
+) -> Tried<S> {
     let mut service = adopted(rt, conn);
-    match service.rows_after(0, 100) {
-        Ok(rows) => Some(rows.len()),
-        Err(_) => None,
+    let is_done = match service.rows_after(0, 100) {
+        Ok(rows) => rows.len() == count,
+        Err(_) => false,
+    };
+    let conn = service.into_connection();
+    Tried { conn, is_done }
+}
+
+// Each fault, at the place of its number less 1.
+static FAULTS: [OutboxFault; 7] = [
+    OutboxFault::OutOfMemory,
+    OutboxFault::OrderExists,
+    OutboxFault::NoOrder,
+    OutboxFault::WrongState,
+    OutboxFault::Full,
+    OutboxFault::Store,
+    OutboxFault::Foreign,
+];
+
+/// Whether the two names are so written.
+fn are_named(alloc: Global, one: OutboxFault, other: RelayFault, wanted: &str) -> bool {
+    match format!(in alloc; "{one} {other}") {
+        Ok(names) => names.as_str() == wanted,
+        Err(_) => false,
     }
 }
 
 #[test]
 fn faults_have_numbers_and_names(rt: HostRuntime) {
-    let faults = [
-        OutboxFault::OutOfMemory,
-        OutboxFault::OrderExists,
-        OutboxFault::NoOrder,
-        OutboxFault::WrongState,
-        OutboxFault::Full,
-        OutboxFault::Store,
-        OutboxFault::Foreign,
-    ];
     for i in 0..7 {
-        assert_eq!(rt; faults[i].number() as usize, i + 1);
+        assert!(rt; FAULTS[i].number() as usize == i + 1, "at {i}");
     }
-    let name = format!(in rt.alloc(); "{} {}", faults[3], RelayFault::RouteFailed);
-    assert_eq!(rt;
-        name.expect(&rt, "memory").as_str(),
-        "WrongState RouteFailed"
-    );
-    assert_eq!(rt; RelayFault::GateShut.number(), 6);
+    let (one, other) = (OutboxFault::WrongState, RelayFault::RouteFailed);
+    assert!(rt; are_named(rt.alloc(), one, other, "WrongState RouteFailed"));
+    assert!(rt; RelayFault::GateShut.number() == 6);
 }

@@ -1,7 +1,7 @@
 //! What no contract says of the commands that only read a database: that calls succeed with ample
 //! memory, that pages have the numbers of events that are meant, and that no inbox is made.
 
-use crate::fixture::{C1, E1, OUTBOX, database, event, has, with_old_inbox};
+use crate::fixture::{C1, E1, INBOX, OLD_C1, OLD_E1, OUTBOX, database, event, has};
 use crate::tables::created;
 use attributes::{Batch, Text};
 use coverage::Summary;
@@ -42,7 +42,7 @@ fn events<R: AllocGlobal + Abort>(rt: &R, other: u64) -> Batch {
 /// A database whose inbox has the 250 events, all of one type.
 fn stocked<R: AllocGlobal + Abort>(rt: &R) -> Connection<MemStore> {
     let mut table = created(rt, database(rt, &[]));
-    assert_eq!(rt; table.keep(&events(rt, NONE)), Ok(250));
+    assert!(rt; table.keep(&events(rt, NONE)) == Ok(250));
     table.into_connection()
 }
 
@@ -71,6 +71,17 @@ fn goes_on<R: AllocGlobal + Abort>(rt: &R, pages: &mut EventPages, from: u64, to
 /// Whether no line is left, now and when it is asked again.
 fn is_over(pages: &mut EventPages) -> bool {
     matches!(pages.next_line(), Ok(None)) && matches!(pages.next_line(), Ok(None))
+}
+
+/// Whether the next lines are the batches of the events with the numbers from each of these up to
+/// the next, and no line is left then.
+fn ends_after<R: AllocGlobal + Abort>(rt: &R, pages: &mut EventPages, numbers: &[u64]) -> bool {
+    for i in 1..numbers.len() {
+        if !goes_on(rt, pages, numbers[i - 1], numbers[i]) {
+            return false;
+        }
+    }
+    is_over(pages)
 }
 
 /// The pages that a command came to.
@@ -105,10 +116,7 @@ fn told<R: AllocGlobal + Abort>(rt: &R, other: u64) -> Summary {
 fn all_events_come_page_after_page(rt: HostRuntime) {
     let mut pages = pages_of(&rt, scrub_pages(rt.alloc(), stocked(&rt)));
     assert!(rt; pages.most() >= 3);
-    assert!(rt; goes_on(&rt, &mut pages, 900, 1000));
-    assert!(rt; goes_on(&rt, &mut pages, 1000, 1100));
-    assert!(rt; goes_on(&rt, &mut pages, 1100, 1150));
-    assert!(rt; is_over(&mut pages));
+    assert!(rt; ends_after(&rt, &mut pages, &[900, 1000, 1100, 1150]));
 }
 
 #[test]
@@ -118,9 +126,7 @@ fn what_a_summary_of_numbers_lacks_comes_page_after_page(rt: HostRuntime) {
         r#"{"sources":{"/orders":[[900,1000],[1120,2000]]},"version":1}"#,
     );
     let mut pages = pages_of(&rt, delta_pages(rt.alloc(), stocked(&rt), peer));
-    assert!(rt; goes_on(&rt, &mut pages, 1001, 1101));
-    assert!(rt; goes_on(&rt, &mut pages, 1101, 1120));
-    assert!(rt; is_over(&mut pages));
+    assert!(rt; ends_after(&rt, &mut pages, &[1001, 1101, 1120]));
     // Of events under the same numbers it says nothing.
     let peer = read(&rt, r#"{"sources":{"/orders":[[900,1149]]},"version":1}"#);
     let mut pages = pages_of(&rt, delta_pages(rt.alloc(), stocked(&rt), peer));
@@ -130,11 +136,9 @@ fn what_a_summary_of_numbers_lacks_comes_page_after_page(rt: HostRuntime) {
 #[test]
 fn a_block_with_another_event_comes_whole(rt: HostRuntime) {
     let peer = told(&rt, 1100);
-    assert_eq!(rt; peer.version(), 2);
+    assert!(rt; peer.version() == 2);
     let mut pages = pages_of(&rt, delta_pages(rt.alloc(), stocked(&rt), peer));
-    assert!(rt; goes_on(&rt, &mut pages, 1024, 1124));
-    assert!(rt; goes_on(&rt, &mut pages, 1124, 1150));
-    assert!(rt; is_over(&mut pages));
+    assert!(rt; ends_after(&rt, &mut pages, &[1024, 1124, 1150]));
     let mut pages = pages_of(&rt, delta_pages(rt.alloc(), stocked(&rt), told(&rt, NONE)));
     assert!(rt; is_over(&mut pages));
 }
@@ -177,16 +181,20 @@ fn names(conn: &mut Connection<MemStore>) -> Option<usize> {
 }
 
 // Texts that ran on a database without an inbox, and how many names its schema has then.
-const WITHOUT: [(&[&str], usize); 2] = [(&[], 0), (&[OUTBOX], 3)];
+static WITHOUT: [(&[&str], usize); 2] = [(&[], 0), (&[OUTBOX], 3)];
+
+/// Whether a database without an inbox holds no events and has a summary that says so, and it has so
+/// many names behind that.
+fn holds_nothing<R: AllocGlobal + Abort>(rt: &R, texts: &[&str], count: usize) -> bool {
+    let Contents { conn, events } = held(rt.alloc(), database(rt, texts));
+    let Ended { mut conn, outcome } = summary(rt.alloc(), conn);
+    are(&events, &[]) && prints(&outcome, NOTHING.trim_end()) && names(&mut conn) == Some(count)
+}
 
 #[test]
 fn where_there_is_no_inbox_none_is_made(rt: HostRuntime) {
-    for (texts, count) in WITHOUT {
-        let Contents { conn, events } = held(rt.alloc(), database(&rt, texts));
-        assert!(rt; are(&events, &[]), "{texts:?}");
-        let Ended { mut conn, outcome } = summary(rt.alloc(), conn);
-        assert!(rt; prints(&outcome, NOTHING.trim_end()), "{texts:?}");
-        assert_eq!(rt; names(&mut conn), Some(count), "{texts:?}");
+    for (texts, count) in &WITHOUT {
+        assert!(rt; holds_nothing(&rt, texts, *count), "{texts:?}");
     }
 }
 
@@ -206,14 +214,14 @@ fn has_no_pages<R: AllocGlobal + Abort>(rt: &R, texts: &[&str], count: usize) ->
 
 #[test]
 fn a_database_without_an_inbox_has_no_pages(rt: HostRuntime) {
-    for (texts, count) in WITHOUT {
-        assert!(rt; has_no_pages(&rt, texts, count), "{texts:?}");
+    for (texts, count) in &WITHOUT {
+        assert!(rt; has_no_pages(&rt, texts, *count), "{texts:?}");
     }
 }
 
 #[test]
 fn an_old_inbox_is_held(rt: HostRuntime) {
-    let old = with_old_inbox(&rt, database(&rt, &[]), &[("a1", 1, E1), ("c", 1024, C1)]);
+    let old = database(&rt, &[INBOX, OLD_E1, OLD_C1]);
     let Contents { conn: _, events } = held(rt.alloc(), old);
     assert!(rt; are(&events, &[E1, C1]));
 }

@@ -3,15 +3,15 @@
 //!
 //! A run opens the files, makes a call and closes them, and one file fails from its n-th call on,
 //! n = 0, 1, 2, .., until a run meets no stop. What a stop left of a file is then what was written,
-//! or what was synced last, or a mixture of both. What is generic over the store is proved from its
-//! bounds; each use of it at the store of files is dear, so there are few.
+//! or what was synced last, or a mixture of both.
 
 ghost use Rattle.sqlite.specs.Held.{state};
 ghost use Rattle.keeper.specs.Keep.{KeepsUp};
 
-use crate::fixture::{E1, E2, E3, batch, with_old_inbox};
+use crate::disks::{Act, Run, Tried, empty, file_of, ran};
+use crate::fixture::{E1, E2, E3, INBOX, after, batch, has};
 use crate::keepers::take;
-use crate::orders::{accepts, created as new_service, time};
+use crate::orders::{accepts_now, created as new_service};
 use crate::tables::created as new_table;
 use attributes::{Batch, Text};
 use inbox_table::{Loaded, NotMade as NoTable, Table, TableFault};
@@ -19,8 +19,8 @@ use keeper::{Keeper, Kept, NotKept};
 use outbox::{NotMade as NoService, OutboxFault, Service};
 use site::Site;
 use site_lock::{Begun, SharedSite};
-use sqlite::{Alter, Connection, FileStore, Files, Options};
-use sqlite_disk::{Crash, Disk, Fuse, Memory};
+use sqlite::{Alter, Connection, Files};
+use sqlite_disk::{Crash, Fuse, Memory};
 use std::process::Abort;
 use std::sync::Wait;
 
@@ -42,12 +42,20 @@ const ROWS: [&str; 3] = [PLACED_3, PLACED_7, SHIPPED_7];
 /// The events of the inbox, of which a file has the first ones.
 const EVENTS: [&str; 3] = [E3, E1, E2];
 
-/// The events of a table of version 1.
-const OLD: [(&str, u64, &str); 2] = [("a3", 3, E3), ("a1", 1, E1)];
+/// The third event at the first place of the table of version 1.
+const OLD_E3: &str =
+    r#"INSERT INTO inbox (place, source, id, number, body) VALUES (1, '/orders', 'a3', 3, '{"id":"a3","sequence":"00000000000000000003","source":"/orders","specversion":"1.0","subject":"y","type":"t.a"}')"#;
+
+/// The first event at its second place.
+const OLD_E1: &str =
+    r#"INSERT INTO inbox (place, source, id, number, body) VALUES (2, '/orders', 'a1', 1, '{"id":"a1","sequence":"00000000000000000001","source":"/orders","specversion":"1.0","subject":"x","type":"t.a"}')"#;
+
+/// A table of version 1 with its events.
+static OLD: [&str; 3] = [INBOX, OLD_E3, OLD_E1];
 
 /// A call that a stop may meet.
 #[derive(Clone, Copy)]
-enum Call {
+pub(crate) enum Call {
     Place,
     Ship,
     Keep,
@@ -65,7 +73,7 @@ enum Call {
 }
 
 /// What a file has of a list.
-#[derive(Clone, Copy, Debug, PartialEq)]
+#[derive(Clone, Copy, PartialEq)]
 enum Part {
     /// No table of it.
     Absent,
@@ -75,17 +83,10 @@ enum Part {
 }
 
 /// What a file has: the rows of the service, the events of the inbox.
-#[derive(Clone, Copy, Debug, PartialEq)]
+#[derive(Clone, Copy, PartialEq)]
 struct Held {
     rows: Part,
     events: Part,
-}
-
-/// A connection after a call, and whether the call answered Ok.
-#[derive(Drop)]
-struct Tried<S: Alter + Drop> {
-    conn: Connection<S>,
-    is_done: bool,
 }
 
 /// A connection that was looked at, and what its database has.
@@ -100,14 +101,6 @@ struct Looked<S: Alter + Drop> {
 struct Image {
     log: Vec<u8>,
     db: Vec<u8>,
-}
-
-/// The files after a run, whether the call answered Ok, and whether no stop was met.
-#[derive(Drop)]
-struct Run {
-    files: Files<Fuse<Memory>>,
-    is_done: bool,
-    is_through: bool,
 }
 
 /// What the file has before the call, and what once it is committed.
@@ -162,7 +155,7 @@ fn with_service<R: AllocGlobal + Abort, S: Alter + Drop>(
     conn: Connection<S>,
 ) -> Connection<S> {
     let mut service = new_service(rt, conn, 0);
-    assert!(rt; accepts(&mut service, "place", 3, &time(rt)));
+    assert!(rt; accepts_now(rt, &mut service, "place", 3));
     service.into_connection()
 }
 
@@ -177,7 +170,7 @@ fn with_inbox<R: AllocGlobal + Abort, S: Alter + Drop>(
 }
 
 /// A new database, made ready for a call.
-fn prepared<R: AllocGlobal + Abort, S: Alter + Drop>(
+pub(crate) fn prepared<R: AllocGlobal + Abort, S: Alter + Drop>(
     rt: &R,
     conn: Connection<S>,
     call: Call,
@@ -186,9 +179,9 @@ fn prepared<R: AllocGlobal + Abort, S: Alter + Drop>(
         Call::CreateService | Call::CreateInbox => conn,
         Call::AddService => with_inbox(rt, conn),
         Call::AddInbox => with_service(rt, conn),
-        Call::Upgrade => with_old_inbox(rt, conn, &OLD),
-        Call::UpgradeBefore => with_service(rt, with_old_inbox(rt, conn, &OLD)),
-        Call::UpgradeBehind => with_old_inbox(rt, with_service(rt, conn), &OLD),
+        Call::Upgrade => after(rt, conn, &OLD),
+        Call::UpgradeBefore => with_service(rt, after(rt, conn, &OLD)),
+        Call::UpgradeBehind => after(rt, with_service(rt, conn), &OLD),
         Call::Place | Call::Keep | Call::Step => with_inbox(rt, with_service(rt, conn)),
         Call::Ship => {
             let conn = with_inbox(rt, with_service(rt, conn));
@@ -207,7 +200,7 @@ fn commanded<R: AllocGlobal + Abort, S: Alter + Drop>(
 ) -> Tried<S> {
     match Service::adopt(rt.alloc(), conn) {
         Ok(mut service) => {
-            let is_done = accepts(&mut service, word, 7, &time(rt));
+            let is_done = accepts_now(rt, &mut service, word, 7);
             let conn = service.into_connection();
             Tried { conn, is_done }
         }
@@ -323,7 +316,7 @@ fn upgraded<R: AllocGlobal, S: Alter + Drop>(rt: &R, conn: Connection<S>) -> Tri
 }
 
 /// Makes the call.
-fn call_made<R: AllocGlobal + Wait + Abort, S: Alter + Drop>(
+pub(crate) fn call_made<R: AllocGlobal + Wait + Abort, S: Alter + Drop>(
     rt: &R,
     conn: Connection<S>,
     call: Call,
@@ -342,13 +335,8 @@ fn call_made<R: AllocGlobal + Wait + Abort, S: Alter + Drop>(
 /// How many of the texts the events are, from the first on.
 fn first_of(events: &Batch, texts: &[&str; 3]) -> Part {
     let count = events.len();
-    if count > 3 {
+    if count > 3 || !has(events, &texts[..count as usize]) {
         return Part::Other;
-    }
-    for (i, text) in (0u64..3).zip(texts) {
-        if i < count && events.at(i).event().text() != *text {
-            return Part::Other;
-        }
     }
     Part::First(count)
 }
@@ -407,44 +395,44 @@ fn has_one_version<S: Alter>(conn: &mut Connection<S>, call: Call, is_done: bool
     }
 }
 
+/// Looks at the rows of the service and the events of the inbox.
+fn held_by<R: AllocGlobal, S: Alter + Drop>(rt: &R, conn: Connection<S>) -> (Connection<S>, Held) {
+    let Looked { conn, part: rows } = looked_at_rows(rt, conn);
+    let Looked { conn, part: events } = looked_at_events(rt, conn);
+    (conn, Held { rows, events })
+}
+
+/// Makes the call again, which then goes through and leaves what it commits.
+fn made_again<R: AllocGlobal + Wait + Abort, S: Alter + Drop>(
+    rt: &R,
+    conn: Connection<S>,
+    call: Call,
+    after: Held,
+) -> Tried<S> {
+    let Tried { conn, is_done } = call_made(rt, conn, call);
+    let (conn, held) = held_by(rt, conn);
+    let is_done = is_done && held == after;
+    Tried { conn, is_done }
+}
+
 /// Whether a database that a stop left has what it had before the call, where the call didn't
 /// answer, or what the call commits. From before the call it is made again, and then goes through:
 /// so it is seen that a table that isn't there can be made.
-fn is_whole<R: AllocGlobal + Wait + Abort, S: Alter + Drop>(
+pub(crate) fn looked_over<R: AllocGlobal + Wait + Abort, S: Alter + Drop>(
     rt: &R,
     conn: Connection<S>,
     call: Call,
     is_done: bool,
-) -> bool {
+) -> Tried<S> {
     let mut conn = conn;
-    if !has_one_version(&mut conn, call, is_done) {
-        return false;
-    }
+    let has_one = has_one_version(&mut conn, call, is_done);
     let (before, after) = before_and_after(call);
-    let Looked { conn, part: rows } = looked_at_rows(rt, conn);
-    let Looked { conn, part: events } = looked_at_events(rt, conn);
-    let held = Held { rows, events };
-    if held == after {
-        return true;
+    let (conn, held) = held_by(rt, conn);
+    if has_one && held == before && held != after && !is_done {
+        return made_again(rt, conn, call, after);
     }
-    if held != before || is_done {
-        return false;
-    }
-    let Tried { conn, is_done } = call_made(rt, conn, call);
-    let Looked { conn, part: rows } = looked_at_rows(rt, conn);
-    let Looked {
-        conn: _,
-        part: events,
-    } = looked_at_events(rt, conn);
-    is_done && Held { rows, events } == after
-}
-
-/// A file with these bytes, which fails after so many calls.
-fn file_of<R: AllocGlobal + Abort>(rt: &R, bytes: &[u8], calls: u64) -> Fuse<Memory> {
-    let mut file = Memory::new(rt.alloc());
-    assert!(rt; file.write_at(0, bytes).is_ok());
-    assert!(rt; file.sync().is_ok());
-    Fuse::new(file, calls)
+    let is_done = has_one && held == after;
+    Tried { conn, is_done }
 }
 
 /// A copy of bytes.
@@ -454,18 +442,30 @@ fn copy<R: AllocGlobal + Abort>(rt: &R, bytes: &[u8]) -> Vec<u8> {
     copy
 }
 
+/// The byte at a place of a mixture: the written one, or at an odd place the one that was synced, or
+/// another behind the end of those.
+fn mixed(written: u8, synced: &[u8], place: usize) -> u8 {
+    if place % 2 == 0 {
+        return written;
+    }
+    match synced.get(place) {
+        Some(byte) => *byte,
+        None => 0xa5,
+    }
+}
+
+/// Makes the written bytes a mixture.
+fn mix(bytes: &mut [u8], synced: &[u8]) {
+    for place in 0..bytes.len() {
+        bytes[place] = mixed(bytes[place], synced, place);
+    }
+}
+
 /// The written bytes, and at odd places those that were synced, or others behind their end. Where
 /// both agree nothing may have changed, and so nothing is.
 fn mixture<R: AllocGlobal + Abort>(rt: &R, written: &[u8], synced: &[u8]) -> Vec<u8> {
-    let mut mixture = Vec::new(rt.alloc());
-    for i in 0..written.len() {
-        let byte = match synced.get(i) {
-            Some(byte) => *byte,
-            None => 0xa5,
-        };
-        let byte = if i % 2 == 0 { written[i] } else { byte };
-        assert!(rt; mixture.push(byte).is_ok());
-    }
+    let mut mixture = copy(rt, written);
+    mix(mixture.as_mut_slice(), synced);
     mixture
 }
 
@@ -506,11 +506,7 @@ fn is_left_whole<R: AllocGlobal + Wait + Abort>(
         log: file_of(rt, log, u64::MAX),
         db: file_of(rt, db, u64::MAX),
     };
-    assert!(rt; files.may_be_used());
-    match Connection::open_files(rt.alloc(), files, Options::new(1)) {
-        Ok(conn) => is_whole(rt, conn, call, is_done),
-        Err(_) => false,
-    }
+    ran(rt, files, Act::Look(call, is_done)).is_done
 }
 
 /// Whether the files have what they should, whatever the stop left of each.
@@ -551,58 +547,14 @@ fn ends_well<R: AllocGlobal + Wait + Abort>(
     (is_unchanged && !is_done && !is_first) || leaves_whole(rt, &logs, &dbs, call, is_done)
 }
 
-/// Closes the files, unless a stop is met.
-fn closed(conn: Connection<FileStore<Fuse<Memory>>>) -> Run {
-    match conn.close_files() {
-        Ok(files) => Run {
-            files,
-            is_done: true,
-            is_through: true,
-        },
-        Err((_, store)) => Run {
-            files: store.close(),
-            is_done: true,
-            is_through: false,
-        },
-    }
-}
-
-/// Opens the files, makes the call and closes them, up to a stop.
-fn stopped<R: AllocGlobal + Wait + Abort>(rt: &R, files: Files<Fuse<Memory>>, call: Call) -> Run {
-    assert!(rt; files.may_be_used());
-    let conn = match Connection::open_files(rt.alloc(), files, Options::new(1)) {
-        Ok(conn) => conn,
-        Err((_, left)) => {
-            return Run {
-                files: left.into_files(),
-                is_done: false,
-                is_through: false,
-            };
-        }
-    };
-    let Tried { conn, is_done } = call_made(rt, conn, call);
-    if is_done {
-        return closed(conn);
-    }
-    Run {
-        files: conn.into_store().close(),
-        is_done: false,
-        is_through: false,
-    }
-}
-
 /// The files of a new database that was made ready for a call.
-fn image_of<R: AllocGlobal + Abort>(rt: &R, call: Call) -> Image {
-    let files = Files {
-        log: file_of(rt, &[], u64::MAX),
-        db: file_of(rt, &[], u64::MAX),
-    };
-    assert!(rt; files.may_be_used());
-    let Ok(conn) = Connection::open_files(rt.alloc(), files, Options::new(1)) else {
-        panic!(rt; "not opened");
-    };
-    // The log isn't emptied: so what is read again of it is tried too.
-    let files = prepared(rt, conn, call).into_store().close();
+fn image_of<R: AllocGlobal + Wait + Abort>(rt: &R, call: Call) -> Image {
+    let Run {
+        files,
+        is_done,
+        is_through: _,
+    } = ran(rt, empty(rt), Act::Prepare(call));
+    assert!(rt; is_done);
     Image {
         log: copy(rt, files.log.inner().bytes()),
         db: copy(rt, files.db.inner().bytes()),
@@ -635,7 +587,7 @@ fn stops_of<R: AllocGlobal + Wait + Abort>(
     call: Call,
 ) -> Option<u64> {
     for calls in 0..ENOUGH {
-        let run = stopped(rt, fused(rt, image, is_log, calls), call);
+        let run = ran(rt, fused(rt, image, is_log, calls), Act::Make(call));
         let is_through = run.is_through;
         if !ends_well(rt, image, run, call, calls == 0) {
             return None;

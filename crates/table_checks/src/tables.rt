@@ -1,6 +1,7 @@
 //! What no contract says of the table of events: that its calls succeed with ample memory, and that
 //! its schema and its rows are those of the format.
 
+use crate::disks::Tried;
 use crate::fixture::{C1, E1, E2, E3, F1, INBOX, INBOX2, OUTBOX, batch, database, executes, has};
 use inbox_table::{Loaded, Table, TableFault};
 use sqlite::{Alter, Connection, MemStore};
@@ -61,10 +62,19 @@ pub(crate) fn holds<S: Alter>(table: &mut Table<S>, texts: &[&str]) -> bool {
     }
 }
 
+/// Whether so many of the events of the texts are new to the table, which keeps them.
+fn keeps<R: AllocGlobal + Abort, S: Alter>(
+    rt: &R,
+    table: &mut Table<S>,
+    texts: &[&str],
+    fresh: u64,
+) -> bool {
+    keep(rt, table, texts) == Ok(fresh)
+}
+
 /// Keeps E1 and E2, then E2 and E3, of which two and then one are new.
 fn fill<R: AllocGlobal + Abort, S: Alter>(rt: &R, table: &mut Table<S>) {
-    assert_eq!(rt; keep(rt, table, &[E1, E2]), Ok(2));
-    assert_eq!(rt; keep(rt, table, &[E2, E3]), Ok(1));
+    assert!(rt; keeps(rt, table, &[E1, E2], 2) && keeps(rt, table, &[E2, E3], 1));
 }
 
 /// A database whose new table has three events.
@@ -82,36 +92,33 @@ pub(crate) fn is_loaded<R: AllocGlobal + Abort, S: Alter + Drop>(
     rt: &R,
     conn: Connection<S>,
     texts: &[&str],
-) -> bool {
-    let loaded = adopted(rt, conn);
-    has(&loaded.events, texts) && loaded.table.rows() == texts.len() as u64
+) -> Tried<S> {
+    let Loaded { table, events } = adopted(rt, conn);
+    let is_done = has(&events, texts) && table.rows() == texts.len() as u64;
+    let conn = table.into_connection();
+    Tried { conn, is_done }
 }
 
 #[test]
 fn events_are_kept_once_and_in_their_order(rt: HostRuntime) {
     let mut table = created(&rt, database(&rt, &[]));
     fill(&rt, &mut table);
-    assert_eq!(rt; table.rows(), 3);
-    assert!(rt; holds(&mut table, &[E1, E2, E3]));
+    assert!(rt; table.rows() == 3 && holds(&mut table, &[E1, E2, E3]));
     // Another content under the same source and id is another event.
-    assert_eq!(rt; keep(&rt, &mut table, &[F1, E3, F1]), Ok(1));
-    assert!(rt; holds(&mut table, &[E1, E2, E3, F1]));
-    assert_eq!(rt; keep(&rt, &mut table, &[]), Ok(0));
-    assert_eq!(rt; table.rows(), 4);
+    assert!(rt; keeps(&rt, &mut table, &[F1, E3, F1], 1) && holds(&mut table, &[E1, E2, E3, F1]));
+    assert!(rt; keeps(&rt, &mut table, &[], 0) && table.rows() == 4);
 }
 
 #[test]
 fn a_table_is_taken_as_it_was_left(rt: HostRuntime) {
     let conn = filled(&rt, database(&rt, &[]));
     let Loaded { mut table, events } = adopted(&rt, conn);
-    assert!(rt; has(&events, &[E1, E2, E3]));
-    assert_eq!(rt; table.rows(), 3);
-    assert_eq!(rt; keep(&rt, &mut table, &[E3, F1]), Ok(1));
-    assert!(rt; holds(&mut table, &[E1, E2, E3, F1]));
+    assert!(rt; has(&events, &[E1, E2, E3]) && table.rows() == 3);
+    assert!(rt; keeps(&rt, &mut table, &[E3, F1], 1) && holds(&mut table, &[E1, E2, E3, F1]));
 }
 
 // The columns before the text of a row, the text, and the fault of a table of the format with it.
-const ROWS: [(&str, &str, u8); 18] = [
+static ROWS: [(&str, &str, u8); 18] = [
     // The columns of an event and its text are taken.
     ("1, '/orders', 'a1', 1, 0", E1, 0),
     ("1, '/orders', 'a1', 1, 0", "{}", 3),
@@ -151,15 +158,22 @@ const ROWS: [(&str, &str, u8); 18] = [
 
 /// The fault of a table of the format with a row of these values.
 fn row_fault<R: AllocGlobal + Abort>(rt: &R, columns: &str, body: &str) -> u8 {
-    let insert = "INSERT INTO inbox2 (place, source, id, number, block, body) VALUES";
-    let row = format!(in rt.alloc(); "{insert} ({columns}, '{body}')").expect(rt, "memory");
-    adopt_fault(rt, database(rt, &[INBOX2, row.as_str()]))
+    let row = format!(in rt.alloc();
+        "INSERT INTO inbox2 (place, source, id, number, block, body) VALUES ({columns}, '{body}')"
+    );
+    adopt_fault(
+        rt,
+        database(rt, &[INBOX2, row.expect(rt, "memory").as_str()]),
+    )
 }
 
 #[test]
 fn rows_that_no_call_leaves_are_foreign(rt: HostRuntime) {
-    for (columns, body, fault) in ROWS {
-        assert_eq!(rt; row_fault(&rt, columns, body), fault, "{columns}, {body}");
+    for (columns, body, fault) in &ROWS {
+        assert!(rt;
+            row_fault(&rt, columns, body) == *fault,
+            "{columns}, {body}"
+        );
     }
 }
 
@@ -167,11 +181,11 @@ fn rows_that_no_call_leaves_are_foreign(rt: HostRuntime) {
 fn a_gap_in_the_places_is_foreign(rt: HostRuntime) {
     let mut conn = filled(&rt, database(&rt, &[]));
     assert!(rt; executes(&mut conn, "DELETE FROM inbox2 WHERE place = 2"));
-    assert_eq!(rt; adopt_fault(&rt, conn), 3);
+    assert!(rt; adopt_fault(&rt, conn) == 3);
 }
 
 // Texts that ran on a database, and the fault with which a table is then made.
-const MADE: [(&[&str], u8); 12] = [
+static MADE: [(&[&str], u8); 12] = [
     (&[], 0),
     (&[OUTBOX], 0),
     (&[INBOX2], 3),
@@ -188,7 +202,7 @@ const MADE: [(&[&str], u8); 12] = [
 ];
 
 // Texts that ran on a database, and the fault with which its table is then adopted.
-const ADOPTED: [(&[&str], u8); 9] = [
+static ADOPTED: [(&[&str], u8); 9] = [
     (&[], 3),
     (&[OUTBOX], 3),
     (&[INBOX2], 0),
@@ -202,11 +216,14 @@ const ADOPTED: [(&[&str], u8); 9] = [
 
 #[test]
 fn schemas_that_are_taken_and_refused(rt: HostRuntime) {
-    for (texts, fault) in MADE {
-        assert_eq!(rt; create_fault(&rt, texts), fault, "{texts:?}");
+    for (texts, fault) in &MADE {
+        assert!(rt; create_fault(&rt, texts) == *fault, "{texts:?}");
     }
-    for (texts, fault) in ADOPTED {
-        assert_eq!(rt; adopt_fault(&rt, database(&rt, texts)), fault, "{texts:?}");
+    for (texts, fault) in &ADOPTED {
+        assert!(rt;
+            adopt_fault(&rt, database(&rt, texts)) == *fault,
+            "{texts:?}"
+        );
     }
 }
 
@@ -222,7 +239,9 @@ fn a_table_beside_an_outbox(rt: HostRuntime) {
 
 #[test]
 fn numbers_of_the_faults(rt: HostRuntime) {
-    assert_eq!(rt; TableFault::OutOfMemory.number(), 1);
-    assert_eq!(rt; TableFault::Store.number(), 2);
-    assert_eq!(rt; TableFault::Foreign.number(), 3);
+    assert!(rt;
+        TableFault::OutOfMemory.number() == 1
+            && TableFault::Store.number() == 2
+            && TableFault::Foreign.number() == 3
+    );
 }

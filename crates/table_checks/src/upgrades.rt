@@ -1,15 +1,18 @@
 //! The taking of a table of version 1: what is taken is of version 2 then, and what is refused leaves
 //! the database as it was.
 
-use crate::fixture::{C1, E1, E2, INBOX, INBOX2, OUTBOX, database, executes, has, with_old_inbox};
-use crate::orders::{self, PLACED, SHIPPED, accepts, has_after, placed, time};
+use crate::fixture::{
+    C1, E1, E2, INBOX, INBOX2, OLD_C1, OLD_E1, OLD_E2, OUTBOX, after, database, executes, has,
+};
+use crate::orders::{self, PLACED, SHIPPED, accepts_now, has_after, placed};
 use crate::tables::{adopted, filled, holds, keep};
 use inbox_table::{Loaded, NotMade, Table};
 use sqlite::{Alter, Connection, MemStore};
+use std::alloc::Global;
 use std::process::Abort;
 
 /// All that a database may have in these tests: its tables, and the rows of each.
-const ALL: [&str; 7] = [
+static ALL: [&str; 7] = [
     "SELECT name, sql FROM sqlite_schema",
     "SELECT * FROM inbox",
     "SELECT * FROM inbox2",
@@ -20,7 +23,7 @@ const ALL: [&str; 7] = [
 ];
 
 /// The rows of a service.
-const OF_SERVICE: [&str; 3] = [
+static OF_SERVICE: [&str; 3] = [
     "SELECT * FROM service",
     "SELECT * FROM orders",
     "SELECT * FROM outbox",
@@ -31,11 +34,31 @@ const NAMED_1: &str = "SELECT name FROM sqlite_schema WHERE name = 'inbox'";
 
 const NAMED_2: &str = "SELECT name FROM sqlite_schema WHERE name = 'inbox2'";
 
-/// Two events of two blocks.
-const TWO: [(&str, u64, &str); 2] = [("a1", 1, E1), ("c", 1024, C1)];
+/// The table of version 1, with two events of two blocks.
+static TWO: [&str; 3] = [INBOX, OLD_E1, OLD_C1];
 
-/// What these queries answer, as one text. A query of a table that isn't there is refused, which
-/// is told too.
+/// The same with one more.
+static THREE: [&str; 4] = [INBOX, OLD_E1, OLD_C1, OLD_E2];
+
+/// Adds what a query answers as a line, and tells whether there is memory. A query of a table that
+/// isn't there is refused, which is a line too.
+fn add_shown(
+    alloc: Global,
+    conn: &mut Connection<MemStore>,
+    text: &mut String,
+    query: &str,
+) -> bool {
+    let line = match conn.query_all(query, &[]) {
+        Ok(rows) => format!(in alloc; "{rows:?}\n"),
+        Err(_) => return text.push_str("refused\n").is_ok(),
+    };
+    match line {
+        Ok(line) => text.push_str(line.as_str()).is_ok(),
+        Err(_) => false,
+    }
+}
+
+/// What these queries answer, line by line.
 fn shown<R: AllocGlobal + Abort>(
     rt: &R,
     conn: &mut Connection<MemStore>,
@@ -43,11 +66,7 @@ fn shown<R: AllocGlobal + Abort>(
 ) -> String {
     let mut text = String::new(rt.alloc());
     for query in queries {
-        let part = match conn.query_all(query, &[]) {
-            Ok(rows) => format!(in rt.alloc(); "{query}: {rows:?}\n"),
-            Err(_) => format!(in rt.alloc(); "{query}: refused\n"),
-        };
-        assert!(rt; text.push_str(part.expect(rt, "memory").as_str()).is_ok());
+        assert!(rt; add_shown(rt.alloc(), conn, &mut text, query));
     }
     text
 }
@@ -60,33 +79,49 @@ fn count<S: Alter>(conn: &mut Connection<S>, query: &str) -> Option<usize> {
     }
 }
 
-/// The number of the fault with which a table isn't taken, or 0. A refused database shows what it
-/// showed before; one that is taken has a table of version 2 and none of version 1, with as many
-/// rows.
-fn upgrade_fault<R: AllocGlobal + Abort>(rt: &R, conn: Connection<MemStore>) -> u8 {
+/// Whether a database that was taken has a table of version 2 and none of version 1, with as many
+/// rows as it had before, of which its table tells.
+fn is_taken(conn: &mut Connection<MemStore>, rows: Option<usize>, told: u64) -> bool {
+    count(conn, NAMED_1) == Some(0)
+        && count(conn, NAMED_2) == Some(1)
+        && count(conn, "SELECT place FROM inbox2") == rows
+        && rows == Some(told as usize)
+}
+
+/// Whether a database shows to these queries what it showed before.
+fn shows<R: AllocGlobal + Abort>(
+    rt: &R,
+    conn: &mut Connection<MemStore>,
+    queries: &[&str],
+    before: &str,
+) -> bool {
+    shown(rt, conn, queries).as_str() == before
+}
+
+/// The number of the fault with which a table isn't taken, or 0; none where the database isn't then
+/// as it has to be. A refused database shows what it showed before; one that is taken has a table
+/// of version 2 and none of version 1, with as many rows.
+fn upgrade_fault<R: AllocGlobal + Abort>(rt: &R, conn: Connection<MemStore>) -> Option<u8> {
     let mut conn = conn;
     let before = shown(rt, &mut conn, &ALL);
     let rows = count(&mut conn, "SELECT place FROM inbox");
-    match Table::adopt(rt.alloc(), conn) {
+    let (mut conn, told, fault) = match Table::adopt(rt.alloc(), conn) {
         Ok(table) => {
             let told = table.rows();
-            let mut conn = table.into_connection();
-            assert_eq!(rt; count(&mut conn, NAMED_1), Some(0));
-            assert_eq!(rt; count(&mut conn, NAMED_2), Some(1));
-            assert_eq!(rt; count(&mut conn, "SELECT place FROM inbox2"), rows);
-            assert_eq!(rt; rows, Some(told as usize));
-            0
+            (table.into_connection(), told, 0)
         }
-        Err(NotMade { mut conn, fault }) => {
-            let after = shown(rt, &mut conn, &ALL);
-            assert_eq!(rt; after.as_str(), before.as_str());
-            fault.number()
-        }
-    }
+        Err(NotMade { conn, fault }) => (conn, 0, fault.number()),
+    };
+    let is_well = if fault == 0 {
+        is_taken(&mut conn, rows, told)
+    } else {
+        shows(rt, &mut conn, &ALL, before.as_str())
+    };
+    if is_well { Some(fault) } else { None }
 }
 
 // The columns before the text of a row, the text, and the fault of a table of version 1 with it.
-const ROWS: [(&str, &str, u8); 12] = [
+static ROWS: [(&str, &str, u8); 12] = [
     // The columns of an event and its text are taken.
     ("1, '/orders', 'a1', 1", E1, 0),
     ("1, '/orders', 'c', 1024", C1, 0),
@@ -118,33 +153,36 @@ const ROWS: [(&str, &str, u8); 12] = [
 ];
 
 /// The fault of a table of version 1 with a row of these values.
-fn row_fault<R: AllocGlobal + Abort>(rt: &R, columns: &str, body: &str) -> u8 {
-    let insert = "INSERT INTO inbox (place, source, id, number, body) VALUES";
-    let row = format!(in rt.alloc(); "{insert} ({columns}, '{body}')").expect(rt, "memory");
-    upgrade_fault(rt, database(rt, &[INBOX, row.as_str()]))
+fn row_fault<R: AllocGlobal + Abort>(rt: &R, columns: &str, body: &str) -> Option<u8> {
+    let row = format!(in rt.alloc();
+        "INSERT INTO inbox (place, source, id, number, body) VALUES ({columns}, '{body}')"
+    );
+    upgrade_fault(
+        rt,
+        database(rt, &[INBOX, row.expect(rt, "memory").as_str()]),
+    )
 }
 
 #[test]
 fn old_rows_that_no_call_left_are_foreign(rt: HostRuntime) {
-    for (columns, body, fault) in ROWS {
-        assert_eq!(rt; row_fault(&rt, columns, body), fault, "{columns}, {body}");
+    for (columns, body, fault) in &ROWS {
+        assert!(rt;
+            row_fault(&rt, columns, body) == Some(*fault),
+            "{columns}, {body}"
+        );
     }
 }
 
 #[test]
 fn a_gap_in_the_old_places_is_foreign(rt: HostRuntime) {
-    let events = [("a1", 1, E1), ("c", 1024, C1), ("a2", 2, E2)];
-    assert_eq!(rt;
-        upgrade_fault(&rt, with_old_inbox(&rt, database(&rt, &[]), &events)),
-        0
-    );
-    let mut conn = with_old_inbox(&rt, database(&rt, &[]), &events);
+    assert!(rt; upgrade_fault(&rt, database(&rt, &THREE)) == Some(0));
+    let mut conn = database(&rt, &THREE);
     assert!(rt; executes(&mut conn, "DELETE FROM inbox WHERE place = 2"));
-    assert_eq!(rt; upgrade_fault(&rt, conn), 3);
+    assert!(rt; upgrade_fault(&rt, conn) == Some(3));
 }
 
 // Texts that ran on a database, and the fault with which its table is then taken.
-const SCHEMAS: [(&[&str], u8); 15] = [
+static SCHEMAS: [(&[&str], u8); 15] = [
     (&[], 3),
     (&[OUTBOX], 3),
     (&[INBOX], 0),
@@ -165,10 +203,9 @@ const SCHEMAS: [(&[&str], u8); 15] = [
 
 #[test]
 fn old_schemas_that_are_taken_and_refused(rt: HostRuntime) {
-    for (texts, fault) in SCHEMAS {
-        assert_eq!(rt;
-            upgrade_fault(&rt, database(&rt, texts)),
-            fault,
+    for (texts, fault) in &SCHEMAS {
+        assert!(rt;
+            upgrade_fault(&rt, database(&rt, texts)) == Some(*fault),
             "{texts:?}"
         );
     }
@@ -176,8 +213,8 @@ fn old_schemas_that_are_taken_and_refused(rt: HostRuntime) {
 
 #[test]
 fn one_of_each_version_is_foreign_with_its_rows(rt: HostRuntime) {
-    let conn = with_old_inbox(&rt, filled(&rt, database(&rt, &[])), &TWO);
-    assert_eq!(rt; upgrade_fault(&rt, conn), 3);
+    let conn = after(&rt, filled(&rt, database(&rt, &[])), &TWO);
+    assert!(rt; upgrade_fault(&rt, conn) == Some(3));
 }
 
 /// Whether the block of this source has the events of these texts, in this order.
@@ -188,34 +225,71 @@ fn has_block<S: Alter>(table: &mut Table<S>, source: &str, k: u64, texts: &[&str
     }
 }
 
-/// Whether a taking finds the two events, and each in its block.
+// Sources, numbers of blocks, and the two events that stand in them.
+static BLOCKS: [(&str, u64, &[&str]); 6] = [
+    ("/orders", 0, &[E1]),
+    ("/orders", 1, &[C1]),
+    ("/orders", 2, &[]),
+    ("/orders", u64::MAX, &[]),
+    ("/other", 0, &[]),
+    ("/other", 1, &[]),
+];
+
+/// Whether each block has its events of the two.
+fn has_blocks<S: Alter>(table: &mut Table<S>) -> bool {
+    for i in 0..BLOCKS.len() {
+        let (source, k, texts) = BLOCKS[i];
+        if !has_block(table, source, k, texts) {
+            return false;
+        }
+    }
+    true
+}
+
+/// Takes the table of a database, and finds the two events in it, and each in its block.
 fn has_two<R: AllocGlobal + Abort>(rt: &R, conn: Connection<MemStore>) -> Connection<MemStore> {
     let Loaded { mut table, events } = adopted(rt, conn);
-    assert!(rt; has(&events, &[E1, C1]));
-    assert_eq!(rt; table.rows(), 2);
-    assert!(rt; holds(&mut table, &[E1, C1]));
-    assert!(rt; has_block(&mut table, "/orders", 0, &[E1]));
-    assert!(rt; has_block(&mut table, "/orders", 1, &[C1]));
-    assert!(rt; has_block(&mut table, "/orders", 2, &[]));
-    assert!(rt; has_block(&mut table, "/orders", u64::MAX, &[]));
-    assert!(rt; has_block(&mut table, "/other", 0, &[]));
-    assert!(rt; has_block(&mut table, "/other", 1, &[]));
+    assert!(rt; has(&events, &[E1, C1]) && table.rows() == 2 && holds(&mut table, &[E1, C1]));
+    assert!(rt; has_blocks(&mut table));
     table.into_connection()
 }
 
+/// The rows of the two events as they are taken.
+const PLACES: &str =
+    "SELECT place FROM inbox2 WHERE place = 1 AND id = 'a1' AND number = 1 AND block = 0 OR place = 2 AND id = 'c' AND number = 1024 AND block = 1";
+
 #[test]
 fn an_old_table_becomes_a_new_one(rt: HostRuntime) {
-    let conn = with_old_inbox(&rt, database(&rt, &[]), &TWO);
-    let mut conn = has_two(&rt, conn);
+    let mut conn = has_two(&rt, database(&rt, &TWO));
     let upgraded = shown(&rt, &mut conn, &ALL);
-    assert_eq!(rt; count(&mut conn, NAMED_1), Some(0));
-    let places =
-        "SELECT place FROM inbox2 WHERE place = 1 AND id = 'a1' AND number = 1 AND block = 0 OR place = 2 AND id = 'c' AND number = 1024 AND block = 1";
-    assert_eq!(rt; count(&mut conn, places), Some(2));
+    assert!(rt; count(&mut conn, NAMED_1) == Some(0) && count(&mut conn, PLACES) == Some(2));
     // Taken again it is as it was.
     let mut conn = has_two(&rt, conn);
-    let again = shown(&rt, &mut conn, &ALL);
-    assert_eq!(rt; again.as_str(), upgraded.as_str());
+    assert!(rt; shows(&rt, &mut conn, &ALL, upgraded.as_str()));
+}
+
+/// Whether the service of a database has these rows, and accepts the command; and the database.
+fn serves<R: AllocGlobal + Abort>(
+    rt: &R,
+    conn: Connection<MemStore>,
+    rows: &[&str],
+    word: &str,
+    order: u64,
+) -> Connection<MemStore> {
+    let mut service = orders::adopted(rt, conn);
+    assert!(rt; has_after(&mut service, 0, rows) && accepts_now(rt, &mut service, word, order));
+    service.into_connection()
+}
+
+/// The database, whose table of the two events keeps one more.
+fn keeps_one_more<R: AllocGlobal + Abort>(
+    rt: &R,
+    conn: Connection<MemStore>,
+) -> Connection<MemStore> {
+    let Loaded { mut table, events } = adopted(rt, conn);
+    assert!(rt; has(&events, &[E1, C1]) && keep(rt, &mut table, &[C1, E2]) == Ok(1));
+    assert!(rt; holds(&mut table, &[E1, C1, E2]));
+    table.into_connection()
 }
 
 /// Takes the old table of a database that has a service too, and goes on with both.
@@ -223,28 +297,13 @@ fn goes_on<R: AllocGlobal + Abort>(rt: &R, conn: Connection<MemStore>) {
     let mut conn = conn;
     let before = shown(rt, &mut conn, &OF_SERVICE);
     let mut conn = has_two(rt, conn);
-    let after = shown(rt, &mut conn, &OF_SERVICE);
-    assert_eq!(rt; after.as_str(), before.as_str());
-    let mut service = orders::adopted(rt, conn);
-    assert!(rt; has_after(&mut service, 0, &[PLACED]));
-    assert!(rt; accepts(&mut service, "ship", 7, &time(rt)));
-    let Loaded { mut table, events } = adopted(rt, service.into_connection());
-    assert!(rt; has(&events, &[E1, C1]));
-    assert_eq!(rt; keep(rt, &mut table, &[C1, E2]), Ok(1));
-    assert!(rt; holds(&mut table, &[E1, C1, E2]));
-    let mut service = orders::adopted(rt, table.into_connection());
-    assert!(rt; has_after(&mut service, 0, &[PLACED, SHIPPED]));
-    assert!(rt; accepts(&mut service, "place", 8, &time(rt)));
+    assert!(rt; shows(rt, &mut conn, &OF_SERVICE, before.as_str()));
+    let conn = keeps_one_more(rt, serves(rt, conn, &[PLACED], "ship", 7));
+    let _conn = serves(rt, conn, &[PLACED, SHIPPED], "place", 8);
 }
 
 #[test]
 fn a_service_stays_beside_an_old_table(rt: HostRuntime) {
-    goes_on(
-        &rt,
-        placed(&rt, with_old_inbox(&rt, database(&rt, &[]), &TWO)),
-    );
-    goes_on(
-        &rt,
-        with_old_inbox(&rt, placed(&rt, database(&rt, &[])), &TWO),
-    );
+    goes_on(&rt, placed(&rt, database(&rt, &TWO)));
+    goes_on(&rt, after(&rt, placed(&rt, database(&rt, &[])), &TWO));
 }

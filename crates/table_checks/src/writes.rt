@@ -1,11 +1,12 @@
 //! What no contract says of the program's commands: that a run whose output can't be written ends
-//! with 1, and that so does one whose output can't be flushed.
+//! with 1, that so does one whose output can't be flushed, and that one thread gives an answer.
 
 use attributes::Text;
+use command_words::{Alone, Once, Plan, plan};
 use database_commands::Databases;
 use inbox_table::Unwatched;
 use run_command::Runs;
-use site_commands::perform;
+use site_commands::{perform, perform_alone};
 use std::io::Write;
 use std::process::Abort;
 use std::rt::Files;
@@ -13,6 +14,12 @@ use std::sync::Wait;
 use std::test::Fail;
 use std::thread::Threads;
 use std::{env, fs, io, process};
+
+/// A batch with the numbers 1, 2 and 5 of one source.
+const NUMBERS: &str =
+    r#"[{"id":"a","sequence":"00000000000000000001","source":"/orders","specversion":"1.0","type":"t"},
+{"id":"b","sequence":"00000000000000000002","source":"/orders","specversion":"1.0","type":"t"},
+{"id":"c","sequence":"00000000000000000005","source":"/orders","specversion":"1.0","type":"t"}]"#;
 
 /// A writer whose first write fails, or its flush.
 #[derive(Drop)]
@@ -60,6 +67,21 @@ fn ends_with_one<R: AllocGlobal + Files + Databases + Runs + Threads + Wait + Ab
     answer == 1 && refusal == 1 && other.is_empty() && closed.written == lengths
 }
 
+/// Whether one thread answers `cover` of the file `numbers` with its numbers, on standard output alone.
+fn covers_alone<R: AllocGlobal + Files + Databases + Abort>(rt: &R) -> bool {
+    let words = covering(rt, "numbers");
+    let plan = plan(rt.alloc(), words.as_slice());
+    let Ok(Plan::Alone(Alone::Once(Once::Ask { query, db, files }))) = plan else {
+        return false;
+    };
+    let plan = Alone::Once(Once::Ask { query, db, files });
+    let mut out = Vec::new(rt.alloc());
+    let mut err = Vec::new(rt.alloc());
+    let status = perform_alone(rt, &plan, &mut out, &mut err, &Unwatched);
+    let want = "{\"sources\":{\"/orders\":[[1,2],[5,5]]},\"version\":1}\n";
+    status == 0 && out.as_slice() == want.as_bytes() && err.is_empty()
+}
+
 /// Makes a new folder the current one.
 fn enter_folder(rt: &HostRuntime) -> Result<String, Fail> {
     let id = process::id(rt.process());
@@ -78,6 +100,16 @@ fn a_write_that_fails_ends_with_one(rt: HostRuntime) -> Result<(), Fail> {
     fs::write(&rt, "f", "[]")?;
     assert!(rt; ends_with_one(&rt, false));
     assert!(rt; ends_with_one(&rt, true));
+    env::set_current_dir(&rt, "/")?;
+    fs::remove_dir_all(&rt, folder.as_str())?;
+    Ok(())
+}
+
+#[test]
+fn a_command_is_carried_out_by_one_thread(rt: HostRuntime) -> Result<(), Fail> {
+    let folder = enter_folder(&rt)?;
+    fs::write(&rt, "numbers", NUMBERS)?;
+    assert!(rt; covers_alone(&rt));
     env::set_current_dir(&rt, "/")?;
     fs::remove_dir_all(&rt, folder.as_str())?;
     Ok(())
