@@ -3,14 +3,13 @@
 
     tools/try_broker.py [--program FILE] [--orders N]
 
-Two services publish the events of their orders (pages of `site relay`, each a line, to `mosquitto_pub -l`), two sites
+Two services publish the events of their orders (`site relay --all`, a page a line, to `mosquitto_pub -l`), two sites
 follow them (`mosquitto_sub | site follow`). In the middle the broker is killed and started anew, a subscriber is killed
 and misses what comes, and one service sends everything twice. What the broker then lost is mended by `summary`, `delta --all` and
 `follow`, each way; in the end both sites must have the same summary and the same seven answers, with every order of both
 services. Where there is no Mosquitto it says so and tries nothing. The last line is 'N passed, M failed'.
 """
 import argparse
-import json
 import os
 import pwd
 import shutil
@@ -80,15 +79,8 @@ class Trial:
 
     def pages(self, service, after=0):
         """The rows of a service after a number, a page of at most 100 a line, in a file."""
-        with open(f"{self.room}/{service}.pages", "wb") as out:
-            while True:
-                ran = subprocess.run([self.program, "relay", "--db", f"{service}-orders.db", "--after", str(after)], cwd=self.room, capture_output=True)
-                count = 0 if ran.returncode else len(json.loads(ran.stdout))
-                if not count:
-                    self.judge(ran.returncode == 0, f"relay after {after}: {ran.stderr!r}")
-                    return f"{service}.pages"
-                out.write(ran.stdout)
-                after += count
+        self.shell(f"'{self.program}' relay --db {service}-orders.db --after {after} --all >{service}.pages")
+        return f"{service}.pages"
 
     def publish(self, service, after=0):
         self.shell(f"mosquitto_pub -h 127.0.0.1 -p {self.port} -q 1 -t orders/{service} -l <{self.pages(service, after)}")

@@ -196,8 +196,33 @@ run summary --db far.db
 cmp -s got.out many.summary || status='other bytes'
 : >got.out
 is 'then both have the same' 0 '' ''
+run take --db half.db three.json
+"$program" summary --db half.db | "$program" delta --db many.db --all - | "$program" follow --db half.db >got.out 2>got.err
+status=$?
+is 'a pipe that begins and ends with one database' 0 "{\"line\":1,\"new\":100,\"repeated\":0}$lf{\"line\":2,\"new\":100,\"repeated\":0}$lf{\"line\":3,\"new\":50,\"repeated\":0}$lf" ''
+mkdir lines.folder
+run follow --db unmade.db lines.folder
+is 'a folder in place of lines' 1 '' "site: lines.folder: cannot read$lf"
+[ ! -e unmade.db ]
+status=$?
+: >got.out
+: >got.err
+is 'it makes no database either' 0 '' ''
 ask f.db 'PRAGMA integrity_check'
 is 'the file of lines as SQLite tests it' 0 "ok$lf" ''
+# A stream of which nothing came yet leaves its database to others.
+python3 - "$program" "$e4" >got.out 2>got.err <<'END'
+import subprocess, sys, time
+ran = subprocess.Popen([sys.argv[1], "follow", "--db", "half.db"], stdin=subprocess.PIPE, stdout=subprocess.PIPE)
+time.sleep(0.5)
+taken = subprocess.run([sys.argv[1], "take", "--db", "half.db", "two.json"], stdout=subprocess.PIPE, check=False)
+print(taken.stdout.decode(), end="")
+told, _ = ran.communicate(sys.argv[2].encode(), 30)
+print(told.decode(), end="")
+sys.exit(ran.returncode)
+END
+status=$?
+is 'a stream that waits for its first bytes' 0 "read 2 new 0 repeated 2$lf{\"line\":1,\"new\":1,\"repeated\":0}$lf" ''
 # A producer that waits for each acknowledgement before it sends the next line, and ends there.
 python3 - "$program" "$e1" "$e2" "$e3" >got.out 2>got.err <<'END'
 import subprocess, sys
@@ -244,6 +269,19 @@ run relay --db o.db --after 4
 is 'no row is left' 0 "[]$lf" ''
 run relay --db o.db --after 18446744073709551615
 is 'a number beyond all' 0 "[]$lf" ''
+run relay --db o.db --after 1 --all
+is 'all rows after a number, a page a line' 0 "[$(row 2 7 shipped),$(row 3 9 placed),$(row 4 9 cancelled)]$lf" ''
+run relay --all --db o.db --after 4
+is 'where no row is left, no line' 0 '' ''
+run relay --db o.db --after 18446744073709551615 --all
+is 'behind a number beyond all, no line' 0 '' ''
+run relay --db unmade.db --after 0 --all
+is 'rows of a database that is not there' 1 '' "site: unmade.db: cannot read$lf"
+[ ! -e unmade.db ]
+status=$?
+: >got.out
+: >got.err
+is 'none is made for them' 0 '' ''
 run order --db other.db --source /south --at 2024-02-29T10:00:00Z place 1
 sed 's/.*"source":"\([^"]*\)".*/\1/' got.out >source
 cp source got.out
@@ -281,6 +319,59 @@ run_over early.db order --db early.db --source /north --at 2024-02-29T10:00:00Z 
 is 'the service that it made has the usual source' 1 '' "site: early.db: another source$lf"
 run order --db early.db --source /orders --at 2024-02-29T10:00:00Z place 1
 is 'which may be named' 0 "$(row 1 1 placed)$lf" ''
+run_over f.db relay --db f.db --after 0 --all
+is 'rows of a database without a service' 0 '' ''
+
+# Services.
+run service --db told.db --source /west --base 100
+is 'a service that is made' 0 '{"base":100,"orders":0,"rows":0,"source":"/west"}'"$lf" ''
+told() { run_over told.db service --db told.db "$@"; }
+told
+is 'and told' 0 '{"base":100,"orders":0,"rows":0,"source":"/west"}'"$lf" ''
+told --source /orders
+is 'the usual source, where it is named' 1 '' "site: told.db: another source$lf"
+told --base 0
+is 'another base' 1 '' "site: told.db: Foreign$lf"
+told --source /east --base 0
+is 'another source before another base' 1 '' "site: told.db: another source$lf"
+told --source /west --base 9223372036854775808
+[ "$status" = 2 ] && : >got.out && : >got.err
+is 'a base that no row may follow' 2 '' ''
+run order --db told.db --at 2024-02-29T10:00:00Z place 5
+cut -d, -f1 got.out >id
+cp id got.out
+is 'the row behind the base' 0 "{\"id\":\"00000000000000000101\"$lf" ''
+run order --db told.db --at 2024-02-29T10:00:00Z place 6
+run order --db told.db --at 2024-02-29T10:00:00Z ship 5
+told --source /west --base 100
+is 'two orders and three rows' 0 '{"base":100,"orders":2,"rows":3,"source":"/west"}'"$lf" ''
+run service --db usual.db
+is 'the usual source and base' 0 '{"base":0,"orders":0,"rows":0,"source":"/orders"}'"$lf" ''
+run service --db f.db
+is 'beside an inbox' 0 '{"base":0,"orders":0,"rows":0,"source":"/orders"}'"$lf" ''
+printf 'no database' >none.db
+run_over none.db service --db none.db
+is 'a file that is no database' 1 '' "site: none.db: Store$lf"
+# Two pages of rows and then one row more: each line is the page that `relay` prints behind the last number.
+for i in $(seq 200); do "$program" order --db pages.db --at 2024-02-29T10:00:00Z place "$i" >told || echo "$i" >>unplaced; done
+pages() { for after in "$@"; do "$program" relay --db pages.db --after "$after"; done >want.pages; }
+pages 0 100
+run relay --db pages.db --after 0 --all
+cmp -s got.out want.pages || status='other rows'
+wc -l <got.out | tr -d ' ' >count
+cp count got.out
+is 'two pages of rows' 0 "2$lf" ''
+"$program" order --db pages.db --at 2024-02-29T10:00:00Z place 201 >told
+pages 50 150
+run_over pages.db relay --db pages.db --after 50 --all
+cmp -s got.out want.pages || status='other rows'
+cut -c1-32 got.out >begun
+cp begun got.out
+is 'pages of rows behind a number' 0 "[{\"id\":\"00000000000000000051\",\"s$lf[{\"id\":\"00000000000000000151\",\"s$lf" ''
+[ ! -e unplaced ]
+status=$?
+: >got.out
+is 'every order of them was placed' 0 '' ''
 printf 'no database, but a text that is long enough to be taken for a header of one, and more\n' >text.db
 run_over text.db take --db text.db three.json
 is 'a text' 1 '' "site: text.db: Store$lf"

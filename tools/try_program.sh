@@ -221,6 +221,19 @@ is 'standard error full' 1 '' ''
 "$program" cover f.json <&- >&- 2>&-
 status=$?
 is 'all streams closed' 1 '' ''
+run order --db rows.db --at 2024-02-29T10:00:00Z place 7
+: >got.out
+: >got.err
+"$program" relay --db rows.db --after 0 --all 2>got.err >&-
+status=$?
+is 'all rows to a closed stream' 1 '' ''
+"$program" relay --db rows.db --after 0 --all >/dev/full 2>got.err
+status=$?
+is 'all rows to a full device' 1 '' ''
+run relay --db rows.db --all
+is 'all rows behind no number' 2 '' '*'
+run relay --db rows.db --after 0 --all rows
+is 'all rows and a word more' 2 '' '*'
 awk -v n=20000 'BEGIN { printf "["; for (i = 1; i <= n; i++) printf "%s{\"id\":\"%d\",\"sequence\":\"%020d\",\"source\":\"/\",\"specversion\":\"1.0\",\"type\":\"t\"}", (i > 1 ? "," : ""), i, i; printf "]" }' >many.json
 { "$program" shown many.json 2>got.err; echo $? >got.status; } | head -n 1 >got.out
 status=$(cat got.status)

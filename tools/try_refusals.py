@@ -12,8 +12,8 @@ holds after the run that meets no refusal. So nothing that was refused was half 
 refused for good.
 
 Tests of libraries that hold whichever allocation is refused run so too, where the gate has built them: a site that
-takes a batch or merges another, and what a schedule of steps among sites leaves where it stops. The last line is
-'N passed, M failed', of the refused allocations.
+takes a batch, sites and inboxes that are merged, and what a schedule of steps among sites leaves where it stops. The
+last line is 'N passed, M failed', of the refused allocations.
 """
 import argparse
 import collections
@@ -72,19 +72,19 @@ ROWS_OF_ALL = [
     Row(["delta", "--db", "s.db", "--all", "asked.summary"], THREE),
     Row(["scrub", "--db", "s.db"], THREE),
     Row(["scrub", "--db", "s.db", "--all"], THREE),
+    Row(["service", "--db", "n.db", "--source", "/north", "--base", "5"], [], ["relay", "--db", "n.db", "--after", "0"]),
+    Row(["service", "--db", "o.db"], PLACED, ROWS),
     Row(["order", "--db", "n.db", "--source", "/north", "--at", AT, "place", "7"], [], ["relay", "--db", "n.db", "--after", "0"]),
     Row(["order", "--db", "o.db", "--at", AT, "place", "8"], PLACED, ROWS),
     Row(["order", "--db", "o.db", "--at", AT, "ship", "7"], PLACED, ROWS),
     Row(["order", "--db", "o.db", "--at", AT, "cancel", "7"], PLACED, ROWS),
     Row(["order", "--db", "o.db", "--at", AT, "place", "7"], PLACED, ROWS),
     Row(["relay", "--db", "o.db", "--after", "0"], PLACED),
+    Row(["relay", "--db", "o.db", "--after", "0", "--all"], PLACED),
     Row(["run", "--db", "s.db", "--peer", "peer.json", "two.json", "more.json"], THREE, HELD),
 ]
 
 
-# Commands that are tried where they are named alone: each run of `follow` makes a page cache of 256 MiB, so that its
-# rows would cost the gate more than all others together.
-BY_HAND = {"follow"}
 # Tests that have to pass whichever allocation is refused, by their crate; and those that may fail at so many of them.
 TESTS = {
     "checks": [
@@ -92,13 +92,16 @@ TESTS = {
         "refused::a_set_of_numbers_is_right_or_wants_memory",
         "refused::a_summary_is_judged_or_wants_memory",
         "refused::an_event_is_read_and_written_or_wants_memory",
+        "refused::an_inbox_is_merged_or_its_front",
     ],
     "site_checks": [
         "refused::a_batch_is_taken_or_its_front",
         "refused::a_peer_is_told_what_it_lacks_or_memory_is_wanted",
         "refused::a_site_is_merged_or_its_front",
         "stops::a_run_has_its_sites",
+        "stops::a_flushed_site_stands_where_it_stopped",
         "stops::a_schedule_stands_where_it_stopped",
+        "stops::three_sites_stand_where_they_stopped",
     ],
     "worker_checks": [
         "refused::a_refused_call_has_its_turn_and_adds_nothing",
@@ -226,7 +229,7 @@ def main():
     passed = failed = 0
     with Refuser() as refuser:
         for row in ROWS_OF_ALL:
-            if row.words[0] not in given.commands if given.commands else row.words[0] in BY_HAND:
+            if given.commands and row.words[0] not in given.commands:
                 continue
             trial = Trial(os.path.abspath(given.program), row, refuser)
             every = trial.run(given.jobs)

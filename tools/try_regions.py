@@ -84,9 +84,7 @@ def main():
             runs.run(f"./site take --db {name}.db {name}.json")
         clock = 0.0
         for to, of in (("north", "south"), ("south", "north")):
-            # Into a file first: `follow` holds its database from the start of the pipe.
-            clock += runs.run(f"./site summary --db {to}.db >{to}.summary")
-            asked = f"./site delta --db {of}.db --all - <{to}.summary"
+            asked = f"./site summary --db {to}.db | ./site delta --db {of}.db --all -"
             if given.by == "follow":
                 clock += runs.run(f"{asked} | ./site follow --db {to}.db >{to}.told")
             else:
