@@ -36,9 +36,10 @@ use std::io::{ErrorKind, Read, Write};
 /// The bytes of a database's page.
 const PAGE: u64 = 4_096;
 /// How many bytes a stream is taken to add for each that its first read brings, for the size of the
-/// cache alone, which is made whole when the file is opened. One line and then a wait brings some 200
-/// bytes, a stream that is sent without waiting up to 64 KiB, and so room for 64 MiB.
-const STREAM_GROWTH: u64 = 1_024;
+/// cache alone, which is made whole when the file is opened. One line of one event and then a wait
+/// brings some 200 bytes and so room for 2 MB; a stream that is sent without waiting a page of 100
+/// events or more, and so room for 180 MB or all that a cache may have.
+const STREAM_GROWTH: u64 = 8_192;
 /// The fewest pages that are kept in memory.
 const LEAST_PAGES: u64 = 200;
 /// The most pages that are kept in memory, 256 MiB. The cache is made once the first page is found
