@@ -14,7 +14,7 @@ use Rattle.event_json.specs.Reading.{IsNoSpelling}
 use Rattle.event_json.specs.declared.fault.ReadFault.{ReadFault}
 use Rattle.event_json.specs.declared.fault.ReadFault.TheVariants as refusal
 
-abbrev IsMemory : Option Fault → Type 0
+abbrev pub IsMemory : Option Fault → Type 0
 IsMemory o = o ≡ Some OutOfMemory
 
 unfailed : (b : Bool) (f : Fault) (rest : Option Fault) → (f ≡ OutOfMemory → ⊥) → (IsMemory rest → ⊥) → IsMemory (cond b rest (Some f)) → ⊥
@@ -32,7 +32,7 @@ member_fault-other ms h =
 payload_fault-other : (o : Offered) → IsMemory (payload_fault o) → ⊥
 payload_fault-other o h = first_failed-other (payload_tests o) (λ e. (cc), (λ e. (cc), (λ e. (cc), (λ e. (cc), tt)))) h
 
-either_other : (first next : Option Fault) → (IsMemory first → ⊥) → (IsMemory next → ⊥) → IsMemory (option_or first next) → ⊥
+pub either_other : (first next : Option Fault) → (IsMemory first → ⊥) → (IsMemory next → ⊥) → IsMemory (option_or first next) → ⊥
 either_other None next other later h = later h
 either_other (Some f) next other later h = other h
 

@@ -4,6 +4,7 @@ pub mod PayloadLemmas
 pub mod Laws
 pub mod PartsLemmas
 pub mod WalkLemmas
+pub mod FaultyLemmas
 pub mod FaultLemmas
 pub mod WriteLemmas
 pub mod TextLemmas

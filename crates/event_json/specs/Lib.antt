@@ -2,5 +2,6 @@ pub mod Fault
 pub mod Payload
 pub mod Spelling
 pub mod Reading
+pub mod Faulty
 pub mod BatchText
 pub mod steps

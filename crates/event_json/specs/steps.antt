@@ -1,3 +1,4 @@
 -- Words of private clauses alone: whoever reads what is promised needs none of them.
 pub mod Walk
 pub mod Joined
+pub mod Told

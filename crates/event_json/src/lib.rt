@@ -3,10 +3,12 @@
 #![tactic(auto)]
 
 mod fault;
+mod faulty;
 mod read;
 mod write;
 
 pub use fault::ReadFault;
+pub use faulty::{Faulty, read_faulty};
 pub use read::{MAX_INPUT, read_events, readings_are_one};
 pub use write::{
     batch_texts_read_back, batch_texts_tell_lists, texts_read_back, write_batch, write_event,

@@ -53,7 +53,7 @@ pub fn readings_are_one()
 {}
 
 /// The bytes as a JSON value.
-fn parse(alloc: Global, bytes: &[u8]) -> Result<Value, ReadFault>
+pub fn parse(alloc: Global, bytes: &[u8]) -> Result<Value, ReadFault>
     ensures value { IfOk result (λ v. IsJsonText bytes.now (view v)) }
     ensures fault { IfErr result (λ f. f ≢ ReadFault.OutOfMemory → f ≡ ReadFault.NotJson) }
     ensures none { IfErr result (λ f. f ≢ ReadFault.OutOfMemory
@@ -125,7 +125,7 @@ fn refusal(index: u64, fault: Fault) -> ReadFault
 }
 
 /// The event of a batch's item. What is no object has no version.
-fn read_item(alloc: Global, item: Value) -> Result<Event, Fault>
+pub fn read_item(alloc: Global, item: Value) -> Result<Event, Fault>
     ensures ok { IfOk result (λ e. fault_in (view item) ≡ None) }
     ensures built { IfOk result (λ e. e ≡ event_in (view item)) }
     ensures refused { IfErr result (λ f. f ≢ Fault.OutOfMemory → fault_in (view item) ≡ Some f) }

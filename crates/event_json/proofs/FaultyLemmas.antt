@@ -1,0 +1,72 @@
+-- The members at fault of a value, and a step of the walk that tells them.
+use Rattle.std.proofs.Common.{◌≡◌, ◌≢◌, ℕ, suc, ◌+◌, List, [], ◌∷◌, ◌++◌, map, Option, Some, None, String, BTreeMap, Global, sym, ap, ◌∙◌, subst, append_assoc, add-one, codes}
+use Rattle.std.proofs.lemmas.List.{map-append}
+use Rattle.std.specs.List.{AllByRecursion}
+use Rattle.serde_json.specs.Data.{Data}
+use Rattle.serde_json.specs.View.{view}
+use Rattle.serde_json.specs.declared.value.Value.{Value, Object}
+use Rattle.serde_json.proofs.Views.{view-Object}
+use Rattle.attributes.specs.Event.{EventValue, attribute_of}
+use Rattle.attributes.specs.Sequence.{fault_at, number_of}
+use Rattle.attributes.specs.declared.scalar.Scalar.{Scalar}
+use Rattle.attributes.specs.declared.fault.Fault.{Fault}
+use Rattle.attributes.specs.declared.fault.Fault.TheVariants.{OutOfMemory}
+use Rattle.event_json.specs.Spelling.{candidates, event_in, fault_in}
+use Rattle.event_json.specs.Faulty.{FaultyMember, fault_unless, faulty, member_fault, member_of, number_fault, with_fault}
+use Rattle.event_json.specs.declared.faulty.Faulty.{Faulty}
+use Rattle.event_json.specs.steps.Told.{TellsFaultyIn}
+use Rattle.event_json.proofs.FaultLemmas.{IsMemory, either_other, fault_in-other}
+use Rattle.event_json.proofs.WalkLemmas.{candidates-Object}
+
+-- the value v at n, which has a fault, joins those that are told
+pub told_step : (n m : ℕ) (told new : List Faulty) (t : Faulty) (v : Value) (vs rest : List Value) (o : Option Fault) (all : List FaultyMember) → vs ≡ v ∷ rest → m ≡ n + 1
+    → o ≡ member_fault (view v) → o ≡ Some t.fault → t.index ≡ n → t.tree ≡ v → new ≡ told ++ t ∷ []
+    → map member_of told ++ faulty n (map view vs) ≡ all → map member_of new ++ faulty m (map view rest) ≡ all
+told_step n m told new t v vs rest o all is_vs is_m is_o is_f at is_tree is_new whole =
+    let after = faulty m (map view rest) in
+    ap (λ l. map member_of l ++ after) is_new
+    ∙ ap (λ l. l ++ after) (map-append member_of told (t ∷ []))
+    ∙ append_assoc (map member_of told) (member_of t ∷ []) after
+    ∙ ap (λ i. map member_of told ++ record { index = i; fault = t.fault; tree = view t.tree } ∷ after) at
+    ∙ ap (λ x. map member_of told ++ record { index = n; fault = t.fault; tree = view x } ∷ after) is_tree
+    ∙ ap (λ k. map member_of told ++ record { index = n; fault = t.fault; tree = view v } ∷ faulty k (map view rest)) (is_m ∙ add-one n)
+    ∙ ap (λ f. map member_of told ++ with_fault n (view v) f (faulty (suc n) (map view rest))) (sym is_f ∙ is_o)
+    ∙ ap (λ l. map member_of told ++ faulty n (map view l)) (sym is_vs)
+    ∙ whole
+
+pub candidates-alone : (m : BTreeMap (String Global) Value) → candidates (view (Object m)) ≡ Some (view (Object m) ∷ [])
+candidates-alone m = candidates-Object m ∙ ap (λ d. Some (d ∷ [])) (sym (view-Object m))
+
+-- ---- no member's fault is want of memory
+
+fault_at-other : (s : Option Scalar) → IsMemory (Some (fault_at s)) → ⊥
+fault_at-other None h = cc
+fault_at-other (Some s) h = cc
+
+fault_unless-other : (e : EventValue) (o : Option ℕ) → IsMemory (fault_unless e o) → ⊥
+fault_unless-other e (Some n) h = cc
+fault_unless-other e None h = fault_at-other (attribute_of (codes "sequence") e) h
+
+member_fault-other : (d : Data) → IsMemory (member_fault d) → ⊥
+member_fault-other d h =
+    let e = event_in d in
+    either_other (fault_in d) (number_fault e) (fault_in-other d) (fault_unless-other e (number_of e)) h
+
+-- the fault is none of memory
+abbrev IsNamed : FaultyMember → Type 0
+IsNamed m = m.fault ≢ OutOfMemory
+
+with_fault-named : (n : ℕ) (d : Data) (o : Option Fault) (others : List FaultyMember) → (IsMemory o → ⊥) → AllByRecursion IsNamed others → AllByRecursion IsNamed (with_fault n d o others)
+with_fault-named n d None others other rest = rest
+with_fault-named n d (Some f) others other rest = ((λ e. other (ap Some e)), rest)
+
+faulty-named : (n : ℕ) (ds : List Data) → AllByRecursion IsNamed (faulty n ds)
+faulty-named n [] = tt
+faulty-named n (d ∷ ds) = with_fault-named n d (member_fault d) (faulty (suc n) ds) (member_fault-other d) (faulty-named (suc n) ds)
+
+of_members : (told : List Faulty) → AllByRecursion IsNamed (map member_of told) → AllByRecursion (λ (t : Faulty). t.fault ≢ OutOfMemory) told
+of_members [] h = tt
+of_members (t ∷ told) h = (h.0, of_members told h.1)
+
+pub told-named : (value : Data) (told : List Faulty) → TellsFaultyIn value (map member_of told) → AllByRecursion (λ (t : Faulty). t.fault ≢ OutOfMemory) told
+told-named value told h = of_members told (subst (AllByRecursion IsNamed) (sym h.2) (faulty-named 0 h.0))
