@@ -1,0 +1,79 @@
+-- The lines that tell what is wrong with a file: JSON without white space (RFC 8259), each with LF
+-- at its end. Which members there are is this project's own.
+use Rattle.std.specs.Prelude.{◌≡◌, ◌⊎◌, ℕ, nat_le, List, [], ◌∷◌, ◌++◌, length, flat_map, codes, Bool, true, false, not, if◌then◌else◌, Option, None, Some, option_and_then}
+use Rattle.std.specs.Fmt.{decimal}
+use Rattle.serde_json.specs.Data.{Data, null, boolean, number, string, array, object}
+use Rattle.serde_json.specs.Find.{get, as_str, is_float}
+use Rattle.serde_json.specs.Written.{compact_text}
+use Rattle.event_json.specs.Faulty.{FaultyMember, TellsFaulty, RefusesWhole}
+use Rattle.event_json.specs.declared.fault.ReadFault.{ReadFault}
+use Rattle.fault_lines.specs.Words.{attribute_name, fault_name, hint, whole_hint, whole_words}
+
+-- a text as a JSON string
+abbrev pub string_text : List ℕ → List ℕ
+string_text words = compact_text (string words)
+
+-- null, a truth value, a text, or a whole number of 64 bits
+abbrev pub is_plain : Data → Bool
+is_plain null = true
+is_plain (boolean b) = true
+is_plain (number n) = not (is_float n)
+is_plain (string s) = true
+is_plain (array ds) = false
+is_plain (object ms) = false
+
+-- a text of at most 200 bytes, as the member `value`; a longer one is left out
+abbrev pub if_short : List ℕ → List ℕ
+if_short text = if nat_le (length text) 200 then codes ",\"value\":" ++ text else []
+
+-- the member `value` of a plain value, where it is short
+abbrev pub value_member : Option Data → List ℕ
+value_member None = []
+value_member (Some d) = if is_plain d then if_short (compact_text d) else []
+
+-- the members `attribute` and `value`, where the fault is of one attribute
+abbrev pub attribute_members : Option (List ℕ) → Data → List ℕ
+attribute_members None tree = []
+attribute_members (Some name) tree =
+    codes ",\"attribute\":\"" ++ (name ++ (codes "\"" ++ value_member (get name tree)))
+
+-- the member `id`, where there is one
+abbrev pub id_member : Option (List ℕ) → List ℕ
+id_member None = []
+id_member (Some id) = codes ",\"id\":" ++ string_text id
+
+-- the id of a member, where it is a text
+abbrev pub id_of : Data → Option (List ℕ)
+id_of tree = option_and_then as_str (get (codes "id") tree)
+
+-- the line of a member at fault, where this is the file's name as a JSON string
+abbrev pub member_line : List ℕ → FaultyMember → List ℕ
+member_line file m =
+    codes "{\"file\":" ++ (file ++ (codes ",\"index\":" ++ (decimal m.index
+    ++ (id_member (id_of m.tree) ++ (codes ",\"fault\":\"" ++ (fault_name m.fault ++ (codes "\""
+    ++ (attribute_members (attribute_name m.fault) m.tree
+    ++ (codes ",\"hint\":\"" ++ (hint m.fault ++ (codes "\"}" ++ 10 ∷ [])))))))))))
+
+-- a line for each member at fault
+abbrev pub member_lines : List ℕ → List FaultyMember → List ℕ
+member_lines file told = flat_map (λ m. member_line file m) told
+
+-- the line of a file that is refused as a whole, where this is its name as a JSON string
+abbrev pub file_line : List ℕ → ReadFault → List ℕ
+file_line file why =
+    codes "{\"file\":" ++ (file ++ (codes ",\"fault\":\"" ++ (whole_words why
+    ++ (codes "\",\"hint\":\"" ++ (whole_hint why ++ (codes "\"}" ++ 10 ∷ []))))))
+
+-- the bytes are an event or a batch, and the text has a line for each member at fault
+abbrev pub TellsMembers : List ℕ → List ℕ → List ℕ → Type 0
+TellsMembers name b text = (told : List FaultyMember) × TellsFaulty b told
+    × (text ≡ member_lines (string_text name) told)
+
+-- the bytes are refused as a whole, and the text is the line that says why
+abbrev pub TellsWhole : List ℕ → List ℕ → List ℕ → Type 0
+TellsWhole name b text = (why : ReadFault) × RefusesWhole b why
+    × (text ≡ file_line (string_text name) why)
+
+-- what is said of the file of that name and these bytes
+abbrev pub IsFaultText : List ℕ → List ℕ → List ℕ → Type 0
+IsFaultText name b text = TellsMembers name b text ⊎ TellsWhole name b text

@@ -1,0 +1,14 @@
+-- Files of which nothing is said.
+use Rattle.std.specs.Prelude.{◌≡◌, ℕ, List, true, is_some}
+use Rattle.std.specs.List.{list_all}
+use Rattle.attributes.specs.Event.{EventValue}
+use Rattle.attributes.specs.Sequence.{number_of}
+use Rattle.event_json.specs.Reading.{Reads}
+
+-- each event has a number
+abbrev pub AreNumbered : List EventValue → Type 0
+AreNumbered events = list_all (λ e. is_some (number_of e)) events ≡ true
+
+-- the bytes spell events that all have numbers
+abbrev pub IsGood : List ℕ → Type 0
+IsGood b = (events : List EventValue) × Reads b events × AreNumbered events

@@ -1,0 +1,10 @@
+//! What is wrong with a file that is to have events, in lines.
+#![tactic(auto)]
+
+mod laws;
+mod line;
+mod words;
+
+pub use laws::good_files_are_quiet;
+pub use line::fault_lines;
+pub use words::fault_name;

@@ -1,0 +1,170 @@
+//! From a file's bytes to the lines that tell what is wrong with them.
+
+ghost use Rattle.std.specs.Prelude.{◌≡◌, IfOk, Some, false, true, map, option_map, string_bytes};
+ghost use Rattle.std.specs.Option.{option_copied};
+ghost use Rattle.serde_json.specs.View.{view};
+ghost use Rattle.serde_json.specs.Written.{has_float};
+ghost use Rattle.event_json.specs.Faulty.{member_of};
+ghost use Rattle.fault_lines.specs.Words.{attribute_name};
+ghost use Rattle.fault_lines.specs.Lines.{IsFaultText, attribute_members, file_line, id_member, id_of, if_short, is_plain, member_line, member_lines, string_text, value_member};
+
+use crate::words::{attribute_name, fault_name, hint, whole_hint, whole_words};
+use attributes::{Fault, Text};
+use event_json::{Faulty, ReadFault, read_faulty};
+use serde_json::Value;
+use std::alloc::{AllocError, Global};
+
+/// How many bytes the text of a value that is shown may have.
+const SHOWN: usize = 200;
+
+/// The lines that tell what is wrong with the file of that name and these bytes: one for each
+/// member that is no event or has no number, in their order, or one that says why the file is
+/// refused as a whole. None where all are events with numbers.
+///
+/// Time and memory in proportion to the bytes, and to the name for each line.
+pub fn fault_lines(alloc: Global, name: &Text, bytes: &[u8]) -> Result<Text, AllocError>
+    ensures { IfOk result (IsFaultText name.now bytes.now) }
+{
+    let file = string_text(alloc, name.as_str())?;
+    let text = match read_faulty(alloc, bytes) {
+        Ok(members) => member_lines(alloc, file.as_str(), members.as_slice())?,
+        Err(ReadFault::OutOfMemory) => return Err(AllocError),
+        Err(fault) => file_line(alloc, file.as_str(), fault)?,
+    };
+    Ok(Text::from_string(text))
+}
+
+/// A text as a JSON string.
+fn string_text(alloc: Global, words: &str) -> Result<String, AllocError>
+    ensures { IfOk result (λ text. string_bytes text ≡ string_text words.now) }
+{
+    let value = Value::String(String::from_str(alloc, words)?);
+    value.to_string(alloc)
+}
+
+/// The line of a file that is refused as a whole.
+fn file_line(alloc: Global, file: &str, fault: ReadFault) -> Result<String, AllocError>
+    ensures { IfOk result (λ text. string_bytes text ≡ file_line file.now fault) }
+{
+    let words = whole_words(fault);
+    let hint = whole_hint(fault);
+    let line = format!(in alloc;
+        "{{\"file\":{file},\"fault\":\"{words}\",\"hint\":\"{hint}\"}}\n"
+    )?;
+    Ok(line)
+}
+
+/// The lines of members at fault.
+fn member_lines(alloc: Global, file: &str, members: &[Faulty]) -> Result<String, AllocError>
+    ensures { IfOk result (λ text.
+        string_bytes text ≡ member_lines file.now (map member_of members.now)) }
+{
+    let mut out = String::new(alloc);
+    for member in members {
+        let line = member_line(alloc, file, member)?;
+        out.push_str(line.as_str())?;
+    }
+    Ok(out)
+}
+
+/// The line of a member at fault.
+fn member_line(alloc: Global, file: &str, member: &Faulty) -> Result<String, AllocError>
+    ensures { IfOk result (λ text.
+        string_bytes text ≡ member_line file.now (member_of member.now)) }
+{
+    let index = member.index;
+    let id = id_member(alloc, id_of(&member.tree))?;
+    let name = fault_name(member.fault);
+    let at = attribute_members(alloc, member.fault, &member.tree)?;
+    let hint = hint(member.fault);
+    let line = format!(in alloc;
+        "{{\"file\":{file},\"index\":{index}{id},\"fault\":\"{name}\"{at},\"hint\":\"{hint}\"}}\n"
+    )?;
+    Ok(line)
+}
+
+/// The id of a member, where it is a text.
+fn id_of(tree: &Value) -> Option<&str>
+    ensures { option_copied result ≡ id_of (view tree.now) }
+{
+    match tree.get("id") {
+        Some(id) => id.as_str(),
+        None => None,
+    }
+}
+
+/// The member `id`, where there is one.
+fn id_member(alloc: Global, id: Option<&str>) -> Result<String, AllocError>
+    ensures { IfOk result (λ text. string_bytes text ≡ id_member (option_copied id.entry)) }
+{
+    match id {
+        Some(id) => {
+            let id = string_text(alloc, id)?;
+            format!(in alloc; ",\"id\":{id}")
+        }
+        None => Ok(String::new(alloc)),
+    }
+}
+
+/// The members `attribute` and `value` of a fault of one attribute.
+fn attribute_members(alloc: Global, fault: Fault, tree: &Value) -> Result<String, AllocError>
+    ensures { IfOk result (λ text. string_bytes text
+        ≡ attribute_members (attribute_name fault) (view tree.now)) }
+{
+    match attribute_name(fault) {
+        Some(name) => {
+            let value = value_member(alloc, tree.get(name))?;
+            let members = format!(in alloc; ",\"attribute\":\"{name}\"{value}")?;
+            Ok(members)
+        }
+        None => Ok(String::new(alloc)),
+    }
+}
+
+/// The member `value`, where there is a value that is plain and short.
+fn value_member(alloc: Global, value: Option<&Value>) -> Result<String, AllocError>
+    ensures { IfOk result (λ text. string_bytes text
+        ≡ value_member (option_map (λ v. view v.now) value.entry)) }
+{
+    match value {
+        Some(value) => plain_member(alloc, value),
+        None => Ok(String::new(alloc)),
+    }
+}
+
+/// The member `value`, where the value is plain and short.
+fn plain_member(alloc: Global, value: &Value) -> Result<String, AllocError>
+    ensures { IfOk result (λ text. string_bytes text ≡ value_member (Some (view value.now))) }
+{
+    if is_plain(value) {
+        if_short(alloc, value.to_string(alloc)?)
+    } else {
+        Ok(String::new(alloc))
+    }
+}
+
+/// Whether a value is null, a truth value, a text, or a whole number of 64 bits.
+fn is_plain(value: &Value) -> bool
+    ensures plain { result ≡ is_plain (view value.now) }
+    ensures whole { result ≡ true → has_float (view value.now) ≡ false }
+{
+    match value {
+        Value::Null => true,
+        Value::Bool(_) => true,
+        Value::Number(number) => !number.is_f64(),
+        Value::String(_) => true,
+        Value::Array(_) => false,
+        Value::Object(_) => false,
+    }
+}
+
+/// A text as the member `value`, where it is short.
+fn if_short(alloc: Global, text: String) -> Result<String, AllocError>
+    ensures { IfOk result (λ member. string_bytes member ≡ if_short (string_bytes text)) }
+{
+    if text.len() <= SHOWN {
+        format!(in alloc; ",\"value\":{text}")
+    } else {
+        Ok(String::new(alloc))
+    }
+}
