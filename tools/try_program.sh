@@ -239,6 +239,38 @@ awk -v n=20000 'BEGIN { printf "["; for (i = 1; i <= n; i++) printf "%s{\"id\":\
 status=$(cat got.status)
 is 'a reader that leaves' 1 '*' ''
 
+# What is at fault in files.
+whole='a file is an event, which is an object, or an array of events'
+found="{\"file\":\"bad.json\",\"fault\":\"not an event or a batch\",\"hint\":\"$whole\"}$lf"
+run check f.json bad.json
+is 'what is at fault' 1 "$found" ''
+run check f.json
+is 'nothing at fault' 0 '' ''
+run check
+is 'a check of no file' 2 '' '*'
+run check --db rows.db f.json
+is 'a check with a database' 2 '' '*'
+run check bad.json folder
+is 'a check of a folder' 1 '' "site: folder: cannot read$lf"
+"$program" check - <bad.json >got.out 2>got.err
+status=$?
+is 'a check of standard input' 1 "{\"file\":\"-\",\"fault\":\"not an event or a batch\",\"hint\":\"$whole\"}$lf" ''
+: >got.out
+"$program" check bad.json 2>got.err >&-
+status=$?
+is 'what is at fault to a closed stream' 1 '' ''
+"$program" check bad.json >/dev/full 2>got.err
+status=$?
+is 'what is at fault to a full device' 1 '' ''
+"$program" check bad.json >got.out 2>&-
+status=$?
+: >got.err
+is 'what is at fault, standard error closed' 1 "$found" ''
+sed 's/000000000/0/g' many.json >short.json
+{ "$program" check short.json 2>got.err; echo $? >got.status; } | head -n 1 >got.out
+status=$(cat got.status)
+is 'a reader that leaves what is at fault' 1 '*' ''
+
 # The script ./site, where it has built this program already.
 if [ "$program" = "$here/crates/site_cli/out/site_cli" ] && [ -e "$program.built" ]; then
     ln -s "$here/site" link

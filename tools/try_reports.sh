@@ -96,6 +96,23 @@ names_fault '[{},' 'not JSON'
 names_fault '' 'not JSON'
 names_fault '3' 'not an event or a batch'
 
+# Every event at fault, of every file.
+found() {
+    want=$1
+    shift
+    run "$@"
+    is "$*" 1 "$want" ''
+}
+answers '' check good numbers empty
+found "{\"file\":\"bad\",\"fault\":\"not an event or a batch\",\"hint\":\"a file is an event, which is an object, or an array of events\"}$lf" check good bad
+pad='a sequence has twenty digits, from 1: pad it with zeros on the left'
+printf '[%s,{"id":"b","sequence":"2","source":"/","specversion":"1.0","type":"t"},{"id":"c","sequence":3,"source":"/","specversion":"1.0","type":"t"}]' "$first" >short
+found "{\"file\":\"short\",\"index\":1,\"id\":\"b\",\"fault\":\"BadSequence\",\"attribute\":\"sequence\",\"value\":\"2\",\"hint\":\"$pad\"}$lf{\"file\":\"short\",\"index\":2,\"id\":\"c\",\"fault\":\"BadSequence\",\"attribute\":\"sequence\",\"value\":3,\"hint\":\"$pad\"}$lf" check short good
+printf '%s' '[{"id":"b","source":"/","specversion":"0.3","type":"t"},3]' >old
+event='an event is an object whose specversion is the text 1.0'
+found "{\"file\":\"old\",\"index\":0,\"id\":\"b\",\"fault\":\"SpecVersion\",\"attribute\":\"specversion\",\"value\":\"0.3\",\"hint\":\"$event\"}$lf{\"file\":\"old\",\"index\":1,\"fault\":\"SpecVersion\",\"attribute\":\"specversion\",\"hint\":\"$event\"}$lf" check old
+refuses 'none: cannot read' check bad none
+
 # All files are read before one is judged; 33,554,432 bytes are the most that one may have.
 spaces() { head -c "$1" /dev/zero | tr '\0' ' '; }
 spaces 33554433 >over

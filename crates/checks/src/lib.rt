@@ -12,6 +12,8 @@ mod event;
 #[cfg(test)]
 mod events;
 #[cfg(test)]
+mod faults;
+#[cfg(test)]
 mod inboxes;
 #[cfg(test)]
 mod json;

@@ -11,7 +11,7 @@ use Rattle.command_words.specs.declared.fault.Faulty.TheVariants.{OutOfMemory, W
 use Rattle.command_words.specs.Commands.{app_for, word_of}
 use Rattle.command_words.specs.Plans.{Blames}
 use Rattle.command_words.specs.declared.command.Command.{Command}
-use Rattle.command_words.specs.declared.command.Command.TheVariants.{Ask, Delta, Follow, Order, Relay, Run, Scrub, Service, Summary, Take}
+use Rattle.command_words.specs.declared.command.Command.TheVariants.{Ask, Check, Delta, Follow, Order, Relay, Run, Scrub, Service, Summary, Take}
 use Rattle.views.specs.declared.query.Query.TheVariants.{Conflicts, Cover, Days, Gaps, Kinds, Latest, Shown}
 
 -- what a command that is b matched at the words
@@ -39,6 +39,7 @@ Blames-weaker F G (Words text is_help) f h = f h
 -- a command's rule is one that clap's contracts speak of
 pub app_for-simple : (command : Command) → is_simple_and_free (app_for command) ≡ true
 app_for-simple (Ask query) = refl
+app_for-simple Check = refl
 app_for-simple Summary = refl
 app_for-simple Take = refl
 app_for-simple Follow = refl
@@ -56,7 +57,7 @@ of_word word =
     else if bytes_eq word (codes "shown") then Ask Shown else if bytes_eq word (codes "latest") then Ask Latest
     else if bytes_eq word (codes "kinds") then Ask Kinds else if bytes_eq word (codes "days") then Ask Days
     else if bytes_eq word (codes "conflicts") then Ask Conflicts else if bytes_eq word (codes "take") then Take
-    else if bytes_eq word (codes "follow") then Follow
+    else if bytes_eq word (codes "follow") then Follow else if bytes_eq word (codes "check") then Check
     else if bytes_eq word (codes "summary") then Summary
     else if bytes_eq word (codes "delta") then Delta else if bytes_eq word (codes "scrub") then Scrub
     else if bytes_eq word (codes "service") then Service
@@ -71,6 +72,7 @@ of_word_back (Ask Latest) = refl
 of_word_back (Ask Kinds) = refl
 of_word_back (Ask Days) = refl
 of_word_back (Ask Conflicts) = refl
+of_word_back Check = refl
 of_word_back Summary = refl
 of_word_back Take = refl
 of_word_back Follow = refl

@@ -3,7 +3,7 @@ use Rattle.std.specs.Prelude.{List, ℕ, [], ◌∷◌, codes, true, Some}
 use Rattle.clap.specs.Words.{App, Rule, new_app, new_rule, with_rule}
 use Rattle.clap.specs.declared.builder.action.ArgAction.TheVariants.{Append, SetTrue}
 use Rattle.command_words.specs.declared.command.Command.{Command}
-use Rattle.command_words.specs.declared.command.Command.TheVariants.{Ask, Delta, Follow, Order, Relay, Run, Scrub, Service, Summary, Take}
+use Rattle.command_words.specs.declared.command.Command.TheVariants.{Ask, Check, Delta, Follow, Order, Relay, Run, Scrub, Service, Summary, Take}
 use Rattle.views.specs.declared.query.Query.TheVariants.{Conflicts, Cover, Days, Gaps, Kinds, Latest, Shown}
 
 -- the word of a command
@@ -15,6 +15,7 @@ word_of (Ask Latest) = codes "latest"
 word_of (Ask Kinds) = codes "kinds"
 word_of (Ask Days) = codes "days"
 word_of (Ask Conflicts) = codes "conflicts"
+word_of Check = codes "check"
 word_of Summary = codes "summary"
 word_of Take = codes "take"
 word_of Follow = codes "follow"
@@ -73,6 +74,7 @@ with_db command = with_rule (new_app (word_of command)) (needed_rule (codes "db"
 abbrev pub app_for : Command → App
 app_for (Ask query) = with_rule (with_rule (new_app (word_of (Ask query)))
     (option_rule (codes "db"))) question_files_rule
+app_for Check = with_rule (new_app (word_of Check)) files_rule
 app_for Summary = with_db Summary
 app_for Take = with_rule (with_db Take) files_rule
 app_for Follow = with_rule (with_db Follow) lines_rule

@@ -40,6 +40,7 @@ once_of (once.Relay db after is_all) = command.Relay
 abbrev pub command_of : Plan → Command
 command_of (plan.Alone (alone.Once asked)) = once_of asked
 command_of (plan.Alone (alone.Follow lines)) = command.Follow
+command_of (plan.Alone (alone.Check judged)) = command.Check
 command_of (plan.Run files) = command.Run
 
 -- ---- values
@@ -156,6 +157,7 @@ abbrev pub HasTextsOf : List Row → Plan → Type 0
 HasTextsOf rows (plan.Alone (alone.Once asked)) = HasTextsOnce rows asked
 HasTextsOf rows (plan.Alone (alone.Follow lines)) =
     (lines.db ≡ text_in rows (codes "db")) × (lines.file ≡ text_in rows (codes "file"))
+HasTextsOf rows (plan.Alone (alone.Check judged)) = judged.files ≡ texts_in rows (codes "file")
 HasTextsOf rows (plan.Run files) =
     (files.db ≡ text_in rows (codes "db")) × (files.peer ≡ first_of (codes "peer") rows)
     × (files.files ≡ texts_in rows (codes "file"))

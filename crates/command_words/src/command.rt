@@ -17,6 +17,8 @@ pub enum Command {
     /// `WORD [--db DB] FILE..`: answers the query for the events of all files together, and those
     /// of a database.
     Ask(Query),
+    /// `check FILE..`: each event of the files that can't be taken, and why.
+    Check,
     /// `summary --db DB`: which events a database has, for another site to compare.
     Summary,
     /// `take --db DB FILE..`: adds the files' events to a database.
@@ -50,7 +52,7 @@ pub struct Row<'a> {
 }
 
 /// The words of all commands, in the order in which help lists them.
-pub const WORDS: [&str; 16] = [
+pub const WORDS: [&str; 17] = [
     "cover",
     "gaps",
     "shown",
@@ -58,6 +60,7 @@ pub const WORDS: [&str; 16] = [
     "kinds",
     "days",
     "conflicts",
+    "check",
     "take",
     "follow",
     "summary",
@@ -117,6 +120,12 @@ pub fn row_of<'a>(word: &str) -> Option<Row<'a>>
             word: "conflicts",
             full_name: "site conflicts",
             about: "Prints the events that share a source and id, to find producers at fault",
+        }),
+        "check" => Some(Row {
+            command: Command::Check,
+            word: "check",
+            full_name: "site check",
+            about: "Prints each event of the files that can't be taken, and what is the matter",
         }),
         "take" => Some(Row {
             command: Command::Take,
@@ -195,6 +204,7 @@ impl<'a> Row<'a> {
         let bare = self.bare(alloc)?;
         match self.command {
             Command::Ask(_) => bare.arg(question_db(alloc))?.arg(question_files(alloc)),
+            Command::Check => bare.arg(numbered_files(alloc)),
             Command::Summary => bare.arg(read_db(alloc)),
             Command::Take => bare.arg(db(alloc))?.arg(numbered_files(alloc)),
             Command::Follow => bare.arg(db(alloc))?.arg(lines(alloc)),

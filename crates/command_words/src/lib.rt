@@ -13,5 +13,5 @@ mod words;
 pub use attributes::Texts;
 pub use command::Command;
 pub use fault::Faulty;
-pub use request::{Action, Alone, Follow, Once, Pages, Plan, Request, Run};
+pub use request::{Action, Alone, Check, Follow, Once, Pages, Plan, Request, Run};
 pub use words::plan;

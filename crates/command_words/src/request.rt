@@ -18,6 +18,8 @@ pub enum Alone {
     Once(Once),
     /// Lines that are answered as they come.
     Follow(Follow),
+    /// Files whose events are judged, each by itself.
+    Check(Check),
 }
 
 /// A command with one answer.
@@ -76,6 +78,12 @@ pub enum Once {
 pub struct Follow {
     pub db: Text,
     pub file: Text,
+}
+
+/// Files whose events are judged, each by itself, and kept nowhere.
+#[derive(Drop)]
+pub struct Check {
+    pub files: Texts,
 }
 
 /// Files taken side by side into a database, each by a thread of its own, and with them the events

@@ -14,7 +14,7 @@ use crate::command::{Command, row_of};
 use crate::fault::Faulty;
 use crate::matched::{given_text_of, is_given, str_of, text_of, texts_of};
 use crate::program::{faulty_of, no_command};
-use crate::request::{Alone, Follow, Once, Pages, Plan, Request, Run};
+use crate::request::{Alone, Check, Follow, Once, Pages, Plan, Request, Run};
 use crate::value::{
     action, base, both_pages, no_events, number, order_number, source, time, workers,
 };
@@ -67,6 +67,10 @@ fn matched(alloc: Global, command: Command, matches: &ArgMatches<'_>) -> Result<
                 return Err(no_events(alloc));
             }
             Ok(once(Once::Ask { query, db, files }))
+        }
+        Command::Check => {
+            let files = texts_of(alloc, matches, "file")?;
+            Ok(Plan::Alone(Alone::Check(Check { files })))
         }
         Command::Summary => {
             let db = text_of(alloc, matches, "db")?;

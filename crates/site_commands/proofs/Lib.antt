@@ -1,3 +1,4 @@
+mod CheckLemmas
 mod EndingLemmas
 mod LineLemmas
 mod RunLemmas

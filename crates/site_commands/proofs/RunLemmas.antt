@@ -10,14 +10,16 @@ use Rattle.file_reports.specs.declared.input.Unread.{Unread}
 use Rattle.site_commands.specs.Endings.{Ends, EndsStream, SaysRefusal, Writes}
 use Rattle.site_commands.specs.Lines.{line_of, memory_line}
 use Rattle.site_commands.specs.Names.{Names, of_follow, of_plan}
+use Rattle.site_commands.specs.Checks.{IsCheckEnding}
 use Rattle.site_commands.specs.Runs.{ComesTo, IsEnding, IsLine, PrintsAnswer, RunsAlone, RunsBeside, RunsWords, said}
 use Rattle.site_commands.specs.Answers.{AnswersPlan, IsAllowed, IsAllowedAlone, RefusesPlan}
 use Rattle.site_commands.specs.declared.ending.Ending.{Ending}
-use Rattle.site_commands.specs.declared.ending.Ending.TheVariants.{Answer, Pages, Help, Faulty, Refused, NoMemory}
+use Rattle.site_commands.specs.declared.ending.Ending.TheVariants.{Answer, Pages, Findings, Help, Faulty, Refused, NoMemory}
 use Rattle.database_commands.specs.Pages.{pages_text}
 use Rattle.site_commands.specs.declared.line.Refusal.{Refusal}
 use Rattle.command_words.specs.declared.request.Alone.{Alone}
 use Rattle.command_words.specs.declared.request.Alone.TheVariants as alone
+use Rattle.command_words.specs.declared.request.Check.{Check}
 use Rattle.command_words.specs.declared.request.Follow.{Follow}
 use Rattle.command_words.specs.declared.request.Once.{Once}
 use Rattle.command_words.specs.declared.request.Once.TheVariants as once
@@ -39,6 +41,7 @@ module _ (C : List ℕ → List ℕ → Type 0) (U : List ℕ → Unread → Typ
   pub status_within : (e : Ending) → Ends e r out out' err err' → r ≤ 2
   status_within (Answer text) h = written_within r 0 out out' text (omega arith) h.0
   status_within (Pages events) h = elim h [ inl w ↦ omega (arith, w.0) | inr w ↦ omega (arith, w.0) ]
+  status_within (Findings text) h = written_within r 1 out out' text (omega arith) h.0
   status_within (Help text) h = written_within r 2 out out' text (omega arith) h.0
   status_within (Faulty text) h = written_within r 2 err err' text (omega arith) h.0
   status_within (Refused text) h = written_within r 1 err err' text (omega arith) h.0
@@ -47,6 +50,7 @@ module _ (C : List ℕ → List ℕ → Type 0) (U : List ℕ → Unread → Typ
   pub answer_printed : (e : Ending) → IsEnding C U words e → Ends e r out out' err err' → r ≡ 0 → PrintsAnswer C words out out'
   answer_printed (Answer text) i h done = elim h.0 [ inl w ↦ (text, i, w.1) | inr w ↦ absurd (omega (arith, w.0, done)) ]
   answer_printed (Pages events) i h done = elim h [ inl w ↦ (pages_text events, i, w.1) | inr w ↦ absurd (omega (arith, w.0, done)) ]
+  answer_printed (Findings text) i h done = never_ends r 1 0 out out' text _ h.0 (λ e. omega arith) (λ e. omega arith) done
   answer_printed (Help text) i h done = never_ends r 2 0 out out' text _ h.0 (λ e. omega arith) (λ e. omega arith) done
   answer_printed (Faulty text) i h done = never_ends r 2 0 err err' text _ h.0 (λ e. omega arith) (λ e. omega arith) done
   answer_printed (Refused text) i h done = never_ends r 1 0 err err' text _ h.0 (λ e. omega arith) (λ e. omega arith) done
@@ -55,6 +59,7 @@ module _ (C : List ℕ → List ℕ → Type 0) (U : List ℕ → Unread → Typ
   pub words_faulty : (e : Ending) → IsEnding C U words e → Ends e r out out' err err' → r ≡ 2 → AreFaulty words
   words_faulty (Answer text) i h done = never_ends r 0 2 out out' text _ h.0 (λ e. omega arith) (λ e. omega arith) done
   words_faulty (Pages events) i h done = elim h [ inl w ↦ absurd (omega (arith, w.0, done)) | inr w ↦ absurd (omega (arith, w.0, done)) ]
+  words_faulty (Findings text) i h done = never_ends r 1 2 out out' text _ h.0 (λ e. omega arith) (λ e. omega arith) done
   words_faulty (Help text) i h done = i
   words_faulty (Faulty text) i h done = i
   words_faulty (Refused text) i h done = never_ends r 1 2 err err' text _ h.0 (λ e. omega arith) (λ e. omega arith) done
@@ -114,6 +119,7 @@ refused_ending : (A : List ℕ → Type 0) (R : Refusal → Type 0) (n : Names) 
     → R refusal → IsLine n refusal e → ComesTo A R n e
 refused_ending A R n refusal (Answer text) r line = absurd line
 refused_ending A R n refusal (Pages events) r line = absurd line
+refused_ending A R n refusal (Findings text) r line = absurd line
 refused_ending A R n refusal (Help text) r line = absurd line
 refused_ending A R n refusal (Faulty text) r line = absurd line
 refused_ending A R n refusal (Refused text) r line = (refusal, r, line)
@@ -128,15 +134,28 @@ planned_ending : (C : List ℕ → List ℕ → Type 0) (U : List ℕ → Unread
     → IsPlan words plan → ComesTo (AnswersPlan C plan) (RefusesPlan C U plan) (of_plan plan) e → IsEnding C U words e
 planned_ending C U words plan (Answer text) p h = record { plan = plan; planned = p; answered = h }
 planned_ending C U words plan (Pages events) p h = record { plan = plan; planned = p; answered = h }
+planned_ending C U words plan (Findings text) p h = absurd h
 planned_ending C U words plan (Help text) p h = absurd h
 planned_ending C U words plan (Faulty text) p h = absurd h
 planned_ending C U words plan (Refused text) p h = record { plan = plan; planned = p; refusal = h.0; refused = h.1; is_line = h.2 }
 planned_ending C U words plan NoMemory p h = tt
 
+-- what a check comes to, its words come to
+checked_ending : (C : List ℕ → List ℕ → Type 0) (U : List ℕ → Unread → Type 0) (words : List (List ℕ)) (judged : Check) (e : Ending)
+    → IsPlan words (plan.Alone (alone.Check judged)) → IsCheckEnding C U judged e → IsEnding C U words e
+checked_ending C U words judged (Answer text) p h = record { plan = plan.Alone (alone.Check judged); planned = p; answered = h }
+checked_ending C U words judged (Pages events) p h = absurd h
+checked_ending C U words judged (Findings text) p h = record { judged = judged; planned = p; found = h }
+checked_ending C U words judged (Help text) p h = absurd h
+checked_ending C U words judged (Faulty text) p h = absurd h
+checked_ending C U words judged (Refused text) p h = record { plan = plan.Alone (alone.Check judged); planned = p; refusal = h.0; refused = h.1; is_line = h.2 }
+checked_ending C U words judged NoMemory p h = tt
+
 -- a plan that one thread carried out is what its words come to
 pub planned_alone : (C : List ℕ → List ℕ → Type 0) (U : List ℕ → Unread → Type 0) (words : List (List ℕ)) (p : Alone) (r : ℕ) (out out' err err' : Option (List ℕ)) → IsPlan words (plan.Alone p) → RunsAlone C U p r out out' err err' → RunsWords C U words r out out' err err'
 planned_alone C U words (alone.Once asked) r out out' err err' planned w = inl (record { ending = w.0; is_ending = planned_ending C U words (plan.Alone (alone.Once asked)) w.0 planned w.1; ends = w.2 })
 planned_alone C U words (alone.Follow lines) r out out' err err' planned w = inr (record { lines = lines; planned = planned; ends = w })
+planned_alone C U words (alone.Check judged) r out out' err err' planned w = inl (record { ending = w.0; is_ending = checked_ending C U words judged w.0 planned w.1; ends = w.2 })
 
 -- and so is a run
 pub planned_run : (C : List ℕ → List ℕ → Type 0) (U : List ℕ → Unread → Type 0) (words : List (List ℕ)) (p : Run) (r : ℕ) (out out' err err' : Option (List ℕ)) → IsPlan words (plan.Run p) → RunsBeside C U p r out out' err err' → RunsWords C U words r out out' err err'
@@ -178,6 +197,7 @@ once_allowed words (once.Relay db after is_all) h = tt
 pub alone_allowed : (words : List (List ℕ)) (p : Alone) → IsPlan words (plan.Alone p) → IsAllowedAlone p
 alone_allowed words (alone.Once o) h = once_allowed words o h
 alone_allowed words (alone.Follow lines) h = tt
+alone_allowed words (alone.Check judged) h = tt
 
 -- and so many files are few
 pub run_allowed : (words : List (List ℕ)) (p : Run) → IsPlan words (plan.Run p) → AreFew (is_some p.peer) (length p.files)

@@ -37,6 +37,7 @@ use Rattle.run_command.specs.Run.{SaysRun}
 use Rattle.views.specs.declared.query.Query.{Query}
 use Rattle.site_commands.specs.Names.{names_of}
 use Rattle.site_commands.specs.Streams.{AnswersFollow}
+use Rattle.site_commands.specs.Checks.{FindsNone, RefusesCheck}
 use Rattle.site_commands.specs.declared.line.Refusal.{Refusal}
 use Rattle.site_commands.specs.declared.line.Refusal.TheVariants as refusal
 
@@ -221,6 +222,7 @@ AnswersOnce C (once.Relay db after is_all) text = SaysRows is_all text
 abbrev pub AnswersPlan : (List ℕ → List ℕ → Type 0) → Plan → List ℕ → Type 0
 AnswersPlan C (plan.Alone (alone.Once asked)) text = AnswersOnce C asked text
 AnswersPlan C (plan.Alone (alone.Follow lines)) text = AnswersFollow C lines.file text
+AnswersPlan C (plan.Alone (alone.Check judged)) text = FindsNone C judged text
 AnswersPlan C (plan.Run run) text = AnswersRun C run.peer run.files text
 
 -- this is why the plan, which would have one answer, has none
@@ -240,6 +242,7 @@ abbrev pub RefusesPlan : (List ℕ → List ℕ → Type 0) → (List ℕ → Un
     → Plan → Refusal → Type 0
 RefusesPlan C U (plan.Alone (alone.Once asked)) refusal = RefusesOnce C U asked refusal
 RefusesPlan C U (plan.Alone (alone.Follow lines)) refusal = ⊥
+RefusesPlan C U (plan.Alone (alone.Check judged)) refusal = RefusesCheck C U judged.files refusal
 RefusesPlan C U (plan.Run run) refusal = RefusesRun C U run.peer run.files refusal
 
 -- what is asked of a service or an order is within what a service allows
@@ -258,3 +261,4 @@ IsAllowed (once.Relay db after is_all) = Unit {0}
 abbrev pub IsAllowedAlone : Alone → Type 0
 IsAllowedAlone (alone.Once asked) = IsAllowed asked
 IsAllowedAlone (alone.Follow lines) = Unit {0}
+IsAllowedAlone (alone.Check judged) = Unit {0}

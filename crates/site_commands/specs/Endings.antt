@@ -33,6 +33,7 @@ abbrev pub Ends : Ending → ℕ → Option (List ℕ) → Option (List ℕ)
     → Option (List ℕ) → Option (List ℕ) → Type 0
 Ends (ending.Answer text) result out out' err err' = Writes result 0 out out' text × Keeps err err'
 Ends (ending.Pages events) result out out' err err' = EndsPages events result out out' err err'
+Ends (ending.Findings text) result out out' err err' = Writes result 1 out out' text × Keeps err err'
 Ends (ending.Help text) result out out' err err' = Writes result 2 out out' text × Keeps err err'
 Ends (ending.Faulty text) result out out' err err' = Writes result 2 err err' text × Keeps out out'
 Ends (ending.Refused text) result out out' err err' = Writes result 1 err err' text × Keeps out out'

@@ -2,6 +2,7 @@
 use Rattle.std.specs.Prelude.{ℕ, List, [], ◌∷◌, Option, None, Some, unwrap_or}
 use Rattle.std.specs.Borrow.{Bor}
 use Rattle.command_words.specs.declared.request.Alone.TheVariants as alone
+use Rattle.command_words.specs.declared.request.Check.{Check}
 use Rattle.command_words.specs.declared.request.Follow.{Follow}
 use Rattle.command_words.specs.declared.request.Once.{Once}
 use Rattle.command_words.specs.declared.request.Once.TheVariants as once
@@ -36,6 +37,10 @@ of_once (once.Relay db after is_all) = record { db = db; order = 0; files = [] }
 abbrev pub of_follow : Follow → Names
 of_follow lines = record { db = lines.db; order = 0; files = lines.file ∷ [] }
 
+-- what a check names
+abbrev pub of_check : Check → Names
+of_check judged = record { db = []; order = 0; files = judged.files }
+
 -- what a run names, its peer's file first
 abbrev pub of_run : Run → Names
 of_run run = record { db = run.db; order = 0; files = names_of run.peer run.files }
@@ -44,6 +49,7 @@ of_run run = record { db = run.db; order = 0; files = names_of run.peer run.file
 abbrev pub of_plan : Plan → Names
 of_plan (plan.Alone (alone.Once asked)) = of_once asked
 of_plan (plan.Alone (alone.Follow lines)) = of_follow lines
+of_plan (plan.Alone (alone.Check judged)) = of_check judged
 of_plan (plan.Run run) = of_run run
 
 -- the files, one of them before the others where there is one

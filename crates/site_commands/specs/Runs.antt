@@ -6,6 +6,7 @@ use Rattle.command_words.specs.declared.fault.Faulty.{Faulty}
 use Rattle.command_words.specs.declared.fault.Faulty.TheVariants as faulty
 use Rattle.command_words.specs.declared.request.Alone.{Alone}
 use Rattle.command_words.specs.declared.request.Alone.TheVariants as alone
+use Rattle.command_words.specs.declared.request.Check.{Check}
 use Rattle.command_words.specs.declared.request.Follow.{Follow}
 use Rattle.command_words.specs.declared.request.Plan.{Plan}
 use Rattle.command_words.specs.declared.request.Plan.TheVariants as plan
@@ -14,6 +15,7 @@ use Rattle.command_words.specs.declared.request.Once.{Once}
 use Rattle.database_commands.specs.Pages.{pages_text}
 use Rattle.file_reports.specs.declared.input.Unread.{Unread}
 use Rattle.site_commands.specs.Answers.{AnswersOnce, AnswersPlan, AnswersRun, RefusesOnce, RefusesPlan, RefusesRun}
+use Rattle.site_commands.specs.Checks.{FindsSome, IsCheckEnding}
 use Rattle.site_commands.specs.Endings.{Ends, EndsStream}
 use Rattle.site_commands.specs.Lines.{arguments_line, line_of}
 use Rattle.site_commands.specs.Names.{Names, of_once, of_plan, of_run}
@@ -37,10 +39,18 @@ pub record RefusesWords (C : List ℕ → List ℕ → Type 0) (U : List ℕ →
   pub refused : RefusesPlan C U plan refusal
   pub is_line : text ≡ line_of (of_plan plan) refusal
 
+-- the words are a check, and the text has the lines of what is at fault
+pub record FindsWords (C : List ℕ → List ℕ → Type 0) (words : List (List ℕ))
+    (text : List ℕ) : Type 0 where
+  pub judged : Check
+  pub planned : IsPlan words (plan.Alone (alone.Check judged))
+  pub found : FindsSome C judged text
+
 -- the line of a refusal of a plan that names these, or want of memory for it
 abbrev pub IsLine : Names → Refusal → Ending → Type 0
 IsLine names refusal (ending.Answer text) = ⊥
 IsLine names refusal (ending.Pages events) = ⊥
+IsLine names refusal (ending.Findings text) = ⊥
 IsLine names refusal (ending.Help text) = ⊥
 IsLine names refusal (ending.Faulty text) = ⊥
 IsLine names refusal (ending.Refused text) = text ≡ line_of names refusal
@@ -51,6 +61,7 @@ IsLine names refusal ending.NoMemory = Unit {0}
 abbrev pub ComesTo : (List ℕ → Type 0) → (Refusal → Type 0) → Names → Ending → Type 0
 ComesTo Answers Refuses names (ending.Answer text) = Answers text
 ComesTo Answers Refuses names (ending.Pages events) = Answers (pages_text events)
+ComesTo Answers Refuses names (ending.Findings text) = ⊥
 ComesTo Answers Refuses names (ending.Help text) = ⊥
 ComesTo Answers Refuses names (ending.Faulty text) = ⊥
 ComesTo Answers Refuses names (ending.Refused text) =
@@ -74,6 +85,7 @@ abbrev pub IsEnding : (List ℕ → List ℕ → Type 0) → (List ℕ → Unrea
     → List (List ℕ) → Ending → Type 0
 IsEnding C U words (ending.Answer text) = AnswersWords C words text
 IsEnding C U words (ending.Pages events) = AnswersWords C words (pages_text events)
+IsEnding C U words (ending.Findings text) = FindsWords C words text
 IsEnding C U words (ending.Help text) = AreFaulty words
 IsEnding C U words (ending.Faulty text) = AreFaulty words
 IsEnding C U words (ending.Refused text) = RefusesWords C U words text
@@ -92,6 +104,8 @@ RunsAlone C U (alone.Once asked) status out out' err err' =
     (ending : Ending) × IsOnceEnding C U asked ending × Ends ending status out out' err err'
 RunsAlone C U (alone.Follow lines) status out out' err err' =
     EndsStream C U lines status out out' err err'
+RunsAlone C U (alone.Check judged) status out out' err err' =
+    (ending : Ending) × IsCheckEnding C U judged ending × Ends ending status out out' err err'
 
 -- the run comes to an ending, and it is written
 abbrev pub RunsBeside : (List ℕ → List ℕ → Type 0) → (List ℕ → Unread → Type 0) → Run → ℕ
@@ -125,6 +139,7 @@ RunsWords C U words status out out' err err' = EndsWords C U words status out ou
 abbrev pub IsUnheard : Ending → Type 0
 IsUnheard (ending.Answer text) = ⊥
 IsUnheard (ending.Pages events) = ⊥
+IsUnheard (ending.Findings text) = ⊥
 IsUnheard (ending.Help text) = ⊥
 IsUnheard (ending.Faulty text) = text ≡ arguments_line
 IsUnheard (ending.Refused text) = ⊥

@@ -1,6 +1,7 @@
 //! How a run ends, as a value, and the one place that writes it.
 ghost use Rattle.site_commands.specs.Endings.{Ends, EndsPages, SaysRefusal, Writes};
 ghost use Rattle.site_commands.specs.Names.{lent};
+ghost use Rattle.site_commands.specs.Runs.{IsLine};
 
 use crate::line::{Refusal, line_of};
 use crate::names::Names;
@@ -29,6 +30,8 @@ pub enum Ending {
     /// The answer in pages, each a line that is made when it is written, for standard output: status
     /// 0. Memory that runs out between two pages ends it with 1 and a line on standard error.
     Pages(EventPages),
+    /// What a check found to be at fault, for standard output: status 1.
+    Findings(Text),
     /// Help or the version, asked for, for standard output: status 2.
     Help(Text),
     /// What is said of faulty words, for standard error: status 2.
@@ -53,6 +56,7 @@ pub fn finish<O: Write, E: Write>(ending: Ending, out: &mut O, err: &mut E) -> u
             mem::forget(pages);
             status
         }
+        Ending::Findings(text) => print(out, text.as_str(), REFUSED),
         Ending::Help(text) => print(out, text.as_str(), FAULTY),
         Ending::Faulty(text) => print(err, text.as_str(), FAULTY),
         Ending::Refused(text) => print(err, text.as_str(), REFUSED),
@@ -89,9 +93,21 @@ fn print<W: Write>(to: &mut W, text: &str, status: u8) -> u8
     }
 }
 
-/// Writes the line of a refusal of a plan that names these, or, where memory is wanted for it, the line that says so.
+/// The ending of a refusal of a plan that names these: its line, where memory is left for it.
+pub fn refused(alloc: Global, names: Names<'_>, refusal: Refusal) -> Ending
+    ensures { IsLine (lent names.entry) refusal result }
+{
+    match line_of(alloc, names, refusal) {
+        Ok(line) => Ending::Refused(line),
+        Err(_) => Ending::NoMemory,
+    }
+}
+
+/// Writes the line of a refusal of a plan that names these, or, where memory is wanted for it, the
+/// line that says so.
 pub fn say<E: Write>(alloc: Global, names: Names<'_>, refusal: Refusal, err: &mut E) -> u8
-    ensures { SaysRefusal (lent names.entry) refusal result (E.contents err.old) (E.contents err.new) }
+    ensures { SaysRefusal (lent names.entry) refusal result (E.contents err.old)
+        (E.contents err.new) }
 {
     match line_of(alloc, names, refusal) {
         Ok(line) => print(err, line.as_str(), REFUSED),

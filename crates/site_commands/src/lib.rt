@@ -2,6 +2,7 @@
 //! words after its name to what is written, and the exit status.
 #![tactic(auto)]
 
+mod check;
 mod database;
 mod ending;
 mod files;

@@ -1,10 +1,10 @@
 //! What a plan names, for the lines that say why it has no answer.
 ghost use Rattle.std.specs.Prelude.{◌≡◌, [], unwrap_or};
 ghost use Rattle.site_commands.specs.Lines.{name_at};
-ghost use Rattle.site_commands.specs.Names.{lent, of_follow, of_once, of_run};
+ghost use Rattle.site_commands.specs.Names.{lent, of_check, of_follow, of_once, of_run};
 
 use attributes::Text;
-use command_words::{Follow, Once, Run};
+use command_words::{Check, Follow, Once, Run};
 
 /// What a plan names.
 #[derive(Clone, Copy)]
@@ -76,6 +76,18 @@ impl<'a> Names<'a> {
             order: 0,
             first: Some(plan.file.as_str()),
             files: &[],
+        }
+    }
+
+    /// What a check names.
+    pub fn of_check(plan: &'a Check) -> Names<'a>
+        ensures { lent result ≡ of_check plan.now }
+    {
+        Names {
+            db: "",
+            order: 0,
+            first: None,
+            files: plan.files.as_slice(),
         }
     }
 

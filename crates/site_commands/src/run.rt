@@ -4,15 +4,15 @@ ghost use Rattle.std.specs.Option.{is_some};
 ghost use Rattle.std.specs.Process.{exit_status};
 ghost use Rattle.command_words.specs.Plans.{AreFaulty, AreFew};
 ghost use Rattle.site_commands.specs.Answers.{AnswersOnce, IsAllowed, IsAllowedAlone, RefusesOnce};
-ghost use Rattle.site_commands.specs.Names.{lent};
 ghost use Rattle.site_commands.specs.Printed.{printed};
 ghost use Rattle.site_commands.specs.declared.printed.Printed.TheVariants as Printed;
-ghost use Rattle.site_commands.specs.Runs.{EndsUnheard, IsLine, IsOnceEnding, IsRunEnding, IsUnheard, PrintsAnswer, RunsAlone, RunsBeside, RunsWords, said};
+ghost use Rattle.site_commands.specs.Runs.{EndsUnheard, IsOnceEnding, IsRunEnding, IsUnheard, PrintsAnswer, RunsAlone, RunsBeside, RunsWords, said};
 
+use crate::check::ending_of_check;
 use crate::database::{delta, order, relay, scrub, service, summary, take};
-use crate::ending::{Ending, finish};
+use crate::ending::{Ending, finish, refused};
 use crate::files::SystemFiles;
-use crate::line::{Refusal, line_of};
+use crate::line::Refusal;
 use crate::names::Names;
 use crate::printed::Printed;
 use crate::progress::Progress;
@@ -62,7 +62,7 @@ pub fn exit<
 /// `err`. Help that was asked for goes to `out`, what is said of faulty words to `err`. After a
 /// write that fails nothing more is written. It waits where `run` does.
 ///
-/// How far `take` and `run` came is told by `progress` alone, before anything is written.
+/// How far `take`, `check` and `run` came is told by `progress` alone, before anything is written.
 pub fn perform<
     R: AllocGlobal + Files + Databases + Runs + Threads + Wait + Sync,
     O: Write,
@@ -125,6 +125,13 @@ pub fn perform_alone<R: AllocGlobal + Files + Databases, O: Write, E: Write, P: 
             let left = Cell::new(0);
             let shelf = SystemFiles { rt, progress, left };
             follow(rt.alloc(), &shelf, rt, plan, out, err)
+        }
+        Alone::Check(plan) => {
+            let left = Cell::new(plan.files.len());
+            let shelf = SystemFiles { rt, progress, left };
+            let ending = ending_of_check(rt.alloc(), &shelf, plan);
+            progress.over();
+            finish(ending, out, err)
         }
     }
 }
@@ -268,16 +275,6 @@ fn lined(answer: Result<Text, Refusal>) -> Result<Printed, Refusal>
     match answer {
         Ok(text) => Ok(Printed::Line(text)),
         Err(refusal) => Err(refusal),
-    }
-}
-
-/// The ending of a refusal: its line, where memory is left for it.
-fn refused(alloc: Global, names: Names<'_>, refusal: Refusal) -> Ending
-    ensures { IsLine (lent names.entry) refusal result }
-{
-    match line_of(alloc, names, refusal) {
-        Ok(line) => Ending::Refused(line),
-        Err(_) => Ending::NoMemory,
     }
 }
 

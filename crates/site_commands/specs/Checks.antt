@@ -1,0 +1,56 @@
+-- What a check of files comes to. C says what a name is read as, U why a name isn't read.
+use Rattle.std.specs.Prelude.{◌≡◌, ◌≢◌, ℕ, List, [], ◌∷◌, ◌++◌}
+use Rattle.command_words.specs.declared.request.Check.{Check}
+use Rattle.fault_lines.specs.Lines.{IsFaultText}
+use Rattle.file_reports.specs.Shelves.{AreContents, IsUnreadAt}
+use Rattle.file_reports.specs.declared.input.Unread.{Unread}
+use Rattle.site_commands.specs.Lines.{line_of}
+use Rattle.site_commands.specs.Names.{of_check}
+use Rattle.site_commands.specs.declared.ending.Ending.{Ending}
+use Rattle.site_commands.specs.declared.ending.Ending.TheVariants as ending
+use Rattle.site_commands.specs.declared.line.Refusal.{Refusal}
+use Rattle.site_commands.specs.declared.line.Refusal.TheVariants as refusal
+
+-- the text has the lines of the events at fault in these contents, file by file, one content for each name
+abbrev pub AreFaultsOf : List (List ℕ) → List (List ℕ) → List ℕ → Type 0
+AreFaultsOf [] [] text = text ≡ []
+AreFaultsOf (file ∷ files) (bytes ∷ contents) text = (lines : List ℕ) × (rest : List ℕ)
+    × IsFaultText file bytes lines × AreFaultsOf files contents rest × (text ≡ lines ++ rest)
+AreFaultsOf _ _ text = ⊥
+
+-- all files were read, and the text has the lines of their events at fault
+abbrev pub TellsFaults : (List ℕ → List ℕ → Type 0) → List (List ℕ) → List ℕ → Type 0
+TellsFaults C files text = (contents : List (List ℕ)) × AreContents C files contents
+    × AreFaultsOf files contents text
+
+-- memory ran out, or this is the first file that wasn't read
+abbrev pub RefusesCheck : (List ℕ → List ℕ → Type 0) → (List ℕ → Unread → Type 0)
+    → List (List ℕ) → Refusal → Type 0
+RefusesCheck C U files (refusal.Unread at) = IsUnreadAt C U files at
+RefusesCheck C U files (refusal.File refused) = ⊥
+RefusesCheck C U files (refusal.Summary why) = ⊥
+RefusesCheck C U files (refusal.Database why) = ⊥
+RefusesCheck C U files refusal.NoThread = ⊥
+RefusesCheck C U files (refusal.Lines faults) = ⊥
+
+-- nothing is at fault, and nothing is answered
+pub record FindsNone (C : List ℕ → List ℕ → Type 0) (judged : Check) (text : List ℕ) : Type 0 where
+  pub tells : TellsFaults C judged.files text
+  pub empty : text ≡ []
+
+-- the text has the lines of what is at fault
+pub record FindsSome (C : List ℕ → List ℕ → Type 0) (judged : Check) (text : List ℕ) : Type 0 where
+  pub tells : TellsFaults C judged.files text
+  pub some : text ≢ []
+
+-- what a check comes to
+abbrev pub IsCheckEnding : (List ℕ → List ℕ → Type 0) → (List ℕ → Unread → Type 0)
+    → Check → Ending → Type 0
+IsCheckEnding C U judged (ending.Answer text) = FindsNone C judged text
+IsCheckEnding C U judged (ending.Pages events) = ⊥
+IsCheckEnding C U judged (ending.Findings text) = FindsSome C judged text
+IsCheckEnding C U judged (ending.Help text) = ⊥
+IsCheckEnding C U judged (ending.Faulty text) = ⊥
+IsCheckEnding C U judged (ending.Refused text) = (why : Refusal)
+    × RefusesCheck C U judged.files why × (text ≡ line_of (of_check judged) why)
+IsCheckEnding C U judged ending.NoMemory = Unit {0}
