@@ -40,16 +40,23 @@ def names_in(text):
     return re.findall(r"[A-Za-z_][A-Za-z0-9_]*", re.sub(r"'[a-z_]+", "", text))
 
 
-def without_parameters(head):
-    """What stands behind the parameters of an `impl`."""
+def parted(head):
+    """The parameters of an `impl`, and what stands behind them."""
     if not head.startswith("<"):
-        return head
+        return "", head
     depth = 0
     for at, letter in enumerate(head):
         depth += (letter == "<") - (letter == ">" and head[at - 1] != "-")
         if depth == 0:
-            return head[at + 1:].strip()
-    return head
+            return head[1:at], head[at + 1:].strip()
+    return "", head
+
+
+def name_of_impl(parameters, trait, its_type):
+    """The name of the module of a trait's functions for a type: each name of both but the parameters, as types are named."""
+    bound = set(re.findall(r"(?:^|,)\s*(?:const )?([A-Za-z_][A-Za-z0-9_]*)", parameters))
+    words = [names_in(its_type)[0], *(it for it in names_in(trait) if it not in bound)]
+    return "".join(it[0].upper() + it[1:] for it in words)
 
 
 def owner_of(lines, at):
@@ -58,11 +65,13 @@ def owner_of(lines, at):
     while "{" not in head.split("ghost")[0] and at + 1 < len(lines):
         at += 1
         head += " " + lines[at].strip()
-    head = without_parameters(head[4:].split("{")[0].split(" where ")[0].strip())
-    if " for " in head:
-        trait, its_type = head.split(" for ", 1)
-        return ("trait", names_in(its_type)[0] + "".join(names_in(trait)))
-    return ("type", names_in(head)[0])
+    parameters, head = parted(head[4:].split("{")[0].split(" where ")[0].strip())
+    if " for " not in head:
+        return ("type", names_in(head)[0])
+    trait, its_type = head.split(" for ", 1)
+    if trait == "Drop":
+        return ("none", None)
+    return ("trait", name_of_impl(parameters, trait, its_type))
 
 
 def functions_of(text, modules, home):

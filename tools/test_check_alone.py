@@ -12,7 +12,38 @@ import tempfile
 TOP = os.path.dirname(os.path.dirname(os.path.abspath(__file__)))
 HEAD = "#![tactic(auto)]\n\nghost use Rattle.std.specs.Prelude.{◌≤◌};\n\n"
 # The body is wrong, which nobody above it sees.
-LOW = HEAD + "pub fn least(first: u8, second: u8) -> u8\n    ensures first { result ≤ first }\n{\n    second\n}\n"
+LEAST = "pub fn least(first: u8, second: u8) -> u8\n    ensures first { result ≤ first }\n{\n    second\n}\n"
+# What a trait's functions are called where the trait or the type has parameters or a path; a `drop` has no proof.
+OF_TRAITS = """
+use std::alloc;
+use std::alloc::AllocFailed;
+
+#[derive(Drop)]
+pub struct Fault;
+
+impl<T: Drop> From<AllocFailed<T>> for Fault {
+    fn from(_error: AllocFailed<T>) -> Fault {
+        Fault
+    }
+}
+
+impl From<alloc::AllocError> for Fault {
+    fn from(_error: alloc::AllocError) -> Fault {
+        Fault
+    }
+}
+
+pub struct Held<T: Drop> {
+    it: T,
+}
+
+impl<T: Drop> Drop for Held<T> {
+    fn drop(self) {
+        let Held { it: _ } = self;
+    }
+}
+"""
+LOW = HEAD + LEAST + OF_TRAITS
 HIGH = HEAD + "pub fn least_of(first: u8, second: u8) -> u8\n    ensures { result ≤ first }\n{\n    low::least(BODY)\n}\n"
 # The words of the upper body, and the last line that is wanted.
 ROWS = {

@@ -366,6 +366,15 @@ pub fn open(
     if is_no_file(name) {
         return Err(CommandFault::Store);
     }
+    opened(rt, name, growth)
+}
+
+/// As [`open`], of a name that is a file's.
+fn opened(
+    rt: &HostRuntime,
+    name: &str,
+    growth: u64,
+) -> Result<Connection<FileStore<File>>, CommandFault> {
     let pages = pages_for(length_of(rt, name), growth);
     let options = options(rt, pages)?;
     match sqlite_std_file::open(rt, name, Unknown) {
