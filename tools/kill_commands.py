@@ -1,17 +1,19 @@
 #!/usr/bin/env python3
-"""Ends `take`, `order` and `follow` by a signal at random moments, and looks at what their databases then hold.
+"""Ends `take`, `order`, `run` and `follow` by a signal at random moments, and looks at what their databases then hold.
 
-    tools/kill_commands.py [--rounds N] [--program FILE] [--seed N] [take|order|follow ..]
+    tools/kill_commands.py [--rounds N] [--seconds N] [--program FILE] [--seed N] [take|order|run|follow ..]
 
 Each round gives one command and kills it (SIGKILL) at a moment drawn between its start and a little more than its usual
 end. `order` places an order of its own in each round; `take` brings fifty events of its own; `follow` 2,500 lines, an
-event each, through a pipe, in pieces of a size that is drawn. An answer that was read whole is noted as acknowledged, of
-`follow` each line's. After each round the file is opened by SQLite: it must be sound (`PRAGMA integrity_check`), what
-was acknowledged must be there, once, what was not is there whole or not at all (of `follow` each line), and the rows are
-numbered from 1 without a gap. A round that was not acknowledged is given again, and has to be answered: as the first
-time, or as what was done already.
+event each, through a pipe, in pieces of a size that is drawn; `run` serves two files of fifty. An answer that was read
+whole is noted as acknowledged, of `follow` each line's. After each round the file is opened by SQLite: it must be sound (`PRAGMA integrity_check`), what
+was acknowledged must be there, once, what was not is there whole or not at all (of `follow` and `run` each event), and
+the rows are numbered from 1 without a gap. A round that was not acknowledged is given again, and has to be answered: as
+the first time, or as what was done already. After some rounds a new file is begun, so that no round waits for all that
+those before it brought. With --seconds no round begins after that time.
 """
 import argparse
+import glob
 import json
 import os
 import random
@@ -30,8 +32,9 @@ FEW = 50
 class Kind:
     """A command that is given once a round."""
 
-    # How much each round leaves.
+    # How much each round leaves, and how many rounds have one file.
     whole = 1
+    rounds = 1_000
 
     def prepare(self, number):
         pass
@@ -74,6 +77,7 @@ class Take(Kind):
     """Files that are taken, fifty events a round."""
 
     whole = FEW
+    rounds = 200
 
     def words(self, number):
         return ["take", "--db", "k.db", "f.json"]
@@ -95,16 +99,18 @@ class Take(Kind):
 
     def held(self, base):
         rows = base.execute("SELECT place, number, block FROM inbox2 ORDER BY place").fetchall()
-        held = {}
+        held, every = {}, list(range(1, len(rows) + 1))
         for _, number, _ in rows:
-            held[(number - 1) // FEW + 1] = held.get((number - 1) // FEW + 1, 0) + 1
-        return held, [it[0] for it in rows] == list(range(1, len(rows) + 1)) and all(it[1] // 1024 == it[2] for it in rows)
+            held[(number - 1) // self.whole + 1] = held.get((number - 1) // self.whole + 1, 0) + 1
+        are_once = len({it[1] for it in rows}) == len(rows)
+        return held, are_once and [it[0] for it in rows] == every and all(it[1] // 1024 == it[2] for it in rows)
 
 
 class Follow(Take):
     """Lines that come through a pipe, 2,500 a round; the first line of a round is the one behind the last's."""
 
     whole = 2_500
+    rounds = 10
 
     def __init__(self, draw):
         self.draw = draw
@@ -148,12 +154,32 @@ class Follow(Take):
     def is_part(self, count):
         return count <= self.whole
 
-    def held(self, base):
-        rows = base.execute("SELECT place, number, block FROM inbox2 ORDER BY place").fetchall()
-        held = {}
-        for _, number, _ in rows:
-            held[(number - 1) // self.whole + 1] = held.get((number - 1) // self.whole + 1, 0) + 1
-        return held, [it[0] for it in rows] == list(range(1, len(rows) + 1)) and len({it[1] for it in rows}) == len(rows)
+
+class Run(Take):
+    """Two files that are served side by side, fifty events each; what was done before a kill may be a part."""
+
+    whole = 2 * FEW
+
+    def words(self, number):
+        return ["run", "--db", "k.db", "a.json", "b.json"]
+
+    def prepare(self, number):
+        low = self.whole * (number - 1) + 1
+        for name, first in (("a.json", low), ("b.json", low + FEW)):
+            with open(name, "w", encoding="utf-8") as it:
+                json.dump([self.event(n) for n in range(first, first + FEW)], it, separators=(",", ":"))
+
+    def is_answer(self, number, status, out, err):
+        # What is held is all of the file's rounds.
+        held = self.whole * ((number - 1) % self.rounds + 1)
+        front = f"read {self.whole} refused 0 held {held}\n".encode()
+        return status == 0 and out.startswith(front) and out.endswith(b"}\n")
+
+    def was_done(self, number, status, out, err):
+        return False
+
+    def is_part(self, count):
+        return count <= self.whole
 
 
 def given(program, kind, number, **more):
@@ -171,10 +197,16 @@ def closed(stream):
         pass
 
 
-def tried(program, kind, rounds, draw):
+def tried(program, kind, rounds, draw, until):
     """How many rounds were killed, how many ended before, and what was wrong."""
     usual, killed, ended, wrong, acknowledged = 0.02, 0, 0, [], []
     for number in range(1, rounds + 1):
+        if time.monotonic() > until:
+            break
+        if number % kind.rounds == 1:
+            for name in glob.glob("k.db*"):
+                os.remove(name)
+            acknowledged = []
         kind.prepare(number)
         began = time.monotonic()
         with open("out", "wb") as out, open("err", "wb") as err:
@@ -209,10 +241,13 @@ def tried(program, kind, rounds, draw):
         elif is_told:
             wrong.append(f"round {number}: no file")
         if not is_told:
+            began = time.monotonic()
             again, feeder = given(program, kind, number, stdout=subprocess.PIPE, stderr=subprocess.PIPE)
             said = again.stdout.read(), again.stderr.read()
             said = (again.wait(), *said)
             feeder.join()
+            # Else rounds that take longer than was thought would all be killed at their beginning.
+            usual = 0.9 * usual + 0.1 * (time.monotonic() - began)
             if not kind.is_answer(number, *said) and not kind.was_done(number, *said):
                 wrong.append(f"round {number}, given again: {said}")
         acknowledged.append(number)
@@ -224,17 +259,19 @@ def main():
     words.add_argument("--rounds", type=int, default=100)
     words.add_argument("--program", default=f"{TOP}/crates/site_cli/out/site_cli")
     words.add_argument("--seed", type=int, default=1)
-    words.add_argument("kinds", nargs="*", choices=["take", "order", "follow", []])
+    words.add_argument("--seconds", type=float, default=float("inf"), help="of each command")
+    words.add_argument("kinds", nargs="*", choices=["take", "order", "run", "follow", []])
     words = words.parse_args()
     program, failed = os.path.abspath(words.program), 0
-    for name in words.kinds or ["take", "order", "follow"]:
+    for name in words.kinds or ["take", "order", "run", "follow"]:
         draw = random.Random(words.seed)
-        kind = {"take": Take, "order": Place, "follow": lambda: Follow(draw)}[name]()
+        kind = {"take": Take, "order": Place, "run": Run, "follow": lambda: Follow(draw)}[name]()
         with tempfile.TemporaryDirectory() as room:
             os.chdir(room)
-            killed, ended, wrong = tried(program, kind, words.rounds, draw)
+            until = time.monotonic() + words.seconds
+            killed, ended, wrong = tried(program, kind, words.rounds, draw, until)
             os.chdir("/")
-        print(f"{name}: {words.rounds} rounds: {killed} killed, {ended} ended before; {len(wrong)} wrong", flush=True)
+        print(f"{name}: {killed + ended} rounds: {killed} killed, {ended} ended before; {len(wrong)} wrong", flush=True)
         for line in wrong[:10]:
             print(f"wrong: {line}")
         failed += len(wrong)

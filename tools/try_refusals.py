@@ -47,6 +47,7 @@ FILES = {
     "three.json": [E1, E2, E3],
     "more.json": [E2, E4],
     "peer.json": [E3, E4],
+    "faulty.json": [E1, {**E2, "sequence": "2"}, 3],
 }
 # Lines of an event or a batch each.
 LINES = [[E1], E2, [E2, E3]]
@@ -62,6 +63,8 @@ ACKNOWLEDGED = b"".join(b'{"line":%d,"new":0,"repeated":%d}\n' % it for it in ((
 Row = collections.namedtuple("Row", "words before told again", defaults=([], None, None))
 ROWS_OF_ALL = [
     *[Row([it, "asked.json"]) for it in ("cover", "gaps", "shown", "latest", "kinds", "days", "conflicts")],
+    Row(["check", "asked.json"]),
+    Row(["check", "faulty.json", "asked.json"]),
     *[Row([it, "--db", "s.db", "asked.json"], THREE) for it in ("latest", "conflicts")],
     Row(["take", "--db", "n.db", "three.json"], [], ["scrub", "--db", "n.db"], b"read 3 new 0 repeated 3\n"),
     Row(["take", "--db", "s.db", "more.json"], THREE, HELD, b"read 2 new 0 repeated 2\n"),
@@ -104,6 +107,8 @@ TESTS = {
         "stops::three_sites_stand_where_they_stopped",
     ],
     "worker_checks": [
+        "refused::a_caller_takes_a_batch_or_its_front",
+        "refused::a_desk_takes_a_batch_or_its_front",
         "refused::a_refused_call_has_its_turn_and_adds_nothing",
         "threads::what_was_refused_is_not_there",
     ],

@@ -19,7 +19,7 @@ pub const A1: &str = concat!(
 );
 
 /// Whether a batch has events with these ids, in their order.
-fn has(batch: &Batch, ids: &[&str]) -> bool {
+pub fn has(batch: &Batch, ids: &[&str]) -> bool {
     if batch.len() != ids.len() as u64 {
         return false;
     }
