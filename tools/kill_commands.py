@@ -6,9 +6,9 @@
 Each round gives one command and kills it (SIGKILL) at a moment drawn between its start and a little more than its usual
 end. `order` places an order of its own in each round; `take` brings fifty events of its own; `follow` 2,500 lines, an
 event each, through a pipe, in pieces of a size that is drawn; `run` serves two files of fifty. An answer that was read
-whole is noted as acknowledged, of `follow` each line's. After each round the file is opened by SQLite: it must be sound (`PRAGMA integrity_check`), what
-was acknowledged must be there, once, what was not is there whole or not at all (of `follow` and `run` each event), and
-the rows are numbered from 1 without a gap. A round that was not acknowledged is given again, and has to be answered: as
+whole is noted as acknowledged, of `follow` each line's. After each round the file is opened by SQLite: it must be sound
+(`PRAGMA integrity_check`), what was acknowledged must be there, once, what was not is there whole or not at all (of
+`follow` and `run` each event), and the rows are numbered from 1 without a gap. A round that was not acknowledged is given again, and has to be answered: as
 the first time, or as what was done already. After some rounds a new file is begun, so that no round waits for all that
 those before it brought. With --seconds no round begins after that time.
 """
