@@ -105,7 +105,7 @@ found() {
 }
 answers '' check good numbers empty
 found "{\"file\":\"bad\",\"fault\":\"not an event or a batch\",\"hint\":\"a file is an event, which is an object, or an array of events\"}$lf" check good bad
-pad='a sequence has twenty digits, from 1: pad it with zeros on the left'
+pad='a sequence is a text of twenty digits, from 1 to 9223372036854775807: pad it with zeros on the left'
 printf '[%s,{"id":"b","sequence":"2","source":"/","specversion":"1.0","type":"t"},{"id":"c","sequence":3,"source":"/","specversion":"1.0","type":"t"}]' "$first" >short
 found "{\"file\":\"short\",\"index\":1,\"id\":\"b\",\"fault\":\"BadSequence\",\"attribute\":\"sequence\",\"value\":\"2\",\"hint\":\"$pad\"}$lf{\"file\":\"short\",\"index\":2,\"id\":\"c\",\"fault\":\"BadSequence\",\"attribute\":\"sequence\",\"value\":3,\"hint\":\"$pad\"}$lf" check short good
 printf '%s' '[{"id":"b","source":"/","specversion":"0.3","type":"t"},3]' >old

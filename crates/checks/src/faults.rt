@@ -70,7 +70,7 @@ static LINES: [(&str, &str); 6] = [
     ),
     (
         r#"{"specversion":"1.0","id":"x\"y","source":"/o","type":"t","sequence":7}"#,
-        "{\"file\":\"a\\\"b\",\"index\":0,\"id\":\"x\\\"y\",\"fault\":\"BadSequence\",\"attribute\":\"sequence\",\"value\":7,\"hint\":\"a sequence has twenty digits, from 1: pad it with zeros on the left\"}\n",
+        "{\"file\":\"a\\\"b\",\"index\":0,\"id\":\"x\\\"y\",\"fault\":\"BadSequence\",\"attribute\":\"sequence\",\"value\":7,\"hint\":\"a sequence is a text of twenty digits, from 1 to 9223372036854775807: pad it with zeros on the left\"}\n",
     ),
     (
         r#"[{"specversion":"1.0","id":"a","source":"/o","type":"t","sequence":"00000000000000000001"},

@@ -3,8 +3,6 @@
 ghost use Rattle.std.specs.Prelude.{◌≡◌, ◌≢◌, ◌<◌, ◌∷◌, [], Err, IfErr, IfOk, length, map};
 ghost use Rattle.std.specs.List.{AllByRecursion};
 ghost use Rattle.serde_json.specs.View.{view};
-ghost use Rattle.attributes.specs.JsonText.{IsJsonText};
-ghost use Rattle.event_json.specs.Spelling.{candidates};
 ghost use Rattle.event_json.specs.Reading.{max_input};
 ghost use Rattle.event_json.specs.Faulty.{RefusesWhole, TellsFaulty, faulty, member_fault, member_of, number_fault};
 ghost use Rattle.event_json.specs.steps.Told.{TellsFaultyIn, IsNoMember};

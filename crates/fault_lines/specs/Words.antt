@@ -73,7 +73,8 @@ hint fault.TooLarge =
     codes "the canonical text of an event has at most 262,144 bytes; keep large data elsewhere"
 hint fault.NoSequence =
     codes "an event needs a sequence of twenty digits, such as 00000000000000000001"
-hint fault.BadSequence = codes "a sequence has twenty digits, from 1: pad it with zeros on the left"
+hint fault.BadSequence =
+    codes "a sequence is a text of twenty digits, from 1 to 9223372036854775807: pad it with zeros on the left"
 
 -- why bytes are refused as a whole
 abbrev pub whole_words : ReadFault → List ℕ
