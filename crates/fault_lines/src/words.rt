@@ -88,7 +88,8 @@ pub fn hint<'a>(fault: Fault) -> &'a str
             "the canonical text of an event has at most 262,144 bytes; keep large data elsewhere",
         Fault::NoSequence =>
             "an event needs a sequence of twenty digits, such as 00000000000000000001",
-        Fault::BadSequence => "a sequence is a text of twenty digits, from 1 to 9223372036854775807: pad it with zeros on the left",
+        Fault::BadSequence =>
+            "a sequence is a text of twenty digits, from 1 to 9223372036854775807: pad it with zeros on the left",
     }
 }
 
