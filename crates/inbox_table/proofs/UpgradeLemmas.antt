@@ -12,7 +12,7 @@ use Rattle.database_layout.specs.Making.{Changes, Makes, both_in, upgraded}
 use Rattle.database_layout.specs.declared.layout.Layout.{Layout}
 use Rattle.database_layout.specs.declared.layout.Layout.TheVariants.{Inbox, InboxService, ServiceInbox}
 use Rattle.inbox_table.specs.Beside.{HasSameService, UpgradesTables}
-use Rattle.inbox_table.specs.Calls.{Adopts, IsAsItWas, IsSettled, MayUpgrade, Rejects, has_both}
+use Rattle.inbox_table.specs.Calls.{Adopts, Finds, IsAsItWas, IsSettled, MayUpgrade, Rejects, has_both}
 use Rattle.inbox_table.specs.Fault.{IsOfStore}
 use Rattle.inbox_table.specs.Rows.{IsAnyInbox, IsInbox, IsListed, IsOldInbox, rows_from}
 use Rattle.inbox_table.specs.Version.{HasTable}
@@ -20,7 +20,7 @@ use Rattle.inbox_table.specs.declared.fault.TableFault.{TableFault}
 use Rattle.inbox_table.specs.declared.fault.TableFault.TheVariants.{Foreign, OutOfMemory, Store}
 use Rattle.inbox_table.specs.declared.version.Version.{Version}
 use Rattle.inbox_table.specs.declared.version.Version.TheVariants.{One, Two}
-use Rattle.inbox_table.specs.steps.Reads.{IsSame, Tells}
+use Rattle.inbox_table.specs.steps.Reads.{HasVersion, IsSame, Tells}
 use Rattle.inbox_table.specs.steps.Turns.{Beside, IsFilled, IsKeeping, IsTaking, KeepsOthers}
 use Rattle.inbox_table.specs.steps.Upgrades.{Copies, HasAdopted, Refills}
 use Rattle.inbox_table.proofs.HomeLemmas.{form_named, formed, has_name, not_both_versions, one_alone}
@@ -116,6 +116,18 @@ adopts_old l old last batch rows has schema tells new tables still settled =
     only : (m : List EventValue) → IsAnyInbox old.now m → batch ≡ m
     only m (inl box) = absurd (no_new old.now m l has schema box)
     only m (inr box) = (read_all old.now rows batch tells).1 m box
+
+-- and so it is of a table of either version
+pub finds_all : (v : Version) (db : Database) (rows : ℕ) (batch : List EventValue) → HasVersion v db.schema → Tells v (λ _. true) db rows batch → Finds db v batch
+finds_all v db rows batch (l, has, schema) tells =
+    let are : batch ≡ tells.events = tells.kept ∙ all_wanted tells.events in
+    record { table = subst (IsListed v db) (sym are) tells.table; only = λ m box. are ∙ go v has tells.only m box }
+  where
+    go : (v : Version) → HasTable v l → {es : List EventValue} → ((m : List EventValue) → IsListed v db m → es ≡ m) → (m : List EventValue) → IsAnyInbox db m → es ≡ m
+    go One has only m (inl box) = absurd (no_new db m l has schema box)
+    go One has only m (inr box) = only m box
+    go Two has only m (inl box) = only m box
+    go Two has only m (inr box) = absurd (no_old db m l has schema box)
 
 -- one of version 2 is taken as it is
 pub adopts_new : (l : Layout) (old last : State) (keeps : Bool) (rows : ℕ) (batch : List EventValue) → HasTable Two l → old.now.schema ≡ schema_in l → Tells Two (λ _. keeps) old.now rows batch → last.now ≡ old.now → IsTrue last.is_open → IsSettled last

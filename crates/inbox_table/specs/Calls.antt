@@ -12,7 +12,8 @@ use Rattle.inbox.specs.Ordered.{append_new}
 use Rattle.database_layout.specs.Layout.{HasInboxForm, IsOurs, has_table}
 use Rattle.inbox_table.specs.Beside.{GainsInbox, KeepsService, UpgradesTables}
 use Rattle.inbox_table.specs.Fault.{IsOfStore}
-use Rattle.inbox_table.specs.Rows.{IsAnyInbox, IsInbox, IsOldInbox}
+use Rattle.inbox_table.specs.Rows.{IsAnyInbox, IsInbox, IsListed, IsOldInbox}
+use Rattle.inbox_table.specs.declared.version.Version.{Version}
 use Rattle.inbox_table.specs.declared.fault.TableFault.{TableFault}
 use Rattle.inbox_table.specs.declared.fault.TableFault.TheVariants.{Foreign}
 
@@ -91,7 +92,13 @@ pub record Adopts (old new : State) (events : List EventValue) : Type 0 where
   -- a crash leaves just that
   pub settled : IsSettled new
 
--- a taking over is refused for this fault
+-- a look at the table found it in this version, with these events
+pub record Finds (db : Database) (v : Version) (events : List EventValue) : Type 0 where
+  -- they are those of the table that is there, and nothing else is
+  pub table : IsListed v db events
+  pub only : (m : List EventValue) → IsAnyInbox db m → events ≡ m
+
+-- a taking over is refused for this fault, or a look
 pub record Rejects (old new : State) (fault : TableFault) : Type 0 where
   -- `Foreign` only where there is no such table, and then nothing was written
   pub foreign : HasCleanDisk new → fault ≡ Foreign

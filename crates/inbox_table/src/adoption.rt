@@ -59,7 +59,7 @@ fn has_both(schema: &Schema) -> bool
 
 /// Why a database that has other tables than ours is no table: `Store` where one of our form lies
 /// beside them.
-fn stranger(schema: &Schema) -> TableFault
+pub(crate) fn stranger(schema: &Schema) -> TableFault
     ensures both { has_both schema.now ≡ true → result ≡ Foreign }
     ensures foreign { result ≡ Foreign
         → (has_both schema.now ≡ true) ⊎ (¬ HasInboxForm schema.now.tables) }

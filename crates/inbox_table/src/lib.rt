@@ -4,6 +4,7 @@
 mod adoption;
 mod creation;
 mod fault;
+mod inspection;
 pub mod laws;
 mod listed;
 mod lists;
@@ -17,6 +18,8 @@ mod wanted;
 mod watch;
 
 pub use fault::TableFault;
+pub use inspection::{Inspected, inspect};
 pub use listed::Listed;
 pub use table::{Loaded, NotMade, Table};
+pub use version::Version;
 pub use watch::{Unwatched, Watch};
