@@ -45,10 +45,7 @@ fn version_in(schema: &Schema) -> Option<Version>
 /// The version and the events of the table that is in a database. It is tested as
 /// [`crate::Table::adopt_and_load`] tests it, and refused for the same faults, but nothing is
 /// written: one of version 1 stays what it is. Time and memory in proportion to the events.
-pub fn inspect<S: Alter>(
-    alloc: Global,
-    conn: &mut Connection<S>,
-) -> Result<Inspected, TableFault>
+pub fn inspect<S: Alter>(alloc: Global, conn: &mut Connection<S>) -> Result<Inspected, TableFault>
     ensures finds { HasCleanDisk (state S.Store conn.new) → IfOk result (λ i.
         Finds (state S.Store conn.old).now i.version i.events) }
     ensures rejects { IfErr result (Rejects (state S.Store conn.old) (state S.Store conn.new)) }
