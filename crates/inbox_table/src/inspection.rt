@@ -1,10 +1,10 @@
 //! A look at the table of a database, which leaves it as it is.
 
-ghost use Rattle.std.specs.Prelude.{◌≡◌, true, false, Err, IfOk, IfErr, IfSome};
+ghost use Rattle.std.specs.Prelude.{◌≡◌, true, false, Err, IfOk, IfErr, IfSome, IsTrue, OnOk};
 ghost use Rattle.sqlite.specs.Held.{state};
 ghost use Rattle.sqlite.specs.State.{HasCleanDisk, Survives};
 ghost use Rattle.database_layout.specs.Layout.{has_inbox};
-ghost use Rattle.inbox_table.specs.Calls.{Finds, IsAsItWas, Rejects, has_both};
+ghost use Rattle.inbox_table.specs.Calls.{Finds, IsAsItWas, IsSettled, Rejects, has_both};
 ghost use Rattle.inbox_table.specs.steps.Reads.{HasVersion};
 ghost use Rattle.inbox_table.specs.declared.fault.TableFault.TheVariants.{Foreign};
 
@@ -53,6 +53,10 @@ pub fn inspect<S: Alter>(alloc: Global, conn: &mut Connection<S>) -> Result<Insp
         → result ≡ Err Foreign }
     ensures both { has_both (state S.Store conn.old).now.schema ≡ true → result ≡ Err Foreign }
     ensures same { IsAsItWas (state S.Store conn.old) (state S.Store conn.new) }
+    ensures open { HasCleanDisk (state S.Store conn.new)
+        → OnOk result (IsTrue (state S.Store conn.new).is_open) }
+    ensures settled { HasCleanDisk (state S.Store conn.new)
+        → OnOk result (IsSettled (state S.Store conn.new)) }
     ensures crash { Survives (state S.Store conn.old) (state S.Store conn.new) (λ _. ⊥) }
 {
     if !has_inbox(conn.schema()) {

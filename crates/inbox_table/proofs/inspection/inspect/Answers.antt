@@ -1,4 +1,5 @@
-use Rattle.std.proofs.Common.{◌≡◌, false, rules}
+use Rattle.std.proofs.Common.{◌≡◌, ◌∙◌, ap, false, rules, sym}
+use Rattle.sqlite.specs.Effect.{Database}
 use Rattle.sqlite.specs.Held.{state}
 use Rattle.database_layout.specs.Layout.{has_inbox}
 use Rattle.inbox_table.specs.steps.Reads.{HasVersion}
@@ -33,3 +34,7 @@ pub returns-in-Err-clause-both : goal.returns-in-Err-clause-both
 returns-in-Err-clause-both g c both =
     let ours : HasVersion c.in-Some.version c.args.conn.now.schema = search rules in
     absurd (both_none c.args.conn.now.schema ours.0 ours.2 both)
+
+pub returns-in-Ok-clause-settled : goal.returns-in-Ok-clause-settled
+returns-in-Ok-clause-settled g c clean still db leaves =
+    g.met.S.Store.settled c.read.new.conn.store db still leaves ∙ ap (λ (d : Database). d.trees) (sym (c.in-Ok.ensures.settled clean))
