@@ -18,11 +18,7 @@ mod memory;
 #[cfg(test)]
 mod orders;
 #[cfg(test)]
-mod pages;
-#[cfg(test)]
 mod relays;
-#[cfg(test)]
-mod runs;
 #[cfg(test)]
 mod stops;
 #[cfg(test)]
@@ -31,5 +27,3 @@ mod tables;
 mod upgrades;
 #[cfg(test)]
 mod watches;
-#[cfg(test)]
-mod writes;

@@ -33,7 +33,7 @@ impl Watch for Counted {
 }
 
 /// So many events of one source, by number from 1.
-pub(crate) fn numbered<R: AllocGlobal + Abort>(rt: &R, count: u64) -> Batch {
+fn numbered<R: AllocGlobal + Abort>(rt: &R, count: u64) -> Batch {
     let mut batch = Batch::empty(rt.alloc());
     for _ in 0..count {
         let number = batch.len().saturating_add(1);

@@ -1,13 +1,15 @@
 //! What no contract says of the commands that only read a database: that calls succeed with ample
 //! memory, that pages have the numbers of events that are meant, and that no inbox is made.
 
-use crate::fixture::{C1, E1, INBOX, OLD_C1, OLD_E1, OUTBOX, database, event, has};
-use crate::tables::created;
+use crate::fixture::{add, batch, database, octets};
 use attributes::{Batch, Text};
 use coverage::Summary;
 use database_commands::{
-    CommandFault, Contents, Ended, EventPages, Paged, delta_pages, held, scrub_pages, summary,
+    CommandFault, Contents, Ended, EventPages, Paged, delta_pages, held, scrub_pages, summary, take,
 };
+use event_json::write_sequenced;
+use file_reports::events_of;
+use inbox_table::Unwatched;
 use site::Site;
 use sqlite::{Connection, MemStore};
 use std::process::Abort;
@@ -18,52 +20,52 @@ const NONE: u64 = 0;
 /// The summary of no events.
 const NOTHING: &str = "{\"blocks\":{},\"sources\":{},\"version\":2}\n";
 
-/// The text of the event of a number, of one type or of another.
-fn text_of<R: AllocGlobal + Abort>(rt: &R, number: u64, is_other: bool) -> String {
-    let kind = if is_other { "t.b" } else { "t.a" };
-    let text = format!(in rt.alloc();
-        "{{\"id\":\"{number:020}\",\"sequence\":\"{number:020}\",\"source\":\"/orders\",\"specversion\":\"1.0\",\"type\":\"{kind}\"}}"
-    );
-    text.expect(rt, "memory")
-}
+/// The table of the inbox, of version 1.
+const INBOX: &str =
+    "CREATE TABLE inbox (place INTEGER PRIMARY KEY, source TEXT NOT NULL, id TEXT NOT NULL, number INTEGER NOT NULL, body TEXT NOT NULL, UNIQUE (source, id, body)) STRICT";
 
-/// 250 events with the numbers 900 to 1149, the greatest first: 124 are of the block 0, 126 of the
-/// block 1. One may be of another type than all others.
-fn events<R: AllocGlobal + Abort>(rt: &R, other: u64) -> Batch {
-    let mut batch = Batch::empty(rt.alloc());
+/// The last event of its first block of numbers, and the first of the second.
+const OLD_ROWS: &str =
+    r#"INSERT INTO inbox (place, source, id, number, body) VALUES (1, '/orders', '00000000000000001023', 1023, '{"id":"00000000000000001023","sequence":"00000000000000001023","source":"/orders","specversion":"1.0","type":"t.a"}'), (2, '/orders', '00000000000000001024', 1024, '{"id":"00000000000000001024","sequence":"00000000000000001024","source":"/orders","specversion":"1.0","type":"t.a"}')"#;
+
+/// The tables of a service.
+const OUTBOX: &str =
+    "CREATE TABLE service (one INTEGER PRIMARY KEY CHECK (one = 1), source TEXT NOT NULL, base INTEGER NOT NULL CHECK (base >= 0)) STRICT; CREATE TABLE orders (number INTEGER PRIMARY KEY, state INTEGER NOT NULL CHECK (state >= 1 AND state <= 3)) STRICT; CREATE TABLE outbox (number INTEGER PRIMARY KEY, kind INTEGER NOT NULL CHECK (kind >= 1 AND kind <= 3), order_number INTEGER NOT NULL, at TEXT NOT NULL) STRICT;";
+
+/// The text of a batch of 250 events with the numbers 900 to 1149, the greatest first: 124 are of
+/// the block 0, 126 of the block 1. One may be of another type than all others.
+fn falling<R: AllocGlobal + Abort>(rt: &R, other: u64) -> String {
+    let mut text = String::new(rt.alloc());
     for passed in 0u64..250 {
         let number = 1149u64.saturating_sub(passed);
-        let text = text_of(rt, number, number == other);
-        assert!(rt; batch.push(event(rt, text.as_str())).is_ok());
+        add(rt, &mut text, number, number == other);
     }
-    batch
+    assert!(rt; text.push_str("]").is_ok());
+    text
+}
+
+/// The events of that batch, in its order.
+fn events<R: AllocGlobal + Abort>(rt: &R, other: u64) -> Batch {
+    let file = octets(rt, falling(rt, other).as_str());
+    match events_of(rt.alloc(), &[file]) {
+        Ok(events) => events,
+        Err(_) => panic!(rt; "no events"),
+    }
 }
 
 /// A database whose inbox has the 250 events, all of one type.
 fn stocked<R: AllocGlobal + Abort>(rt: &R) -> Connection<MemStore> {
-    let mut table = created(rt, database(rt, &[]));
-    assert!(rt; table.keep(&events(rt, NONE)) == Ok(250));
-    table.into_connection()
-}
-
-/// The line of the batch of the events with the numbers from one up to another.
-fn line_of<R: AllocGlobal + Abort>(rt: &R, from: u64, to: u64) -> String {
-    let mut line = String::new(rt.alloc());
-    let mut mark = "[";
-    for number in from..to {
-        assert!(rt; line.push_str(mark).is_ok());
-        assert!(rt; line.push_str(text_of(rt, number, false).as_str()).is_ok());
-        mark = ",";
-    }
-    assert!(rt; line.push_str("]\n").is_ok());
-    line
+    let conn = database(rt, "");
+    let Ended { conn, outcome } = take(rt.alloc(), conn, &events(rt, NONE), &Unwatched);
+    assert!(rt; prints(&outcome, "read 250 new 250 repeated 0"));
+    conn
 }
 
 /// Whether the next line is the batch of the events with the numbers from one up to another.
 fn goes_on<R: AllocGlobal + Abort>(rt: &R, pages: &mut EventPages, from: u64, to: u64) -> bool {
-    let wanted = line_of(rt, from, to);
+    let wanted = batch(rt, from, to);
     match pages.next_line() {
-        Ok(Some(line)) => line.as_str() == wanted.as_str(),
+        Ok(Some(line)) => line.as_str().strip_suffix("\n") == Some(wanted.as_str()),
         _ => false,
     }
 }
@@ -164,14 +166,6 @@ fn a_summary_is_that_of_a_site_with_the_events(rt: HostRuntime) {
     assert!(rt; !prints(&outcome, text.as_str()));
 }
 
-/// Whether these are the events of the texts.
-fn are(events: &Result<Batch, CommandFault>, texts: &[&str]) -> bool {
-    match events {
-        Ok(events) => has(events, texts),
-        Err(_) => false,
-    }
-}
-
 /// How many names the schema of a database has.
 fn names(conn: &mut Connection<MemStore>) -> Option<usize> {
     match conn.query_all("SELECT name FROM sqlite_schema", &[]) {
@@ -180,28 +174,36 @@ fn names(conn: &mut Connection<MemStore>) -> Option<usize> {
     }
 }
 
-// Texts that ran on a database without an inbox, and how many names its schema has then.
-static WITHOUT: [(&[&str], usize); 2] = [(&[], 0), (&[OUTBOX], 3)];
+// Statements that ran on a database without an inbox, and how many names its schema has then.
+static WITHOUT: [(&str, usize); 2] = [("", 0), (OUTBOX, 3)];
+
+/// Whether these are no events.
+fn is_none(events: &Result<Batch, CommandFault>) -> bool {
+    match events {
+        Ok(events) => events.is_empty(),
+        Err(_) => false,
+    }
+}
 
 /// Whether a database without an inbox holds no events and has a summary that says so, and it has so
 /// many names behind that.
-fn holds_nothing<R: AllocGlobal + Abort>(rt: &R, texts: &[&str], count: usize) -> bool {
-    let Contents { conn, events } = held(rt.alloc(), database(rt, texts));
+fn holds_nothing<R: AllocGlobal + Abort>(rt: &R, statements: &str, count: usize) -> bool {
+    let Contents { conn, events } = held(rt.alloc(), database(rt, statements));
     let Ended { mut conn, outcome } = summary(rt.alloc(), conn);
-    are(&events, &[]) && prints(&outcome, NOTHING.trim_end()) && names(&mut conn) == Some(count)
+    is_none(&events) && prints(&outcome, NOTHING.trim_end()) && names(&mut conn) == Some(count)
 }
 
 #[test]
 fn where_there_is_no_inbox_none_is_made(rt: HostRuntime) {
-    for (texts, count) in &WITHOUT {
-        assert!(rt; holds_nothing(&rt, texts, *count), "{texts:?}");
+    for (statements, count) in &WITHOUT {
+        assert!(rt; holds_nothing(&rt, statements, *count), "{statements}");
     }
 }
 
 /// Whether all pages of a database without an inbox, and what a summary lacks, are none, and it has
 /// so many names behind them.
-fn has_no_pages<R: AllocGlobal + Abort>(rt: &R, texts: &[&str], count: usize) -> bool {
-    let Paged { conn, pages } = scrub_pages(rt.alloc(), database(rt, texts));
+fn has_no_pages<R: AllocGlobal + Abort>(rt: &R, statements: &str, count: usize) -> bool {
+    let Paged { conn, pages } = scrub_pages(rt.alloc(), database(rt, statements));
     let Ok(mut all) = pages else {
         return false;
     };
@@ -214,14 +216,31 @@ fn has_no_pages<R: AllocGlobal + Abort>(rt: &R, texts: &[&str], count: usize) ->
 
 #[test]
 fn a_database_without_an_inbox_has_no_pages(rt: HostRuntime) {
-    for (texts, count) in &WITHOUT {
-        assert!(rt; has_no_pages(&rt, texts, *count), "{texts:?}");
+    for (statements, count) in &WITHOUT {
+        assert!(rt; has_no_pages(&rt, statements, *count), "{statements}");
+    }
+}
+
+/// Whether these are the events with the numbers from one up to another, in that order.
+fn are<R: AllocGlobal + Abort>(
+    rt: &R,
+    events: &Result<Batch, CommandFault>,
+    from: u64,
+    to: u64,
+) -> bool {
+    match events {
+        Ok(events) => match write_sequenced(rt.alloc(), events) {
+            Ok(text) => text.as_str() == batch(rt, from, to).as_str(),
+            Err(_) => false,
+        },
+        Err(_) => false,
     }
 }
 
 #[test]
 fn an_old_inbox_is_held(rt: HostRuntime) {
-    let old = database(&rt, &[INBOX, OLD_E1, OLD_C1]);
+    let mut old = database(&rt, INBOX);
+    assert!(rt; old.execute(OLD_ROWS, &[]) == Ok(2));
     let Contents { conn: _, events } = held(rt.alloc(), old);
-    assert!(rt; are(&events, &[E1, C1]));
+    assert!(rt; are(&rt, &events, 1023, 1025));
 }

@@ -85,7 +85,7 @@ fn covers_alone<R: AllocGlobal + Files + Databases + Abort>(rt: &R) -> bool {
 /// Makes a new folder the current one.
 fn enter_folder(rt: &HostRuntime) -> Result<String, Fail> {
     let id = process::id(rt.process());
-    let folder = format!(in rt.alloc(); "/tmp/table_checks-writes-{id}")?;
+    let folder = format!(in rt.alloc(); "/tmp/command_checks-writes-{id}")?;
     if fs::exists(rt, folder.as_str())? {
         fs::remove_dir_all(rt, folder.as_str())?;
     }

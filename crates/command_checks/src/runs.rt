@@ -3,10 +3,9 @@
 
 ghost use Rattle.std.specs.Prelude.{⊤, ◌≤◌, ◌+◌, length};
 
-use crate::fixture::database;
-use crate::watches::numbered;
+use crate::fixture::{batch, database, octets};
 use attributes::{List, Octets};
-use event_json::{ReadFault, write_sequenced};
+use event_json::ReadFault;
 use feeds::Jobs;
 use inbox_table::{Table, Unwatched, Watch};
 use run_command::{RunEnded, RunFault, run};
@@ -21,15 +20,9 @@ use std::thread::Threads;
 /// How often a gate looks before it lets a worker go on. Whoever looks lets others run.
 const LOOKS: u64 = 1_000_000;
 
-/// The bytes of a text.
-fn octets<R: AllocGlobal + Abort>(rt: &R, text: &str) -> Octets {
-    Octets::of(rt.alloc(), text.as_bytes()).expect(rt, "memory")
-}
-
 /// The bytes of a batch of so many events.
 fn feed_of<R: AllocGlobal + Abort>(rt: &R, count: u64) -> Octets {
-    let text = write_sequenced(rt.alloc(), &numbered(rt, count)).expect(rt, "memory");
-    octets(rt, text.as_str())
+    octets(rt, batch(rt, 1, count.saturating_add(1)).as_str())
 }
 
 /// The jobs of two feeds.
@@ -74,7 +67,7 @@ fn rows_beside<R: AllocGlobal + Threads + Wait + Abort + Sync>(
     fault: ReadFault,
 ) -> u64 {
     let jobs = two(rt, first, second);
-    let ended = run(rt, rt.alloc(), database(rt, &[]), jobs, &Wide, &Unwatched);
+    let ended = run(rt, rt.alloc(), database(rt, ""), jobs, &Wide, &Unwatched);
     rows_after(rt, ended, Some(RunFault::Feed { feed, fault }))
 }
 
@@ -157,7 +150,7 @@ fn what_comes_is_kept_while_workers_work(rt: HostRuntime) {
         in_vain: AtomicU64::new(0),
     };
     let jobs = two(&rt, feed_of(&rt, 150), octets(&rt, "[]"));
-    let conn = database(&rt, &[]);
+    let conn = database(&rt, "");
     let ended = run(&rt, rt.alloc(), conn, jobs, &awaiting, &awaiting);
     assert!(rt; rows_after(&rt, ended, None) == 150);
     assert!(rt; awaiting.in_vain.load(Ordering::SeqCst) == 0);
