@@ -518,6 +518,89 @@ before one.db beside.db 'CREATE TABLE strange (a INTEGER)'
 run_over beside.db scrub --db beside.db
 is 'a table of another program beside an inbox of before' 1 '' "site: beside.db: Store$lf"
 
+# What a database is, or what is the matter with it; it is left as it is.
+told_is() {
+    run_over "$1" check --db "$1"
+    is "what $1 is" 0 "$2$lf" ''
+}
+trouble_is() {
+    [ -f "$1" ] && before=$(cksum <"$1")
+    run check --db "$1"
+    [ ! -f "$1" ] || [ "$before" = "$(cksum <"$1")" ] || status="$status, and the file changed"
+    is "what is the matter with '$1'" 1 "{\"db\":\"$1\",\"fault\":\"$2\",\"hint\":\"$3\"}$lf" ''
+}
+sum() { printf '{"db":"%s","events":%s,"sources":%s,"version":%s}' "$@"; }
+run take --db is.db three.json
+told_is is.db "$(sum is.db 3 1 2)"
+printf '{"id":"b1","sequence":"%020d","source":"/other","specversion":"1.0","type":"t"}' 1 >other.json
+run take --db is.db other.json
+told_is is.db "$(sum is.db 4 2 2)"
+before one.db was.db
+told_is was.db "$(sum was.db 3 1 1)"
+told_is told.db "$(sum told.db 0 0 0)$lf"'{"base":100,"orders":2,"rows":3,"source":"/west"}'
+before f.db both.db
+run scrub --db both.db
+told_is both.db "$(sum both.db 3 1 2)$lf"'{"base":0,"orders":0,"rows":0,"source":"/orders"}'
+ask bare.db VACUUM
+told_is bare.db "$(sum bare.db 0 0 0)"
+run check --db is.db three.json
+is 'a database, and files without a fault' 0 "$(sum is.db 4 2 2)$lf" ''
+printf '{"id":"b","source":"/","specversion":"1.0","type":"t"}' >unnumbered.json
+fault='{"file":"unnumbered.json","index":0,"id":"b","fault":"NoSequence","attribute":"sequence","hint":"an event needs a sequence of twenty digits, such as 00000000000000000001"}'
+run check --db is.db three.json unnumbered.json
+is 'a database, and a fault' 1 "$(sum is.db 4 2 2)$lf$fault$lf" ''
+run check --db is.db missing.json
+is 'a file that is not there' 1 '' "site: missing.json: cannot read$lf"
+run check
+[ "$status" = 2 ] && : >got.out && : >got.err
+is 'a check of nothing' 2 '' ''
+trouble_is '' Store "a database is a file: its name is neither empty nor :memory:, and doesn't begin with file:"
+trouble_is :memory: Store "a database is a file: its name is neither empty nor :memory:, and doesn't begin with file:"
+trouble_is missing.db 'cannot read' 'there is no file of that name, or none that this user may look at'
+[ -e missing.db ] && echo 'wrong: a check made a file'
+no_database="it is no database of SQLite in UTF-8, or has a schema that site can't read"
+trouble_is text.db Store "$no_database"
+trouble_is none.db Store "$no_database"
+system="the operating system doesn't open it, lock it or read it: is it a folder, and may this user write it"
+trouble_is folder.db Store "$system"
+others="it has tables of others too, or a part of it can't be read: PRAGMA integrity_check of sqlite3 says if it is damaged"
+trouble_is strange.db Store "$others"
+trouble_is beside.db Store "$others"
+foreign="its tables or rows aren't as site leaves them: take the events from a copy, or from another site by delta"
+for name in loose.db wrong.db gap.db bad.db block.db; do trouble_is $name Foreign "$foreign"; done
+run check --db wrong.db unnumbered.json
+is 'a database at fault, and a fault' 1 "{\"db\":\"wrong.db\",\"fault\":\"Foreign\",\"hint\":\"$foreign\"}$lf$fault$lf" ''
+ln is.db linked.db
+trouble_is linked.db Store "$system"
+rm linked.db
+busy='another program has the file open: wait for its end, or let flock keep commands apart'
+python3 -c 'import sqlite3, subprocess, sys
+base = sqlite3.connect("is.db", isolation_level=None)
+base.execute("BEGIN EXCLUSIVE")
+ran = subprocess.run([sys.argv[1], "check", "--db", "is.db"], capture_output=True)
+open("got.out", "wb").write(ran.stdout)
+open("got.err", "wb").write(ran.stderr)
+sys.exit(ran.returncode)' "$program"
+status=$?
+is 'a file that another program writes' 1 "{\"db\":\"is.db\",\"fault\":\"Store\",\"hint\":\"$busy\"}$lf" ''
+
+# The variable that limits the cache of a database.
+for mib in 1 1048576; do
+    export SITE_CACHE_MIB=$mib
+    run scrub --db many.db --all
+    wc -l <got.out | tr -d ' ' >count
+    cp count got.out
+    is "a cache of $mib MiB" 0 "3$lf" ''
+done
+cache="SITE_CACHE_MIB isn't a whole number from 1 to 1048576"
+for mib in 0 1048577 18446744073709551616 '' x -1 1.5 '1 '; do
+    export SITE_CACHE_MIB="$mib"
+    run_over is.db take --db is.db three.json
+    is "a cache of '$mib'" 1 '' "site: $cache$lf"
+    trouble_is is.db Cache "the variable $cache"
+done
+unset SITE_CACHE_MIB
+
 # Names that mean no file to SQLite.
 for name in '' :memory: file: file:s.db 'file:s.db?mode=ro'; do
     for words in 'take three.json' 'scrub' 'scrub --all' 'summary' 'kinds' 'run three.json' 'relay --after 0'; do

@@ -70,11 +70,15 @@ from_rule = default_rule (codes "from") (codes "0")
 abbrev pub with_db : Command → App
 with_db command = with_rule (new_app (word_of command)) (needed_rule (codes "db"))
 
+-- the command's word, `--db DB` or none, and `FILE..` or none
+abbrev pub with_any : Command → App
+with_any command = with_rule (with_rule (new_app (word_of command)) (option_rule (codes "db")))
+    question_files_rule
+
 -- a command's word and its arguments
 abbrev pub app_for : Command → App
-app_for (Ask query) = with_rule (with_rule (new_app (word_of (Ask query)))
-    (option_rule (codes "db"))) question_files_rule
-app_for Check = with_rule (new_app (word_of Check)) files_rule
+app_for (Ask query) = with_any (Ask query)
+app_for Check = with_any Check
 app_for Summary = with_db Summary
 app_for Take = with_rule (with_db Take) files_rule
 app_for Follow = with_rule (with_db Follow) lines_rule

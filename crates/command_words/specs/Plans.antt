@@ -157,7 +157,8 @@ abbrev pub HasTextsOf : List Row → Plan → Type 0
 HasTextsOf rows (plan.Alone (alone.Once asked)) = HasTextsOnce rows asked
 HasTextsOf rows (plan.Alone (alone.Follow lines)) =
     (lines.db ≡ text_in rows (codes "db")) × (lines.file ≡ text_in rows (codes "file"))
-HasTextsOf rows (plan.Alone (alone.Check judged)) = judged.files ≡ texts_in rows (codes "file")
+HasTextsOf rows (plan.Alone (alone.Check judged)) = (judged.db ≡ first_of (codes "db") rows)
+    × (judged.files ≡ texts_in rows (codes "file")) × AreSome judged.db judged.files
 HasTextsOf rows (plan.Run files) =
     (files.db ≡ text_in rows (codes "db")) × (files.peer ≡ first_of (codes "peer") rows)
     × (files.files ≡ texts_in rows (codes "file"))

@@ -76,6 +76,30 @@ pub fn question_db<'a>(alloc: Global) -> Arg<'a>
     )
 }
 
+/// `--db DB` of a check.
+pub fn checked_db<'a>(alloc: Global) -> Arg<'a>
+    ensures rule { rule_of result ≡ option_rule (codes "db") }
+    ensures local { result.global ≡ false }
+{
+    Arg::new(alloc, "db")
+        .long("db")
+        .value_name("DB")
+        .help("A database file, to be told what it is")
+}
+
+/// `FILE..`, whose events all have numbers, and which a check of a database may have none of.
+pub fn checked_files<'a>(alloc: Global) -> Arg<'a>
+    ensures rule { rule_of result ≡ question_files_rule }
+    ensures local { result.global ≡ false }
+{
+    Arg::new(alloc, "file")
+        .value_name("FILE")
+        .help(
+            "Files of CloudEvents in JSON, each with a sequence of twenty digits, as 00000000000000000001; - is standard input",
+        )
+        .action(ArgAction::Append)
+}
+
 /// `--all`
 pub fn all<'a>(alloc: Global) -> Arg<'a>
     ensures rule { rule_of result ≡ flag_rule (codes "all") }

@@ -5,8 +5,8 @@ ghost use Rattle.command_words.specs.Commands.{app_for, needed_rule, place_rule,
 ghost use Rattle.command_words.specs.declared.command.Command.{Command};
 
 use crate::argument::{
-    action, after, all, at, base, db, files, from, lines, numbered_files, order, peer, question_db,
-    question_files, read_db, source, summary,
+    action, after, all, at, base, checked_db, checked_files, db, files, from, lines,
+    numbered_files, order, peer, question_db, question_files, read_db, source, summary,
 };
 use std::alloc::{AllocError, Global};
 use views::Query;
@@ -17,7 +17,8 @@ pub enum Command {
     /// `WORD [--db DB] FILE..`: answers the query for the events of all files together, and those
     /// of a database.
     Ask(Query),
-    /// `check FILE..`: each event of the files that can't be taken, and why.
+    /// `check [--db DB] FILE..`: each event of the files that can't be taken, and why, and what a
+    /// database is.
     Check,
     /// `summary --db DB`: which events a database has, for another site to compare.
     Summary,
@@ -125,7 +126,7 @@ pub fn row_of<'a>(word: &str) -> Option<Row<'a>>
             command: Command::Check,
             word: "check",
             full_name: "site check",
-            about: "Prints each event of the files that can't be taken, and what is the matter",
+            about: "Prints what a database is, and each event of the files that can't be taken",
         }),
         "take" => Some(Row {
             command: Command::Take,
@@ -204,7 +205,7 @@ impl<'a> Row<'a> {
         let bare = self.bare(alloc)?;
         match self.command {
             Command::Ask(_) => bare.arg(question_db(alloc))?.arg(question_files(alloc)),
-            Command::Check => bare.arg(numbered_files(alloc)),
+            Command::Check => bare.arg(checked_db(alloc))?.arg(checked_files(alloc)),
             Command::Summary => bare.arg(read_db(alloc)),
             Command::Take => bare.arg(db(alloc))?.arg(numbered_files(alloc)),
             Command::Follow => bare.arg(db(alloc))?.arg(lines(alloc)),

@@ -18,7 +18,7 @@ pub enum Alone {
     Once(Once),
     /// Lines that are answered as they come.
     Follow(Follow),
-    /// Files whose events are judged, each by itself.
+    /// Files whose events are judged, each by itself, and a database.
     Check(Check),
 }
 
@@ -80,9 +80,11 @@ pub struct Follow {
     pub file: Text,
 }
 
-/// Files whose events are judged, each by itself, and kept nowhere.
+/// Files whose events are judged, each by itself, and kept nowhere, and a database of which it is
+/// told what it is, where one is given; there is one, or a file.
 #[derive(Drop)]
 pub struct Check {
+    pub db: Option<Text>,
     pub files: Texts,
 }
 

@@ -161,11 +161,11 @@ fn said(alloc: Global, what: &str) -> Faulty {
     }
 }
 
-/// What is said of a question without a file and without a database.
+/// What is said of a question or a check without a file and without a database.
 pub fn no_events(alloc: Global) -> Faulty {
     said(
         alloc,
-        "error: a question wants a file or a database: <FILE>... or --db <DB>\n\nFor more information, try '--help'.\n",
+        "error: a file or a database is wanted: <FILE>... or --db <DB>\n\nFor more information, try '--help'.\n",
     )
 }
 

@@ -69,8 +69,12 @@ fn matched(alloc: Global, command: Command, matches: &ArgMatches<'_>) -> Result<
             Ok(once(Once::Ask { query, db, files }))
         }
         Command::Check => {
+            let db = given_text_of(alloc, matches, "db")?;
             let files = texts_of(alloc, matches, "file")?;
-            Ok(Plan::Alone(Alone::Check(Check { files })))
+            if db.is_none() && files.is_empty() {
+                return Err(no_events(alloc));
+            }
+            Ok(Plan::Alone(Alone::Check(Check { db, files })))
         }
         Command::Summary => {
             let db = text_of(alloc, matches, "db")?;

@@ -4,3 +4,4 @@ mod PageLemmas
 mod ServedLemmas
 mod RowLemmas
 mod ToldLemmas
+mod DescribedLemmas

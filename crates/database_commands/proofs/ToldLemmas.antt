@@ -7,7 +7,6 @@ use Rattle.serde_json.specs.Written.{compact_text}
 use Rattle.serde_json.proofs.Texts.{print-outline}
 use Rattle.sqlite.specs.Effect.{Database}
 use Rattle.attributes.specs.Sequence.{max_sequence}
-use Rattle.outbox.specs.Order.{Accepted, orders_of}
 use Rattle.outbox.specs.Service.{IsService}
 use Rattle.outbox.specs.Shown.{CountsOrders, CountsRows, HasNoOther, Stands}
 use Rattle.database_layout.specs.Layout.{has_name}
@@ -16,7 +15,7 @@ use Rattle.outbox.specs.declared.fault.OutboxFault.TheVariants as outbox
 use Rattle.database_commands.specs.declared.fault.CommandFault.TheVariants as command
 use Rattle.database_commands.specs.Fault.{of_outbox}
 use Rattle.database_commands.specs.Print.{service_data, service_line}
-use Rattle.database_commands.specs.Service.{HasOrFounds, IsTold, TellsOrFounds, TellsService}
+use Rattle.database_commands.specs.Service.{IsTold, TellsOrFounds, TellsService}
 use Rattle.database_commands.specs.steps.Told.{TellsEach}
 use Rattle.database_commands.proofs.RowLemmas.{no_service}
 

@@ -1,9 +1,4 @@
 -- The faults of the crates below, as those of commands.
-use Rattle.std.specs.declared.io.ErrorKind.{ErrorKind}
-use Rattle.std.specs.declared.io.ErrorKind.TheVariants as kind
-use Rattle.sqlite.specs.declared.error.Error.{Error}
-use Rattle.sqlite.specs.declared.error.Error.TheVariants.{SqliteFailure}
-use Rattle.sqlite.specs.declared.error.ErrorCode.TheVariants as code
 use Rattle.inbox_table.specs.declared.fault.TableFault.{TableFault}
 use Rattle.inbox_table.specs.declared.fault.TableFault.TheVariants as table
 use Rattle.outbox.specs.declared.fault.OutboxFault.{OutboxFault}
@@ -38,16 +33,6 @@ abbrev pub of_relay : RelayFault → CommandFault
 of_relay relay.OutOfMemory = command.OutOfMemory
 of_relay relay.RouteFailed = command.RouteFailed
 of_relay _ = command.Store
-
--- the fault that an error of the database is
-abbrev pub of_store : Error → CommandFault
-of_store (SqliteFailure code.OutOfMemory) = command.OutOfMemory
-of_store _ = command.Store
-
--- the fault that a refusal of the operating system is
-abbrev pub of_kind : ErrorKind → CommandFault
-of_kind kind.OutOfMemory = command.OutOfMemory
-of_kind _ = command.Store
 
 -- the fault that one of a stream over a table is
 abbrev pub of_follow : FollowFault → StreamFault

@@ -137,6 +137,10 @@ abbrev pub IsNoOrders : CommandFault → Type 0
 IsNoOrders f = (f ≡ command.OutOfMemory) ⊎ ((f ≡ command.Store)
     ⊎ ((f ≡ command.Foreign) ⊎ (f ≡ command.AnotherSource)))
 
+-- the fault says that nothing is told of the database
+abbrev pub IsUntold : CommandFault → Type 0
+IsUntold f = (f ≡ command.OutOfMemory) ⊎ ((f ≡ command.Store) ⊎ (f ≡ command.Foreign))
+
 -- a service accepted one command more, and the text is the event of its row
 pub record IsOrdered (source : List ℕ) (base : ℕ) (commands : List Accepted) (c : Accepted)
     (new : Database) (text : List ℕ) : Type 0 where

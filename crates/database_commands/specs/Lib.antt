@@ -4,5 +4,7 @@ pub mod Print
 pub mod Pages
 pub mod Held
 pub mod Service
+pub mod Described
+pub mod Trouble
 pub mod Streams
 pub mod steps

@@ -33,6 +33,20 @@ unfoldable pub service_line : List ℕ → ℕ → ℕ → ℕ → List ℕ
 service_line source base orders rows =
     compact_text (service_data source base orders rows) ++ 10 ∷ []
 
+-- {"db":DB,"events":N,"sources":N,"version":V}
+abbrev pub database_data : List ℕ → ℕ → ℕ → ℕ → Data
+database_data db events sources version =
+    object (member (codes "db") (string db)
+    (member (codes "events") (number (unsigned events))
+    (member (codes "sources") (number (unsigned sources))
+    (member (codes "version") (number (unsigned version)) no_members))))
+
+-- what the inbox of a database is: its name, how many events it has, of how many sources, and in which
+-- version; JSON without white space, as one line
+unfoldable pub database_line : List ℕ → ℕ → ℕ → ℕ → List ℕ
+database_line db events sources version =
+    compact_text (database_data db events sources version) ++ 10 ∷ []
+
 -- the text is the rest of these bytes before one LF at their end, or all of them where none is there
 abbrev pub WithoutLineEnd : List ℕ → List ℕ → Type 0
 WithoutLineEnd bytes text = (bytes ≡ text ++ 10 ∷ [])

@@ -1,14 +1,12 @@
 //! Why a command over a database has no answer.
 ghost use Rattle.std.specs.Prelude.{◌≡◌};
-ghost use Rattle.database_commands.specs.Fault.{of_kind, of_outbox, of_relay, of_store, of_table};
+ghost use Rattle.database_commands.specs.Fault.{of_outbox, of_relay, of_table};
 ghost use Rattle.database_commands.specs.declared.fault.CommandFault.TheVariants.{OutOfMemory};
 
 use inbox_table::TableFault;
 use outbox::OutboxFault;
 use relay::RelayFault;
-use sqlite::ErrorCode;
 use std::alloc::{AllocError, AllocFailed};
-use std::io::ErrorKind;
 use thiserror::Error;
 
 /// Why a command over a database has no answer. It prints as its name.
@@ -43,6 +41,9 @@ pub enum CommandFault {
     /// There is no file of that name, and the command makes none.
     #[error("CannotRead")]
     CannotRead,
+    /// The variable that limits the cache doesn't say how large it may be.
+    #[error("Cache")]
+    Cache,
 }
 
 impl From<AllocError> for CommandFault {
@@ -69,26 +70,6 @@ pub fn of_table(fault: TableFault) -> CommandFault
         TableFault::OutOfMemory => CommandFault::OutOfMemory,
         TableFault::Store => CommandFault::Store,
         TableFault::Foreign => CommandFault::Foreign,
-    }
-}
-
-/// The fault that an error of the database is.
-pub fn of_store(error: sqlite::Error) -> CommandFault
-    ensures { result ≡ of_store error }
-{
-    match error {
-        sqlite::Error::SqliteFailure(ErrorCode::OutOfMemory) => CommandFault::OutOfMemory,
-        _ => CommandFault::Store,
-    }
-}
-
-/// The fault that a refusal of the operating system is.
-pub fn of_kind(kind: ErrorKind) -> CommandFault
-    ensures { result ≡ of_kind kind }
-{
-    match kind {
-        ErrorKind::OutOfMemory => CommandFault::OutOfMemory,
-        _ => CommandFault::Store,
     }
 }
 

@@ -4,21 +4,25 @@ ghost use Rattle.attributes.specs.Character.{is_filled};
 ghost use Rattle.attributes.specs.Event.{EventValue};
 ghost use Rattle.attributes.specs.Sequence.{max_sequence};
 ghost use Rattle.line_intake.specs.Acknowledged.{TellsAll};
+ghost use Rattle.database_commands.specs.Described.{SaysDatabase};
 ghost use Rattle.database_commands.specs.Held.{HasDelta, HasEvents, SaysAllRows, SaysDelta, SaysOrder, SaysPage, SaysSummary};
 ghost use Rattle.database_commands.specs.Name.{IsNoFile};
 ghost use Rattle.database_commands.specs.declared.fault.CommandFault.TheVariants as CommandFault;
+ghost use Rattle.database_commands.specs.declared.trouble.Trouble.TheVariants as trouble;
 ghost use Rattle.database_commands.specs.Print.{batch_line, counts_line};
 ghost use Rattle.database_commands.specs.Service.{SaysService};
 ghost use Rattle.database_commands.specs.Streams.{AcknowledgesUntil};
 
 use crate::Ended;
-use crate::fault::{CommandFault, of_kind, of_store};
+use crate::described::describe;
+use crate::fault::CommandFault;
 use crate::intake::take;
 use crate::page::{Contents, Paged, delta, delta_pages, held, scrub, scrub_pages, summary};
 use crate::pages::EventPages;
 use crate::service::{order, relay, relay_all};
 use crate::stream::{StreamFault, Streamed, begun, follow};
 use crate::told::tell_service;
+use crate::trouble::{Trouble, of_error, of_fault, of_kind, of_open};
 use attributes::{Batch, Moment, Text};
 use coverage::Summary;
 use inbox_table::Watch;
@@ -26,12 +30,13 @@ use outbox::Status;
 use sqlite::Connection;
 use sqlite_disk::Unknown;
 use sqlite_pager::Options;
-use sqlite_std_file::{File, OpenError};
+use sqlite_std_file::File;
 use sqlite_store::FileStore;
 use std::alloc::Global;
-use std::fs;
+use std::env::VarError;
 use std::hash::{BuildHasher, RandomState};
 use std::io::{ErrorKind, Read, Write};
+use std::{env, fs};
 
 /// The bytes of a database's page.
 const PAGE: u64 = 4_096;
@@ -42,10 +47,16 @@ const PAGE: u64 = 4_096;
 const STREAM_GROWTH: u64 = 8_192;
 /// The fewest pages that are kept in memory.
 const LEAST_PAGES: u64 = 200;
-/// The most pages that are kept in memory, 256 MiB. The cache is made once the first page is found
-/// to be a database's, so a huge file that only begins like one may not ask for more; of a database
-/// past this size an open reads pages again.
-const MOST_PAGES: u64 = 65_536;
+/// The variable of the environment that says how many MiB of a database are kept in memory at most.
+const CACHE: &str = "SITE_CACHE_MIB";
+/// The most that it may say, 1 TiB.
+const MOST_MIB: u64 = 1_048_576;
+/// The pages of a MiB.
+const MIB: u64 = 256;
+/// The most pages that are kept in memory where the variable isn't set, 1 GiB. The cache is made
+/// once the first page is found to be a database's, so a huge file that only begins like one may not
+/// ask for more; of a database past this size an open reads pages again.
+const MOST_PAGES: u64 = 262_144;
 
 /// The commands over databases, by the names of their files. Each opens the database, makes its
 /// file where there is none unless it says otherwise, and closes it in the end; what was committed
@@ -141,6 +152,10 @@ pub trait Databases {
         requires source { (is_filled source.now ≡ true) × (length source.now ≤ 1024) }
         requires base { IfSome base (λ n. n ≤ max_sequence) }
         ensures { IfOk result (SaysService is_source_named source.now base) };
+
+    /// As [`crate::describe`]. A file that isn't there is not made: `CannotRead`.
+    fn describe(&self, alloc: Global, name: &str) -> Result<Text, Trouble>
+        ensures { IfOk result (SaysDatabase name.now) };
 
     /// As [`crate::relay`].
     fn relay(
@@ -283,6 +298,16 @@ impl Databases for HostRuntime {
         }
     }
 
+    fn describe(&self, alloc: Global, name: &str) -> Result<Text, Trouble> {
+        match found(self, name) {
+            Ok(conn) => match closed(describe(alloc, conn, name)) {
+                Ok(text) => Ok(text),
+                Err(fault) => Err(of_fault(fault)),
+            },
+            Err(why) => Err(why),
+        }
+    }
+
     fn relay(
         &self,
         alloc: Global,
@@ -341,14 +366,24 @@ fn is_no_file(name: &str) -> bool
 fn open_there(rt: &HostRuntime, name: &str) -> Result<Connection<FileStore<File>>, CommandFault>
     ensures { IsNoFile name.now → IsErrOf result CommandFault.Store }
 {
+    match found(rt, name) {
+        Ok(conn) => Ok(conn),
+        Err(why) => Err(why.fault()),
+    }
+}
+
+/// As [`open_there`], with what is the matter where it isn't opened.
+fn found(rt: &HostRuntime, name: &str) -> Result<Connection<FileStore<File>>, Trouble>
+    ensures { IsNoFile name.now → IsErrOf result trouble.NoFile }
+{
     if is_no_file(name) {
-        return Err(CommandFault::Store);
+        return Err(Trouble::NoFile);
     }
     match fs::metadata(rt, name) {
-        Ok(_) => open(rt, name, 0),
+        Ok(_) => opened(rt, name, 0),
         Err(error) => match error.kind() {
-            ErrorKind::OutOfMemory => Err(CommandFault::OutOfMemory),
-            _ => Err(CommandFault::CannotRead),
+            ErrorKind::OutOfMemory => Err(Trouble::OutOfMemory),
+            _ => Err(Trouble::CannotRead),
         },
     }
 }
@@ -366,25 +401,26 @@ pub fn open(
     if is_no_file(name) {
         return Err(CommandFault::Store);
     }
-    opened(rt, name, growth)
+    match opened(rt, name, growth) {
+        Ok(conn) => Ok(conn),
+        Err(why) => Err(why.fault()),
+    }
 }
 
-/// As [`open`], of a name that is a file's.
+/// As [`open`], of a name that is a file's, with what is the matter where it isn't opened.
 fn opened(
     rt: &HostRuntime,
     name: &str,
     growth: u64,
-) -> Result<Connection<FileStore<File>>, CommandFault> {
-    let pages = pages_for(length_of(rt, name), growth);
+) -> Result<Connection<FileStore<File>>, Trouble> {
+    let pages = pages_for(length_of(rt, name), growth, most_pages(rt)?);
     let options = options(rt, pages)?;
     match sqlite_std_file::open(rt, name, Unknown) {
         Ok(files) => match Connection::open_files(rt.alloc(), files, options) {
             Ok(conn) => Ok(conn),
-            Err((error, _)) => Err(of_store(error)),
+            Err((error, _)) => Err(of_error(error)),
         },
-        Err(OpenError::OutOfMemory) => Err(CommandFault::OutOfMemory),
-        Err(OpenError::Io(error)) => Err(of_kind(error.kind())),
-        Err(_) => Err(CommandFault::Store),
+        Err(error) => Err(of_open(error)),
     }
 }
 
@@ -397,19 +433,48 @@ fn length_of(rt: &HostRuntime, name: &str) -> u64 {
 }
 
 /// The pages that are to be kept in memory: all of the file with what is added to it, and a tenth
-/// more, since the cache finds a page by its number modulo its size. An open looks each row up in
-/// its index, so that a page which isn't kept is read over and over.
-fn pages_for(length: u64, growth: u64) -> u64
-    ensures { (200 ≤ result) × (result ≤ 65536) }
+/// more, since the cache finds a page by its number modulo its size; `most` where that is too much.
+/// An open looks each row up in its index, so that a page which isn't kept is read over and over.
+fn pages_for(length: u64, growth: u64, most: u64) -> u64
+    requires { 200 ≤ most }
+    ensures { (200 ≤ result) × (result ≤ most) }
 {
     let pages = length.saturating_add(growth) / PAGE;
-    pages
-        .saturating_add(pages / 10)
-        .clamp(LEAST_PAGES, MOST_PAGES)
+    pages.saturating_add(pages / 10).clamp(LEAST_PAGES, most)
+}
+
+/// The most pages that are kept in memory.
+fn most_pages(rt: &HostRuntime) -> Result<u64, Trouble>
+    ensures { IfOk result (λ n. 200 ≤ n) }
+{
+    match env::var(rt, CACHE) {
+        Ok(text) => match pages_of(text.as_str()) {
+            Some(pages) => Ok(pages),
+            None => Err(Trouble::Cache),
+        },
+        Err(VarError::NotPresent) => Ok(MOST_PAGES),
+        Err(VarError::OutOfMemory) => Err(Trouble::OutOfMemory),
+        Err(VarError::NotUnicode) => Err(Trouble::Cache),
+    }
+}
+
+/// The pages of so many MiB, of which there is one at least.
+fn pages_of(mib: &str) -> Option<u64>
+    ensures { IfSome result (λ n. (200 ≤ n) × (n ≤ 268435456)) }
+{
+    match mib.parse::<u64>() {
+        Ok(mib) => {
+            if mib == 0 || mib > MOST_MIB {
+                return None;
+            }
+            Some(mib * MIB)
+        }
+        Err(_) => None,
+    }
 }
 
 /// How a database is opened, with a seed drawn at random.
-fn options(rt: &HostRuntime, pages: u64) -> Result<Options, CommandFault> {
+fn options(rt: &HostRuntime, pages: u64) -> Result<Options, Trouble> {
     let state = match RandomState::new(rt) {
         Ok(state) => state,
         Err(error) => return Err(of_kind(error.kind())),

@@ -1,6 +1,7 @@
 //! The commands over a database: from an open connection to the printed text.
 #![tactic(auto)]
 
+mod described;
 mod fault;
 mod file;
 mod intake;
@@ -10,8 +11,10 @@ mod service;
 mod stream;
 mod text;
 mod told;
+mod trouble;
 
 use attributes::Text;
+pub use described::describe;
 pub use fault::{CommandFault, of_table};
 pub use file::{Databases, open};
 pub use intake::{loaded, take};
@@ -23,6 +26,7 @@ use sqlite::{Alter, Connection};
 pub use stream::{StreamFault, Streamed, follow};
 pub use text::summary_of;
 pub use told::tell_service;
+pub use trouble::{Trouble, trouble_line};
 
 /// A command that came to its end: the connection, and the text to print or why there is none.
 #[derive(Drop)]

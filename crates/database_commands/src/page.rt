@@ -222,7 +222,7 @@ pub fn scrub<S: Alter + Drop>(alloc: Global, conn: Connection<S>, from: u64) -> 
 }
 
 /// The site of some events.
-fn site_of(alloc: Global, mut events: Batch) -> Result<Site, AllocError>
+pub(crate) fn site_of(alloc: Global, mut events: Batch) -> Result<Site, AllocError>
     ensures { IfOk result (λ site. site ≡ append_new key_cmp [] events) }
 {
     let mut site = Site::empty(alloc);

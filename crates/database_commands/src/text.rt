@@ -1,7 +1,8 @@
 //! The printed texts, and the file of a summary.
 ghost use Rattle.std.specs.Prelude.{◌≡◌, IfOk, string_bytes};
 ghost use Rattle.serde_json.specs.Written.{compact_text};
-ghost use Rattle.database_commands.specs.Print.{WithoutLineEnd, batch_line, counts_line, event_line, service_data, service_line};
+ghost use Rattle.database_commands.specs.Print.{WithoutLineEnd, batch_line, counts_line, database_data, database_line, event_line, service_data, service_line};
+ghost use Rattle.database_commands.specs.Trouble.{trouble_data};
 
 use attributes::{Batch, Sequenced, Text};
 use event_json::write_sequenced;
@@ -76,6 +77,71 @@ pub fn service_line(
     let mut line = service_text(alloc, source, base, orders, rows)?;
     line.push_str("\n")?;
     Ok(Text::from_string(line))
+}
+
+/// An inbox as JSON.
+fn database_text(
+    alloc: Global,
+    name: &str,
+    events: u64,
+    sources: u64,
+    version: u64,
+) -> Result<String, AllocError>
+    ensures { IfOk result (λ text. string_bytes text
+        ≡ compact_text (database_data name.now events sources version)) }
+{
+    let mut out = Writer::new(Vec::new(alloc));
+    out.begin_object()?;
+    out.key("db")?;
+    out.string(name)?;
+    out.key("events")?;
+    out.u64(events)?;
+    out.key("sources")?;
+    out.u64(sources)?;
+    out.key("version")?;
+    out.u64(version)?;
+    out.end_object()?;
+    let text = String::from_utf8(out.into_inner()).unwrap();
+    Ok(text)
+}
+
+/// What the inbox of a database is, as one line.
+#[tactic(auto, unfolding(crate::specs::Print::database_line))]
+pub fn database_line(
+    alloc: Global,
+    name: &str,
+    events: u64,
+    sources: u64,
+    version: u64,
+) -> Result<Text, AllocError>
+    ensures { IfOk result (λ text. text ≡ database_line name.now events sources version) }
+{
+    let mut line = database_text(alloc, name, events, sources, version)?;
+    line.push_str("\n")?;
+    Ok(Text::from_string(line))
+}
+
+/// Why nothing is told of a database, as JSON.
+pub fn trouble_text(
+    alloc: Global,
+    name: &str,
+    fault: &str,
+    hint: &str,
+) -> Result<String, AllocError>
+    ensures { IfOk result (λ text. string_bytes text
+        ≡ compact_text (trouble_data name.now fault.now hint.now)) }
+{
+    let mut out = Writer::new(Vec::new(alloc));
+    out.begin_object()?;
+    out.key("db")?;
+    out.string(name)?;
+    out.key("fault")?;
+    out.string(fault)?;
+    out.key("hint")?;
+    out.string(hint)?;
+    out.end_object()?;
+    let text = String::from_utf8(out.into_inner()).unwrap();
+    Ok(text)
 }
 
 /// The bytes without one LF at their end, as `cover` prints a summary.

@@ -123,7 +123,7 @@ fn made<S: Alter + Drop>(alloc: Global, conn: Connection<S>, source: &Text, base
 }
 
 /// Tells of the service that is there.
-fn told<S: Alter + Drop>(
+pub(crate) fn told<S: Alter + Drop>(
     alloc: Global,
     conn: Connection<S>,
     source: &Text,

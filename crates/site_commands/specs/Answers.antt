@@ -27,7 +27,6 @@ use Rattle.command_words.specs.declared.request.Alone.{Alone}
 use Rattle.command_words.specs.declared.request.Alone.TheVariants as alone
 use Rattle.command_words.specs.declared.request.Once.{Once}
 use Rattle.command_words.specs.declared.request.Once.TheVariants as once
-use Rattle.command_words.specs.Plans.{AreFew}
 use Rattle.file_reports.specs.Shelves.{AreContents, IsUnreadAt}
 use Rattle.file_reports.specs.Reports.{EachReads, IsRefusal, IsReport, IsReportWith, SpellAll}
 use Rattle.file_reports.specs.declared.input.Unread.{Unread}

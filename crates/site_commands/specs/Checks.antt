@@ -1,6 +1,10 @@
--- What a check of files comes to. C says what a name is read as, U why a name isn't read.
-use Rattle.std.specs.Prelude.{◌≡◌, ◌≢◌, ℕ, List, [], ◌∷◌, ◌++◌}
+-- What a check of files and a database comes to. C says what a name is read as, U why a name isn't read.
+use Rattle.std.specs.Prelude.{◌≡◌, ◌≢◌, ◌⊎◌, ℕ, Bool, true, false, List, [], ◌∷◌, ◌++◌, Option, None, Some}
 use Rattle.command_words.specs.declared.request.Check.{Check}
+use Rattle.database_commands.specs.Described.{SaysDatabase}
+use Rattle.database_commands.specs.Trouble.{trouble_line}
+use Rattle.database_commands.specs.declared.trouble.Trouble.{Trouble}
+use Rattle.database_commands.specs.declared.trouble.Trouble.TheVariants.{OutOfMemory}
 use Rattle.fault_lines.specs.Lines.{IsFaultText}
 use Rattle.file_reports.specs.Shelves.{AreContents, IsUnreadAt}
 use Rattle.file_reports.specs.declared.input.Unread.{Unread}
@@ -33,15 +37,38 @@ RefusesCheck C U files (refusal.Database why) = ⊥
 RefusesCheck C U files refusal.NoThread = ⊥
 RefusesCheck C U files (refusal.Lines faults) = ⊥
 
--- nothing is at fault, and nothing is answered
-pub record FindsNone (C : List ℕ → List ℕ → Type 0) (judged : Check) (text : List ℕ) : Type 0 where
-  pub tells : TellsFaults C judged.files text
-  pub empty : text ≡ []
+-- the text tells of the database of this name, and it is sound; or says what is the matter with it
+abbrev pub TellsDatabase : List ℕ → Bool → List ℕ → Type 0
+TellsDatabase db true text = SaysDatabase db text
+TellsDatabase db false text = (why : Trouble) × (why ≢ OutOfMemory) × (text ≡ trouble_line db why)
 
--- the text has the lines of what is at fault
+-- so it does where a database is given; where none is, it is empty
+abbrev pub TellsGiven : Option (List ℕ) → Bool → List ℕ → Type 0
+TellsGiven None sound text = (sound ≡ true) × (text ≡ [])
+TellsGiven (Some db) sound text = TellsDatabase db sound text
+
+-- the text tells of the database, which is sound or isn't, and behind it has the lines of what is at
+-- fault in the files
+pub record Checks (C : List ℕ → List ℕ → Type 0) (judged : Check) (sound : Bool)
+    (told lines text : List ℕ) : Type 0 where
+  pub database : TellsGiven judged.db sound told
+  pub faults : TellsFaults C judged.files lines
+  pub both : text ≡ told ++ lines
+
+-- nothing is at fault: the text tells of the database alone
+pub record FindsNone (C : List ℕ → List ℕ → Type 0) (judged : Check) (text : List ℕ) : Type 0 where
+  pub told : List ℕ
+  pub lines : List ℕ
+  pub checks : Checks C judged true told lines text
+  pub empty : lines ≡ []
+
+-- something is: the database, or an event of the files
 pub record FindsSome (C : List ℕ → List ℕ → Type 0) (judged : Check) (text : List ℕ) : Type 0 where
-  pub tells : TellsFaults C judged.files text
-  pub some : text ≢ []
+  pub sound : Bool
+  pub told : List ℕ
+  pub lines : List ℕ
+  pub checks : Checks C judged sound told lines text
+  pub some : (sound ≡ false) ⊎ (lines ≢ [])
 
 -- what a check comes to
 abbrev pub IsCheckEnding : (List ℕ → List ℕ → Type 0) → (List ℕ → Unread → Type 0)

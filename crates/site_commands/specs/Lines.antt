@@ -100,6 +100,8 @@ database_line db number database.Full = order_line number (codes "Full")
 database_line db number database.RouteFailed = codes "site: route failed" ++ 10 ∷ []
 database_line db number database.AnotherSource = file_line db (codes "another source")
 database_line db number database.CannotRead = file_line db (codes "cannot read")
+database_line db number database.Cache =
+    codes "site: SITE_CACHE_MIB isn't a whole number from 1 to 1048576" ++ 10 ∷ []
 
 -- the one line of a refusal of a plan that names these
 abbrev pub line_of : Names → Refusal → List ℕ

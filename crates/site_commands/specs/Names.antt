@@ -37,7 +37,7 @@ of_once (once.Relay db after is_all) = record { db = db; order = 0; files = [] }
 abbrev pub of_follow : Follow → Names
 of_follow lines = record { db = lines.db; order = 0; files = lines.file ∷ [] }
 
--- what a check names
+-- what a check names where it is refused, which is for a file alone
 abbrev pub of_check : Check → Names
 of_check judged = record { db = []; order = 0; files = judged.files }
 

@@ -1,23 +1,45 @@
-//! The command that judges files and keeps nothing of them.
-ghost use Rattle.std.specs.Prelude.{◌≡◌, IfErr, IfOk, length};
-ghost use Rattle.site_commands.specs.Checks.{AreFaultsOf, IsCheckEnding, RefusesCheck, TellsFaults};
+//! The command that judges files and keeps nothing of them, and tells what a database is.
+ghost use Rattle.std.specs.Prelude.{◌≡◌, IfErr, IfOk, IsFalse, IsTrue, length};
+ghost use Rattle.site_commands.specs.Checks.{AreFaultsOf, FindsNone, FindsSome, IsCheckEnding, RefusesCheck, TellsDatabase, TellsGiven};
+ghost use Rattle.site_commands.specs.steps.Checks.{FindsIn};
 
 use crate::ending::{Ending, refused};
 use crate::line::Refusal;
 use crate::names::Names;
 use attributes::{Octets, Text};
 use command_words::Check;
+use database_commands::{Databases, Trouble, trouble_line};
 use fault_lines::fault_lines;
 use file_reports::{Shelf, Unread, UnreadAt, contents_of};
 use std::alloc::{AllocError, Global};
 
-/// What a check of files comes to: the lines of their events at fault, or nothing where none is.
-pub fn ending_of_check<S: Shelf>(alloc: Global, shelf: &S, plan: &Check) -> Ending
+/// What is told of a database.
+#[derive(Drop)]
+struct Told {
+    is_sound: bool,
+    text: Text,
+}
+
+/// What a check found, and whether nothing is at fault.
+#[derive(Drop)]
+struct Found {
+    is_faultless: bool,
+    text: Text,
+}
+
+/// What a check comes to: what the database is, and the lines of the events at fault in the files.
+pub fn ending_of_check<S: Shelf, D: Databases>(
+    alloc: Global,
+    shelf: &S,
+    databases: &D,
+    plan: &Check,
+) -> Ending
     ensures { IsCheckEnding (S.is_content shelf.now) (S.is_unread shelf.now) plan.now result }
 {
-    match check(alloc, shelf, plan.files.as_slice()) {
-        Ok(text) => {
-            if text.as_str().is_empty() {
+    match check(alloc, shelf, databases, plan) {
+        Ok(found) => {
+            let Found { is_faultless, text } = found;
+            if is_faultless {
                 Ending::Answer(text)
             } else {
                 Ending::Findings(text)
@@ -27,21 +49,90 @@ pub fn ending_of_check<S: Shelf>(alloc: Global, shelf: &S, plan: &Check) -> Endi
     }
 }
 
-/// The lines of the events at fault in all files. All files are read before one is judged.
-fn check<S: Shelf>(alloc: Global, shelf: &S, files: &[Text]) -> Result<Text, Refusal>
-    ensures ok { IfOk result (TellsFaults (S.is_content shelf.now) files.now) }
+/// What is found of the database and in all files. All files are read before one is judged, and the
+/// database is looked at behind that.
+fn check<S: Shelf, D: Databases>(
+    alloc: Global,
+    shelf: &S,
+    databases: &D,
+    plan: &Check,
+) -> Result<Found, Refusal>
+    ensures none { IfOk result (λ f. IsTrue f.is_faultless
+        → FindsNone (S.is_content shelf.now) plan.now f.text) }
+    ensures some { IfOk result (λ f. IsFalse f.is_faultless
+        → FindsSome (S.is_content shelf.now) plan.now f.text) }
     ensures err { IfErr result
-        (RefusesCheck (S.is_content shelf.now) (S.is_unread shelf.now) files.now) }
+        (RefusesCheck (S.is_content shelf.now) (S.is_unread shelf.now) plan.now.files) }
 {
-    match contents_of(alloc, shelf, files) {
-        Ok(contents) => match lines_of(alloc, files, contents.as_slice()) {
-            Ok(text) => Ok(text),
+    match contents_of(alloc, shelf, plan.files.as_slice()) {
+        Ok(contents) => match found_in(alloc, databases, plan, contents.as_slice()) {
+            Ok(found) => Ok(found),
             Err(_) => Err(Refusal::Unread(UnreadAt {
                 file: 0,
                 why: Unread::OutOfMemory,
             })),
         },
         Err(at) => Err(Refusal::Unread(at)),
+    }
+}
+
+/// What is found of the database and in these contents, each of the file at its place.
+fn found_in<D: Databases>(
+    alloc: Global,
+    databases: &D,
+    plan: &Check,
+    contents: &[Octets],
+) -> Result<Found, AllocError>
+    requires { length contents.now ≡ length plan.now.files }
+    ensures { IfOk result (λ f. FindsIn plan.now contents.now f.is_faultless f.text) }
+{
+    let Told { is_sound, text } = told_if_given(alloc, databases, &plan.db)?;
+    let lines = lines_of(alloc, plan.files.as_slice(), contents)?;
+    let is_faultless = is_sound && lines.as_str().is_empty();
+    let mut text = text.into_string();
+    text.push_str(lines.as_str())?;
+    Ok(Found {
+        is_faultless,
+        text: Text::from_string(text),
+    })
+}
+
+/// What is told of the database, where one is given.
+fn told_if_given<D: Databases>(
+    alloc: Global,
+    databases: &D,
+    db: &Option<Text>,
+) -> Result<Told, AllocError>
+    ensures { IfOk result (λ t. TellsGiven db.now t.is_sound t.text) }
+{
+    match db {
+        Some(db) => told_of(alloc, databases, db.as_str()),
+        None => Ok(Told {
+            is_sound: true,
+            text: Text::from_string(String::new(alloc)),
+        }),
+    }
+}
+
+/// What is told of the database of this name.
+fn told_of<D: Databases>(alloc: Global, databases: &D, db: &str) -> Result<Told, AllocError>
+    ensures { IfOk result (λ t. TellsDatabase db.now t.is_sound t.text) }
+{
+    match databases.describe(alloc, db) {
+        Ok(text) => Ok(Told {
+            is_sound: true,
+            text,
+        }),
+        Err(why) => {
+            if why == Trouble::OutOfMemory {
+                return Err(AllocError);
+            }
+            let text = trouble_line(alloc, db, why)?;
+            Ok(Told {
+                is_sound: false,
+                text,
+            })
+        }
     }
 }
 

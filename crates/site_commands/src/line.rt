@@ -120,6 +120,10 @@ fn database_line(
         CommandFault::RouteFailed => Text::of(alloc, "site: route failed\n"),
         CommandFault::AnotherSource => file_line(alloc, db, "another source"),
         CommandFault::CannotRead => file_line(alloc, db, "cannot read"),
+        CommandFault::Cache => Text::of(
+            alloc,
+            "site: SITE_CACHE_MIB isn't a whole number from 1 to 1048576\n",
+        ),
     }
 }
 

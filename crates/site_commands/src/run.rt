@@ -129,7 +129,7 @@ pub fn perform_alone<R: AllocGlobal + Files + Databases, O: Write, E: Write, P: 
         Alone::Check(plan) => {
             let left = Cell::new(plan.files.len());
             let shelf = SystemFiles { rt, progress, left };
-            let ending = ending_of_check(rt.alloc(), &shelf, plan);
+            let ending = ending_of_check(rt.alloc(), &shelf, rt, plan);
             progress.over();
             finish(ending, out, err)
         }

@@ -1,11 +1,15 @@
--- What is told of a service.
-use Rattle.std.specs.Prelude.{◌≡◌, ℕ, Bool, List, IfSome, IsTrue, Option}
+-- What is told of a service, and of a list of events.
+use Rattle.std.specs.Prelude.{◌≡◌, ℕ, Bool, List, [], length, IfSome, IsTrue, Option}
 use Rattle.sqlite.specs.Effect.{Database}
 use Rattle.sqlite.specs.State.{State, HasCleanDisk}
+use Rattle.attributes.specs.Event.{EventValue}
+use Rattle.inbox.specs.KeyOrder.{key_cmp}
+use Rattle.inbox.specs.Ordered.{append_new}
 use Rattle.outbox.specs.Order.{Accepted}
 use Rattle.outbox.specs.Service.{IsService}
 use Rattle.outbox.specs.Shown.{CountsOrders, CountsRows}
-use Rattle.database_commands.specs.Print.{service_line}
+use Rattle.database_commands.specs.Described.{CountsSources}
+use Rattle.database_commands.specs.Print.{database_line, service_line}
 use Rattle.database_commands.specs.Service.{TellsService}
 
 -- a service with this source and base has so many orders and so many rows
@@ -27,3 +31,8 @@ pub record IsLineOf (s : State) (source : List ℕ) (base : ℕ) (is_named : Boo
 abbrev pub TellsEach : Database → List ℕ → Type 0
 TellsEach db text = (source : List ℕ) (base : ℕ) (commands : List Accepted)
     → IsService db source base commands → TellsService source base commands text
+
+-- the text is the line of an inbox with these events, whose version has this number
+abbrev pub TellsEvents : List ℕ → List EventValue → ℕ → List ℕ → Type 0
+TellsEvents name events version text = (n : ℕ) × CountsSources (append_new key_cmp [] events) n
+    × (text ≡ database_line name (length events) n version)

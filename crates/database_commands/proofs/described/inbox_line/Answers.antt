@@ -1,0 +1,19 @@
+use Rattle.std.proofs.Common.{◌∙◌, subst, sym}
+use Rattle.std.proofs.lemmas.Result.{IfOk-weaker}
+use Rattle.sqlite.specs.Held.{state}
+use Rattle.database_commands.specs.Described.{TellsInbox}
+use Rattle.database_commands.specs.steps.Told.{TellsEvents}
+use Rattle.database_commands.proofs.DescribedLemmas.{foreign_table, tells_found}
+use Rattle.database_commands.proofs.described.inbox_line.Goals as goal
+
+pub returns-in-Ok-clause-told : goal.returns-in-Ok-clause-told
+returns-in-Ok-clause-told g c clean =
+    let name = c.args.name.now in
+    let events = c.in-Ok.found.events in
+    let db = (state g.S.Store c.args.conn.now).now in
+    IfOk-weaker c.events_line-in-Ok.result (TellsEvents name events c.version_number.result) (TellsInbox name db)
+    (λ text line. tells_found name db c.in-Ok.found.version events text (c.in-Ok.ensures.finds clean) (subst (λ n. TellsEvents name events n text) c.version_number.ensures line))
+    c.events_line-in-Ok.ensures.line
+
+pub returns-in-Err-clause-foreign : goal.returns-in-Err-clause-foreign
+returns-in-Err-clause-foreign g c is clean = c.in-Err.ensures.rejects.foreign clean (foreign_table c.in-Err.fault (sym c.of_table.ensures ∙ is))

@@ -1,0 +1,138 @@
+//! What a database is: its inbox, and its service.
+ghost use Rattle.std.specs.Prelude.{◌≡◌, ◌⊎◌, ◌++◌, List, [], IfErr, IfOk, OnOk};
+ghost use Rattle.sqlite.specs.Held.{state};
+ghost use Rattle.sqlite.specs.State.{HasCleanDisk};
+ghost use Rattle.attributes.specs.Event.{EventValue};
+ghost use Rattle.inbox.specs.KeyOrder.{key_cmp};
+ghost use Rattle.inbox.specs.Ordered.{append_new};
+ghost use Rattle.inbox_table.specs.Rows.{IsAnyInbox};
+ghost use Rattle.outbox.specs.Call.{Leaves};
+ghost use Rattle.outbox.specs.Shown.{IsNoService};
+ghost use Rattle.database_commands.specs.Described.{CountsSources, Describes, SaysDatabase, SaysInbox, TellsInbox, version_number};
+ghost use Rattle.database_commands.specs.Held.{IsUntold};
+ghost use Rattle.database_commands.specs.steps.Told.{TellsEvents};
+ghost use Rattle.database_commands.specs.declared.fault.CommandFault.TheVariants as command;
+
+use crate::Ended;
+use crate::fault::{CommandFault, of_table};
+use crate::page::site_of;
+use crate::text::database_line;
+use crate::told::told;
+use attributes::{Batch, Text};
+use database_layout::{has_inbox, has_name};
+use inbox_table::{Inspected, Version, inspect};
+use sqlite::{Alter, Connection};
+use std::alloc::{AllocError, Global};
+
+/// What a database is, in lines of JSON, the first of which begins with its name: how many events
+/// its inbox has, of how many sources, and its version, which is 0 where there is no inbox; and, where
+/// there is a service, the line that tells of it, as `service` prints it. Nothing is written: an inbox
+/// of version 1 stays what it is. `Foreign` where its tables aren't those that these commands leave.
+/// Time and memory in proportion to the events and rows.
+pub fn describe<S: Alter + Drop>(alloc: Global, conn: Connection<S>, name: &str) -> Ended<S>
+    ensures told { HasCleanDisk (state S.Store result.conn) → IfOk result.outcome
+        (Describes name.now (state S.Store conn).now) }
+    ensures left { Leaves (state S.Store conn) (state S.Store result.conn) }
+    ensures foreign { IfErr result.outcome (λ f. f ≡ command.Foreign
+        → HasCleanDisk (state S.Store result.conn)
+        → ((events : List EventValue) → IsAnyInbox (state S.Store conn).now events → ⊥)
+        ⊎ IsNoService (state S.Store conn).now) }
+    ensures fault { IfErr result.outcome IsUntold }
+    ensures line { IfOk result.outcome (SaysDatabase name.now) }
+{
+    let mut conn = conn;
+    let line = match inbox_line(alloc, &mut conn, name) {
+        Ok(line) => line,
+        Err(fault) => {
+            return Ended {
+                conn,
+                outcome: Err(fault),
+            };
+        }
+    };
+    if !has_name(conn.schema()) {
+        return Ended {
+            conn,
+            outcome: Ok(line),
+        };
+    }
+    // No source is named here, so it doesn't matter which text stands for it.
+    let Ended { conn, outcome } = told(alloc, conn, &line, false, None);
+    match outcome {
+        Ok(more) => {
+            let outcome = joined(line, &more);
+            Ended { conn, outcome }
+        }
+        Err(fault) => Ended {
+            conn,
+            outcome: Err(fault),
+        },
+    }
+}
+
+/// Both lines, one behind the other.
+fn joined(first: Text, rest: &Text) -> Result<Text, CommandFault>
+    ensures both { IfOk result (λ text. text ≡ first ++ rest.now) }
+    ensures fault { IfErr result (λ f. f ≡ command.OutOfMemory) }
+{
+    let mut text = first.into_string();
+    text.push_str(rest.as_str())?;
+    Ok(Text::from_string(text))
+}
+
+/// The line that tells of the inbox of a database, whether it has one or not.
+fn inbox_line<S: Alter>(
+    alloc: Global,
+    conn: &mut Connection<S>,
+    name: &str,
+) -> Result<Text, CommandFault>
+    ensures told { HasCleanDisk (state S.Store conn.new) → IfOk result
+        (TellsInbox name.now (state S.Store conn.old).now) }
+    ensures line { IfOk result (SaysInbox name.now) }
+    ensures left { Leaves (state S.Store conn.old) (state S.Store conn.new) }
+    ensures same { HasCleanDisk (state S.Store conn.new)
+        → OnOk result ((state S.Store conn.new).now ≡ (state S.Store conn.old).now) }
+    ensures foreign { IfErr result (λ f. f ≡ command.Foreign → HasCleanDisk (state S.Store conn.new)
+        → (events : List EventValue) → IsAnyInbox (state S.Store conn.old).now events → ⊥) }
+    ensures fault { IfErr result IsUntold }
+{
+    if !has_inbox(conn.schema()) {
+        return events_line(alloc, name, 0, Batch::empty(alloc));
+    }
+    match inspect(alloc, conn) {
+        Ok(found) => {
+            let Inspected { version, events } = found;
+            events_line(alloc, name, version_number(version), events)
+        }
+        Err(fault) => Err(of_table(fault)),
+    }
+}
+
+/// The number of a version.
+fn version_number(version: Version) -> u64
+    ensures { result ≡ version_number version }
+{
+    match version {
+        Version::One => 1,
+        Version::Two => 2,
+    }
+}
+
+/// The line of an inbox of that version with these events, each of which stands there once.
+fn events_line(alloc: Global, name: &str, version: u64, events: Batch) -> Result<Text, CommandFault>
+    ensures line { IfOk result (TellsEvents name.now events version) }
+    ensures fault { IfErr result (λ f. f ≡ command.OutOfMemory) }
+{
+    let count = events.len();
+    let sources = sources_of(alloc, events)?;
+    Ok(database_line(alloc, name, count, sources, version)?)
+}
+
+/// How many sources these events have.
+fn sources_of(alloc: Global, events: Batch) -> Result<u64, AllocError>
+    ensures { IfOk result (CountsSources (append_new key_cmp [] events)) }
+{
+    let mut site = site_of(alloc, events)?;
+    let summary = site.summary()?;
+    Ok(summary.len())
+}
