@@ -248,8 +248,15 @@ run check f.json
 is 'nothing at fault' 0 '' ''
 run check
 is 'a check of no file' 2 '' '*'
-run check --db rows.db f.json
-is 'a check with a database' 2 '' '*'
+run check --db none.db f.json
+is 'a check of a database that is not there' 1 '{"db":"none.db","fault":"cannot read","hint":"there is no file of that name, or none that this user may look at"}'"$lf" ''
+: >got.out
+"$program" check --db rows.db 2>got.err >&-
+status=$?
+is 'what a database is, to a closed stream' 1 '' ''
+"$program" check --db rows.db >/dev/full 2>got.err
+status=$?
+is 'what a database is, to a full device' 1 '' ''
 run check bad.json folder
 is 'a check of a folder' 1 '' "site: folder: cannot read$lf"
 "$program" check - <bad.json >got.out 2>got.err

@@ -65,6 +65,8 @@ ROWS_OF_ALL = [
     *[Row([it, "asked.json"]) for it in ("cover", "gaps", "shown", "latest", "kinds", "days", "conflicts")],
     Row(["check", "asked.json"]),
     Row(["check", "faulty.json", "asked.json"]),
+    Row(["check", "--db", "s.db", "faulty.json"], THREE),
+    Row(["check", "--db", "o.db"], PLACED),
     *[Row([it, "--db", "s.db", "asked.json"], THREE) for it in ("latest", "conflicts")],
     Row(["take", "--db", "n.db", "three.json"], [], ["scrub", "--db", "n.db"], b"read 3 new 0 repeated 3\n"),
     Row(["take", "--db", "s.db", "more.json"], THREE, HELD, b"read 2 new 0 repeated 2\n"),
