@@ -114,11 +114,25 @@ fn told<R: AllocGlobal + Abort>(rt: &R, other: u64) -> Summary {
     }
 }
 
+/// Whether the lines of what a command came to are the batches of the events with the numbers from
+/// each of these up to the next, and there are no more, and it said that at least so many may come.
+fn comes<R: AllocGlobal + Abort>(rt: &R, paged: Paged<MemStore>, numbers: &[u64]) -> bool {
+    let mut pages = pages_of(rt, paged);
+    if pages.most().saturating_add(1) < numbers.len() as u64 {
+        return false;
+    }
+    ends_after(rt, &mut pages, numbers)
+}
+
+/// Whether so comes what the summary lacks of the 250 events.
+fn lacks<R: AllocGlobal + Abort>(rt: &R, peer: Summary, numbers: &[u64]) -> bool {
+    comes(rt, delta_pages(rt.alloc(), stocked(rt), peer), numbers)
+}
+
 #[test]
 fn all_events_come_page_after_page(rt: HostRuntime) {
-    let mut pages = pages_of(&rt, scrub_pages(rt.alloc(), stocked(&rt)));
-    assert!(rt; pages.most() >= 3);
-    assert!(rt; ends_after(&rt, &mut pages, &[900, 1000, 1100, 1150]));
+    let paged = scrub_pages(rt.alloc(), stocked(&rt));
+    assert!(rt; comes(&rt, paged, &[900, 1000, 1100, 1150]));
 }
 
 #[test]
@@ -127,22 +141,18 @@ fn what_a_summary_of_numbers_lacks_comes_page_after_page(rt: HostRuntime) {
         &rt,
         r#"{"sources":{"/orders":[[900,1000],[1120,2000]]},"version":1}"#,
     );
-    let mut pages = pages_of(&rt, delta_pages(rt.alloc(), stocked(&rt), peer));
-    assert!(rt; ends_after(&rt, &mut pages, &[1001, 1101, 1120]));
+    assert!(rt; lacks(&rt, peer, &[1001, 1101, 1120]));
     // Of events under the same numbers it says nothing.
     let peer = read(&rt, r#"{"sources":{"/orders":[[900,1149]]},"version":1}"#);
-    let mut pages = pages_of(&rt, delta_pages(rt.alloc(), stocked(&rt), peer));
-    assert!(rt; is_over(&mut pages));
+    assert!(rt; lacks(&rt, peer, &[1150]));
 }
 
 #[test]
 fn a_block_with_another_event_comes_whole(rt: HostRuntime) {
     let peer = told(&rt, 1100);
     assert!(rt; peer.version() == 2);
-    let mut pages = pages_of(&rt, delta_pages(rt.alloc(), stocked(&rt), peer));
-    assert!(rt; ends_after(&rt, &mut pages, &[1024, 1124, 1150]));
-    let mut pages = pages_of(&rt, delta_pages(rt.alloc(), stocked(&rt), told(&rt, NONE)));
-    assert!(rt; is_over(&mut pages));
+    assert!(rt; lacks(&rt, peer, &[1024, 1124, 1150]));
+    assert!(rt; lacks(&rt, told(&rt, NONE), &[1150]));
 }
 
 /// Whether a command printed this text and a line end.
@@ -153,17 +163,31 @@ fn prints(outcome: &Result<Text, CommandFault>, text: &str) -> bool {
     }
 }
 
+/// Whether a command printed the summary of a site with the 250 events, of which one may be of
+/// another type.
+fn prints_summary<R: AllocGlobal + Abort>(
+    rt: &R,
+    outcome: &Result<Text, CommandFault>,
+    other: u64,
+) -> bool {
+    let text = told(rt, other).to_text().expect(rt, "memory");
+    prints(outcome, text.as_str())
+}
+
+/// Whether a command printed a summary of these numbers.
+fn prints_numbers(outcome: &Result<Text, CommandFault>) -> bool {
+    let numbers = "\"sources\":{\"/orders\":[[900,1149]]},\"version\":2}\n";
+    match outcome {
+        Ok(line) => line.as_str().ends_with(numbers),
+        Err(_) => false,
+    }
+}
+
 #[test]
 fn a_summary_is_that_of_a_site_with_the_events(rt: HostRuntime) {
     let Ended { conn: _, outcome } = summary(rt.alloc(), stocked(&rt));
-    let text = told(&rt, NONE).to_text().expect(&rt, "memory");
-    assert!(rt;
-        text.as_str()
-            .ends_with(r#""sources":{"/orders":[[900,1149]]},"version":2}"#)
-    );
-    assert!(rt; prints(&outcome, text.as_str()));
-    let text = told(&rt, 1100).to_text().expect(&rt, "memory");
-    assert!(rt; !prints(&outcome, text.as_str()));
+    assert!(rt; prints_numbers(&outcome) && prints_summary(&rt, &outcome, NONE));
+    assert!(rt; !prints_summary(&rt, &outcome, 1100));
 }
 
 /// How many names the schema of a database has.
@@ -193,11 +217,21 @@ fn holds_nothing<R: AllocGlobal + Abort>(rt: &R, statements: &str, count: usize)
     is_none(&events) && prints(&outcome, NOTHING.trim_end()) && names(&mut conn) == Some(count)
 }
 
+/// How many of these databases without an inbox, from the first on, hold nothing.
+fn empty<R: AllocGlobal + Abort>(rt: &R) -> usize {
+    for i in 0..WITHOUT.len() {
+        let (statements, count) = WITHOUT[i];
+        if !holds_nothing(rt, statements, count) {
+            return i;
+        }
+    }
+    WITHOUT.len()
+}
+
 #[test]
 fn where_there_is_no_inbox_none_is_made(rt: HostRuntime) {
-    for (statements, count) in &WITHOUT {
-        assert!(rt; holds_nothing(&rt, statements, *count), "{statements}");
-    }
+    let database = empty(&rt);
+    assert!(rt; database == WITHOUT.len(), "database {database}");
 }
 
 /// Whether all pages of a database without an inbox, and what a summary lacks, are none, and it has
@@ -214,11 +248,21 @@ fn has_no_pages<R: AllocGlobal + Abort>(rt: &R, statements: &str, count: usize) 
     is_over(&mut all) && is_over(&mut lacking) && names(&mut conn) == Some(count)
 }
 
+/// How many of these databases without an inbox, from the first on, have no pages.
+fn pageless<R: AllocGlobal + Abort>(rt: &R) -> usize {
+    for i in 0..WITHOUT.len() {
+        let (statements, count) = WITHOUT[i];
+        if !has_no_pages(rt, statements, count) {
+            return i;
+        }
+    }
+    WITHOUT.len()
+}
+
 #[test]
 fn a_database_without_an_inbox_has_no_pages(rt: HostRuntime) {
-    for (statements, count) in &WITHOUT {
-        assert!(rt; has_no_pages(&rt, statements, *count), "{statements}");
-    }
+    let database = pageless(&rt);
+    assert!(rt; database == WITHOUT.len(), "database {database}");
 }
 
 /// Whether these are the events with the numbers from one up to another, in that order.

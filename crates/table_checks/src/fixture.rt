@@ -47,6 +47,18 @@ pub(crate) const INBOX2: &str =
 pub(crate) const OUTBOX: &str =
     "CREATE TABLE service (one INTEGER PRIMARY KEY CHECK (one = 1), source TEXT NOT NULL, base INTEGER NOT NULL CHECK (base >= 0)) STRICT; CREATE TABLE orders (number INTEGER PRIMARY KEY, state INTEGER NOT NULL CHECK (state >= 1 AND state <= 3)) STRICT; CREATE TABLE outbox (number INTEGER PRIMARY KEY, kind INTEGER NOT NULL CHECK (kind >= 1 AND kind <= 3), order_number INTEGER NOT NULL, at TEXT NOT NULL) STRICT;";
 
+/// The statement that puts a row with these values into a table, whose columns stand behind its name.
+/// The text of the event comes last.
+pub(crate) fn insertion<R: AllocGlobal + Abort>(
+    rt: &R,
+    table: &str,
+    values: &str,
+    body: &str,
+) -> String {
+    let statement = format!(in rt.alloc(); "INSERT INTO {table} VALUES ({values}, '{body}')");
+    statement.expect(rt, "memory")
+}
+
 /// The event of a text.
 pub(crate) fn event<R: AllocGlobal + Abort>(rt: &R, text: &str) -> Sequenced {
     let Ok(events) = read_events(rt.alloc(), text.as_bytes()) else {

@@ -236,22 +236,39 @@ static ROWS_SHIPPED: [(u64, &[&str]); 4] = [
     (u64::MAX, &[]),
 ];
 
+/// Whether these commands are then refused for their faults, and these rows come after these numbers.
+fn stands<R: AllocGlobal + Abort>(
+    rt: &R,
+    service: &mut Service<MemStore>,
+    commands: &[(&str, u64, OutboxFault)],
+    rows: &[(u64, &[&str])],
+) -> bool {
+    refused(rt, service, commands) == commands.len() && followed(service, rows) == rows.len()
+}
+
+/// Whether the service is that of the source `/orders` with the base 0.
+fn is_first(service: &Service<MemStore>) -> bool {
+    service.source().as_str() == "/orders" && service.base() == 0
+}
+
 #[test]
 fn an_order_is_placed_and_shipped_once(rt: HostRuntime) {
     let mut service = shipped(&rt);
-    assert!(rt; refused(&rt, &mut service, &BEHIND_SHIPPED) == BEHIND_SHIPPED.len());
-    assert!(rt; followed(&mut service, &ROWS_SHIPPED) == ROWS_SHIPPED.len());
-    assert!(rt; service.source().as_str() == "/orders" && service.base() == 0);
+    assert!(rt; is_first(&service));
+    assert!(rt; stands(&rt, &mut service, &BEHIND_SHIPPED, &ROWS_SHIPPED));
+}
+
+/// Whether order 9 is placed and cancelled, and then not shipped.
+fn is_cancelled<R: AllocGlobal + Abort>(rt: &R, service: &mut Service<MemStore>) -> bool {
+    accepts_now(rt, service, "place", 9)
+        && gives(rt, service, "cancel", 9, CANCELLED)
+        && refuses(rt, service, "ship", 9, OutboxFault::WrongState)
 }
 
 #[test]
 fn an_order_is_placed_and_cancelled(rt: HostRuntime) {
     let mut service = create(&rt, 0);
-    assert!(rt;
-        accepts_now(&rt, &mut service, "place", 9)
-            && gives(&rt, &mut service, "cancel", 9, CANCELLED)
-            && refuses(&rt, &mut service, "ship", 9, OutboxFault::WrongState)
-    );
+    assert!(rt; is_cancelled(&rt, &mut service));
 }
 
 // Commands behind the placing of order 1 with the last number, and why they are refused.
@@ -268,18 +285,20 @@ static ROWS_LAST: [(u64, &[&str]); 2] = [(MAX - 1, &[LAST]), (MAX, &[])];
 fn numbers_end(rt: HostRuntime) {
     let mut service = create(&rt, MAX - 1);
     assert!(rt; gives(&rt, &mut service, "place", 1, LAST));
-    assert!(rt; refused(&rt, &mut service, &BEHIND_LAST) == BEHIND_LAST.len());
-    assert!(rt; followed(&mut service, &ROWS_LAST) == ROWS_LAST.len());
+    assert!(rt; stands(&rt, &mut service, &BEHIND_LAST, &ROWS_LAST));
+}
+
+/// Whether the service has the two rows, doesn't ship order 7 again, and places another.
+fn goes_on<R: AllocGlobal + Abort>(rt: &R, service: &mut Service<MemStore>) -> bool {
+    has_after(service, 0, &[PLACED, SHIPPED])
+        && refuses(rt, service, "ship", 7, OutboxFault::WrongState)
+        && accepts_now(rt, service, "place", 8)
 }
 
 #[test]
 fn a_service_is_adopted(rt: HostRuntime) {
     let mut service = adopted(&rt, shipped(&rt).into_connection());
-    assert!(rt;
-        has_after(&mut service, 0, &[PLACED, SHIPPED])
-            && refuses(&rt, &mut service, "ship", 7, OutboxFault::WrongState)
-            && accepts_now(&rt, &mut service, "place", 8)
-    );
+    assert!(rt; goes_on(&rt, &mut service));
     assert!(rt; adoption_fault(&rt, service.into_connection()).is_none());
 }
 
@@ -297,14 +316,20 @@ fn fault_after<R: AllocGlobal + Abort>(rt: &R, change: &str) -> Option<OutboxFau
     adoption_fault(rt, conn)
 }
 
+/// How many of these changes, from the first on, leave rows that are foreign.
+fn foreign<R: AllocGlobal + Abort>(rt: &R, changes: &[&str]) -> usize {
+    for i in 0..changes.len() {
+        if fault_after(rt, changes[i]) != Some(OutboxFault::Foreign) {
+            return i;
+        }
+    }
+    changes.len()
+}
+
 #[test]
 fn other_rows_are_foreign(rt: HostRuntime) {
-    for change in &CHANGES {
-        assert!(rt;
-            fault_after(&rt, change) == Some(OutboxFault::Foreign),
-            "{change}"
-        );
-    }
+    let change = foreign(&rt, &CHANGES);
+    assert!(rt; change == CHANGES.len(), "change {change}");
     assert!(rt; fault_after(&rt, INBOX).is_none() && fault_after(&rt, INBOX2).is_none());
     let other = "CREATE TABLE other (a INTEGER)";
     assert!(rt;

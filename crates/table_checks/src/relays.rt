@@ -64,18 +64,22 @@ fn steps(
     answer == want && relay.mark() == mark
 }
 
+/// Whether a relay to a route that fails at once stays at its mark, and then sends the two rows.
+fn sends_again(relay: &mut Relay, service: &mut Service<MemStore>, route: &mut FailsOnce) -> bool {
+    let failed = Err(RelayFault::RouteFailed);
+    if !steps(relay, service, route, failed, 0) || !steps(relay, service, route, Ok(2), 2) {
+        return false;
+    }
+    steps(relay, service, route, Ok(0), 2) && route.route.accepted().len() == 2
+}
+
 #[test]
 fn rows_are_sent_again_after_a_failure(rt: HostRuntime) {
     let mut service = shipped(&rt);
     let mut relay = Relay::at(1, 0);
     let mut route = failing(rt.alloc(), 1, false);
-    let failed = Err(RelayFault::RouteFailed);
-    assert!(rt;
-        steps(&mut relay, &mut service, &mut route, failed, 0)
-            && steps(&mut relay, &mut service, &mut route, Ok(2), 2)
-            && steps(&mut relay, &mut service, &mut route, Ok(0), 2)
-    );
-    assert!(rt; route.route.accepted().len() == 2 && relay.site() == 1);
+    assert!(rt; sends_again(&mut relay, &mut service, &mut route));
+    assert!(rt; relay.site() == 1);
 }
 
 // The send at which a route fails, whether it is late, the mark that is then left, and from which
@@ -136,15 +140,21 @@ fn gets_all(
         && has_spans(route.route.accepted(), spans)
 }
 
+/// How many of the failures, from the first on, a relay gets over.
+fn outlasted(alloc: Global, service: &mut Service<MemStore>) -> usize {
+    for i in 0..FAILURES.len() {
+        if !gets_all(alloc, service, FAILURES[i]) {
+            return i;
+        }
+    }
+    FAILURES.len()
+}
+
 #[test]
 fn every_row_comes_wherever_a_route_fails(rt: HostRuntime) {
     let mut service = placed(&rt, 250);
-    for i in 0..FAILURES.len() {
-        assert!(rt;
-            gets_all(rt.alloc(), &mut service, FAILURES[i]),
-            "failure {i}"
-        );
-    }
+    let failure = outlasted(rt.alloc(), &mut service);
+    assert!(rt; failure == FAILURES.len(), "failure {failure}");
 }
 
 /// What a relay at mark 2 of site 1 answers to an outcome, and its mark after it.
@@ -201,14 +211,20 @@ static STRANGERS: [(u32, u64, u64); 8] = [
     (0, 3, 4),
 ];
 
-#[test]
-fn outcomes_of_other_rows_or_sites_are_strange(rt: HostRuntime) {
+/// How many of the strangers, from the first on, are told to be such, and leave the mark.
+fn strange() -> usize {
     for i in 0..STRANGERS.len() {
         let (site, first, last) = STRANGERS[i];
-        assert!(rt;
-            settled(site, first, last, true) == (Some(RelayFault::Stranger), 2),
-            "stranger {i}"
-        );
+        if settled(site, first, last, true) != (Some(RelayFault::Stranger), 2) {
+            return i;
+        }
     }
+    STRANGERS.len()
+}
+
+#[test]
+fn outcomes_of_other_rows_or_sites_are_strange(rt: HostRuntime) {
+    let stranger = strange();
+    assert!(rt; stranger == STRANGERS.len(), "stranger {stranger}");
     assert!(rt; settled(1, 3, 4, false) == (Some(RelayFault::RouteFailed), 2));
 }

@@ -2,7 +2,9 @@
 //! its schema and its rows are those of the format.
 
 use crate::disks::Tried;
-use crate::fixture::{C1, E1, E2, E3, F1, INBOX, INBOX2, OUTBOX, batch, database, executes, has};
+use crate::fixture::{
+    C1, E1, E2, E3, F1, INBOX, INBOX2, OUTBOX, batch, database, executes, has, insertion,
+};
 use inbox_table::{Loaded, Table, TableFault};
 use sqlite::{Alter, Connection, MemStore};
 use std::process::Abort;
@@ -46,7 +48,7 @@ pub(crate) fn adopt_fault<R: AllocGlobal>(rt: &R, conn: Connection<MemStore>) ->
 }
 
 /// Keeps the events of the texts, and answers how many were new.
-pub(crate) fn keep<R: AllocGlobal + Abort, S: Alter>(
+fn keep<R: AllocGlobal + Abort, S: Alter>(
     rt: &R,
     table: &mut Table<S>,
     texts: &[&str],
@@ -87,37 +89,80 @@ pub(crate) fn filled<R: AllocGlobal + Abort, S: Alter + Drop>(
     table.into_connection()
 }
 
+/// Whether a table that was taken, and what was loaded from it, are the events of these texts.
+pub(crate) fn has_all<S: Alter + Drop>(loaded: &Loaded<S>, texts: &[&str]) -> bool {
+    loaded.table.rows() == texts.len() as u64 && has(&loaded.events, texts)
+}
+
 /// Whether the table of a database, and what is loaded from it, are the events of these texts.
 pub(crate) fn is_loaded<R: AllocGlobal + Abort, S: Alter + Drop>(
     rt: &R,
     conn: Connection<S>,
     texts: &[&str],
 ) -> Tried<S> {
-    let Loaded { table, events } = adopted(rt, conn);
-    let is_done = has(&events, texts) && table.rows() == texts.len() as u64;
+    let loaded = adopted(rt, conn);
+    let is_done = has_all(&loaded, texts);
+    let Loaded { table, events: _ } = loaded;
     let conn = table.into_connection();
     Tried { conn, is_done }
 }
 
+// Texts that are kept one after another, how many of their events are new, and what the table then
+// has.
+static STEPS: [(&[&str], u64, &[&str]); 4] = [
+    (&[E1, E2], 2, &[E1, E2]),
+    (&[E2, E3], 1, &[E1, E2, E3]),
+    // Another content under the same source and id is another event.
+    (&[F1, E3, F1], 1, &[E1, E2, E3, F1]),
+    (&[], 0, &[E1, E2, E3, F1]),
+];
+
+/// How many of these steps, from the first on, a table takes as they say.
+pub(crate) fn taken<R: AllocGlobal + Abort, S: Alter>(
+    rt: &R,
+    table: &mut Table<S>,
+    steps: &[(&[&str], u64, &[&str])],
+) -> usize {
+    for i in 0..steps.len() {
+        let (texts, fresh, all) = steps[i];
+        if !keeps(rt, table, texts, fresh) || table.rows() != all.len() as u64 {
+            return i;
+        }
+        if !holds(table, all) {
+            return i;
+        }
+    }
+    steps.len()
+}
+
+/// How many of the steps a new table takes as they say.
+fn taken_anew<R: AllocGlobal + Abort>(rt: &R, table: Table<MemStore>) -> usize {
+    let mut table = table;
+    taken(rt, &mut table, &STEPS)
+}
+
 #[test]
 fn events_are_kept_once_and_in_their_order(rt: HostRuntime) {
-    let mut table = created(&rt, database(&rt, &[]));
-    fill(&rt, &mut table);
-    assert!(rt; table.rows() == 3 && holds(&mut table, &[E1, E2, E3]));
-    // Another content under the same source and id is another event.
-    assert!(rt; keeps(&rt, &mut table, &[F1, E3, F1], 1) && holds(&mut table, &[E1, E2, E3, F1]));
-    assert!(rt; keeps(&rt, &mut table, &[], 0) && table.rows() == 4);
+    let step = taken_anew(&rt, created(&rt, database(&rt, &[])));
+    assert!(rt; step == STEPS.len(), "step {step}");
+}
+
+// Texts that are kept behind three events, as before.
+static MORE: [(&[&str], u64, &[&str]); 1] = [(&[E3, F1], 1, &[E1, E2, E3, F1])];
+
+/// Whether a table that was taken has three events, and goes on as if it had not been left.
+fn goes_on<R: AllocGlobal + Abort>(rt: &R, loaded: Loaded<MemStore>) -> bool {
+    let mut loaded = loaded;
+    has_all(&loaded, &[E1, E2, E3]) && taken(rt, &mut loaded.table, &MORE) == MORE.len()
 }
 
 #[test]
 fn a_table_is_taken_as_it_was_left(rt: HostRuntime) {
-    let conn = filled(&rt, database(&rt, &[]));
-    let Loaded { mut table, events } = adopted(&rt, conn);
-    assert!(rt; has(&events, &[E1, E2, E3]) && table.rows() == 3);
-    assert!(rt; keeps(&rt, &mut table, &[E3, F1], 1) && holds(&mut table, &[E1, E2, E3, F1]));
+    let loaded = adopted(&rt, filled(&rt, database(&rt, &[])));
+    assert!(rt; goes_on(&rt, loaded));
 }
 
-// The columns before the text of a row, the text, and the fault of a table of the format with it.
+// The values before the text of a row, the text, and the fault of a table of the format with it.
 static ROWS: [(&str, &str, u8); 18] = [
     // The columns of an event and its text are taken.
     ("1, '/orders', 'a1', 1, 0", E1, 0),
@@ -156,25 +201,30 @@ static ROWS: [(&str, &str, u8); 18] = [
     ("1, '/orders', 'a1', 1, 9007199254740991", E1, 3),
 ];
 
+/// The table of the format, and its columns.
+const COLUMNS: &str = "inbox2 (place, source, id, number, block, body)";
+
 /// The fault of a table of the format with a row of these values.
-fn row_fault<R: AllocGlobal + Abort>(rt: &R, columns: &str, body: &str) -> u8 {
-    let row = format!(in rt.alloc();
-        "INSERT INTO inbox2 (place, source, id, number, block, body) VALUES ({columns}, '{body}')"
-    );
-    adopt_fault(
-        rt,
-        database(rt, &[INBOX2, row.expect(rt, "memory").as_str()]),
-    )
+fn row_fault<R: AllocGlobal + Abort>(rt: &R, values: &str, body: &str) -> u8 {
+    let row = insertion(rt, COLUMNS, values, body);
+    adopt_fault(rt, database(rt, &[INBOX2, row.as_str()]))
+}
+
+/// How many of these rows, from the first on, have their faults.
+fn rows_judged<R: AllocGlobal + Abort>(rt: &R, rows: &[(&str, &str, u8)]) -> usize {
+    for i in 0..rows.len() {
+        let (values, body, fault) = rows[i];
+        if row_fault(rt, values, body) != fault {
+            return i;
+        }
+    }
+    rows.len()
 }
 
 #[test]
 fn rows_that_no_call_leaves_are_foreign(rt: HostRuntime) {
-    for (columns, body, fault) in &ROWS {
-        assert!(rt;
-            row_fault(&rt, columns, body) == *fault,
-            "{columns}, {body}"
-        );
-    }
+    let row = rows_judged(&rt, &ROWS);
+    assert!(rt; row == ROWS.len(), "row {row}");
 }
 
 #[test]
@@ -214,27 +264,43 @@ static ADOPTED: [(&[&str], u8); 9] = [
     (&[INBOX2, "BEGIN"], 2),
 ];
 
+/// The fault with which a table is made in a database on which these texts ran, or is adopted.
+fn schema_fault<R: AllocGlobal + Abort>(rt: &R, texts: &[&str], is_made: bool) -> u8 {
+    if is_made {
+        return create_fault(rt, texts);
+    }
+    adopt_fault(rt, database(rt, texts))
+}
+
+/// How many of these schemas, from the first on, have their faults.
+fn schemas_judged<R: AllocGlobal + Abort>(
+    rt: &R,
+    schemas: &[(&[&str], u8)],
+    is_made: bool,
+) -> usize {
+    for i in 0..schemas.len() {
+        let (texts, fault) = schemas[i];
+        if schema_fault(rt, texts, is_made) != fault {
+            return i;
+        }
+    }
+    schemas.len()
+}
+
 #[test]
 fn schemas_that_are_taken_and_refused(rt: HostRuntime) {
-    for (texts, fault) in &MADE {
-        assert!(rt; create_fault(&rt, texts) == *fault, "{texts:?}");
-    }
-    for (texts, fault) in &ADOPTED {
-        assert!(rt;
-            adopt_fault(&rt, database(&rt, texts)) == *fault,
-            "{texts:?}"
-        );
-    }
+    let made = schemas_judged(&rt, &MADE, true);
+    assert!(rt; made == MADE.len(), "made {made}");
+    let adopted = schemas_judged(&rt, &ADOPTED, false);
+    assert!(rt; adopted == ADOPTED.len(), "adopted {adopted}");
 }
 
 #[test]
 fn a_table_beside_an_outbox(rt: HostRuntime) {
-    let mut before = adopted(&rt, database(&rt, &[INBOX2, OUTBOX]));
-    fill(&rt, &mut before.table);
-    assert!(rt; holds(&mut before.table, &[E1, E2, E3]));
-    let mut behind = created(&rt, database(&rt, &[OUTBOX]));
-    fill(&rt, &mut behind);
-    assert!(rt; holds(&mut behind, &[E1, E2, E3]));
+    let Loaded { table, events: _ } = adopted(&rt, database(&rt, &[INBOX2, OUTBOX]));
+    assert!(rt; taken_anew(&rt, table) == STEPS.len());
+    let behind = created(&rt, database(&rt, &[OUTBOX]));
+    assert!(rt; taken_anew(&rt, behind) == STEPS.len());
 }
 
 #[test]

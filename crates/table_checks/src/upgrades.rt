@@ -3,9 +3,10 @@
 
 use crate::fixture::{
     C1, E1, E2, INBOX, INBOX2, OLD_C1, OLD_E1, OLD_E2, OUTBOX, after, database, executes, has,
+    insertion,
 };
 use crate::orders::{self, PLACED, SHIPPED, accepts_now, has_after, placed};
-use crate::tables::{adopted, filled, holds, keep};
+use crate::tables::{adopted, filled, has_all, holds, taken};
 use inbox_table::{Loaded, NotMade, Table};
 use sqlite::{Alter, Connection, MemStore};
 use std::alloc::Global;
@@ -98,29 +99,62 @@ fn shows<R: AllocGlobal + Abort>(
     shown(rt, conn, queries).as_str() == before
 }
 
+/// A database whose table was to be taken, how many rows that tells of, and the number of the fault
+/// with which it wasn't taken, or 0.
+#[derive(Drop)]
+struct Upgraded {
+    conn: Connection<MemStore>,
+    told: u64,
+    fault: u8,
+}
+
+/// Takes the table of a database.
+fn tried<R: AllocGlobal>(rt: &R, conn: Connection<MemStore>) -> Upgraded {
+    match Table::adopt(rt.alloc(), conn) {
+        Ok(table) => {
+            let told = table.rows();
+            Upgraded {
+                conn: table.into_connection(),
+                told,
+                fault: 0,
+            }
+        }
+        Err(NotMade { conn, fault }) => Upgraded {
+            conn,
+            told: 0,
+            fault: fault.number(),
+        },
+    }
+}
+
+/// Whether a database is as it has to be behind that: one that is refused shows what it showed
+/// before; one that is taken has a table of version 2 and none of version 1, with as many rows.
+fn is_well<R: AllocGlobal + Abort>(
+    rt: &R,
+    upgraded: &mut Upgraded,
+    before: &str,
+    rows: Option<usize>,
+) -> bool {
+    if upgraded.fault == 0 {
+        return is_taken(&mut upgraded.conn, rows, upgraded.told);
+    }
+    shows(rt, &mut upgraded.conn, &ALL, before)
+}
+
 /// The number of the fault with which a table isn't taken, or 0; none where the database isn't then
-/// as it has to be. A refused database shows what it showed before; one that is taken has a table
-/// of version 2 and none of version 1, with as many rows.
+/// as it has to be.
 fn upgrade_fault<R: AllocGlobal + Abort>(rt: &R, conn: Connection<MemStore>) -> Option<u8> {
     let mut conn = conn;
     let before = shown(rt, &mut conn, &ALL);
     let rows = count(&mut conn, "SELECT place FROM inbox");
-    let (mut conn, told, fault) = match Table::adopt(rt.alloc(), conn) {
-        Ok(table) => {
-            let told = table.rows();
-            (table.into_connection(), told, 0)
-        }
-        Err(NotMade { conn, fault }) => (conn, 0, fault.number()),
-    };
-    let is_well = if fault == 0 {
-        is_taken(&mut conn, rows, told)
-    } else {
-        shows(rt, &mut conn, &ALL, before.as_str())
-    };
-    if is_well { Some(fault) } else { None }
+    let mut upgraded = tried(rt, conn);
+    if !is_well(rt, &mut upgraded, before.as_str(), rows) {
+        return None;
+    }
+    Some(upgraded.fault)
 }
 
-// The columns before the text of a row, the text, and the fault of a table of version 1 with it.
+// The values before the text of a row, the text, and the fault of a table of version 1 with it.
 static ROWS: [(&str, &str, u8); 12] = [
     // The columns of an event and its text are taken.
     ("1, '/orders', 'a1', 1", E1, 0),
@@ -152,25 +186,30 @@ static ROWS: [(&str, &str, u8); 12] = [
     ),
 ];
 
+/// The table of version 1, and its columns.
+const COLUMNS: &str = "inbox (place, source, id, number, body)";
+
 /// The fault of a table of version 1 with a row of these values.
-fn row_fault<R: AllocGlobal + Abort>(rt: &R, columns: &str, body: &str) -> Option<u8> {
-    let row = format!(in rt.alloc();
-        "INSERT INTO inbox (place, source, id, number, body) VALUES ({columns}, '{body}')"
-    );
-    upgrade_fault(
-        rt,
-        database(rt, &[INBOX, row.expect(rt, "memory").as_str()]),
-    )
+fn row_fault<R: AllocGlobal + Abort>(rt: &R, values: &str, body: &str) -> Option<u8> {
+    let row = insertion(rt, COLUMNS, values, body);
+    upgrade_fault(rt, database(rt, &[INBOX, row.as_str()]))
+}
+
+/// How many of these rows, from the first on, have their faults.
+fn rows_judged<R: AllocGlobal + Abort>(rt: &R, rows: &[(&str, &str, u8)]) -> usize {
+    for i in 0..rows.len() {
+        let (values, body, fault) = rows[i];
+        if row_fault(rt, values, body) != Some(fault) {
+            return i;
+        }
+    }
+    rows.len()
 }
 
 #[test]
 fn old_rows_that_no_call_left_are_foreign(rt: HostRuntime) {
-    for (columns, body, fault) in &ROWS {
-        assert!(rt;
-            row_fault(&rt, columns, body) == Some(*fault),
-            "{columns}, {body}"
-        );
-    }
+    let row = rows_judged(&rt, &ROWS);
+    assert!(rt; row == ROWS.len(), "row {row}");
 }
 
 #[test]
@@ -201,14 +240,21 @@ static SCHEMAS: [(&[&str], u8); 15] = [
     (&["CREATE TABLE inbox (a)", INBOX2], 3),
 ];
 
+/// How many of these schemas, from the first on, have their faults.
+fn schemas_judged<R: AllocGlobal + Abort>(rt: &R, schemas: &[(&[&str], u8)]) -> usize {
+    for i in 0..schemas.len() {
+        let (texts, fault) = schemas[i];
+        if upgrade_fault(rt, database(rt, texts)) != Some(fault) {
+            return i;
+        }
+    }
+    schemas.len()
+}
+
 #[test]
 fn old_schemas_that_are_taken_and_refused(rt: HostRuntime) {
-    for (texts, fault) in &SCHEMAS {
-        assert!(rt;
-            upgrade_fault(&rt, database(&rt, texts)) == Some(*fault),
-            "{texts:?}"
-        );
-    }
+    let schema = schemas_judged(&rt, &SCHEMAS);
+    assert!(rt; schema == SCHEMAS.len(), "schema {schema}");
 }
 
 #[test]
@@ -246,11 +292,19 @@ fn has_blocks<S: Alter>(table: &mut Table<S>) -> bool {
     true
 }
 
+/// Whether a table that was taken has the two events, and each in its block.
+fn are_two<S: Alter + Drop>(loaded: &mut Loaded<S>) -> bool {
+    if !has_all(loaded, &[E1, C1]) || !holds(&mut loaded.table, &[E1, C1]) {
+        return false;
+    }
+    has_blocks(&mut loaded.table)
+}
+
 /// Takes the table of a database, and finds the two events in it, and each in its block.
 fn has_two<R: AllocGlobal + Abort>(rt: &R, conn: Connection<MemStore>) -> Connection<MemStore> {
-    let Loaded { mut table, events } = adopted(rt, conn);
-    assert!(rt; has(&events, &[E1, C1]) && table.rows() == 2 && holds(&mut table, &[E1, C1]));
-    assert!(rt; has_blocks(&mut table));
+    let mut loaded = adopted(rt, conn);
+    assert!(rt; are_two(&mut loaded));
+    let Loaded { table, events: _ } = loaded;
     table.into_connection()
 }
 
@@ -258,11 +312,16 @@ fn has_two<R: AllocGlobal + Abort>(rt: &R, conn: Connection<MemStore>) -> Connec
 const PLACES: &str =
     "SELECT place FROM inbox2 WHERE place = 1 AND id = 'a1' AND number = 1 AND block = 0 OR place = 2 AND id = 'c' AND number = 1024 AND block = 1";
 
+/// Whether there is no table of version 1, and one of version 2 has the rows of the two events.
+fn is_renamed<S: Alter>(conn: &mut Connection<S>) -> bool {
+    count(conn, NAMED_1) == Some(0) && count(conn, PLACES) == Some(2)
+}
+
 #[test]
 fn an_old_table_becomes_a_new_one(rt: HostRuntime) {
     let mut conn = has_two(&rt, database(&rt, &TWO));
+    assert!(rt; is_renamed(&mut conn));
     let upgraded = shown(&rt, &mut conn, &ALL);
-    assert!(rt; count(&mut conn, NAMED_1) == Some(0) && count(&mut conn, PLACES) == Some(2));
     // Taken again it is as it was.
     let mut conn = has_two(&rt, conn);
     assert!(rt; shows(&rt, &mut conn, &ALL, upgraded.as_str()));
@@ -281,14 +340,18 @@ fn serves<R: AllocGlobal + Abort>(
     service.into_connection()
 }
 
+// Texts that are kept behind the two events, how many are new, and what the table then has.
+static ONE_MORE: [(&[&str], u64, &[&str]); 1] = [(&[C1, E2], 1, &[E1, C1, E2])];
+
 /// The database, whose table of the two events keeps one more.
 fn keeps_one_more<R: AllocGlobal + Abort>(
     rt: &R,
     conn: Connection<MemStore>,
 ) -> Connection<MemStore> {
-    let Loaded { mut table, events } = adopted(rt, conn);
-    assert!(rt; has(&events, &[E1, C1]) && keep(rt, &mut table, &[C1, E2]) == Ok(1));
-    assert!(rt; holds(&mut table, &[E1, C1, E2]));
+    let mut loaded = adopted(rt, conn);
+    assert!(rt; has_all(&loaded, &[E1, C1]));
+    assert!(rt; taken(rt, &mut loaded.table, &ONE_MORE) == ONE_MORE.len());
+    let Loaded { table, events: _ } = loaded;
     table.into_connection()
 }
 
