@@ -76,23 +76,17 @@ fn is_over(pages: &mut EventPages) -> bool {
 }
 
 /// Whether the next lines are the batches of the events with the numbers from each of these up to
-/// the next, and no line is left then.
+/// the next, no line is left then, and it was said that at least so many may come.
 fn ends_after<R: AllocGlobal + Abort>(rt: &R, pages: &mut EventPages, numbers: &[u64]) -> bool {
+    if pages.most().saturating_add(1) < numbers.len() as u64 {
+        return false;
+    }
     for i in 1..numbers.len() {
         if !goes_on(rt, pages, numbers[i - 1], numbers[i]) {
             return false;
         }
     }
     is_over(pages)
-}
-
-/// The pages that a command came to.
-fn pages_of<R: AllocGlobal + Abort>(rt: &R, paged: Paged<MemStore>) -> EventPages {
-    let Paged { conn: _, pages } = paged;
-    match pages {
-        Ok(pages) => pages,
-        Err(_) => panic!(rt; "no pages"),
-    }
 }
 
 /// The summary of a text.
@@ -114,25 +108,29 @@ fn told<R: AllocGlobal + Abort>(rt: &R, other: u64) -> Summary {
     }
 }
 
-/// Whether the lines of what a command came to are the batches of the events with the numbers from
-/// each of these up to the next, and there are no more, and it said that at least so many may come.
-fn comes<R: AllocGlobal + Abort>(rt: &R, paged: Paged<MemStore>, numbers: &[u64]) -> bool {
-    let mut pages = pages_of(rt, paged);
-    if pages.most().saturating_add(1) < numbers.len() as u64 {
-        return false;
+/// Whether the command came to pages, which are the batches of the events with the numbers from each
+/// of these up to the next.
+fn come<R: AllocGlobal + Abort>(
+    rt: &R,
+    pages: Result<EventPages, CommandFault>,
+    numbers: &[u64],
+) -> bool {
+    match pages {
+        Ok(mut pages) => ends_after(rt, &mut pages, numbers),
+        Err(_) => false,
     }
-    ends_after(rt, &mut pages, numbers)
 }
 
 /// Whether so comes what the summary lacks of the 250 events.
 fn lacks<R: AllocGlobal + Abort>(rt: &R, peer: Summary, numbers: &[u64]) -> bool {
-    comes(rt, delta_pages(rt.alloc(), stocked(rt), peer), numbers)
+    let Paged { conn: _, pages } = delta_pages(rt.alloc(), stocked(rt), peer);
+    come(rt, pages, numbers)
 }
 
 #[test]
 fn all_events_come_page_after_page(rt: HostRuntime) {
-    let paged = scrub_pages(rt.alloc(), stocked(&rt));
-    assert!(rt; comes(&rt, paged, &[900, 1000, 1100, 1150]));
+    let Paged { conn: _, pages } = scrub_pages(rt.alloc(), stocked(&rt));
+    assert!(rt; come(&rt, pages, &[900, 1000, 1100, 1150]));
 }
 
 #[test]
@@ -238,14 +236,10 @@ fn where_there_is_no_inbox_none_is_made(rt: HostRuntime) {
 /// so many names behind them.
 fn has_no_pages<R: AllocGlobal + Abort>(rt: &R, statements: &str, count: usize) -> bool {
     let Paged { conn, pages } = scrub_pages(rt.alloc(), database(rt, statements));
-    let Ok(mut all) = pages else {
-        return false;
-    };
+    let has_none = come(rt, pages, &[0]);
     let Paged { mut conn, pages } = delta_pages(rt.alloc(), conn, told(rt, NONE));
-    let Ok(mut lacking) = pages else {
-        return false;
-    };
-    is_over(&mut all) && is_over(&mut lacking) && names(&mut conn) == Some(count)
+    let lacks_none = come(rt, pages, &[0]);
+    has_none && lacks_none && names(&mut conn) == Some(count)
 }
 
 /// How many of these databases without an inbox, from the first on, have no pages.

@@ -32,6 +32,14 @@ pub(crate) struct Tried<S: Alter + Drop> {
     pub(crate) is_done: bool,
 }
 
+/// What an act leaves of a connection: it, to be closed, or its store, which isn't to be closed, and
+/// whether what was done is done.
+#[derive(Drop)]
+enum Left<S: Alter + Drop> {
+    Open(Connection<S>),
+    Store { store: S, is_done: bool },
+}
+
 /// The files after a run, whether what was done is done, and whether they were closed without a stop.
 #[derive(Drop)]
 pub(crate) struct Run {
@@ -61,6 +69,23 @@ fn acted<R: AllocGlobal + Wait + Abort, S: Alter + Drop>(
     }
 }
 
+/// Does it. What isn't done isn't to be closed, and neither is what makes it ready for a call: so what
+/// is read again of the log is tried too.
+fn left_by<R: AllocGlobal + Wait + Abort, S: Alter + Drop>(
+    rt: &R,
+    conn: Connection<S>,
+    act: Act,
+) -> Left<S> {
+    let Tried { conn, is_done } = acted(rt, conn, act);
+    if is_done && !matches!(act, Act::Prepare(_)) {
+        return Left::Open(conn);
+    }
+    Left::Store {
+        store: conn.into_store(),
+        is_done,
+    }
+}
+
 /// Closes the files, unless a stop is met.
 fn closed(conn: Connection<FileStore<Fuse<Memory>>>) -> Run {
     match conn.close_files() {
@@ -77,8 +102,7 @@ fn closed(conn: Connection<FileStore<Fuse<Memory>>>) -> Run {
     }
 }
 
-/// Opens the files, does it and closes them, up to a stop. What isn't done leaves them unclosed, and
-/// so does what makes them ready for a call: so what is read again of the log is tried too.
+/// Opens the files, does it and closes them, up to a stop.
 pub(crate) fn ran<R: AllocGlobal + Wait + Abort>(
     rt: &R,
     files: Files<Fuse<Memory>>,
@@ -95,14 +119,13 @@ pub(crate) fn ran<R: AllocGlobal + Wait + Abort>(
             };
         }
     };
-    let Tried { conn, is_done } = acted(rt, conn, act);
-    if is_done && !matches!(act, Act::Prepare(_)) {
-        return closed(conn);
-    }
-    Run {
-        files: conn.into_store().close(),
-        is_done,
-        is_through: false,
+    match left_by(rt, conn, act) {
+        Left::Open(conn) => closed(conn),
+        Left::Store { store, is_done } => Run {
+            files: store.close(),
+            is_done,
+            is_through: false,
+        },
     }
 }
 

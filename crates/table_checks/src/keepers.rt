@@ -11,10 +11,22 @@ use crate::tables::created;
 use feeds::Aside;
 use inbox_table::Table;
 use keeper::{Flushed, Flusher, KeepFault, Keeper, Kept};
+use site::Site;
 use site_lock::{Begun, Pass, SharedSite};
 use sqlite::{Alter, Connection};
 use std::process::Abort;
 use std::sync::Wait;
+
+/// A site, shared.
+pub(crate) fn shared<R: AllocGlobal + Abort>(rt: &R, site: Site) -> Begun
+    ensures own { result.pass.table ≡ result.shared }
+    ensures first { leaves result.pass ≡ site }
+{
+    match SharedSite::begin(rt.alloc(), site) {
+        Ok(begun) => begun,
+        Err(_) => panic!(rt; "no shared site"),
+    }
+}
 
 /// A keeper of a table, and its site, shared.
 fn begun<R: AllocGlobal + Abort, S: Alter + Drop>(rt: &R, table: Table<S>) -> (Keeper<S>, Begun)
@@ -24,10 +36,7 @@ fn begun<R: AllocGlobal + Abort, S: Alter + Drop>(rt: &R, table: Table<S>) -> (K
     let Ok(Kept { keeper, site }) = Keeper::begin(rt.alloc(), table) else {
         panic!(rt; "no keeper");
     };
-    match SharedSite::begin(rt.alloc(), site) {
-        Ok(begun) => (keeper, begun),
-        Err(_) => panic!(rt; "no shared site"),
-    }
+    (keeper, shared(rt, site))
 }
 
 /// Takes the event of a text, and tells how many were new.

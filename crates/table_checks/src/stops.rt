@@ -5,12 +5,14 @@
 //! n = 0, 1, 2, .., until a run meets no stop. What a stop left of a file is then what was written,
 //! or what was synced last, or a mixture of both.
 
+ghost use Rattle.std.specs.Prelude.{◌≡◌};
 ghost use Rattle.sqlite.specs.Held.{state};
+ghost use Rattle.site_lock.specs.Pass.{leaves};
 ghost use Rattle.keeper.specs.Keep.{KeepsUp};
 
 use crate::disks::{Act, Run, Tried, empty, file_of, ran};
 use crate::fixture::{E1, E2, E3, INBOX, after, batch, has};
-use crate::keepers::take;
+use crate::keepers::{shared as shared_of, take};
 use crate::orders::{accepts_now, created as new_service};
 use crate::tables::created as new_table;
 use attributes::{Batch, Text};
@@ -18,7 +20,7 @@ use inbox_table::{Loaded, NotMade as NoTable, Table, TableFault};
 use keeper::{Keeper, Kept, NotKept};
 use outbox::{NotMade as NoService, OutboxFault, Service};
 use site::Site;
-use site_lock::{Begun, SharedSite};
+use site_lock::{Begun, Pass, SharedSite};
 use sqlite::{Alter, Connection, Files};
 use sqlite_disk::{Crash, Fuse, Memory};
 use std::process::Abort;
@@ -226,6 +228,23 @@ fn kept<R: AllocGlobal + Abort, S: Alter + Drop>(rt: &R, conn: Connection<S>) ->
     }
 }
 
+/// Whether a step keeps two events that the site takes.
+fn keeps_two<R: AllocGlobal + Wait + Abort, S: Alter + Drop>(
+    rt: &R,
+    keeper: &mut Keeper<S>,
+    shared: &SharedSite,
+    pass: &mut Pass,
+) -> bool
+    requires own { pass.old.table ≡ shared.now }
+    requires first { KeepsUp (state S.Store keeper.old.conn) keeper.old.rows (leaves pass.old) }
+{
+    let Ok(mut own) = shared.split(pass) else {
+        panic!(rt; "not split");
+    };
+    assert!(rt; take(rt, shared, pass, E1) == 1 && take(rt, shared, pass, E2) == 1);
+    keeper.step(rt, shared, &mut own) == Ok(2)
+}
+
 /// Shares the keeper's site, takes two events, and makes a step.
 fn step_of<R: AllocGlobal + Wait + Abort, S: Alter + Drop>(
     rt: &R,
@@ -235,15 +254,8 @@ fn step_of<R: AllocGlobal + Wait + Abort, S: Alter + Drop>(
     requires { KeepsUp (state S.Store keeper.conn) keeper.rows site }
 {
     let mut keeper = keeper;
-    let Ok(Begun { shared, mut pass }) = SharedSite::begin(rt.alloc(), site) else {
-        panic!(rt; "not shared");
-    };
-    let Ok(mut own) = shared.split(&mut pass) else {
-        panic!(rt; "not split");
-    };
-    assert!(rt; take(rt, &shared, &mut pass, E1) == 1);
-    assert!(rt; take(rt, &shared, &mut pass, E2) == 1);
-    let is_done = keeper.step(rt, &shared, &mut own) == Ok(2);
+    let Begun { shared, mut pass } = shared_of(rt, site);
+    let is_done = keeps_two(rt, &mut keeper, &shared, &mut pass);
     let conn = keeper.into_table().into_connection();
     Tried { conn, is_done }
 }
