@@ -150,7 +150,7 @@ pub(crate) fn take(alloc: Global, inbox: &mut Inbox, row: Row<'_>) -> bool {
 }
 
 /// Takes the events of rows, and answers whether it did.
-fn take_all(alloc: Global, inbox: &mut Inbox, rows: &[Row<'_>]) -> bool {
+pub(crate) fn take_all(alloc: Global, inbox: &mut Inbox, rows: &[Row<'_>]) -> bool {
     for row in rows {
         if !take(alloc, inbox, *row) {
             return false;
@@ -208,10 +208,13 @@ fn call_laws() {
     latest_are_greatest();
 }
 
+/// Takes an event, and answers whether its day has this number.
+fn has_day(alloc: Global, inbox: &mut Inbox, row: Row<'_>, day: i32) -> bool {
+    take(alloc, inbox, row) && first_day(alloc, inbox) == Some(day)
+}
+
 #[test]
 fn a_day_has_its_number(rt: HostRuntime) {
     call_laws();
-    let mut inbox = Inbox::empty(rt.alloc());
-    assert!(rt; take(rt.alloc(), &mut inbox, LEAP));
-    assert!(rt; first_day(rt.alloc(), &inbox) == Some(19_782));
+    assert!(rt; has_day(rt.alloc(), &mut Inbox::empty(rt.alloc()), LEAP, 19_782));
 }

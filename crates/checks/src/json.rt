@@ -1,4 +1,4 @@
-use crate::event::{is_text, is_written};
+use crate::event::{is_text, is_written, wrapped};
 use attributes::{Batch, Event, Events, Fault, Sequenced};
 use event_json::{ReadFault, read_events, write_batch, write_event, write_sequenced};
 use std::alloc::{AllocError, Global};
@@ -11,6 +11,14 @@ const CANONICAL: &str =
 
 const PAIR: &str =
     r#"[{"id":"a1","source":"/o","specversion":"1.0","type":"t"},{"id":"a2","source":"/o","specversion":"1.0","type":"t"}]"#;
+
+// Two numbered events of 111 bytes each.
+const BATCH: &str =
+    r#"[{"id":"a1","sequence":"00000000000000000001","source":"/orders","specversion":"1.0","subject":"x","type":"t.a"},{"id":"a2","sequence":"00000000000000000002","source":"/orders","specversion":"1.0","subject":"x","type":"t.b"}]"#;
+
+// The canonical text twice, in a batch.
+const TWICE: &str =
+    r#"[{"id":"a1","sequence":"00000000000000000001","source":"/orders","specversion":"1.0","subject":"x","type":"t.a"},{"id":"a1","sequence":"00000000000000000001","source":"/orders","specversion":"1.0","subject":"x","type":"t.a"}]"#;
 
 // Members after those of a good event, and the answer.
 static MEMBERS: [(&str, &str); 63] = [
@@ -83,8 +91,9 @@ static MEMBERS: [(&str, &str); 63] = [
 ];
 
 // Whole texts, and the answer.
-static TEXTS: [(&str, &str); 14] = [
+static TEXTS: [(&str, &str); 15] = [
     (PAIR, "2 read"),
+    (BATCH, "2 read"),
     (LONG, "1 read"),
     (" [ ] \n", "0 read"),
     ("", "not JSON"),
@@ -142,17 +151,6 @@ fn event_with(alloc: Global, members: &str) -> Result<String, AllocError> {
     )
 }
 
-fn nested(alloc: Global, depth: u64) -> Result<String, AllocError> {
-    let mut text = String::new(alloc);
-    for _ in 0..depth {
-        text.push_str("[")?;
-    }
-    for _ in 0..depth {
-        text.push_str("]")?;
-    }
-    Ok(text)
-}
-
 // Whether these bytes have that answer.
 fn answers(alloc: Global, bytes: &[u8], want: &str) -> bool {
     is_written(answer(alloc, bytes), want)
@@ -166,14 +164,15 @@ fn text_answers(alloc: Global, text: Result<String, AllocError>, want: &str) -> 
     }
 }
 
+// Whether an event with these members has that answer.
+fn members_answer(alloc: Global, members: &str, want: &str) -> bool {
+    text_answers(alloc, event_with(alloc, members), want)
+}
+
 #[test]
 fn members_are_read_or_refused(rt: HostRuntime) {
-    let alloc = rt.alloc();
     for (members, want) in &MEMBERS {
-        assert!(rt;
-            text_answers(alloc, event_with(alloc, members), want),
-            "of {members}"
-        );
+        assert!(rt; members_answer(rt.alloc(), members, want), "of {members}");
     }
 }
 
@@ -184,30 +183,28 @@ fn texts_are_read_or_refused(rt: HostRuntime) {
         assert!(rt; answers(alloc, text.as_bytes(), want), "of {text}");
     }
     assert!(rt; answers(alloc, b"[\"\xff\"]", "not JSON"));
-    for len in 0..PAIR.len() {
-        assert!(rt;
-            answers(alloc, &PAIR.as_bytes()[..len], "not JSON"),
-            "of {len} bytes"
-        );
+}
+
+// Whether each proper front of a text is refused as no JSON.
+fn are_fronts_refused(alloc: Global, text: &[u8]) -> bool {
+    for len in 0..text.len() {
+        if !answers(alloc, &text[..len], "not JSON") {
+            return false;
+        }
     }
+    true
 }
 
-// An event with arrays nested so deep as its data.
-fn deep_event(alloc: Global, depth: u64) -> Result<String, AllocError> {
-    let nested = nested(alloc, depth)?;
-    let data = format!(in alloc; "\"data\":{nested}")?;
-    event_with(alloc, data.as_str())
-}
-
-// The batch of that event.
-fn deep_batch(alloc: Global, depth: u64) -> Result<String, AllocError> {
-    let event = deep_event(alloc, depth)?;
-    format!(in alloc; "[{event}]")
+#[test]
+fn a_batch_that_is_cut_is_no_json(rt: HostRuntime) {
+    assert!(rt; BATCH.len() == 225);
+    assert!(rt; are_fronts_refused(rt.alloc(), BATCH.as_bytes()));
+    assert!(rt; are_fronts_refused(rt.alloc(), PAIR.as_bytes()));
 }
 
 // How deep an event's data is, and the answers to the event and to its batch. The event's object is
 // a level of its own, and so is a batch.
-static DEPTHS: [(u64, &str, &str); 5] = [
+static DEPTHS: [(usize, &str, &str); 5] = [
     (120, "1 read", "1 read"),
     (121, "event 0: TooDeep", "event 0: TooDeep"),
     (125, "event 0: TooDeep", "event 0: TooDeep"),
@@ -215,47 +212,44 @@ static DEPTHS: [(u64, &str, &str); 5] = [
     (127, "not JSON", "not JSON"),
 ];
 
+// What stands before and behind the data of an event, and of one in a batch.
+const FRONT: &str = r#"{"id":"a1","source":"/o","specversion":"1.0","type":"t","data":"#;
+
+const BATCH_FRONT: &str = r#"[{"id":"a1","source":"/o","specversion":"1.0","type":"t","data":"#;
+
+// Whether an event with arrays nested so deep as its data, and its batch, have those answers.
+fn deep_answers(alloc: Global, row: &(usize, &str, &str)) -> bool {
+    text_answers(alloc, wrapped(alloc, FRONT, row.0, "", "}"), row.1)
+        && text_answers(alloc, wrapped(alloc, BATCH_FRONT, row.0, "", "}]"), row.2)
+}
+
 #[test]
 fn deep_data_are_refused(rt: HostRuntime) {
-    let alloc = rt.alloc();
-    for (depth, want, in_batch) in &DEPTHS {
-        assert!(rt;
-            text_answers(alloc, deep_event(alloc, *depth), want)
-                && text_answers(alloc, deep_batch(alloc, *depth), in_batch),
-            "at {depth}"
-        );
+    for row in &DEPTHS {
+        assert!(rt; deep_answers(rt.alloc(), row), "at {}", row.0);
     }
 }
 
 // The event of the canonical text, with so many letters as its data.
-fn long_event(alloc: Global, letters: usize) -> Result<Vec<u8>, AllocError> {
-    let mut event = Vec::from_slice(alloc, &CANONICAL.as_bytes()[..110])?;
-    event.extend_from_slice(b",\"data\":\"")?;
-    for _ in 0..letters {
-        event.push(b'a')?;
-    }
-    event.extend_from_slice(b"\"}")?;
-    Ok(event)
+fn long_event(alloc: Global, letters: usize) -> Result<String, AllocError> {
+    let front = &CANONICAL[..110];
+    let data = "a".repeat(alloc, letters)?;
+    format!(in alloc; "{front},\"data\":\"{data}\"}}")
 }
 
-// Whether there are bytes, and they have that answer.
-fn bytes_answer(alloc: Global, bytes: Result<Vec<u8>, AllocError>, want: &str) -> bool {
-    match bytes {
+// Whether so many spaces have that answer.
+fn spaces_answer(alloc: Global, count: usize, want: &str) -> bool {
+    match vec![in alloc; b' '; count] {
         Ok(bytes) => answers(alloc, bytes.as_slice(), want),
         Err(_) => false,
     }
 }
 
-// Whether so many spaces have that answer.
-fn spaces_answer(alloc: Global, count: usize, want: &str) -> bool {
-    bytes_answer(alloc, vec![in alloc; b' '; count], want)
-}
-
 #[test]
 fn long_texts_are_refused(rt: HostRuntime) {
     let alloc = rt.alloc();
-    assert!(rt; bytes_answer(alloc, long_event(alloc, 262_023), "1 read"));
-    assert!(rt; bytes_answer(alloc, long_event(alloc, 262_024), "event 0: TooLarge"));
+    assert!(rt; text_answers(alloc, long_event(alloc, 262_023), "1 read"));
+    assert!(rt; text_answers(alloc, long_event(alloc, 262_024), "event 0: TooLarge"));
     assert!(rt; spaces_answer(alloc, 33_554_432, "not JSON"));
     assert!(rt; spaces_answer(alloc, 33_554_433, "too large"));
 }
@@ -336,15 +330,17 @@ fn add_read(alloc: Global, batch: &mut Batch, text: &str) -> bool {
     }
 }
 
+// Whether a batch is written as none, and then as two of the one event.
+fn is_written_twice(alloc: Global, batch: &mut Batch) -> bool {
+    is_text(write_sequenced(alloc, batch), "[]")
+        && add_read(alloc, batch, LONG)
+        && add_read(alloc, batch, LONG)
+        && is_text(write_sequenced(alloc, batch), TWICE)
+}
+
 #[test]
 fn numbered_events_are_written(rt: HostRuntime) {
-    let alloc = rt.alloc();
-    let mut batch = Batch::empty(alloc);
-    assert!(rt; is_text(write_sequenced(alloc, &batch), "[]"));
-    assert!(rt; add_read(alloc, &mut batch, LONG));
-    assert!(rt; add_read(alloc, &mut batch, LONG));
-    let want = format!(in alloc; "[{CANONICAL},{CANONICAL}]").expect(&rt, "no memory");
-    assert!(rt; is_text(write_sequenced(alloc, &batch), want.as_str()));
+    assert!(rt; is_written_twice(rt.alloc(), &mut Batch::empty(rt.alloc())));
 }
 
 // Whether the batch of the one event is written with its length, where there is memory.
@@ -371,35 +367,29 @@ fn want_of_memory_is_no_other_refusal(rt: HostRuntime) {
 
 const SHORT: &str = r#"{"id":"1","source":"/o","specversion":"1.0","type":"t"}"#;
 
-/// A batch of an event that stands so many times, from 1 on.
-fn batch_of(alloc: Global, count: u64) -> Result<String, AllocError> {
-    let mut text = String::new(alloc);
-    text.push_str("[")?;
-    text.push_str(SHORT)?;
-    for _ in 1..count {
-        text.push_str(",")?;
-        text.push_str(SHORT)?;
-    }
-    text.push_str("]")?;
-    Ok(text)
+// A batch of a thousand events.
+fn thousand(alloc: Global) -> Result<String, AllocError> {
+    let many = r#"{"id":"1","source":"/o","specversion":"1.0","type":"t"},"#.repeat(alloc, 999)?;
+    format!(in alloc; "[{many}{SHORT}]")
 }
 
-// How many events are read, where the last has that id.
-fn count_to(alloc: Global, bytes: &[u8], id: &str) -> Option<u64> {
-    match read_events(alloc, bytes) {
-        Ok(events) => {
-            if !events.is_empty() && events.at(events.len() - 1).id() == id {
-                Some(events.len())
-            } else {
-                None
-            }
-        }
-        Err(_) => None,
+// Whether a thousand events are read, of which the last has that id.
+fn are_thousand(events: &Events, id: &str) -> bool {
+    events.len() == 1000 && events.at(999).id() == id
+}
+
+// Whether the batch of a thousand events is read.
+fn is_thousand_read(alloc: Global) -> bool {
+    let Ok(text) = thousand(alloc) else {
+        return false;
+    };
+    match read_events(alloc, text.as_str().as_bytes()) {
+        Ok(events) => are_thousand(&events, "1"),
+        Err(_) => false,
     }
 }
 
 #[test]
 fn a_thousand_events_are_read(rt: HostRuntime) {
-    let text = batch_of(rt.alloc(), 1000).expect(&rt, "no memory");
-    assert!(rt; count_to(rt.alloc(), text.as_str().as_bytes(), "1") == Some(1000));
+    assert!(rt; is_thousand_read(rt.alloc()));
 }

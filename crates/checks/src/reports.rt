@@ -2,6 +2,7 @@
 
 use attributes::{Fault, Octets, Text};
 use event_json::ReadFault;
+use file_reports::Unread::{CannotRead, TooLarge};
 use file_reports::{Query, ReportFault, Unread, read_all, report};
 use std::alloc::Global;
 use std::io;
@@ -82,8 +83,9 @@ fn refusals_have_numbers(rt: HostRuntime) {
 struct Drip {
     left: usize,
     most: usize,
-    reads: u64,
     fails_at: u64,
+    reads: u64,
+    given: usize,
 }
 
 impl Read for Drip {
@@ -94,13 +96,14 @@ impl Read for Drip {
         }
         let count = buf.len().min(self.most).min(self.left);
         self.left -= count;
+        self.given = self.given.saturating_add(count);
         Ok(count)
     }
 }
 
 /// How many bytes are read, or why none.
-fn length_read(alloc: Global, mut drip: Drip) -> Result<usize, Unread> {
-    match read_all(alloc, &mut drip) {
+fn length_read(alloc: Global, drip: &mut Drip) -> Result<usize, Unread> {
+    match read_all(alloc, drip) {
         Ok(bytes) => Ok(bytes.as_bytes().len()),
         Err(unread) => Err(unread),
     }
@@ -109,27 +112,46 @@ fn length_read(alloc: Global, mut drip: Drip) -> Result<usize, Unread> {
 /// The most bytes of an input.
 const LIMIT: usize = 33_554_432;
 
-// How many bytes an input has, how many come at most at a read, which read fails, and the answer.
-static INPUTS: [(usize, usize, u64, Result<usize, Unread>); 6] = [
-    (3, 1, 0, Ok(3)),
-    (3, 1, 1, Err(Unread::CannotRead)),
-    (3, 1, 4, Err(Unread::CannotRead)),
-    (LIMIT, 60_000, 0, Ok(LIMIT)),
-    (LIMIT + 1, 60_000, 0, Err(Unread::TooLarge)),
-    (usize::MAX, 1_000, 0, Err(Unread::TooLarge)),
+/// How many bytes an input has, how many it gives at most at a read, and which read fails; then the
+/// answer, how many reads there were, and how many bytes were given.
+type Input = (usize, usize, u64, Result<usize, Unread>, u64, usize);
+
+static INPUTS: [Input; 10] = [
+    (0, 1, 0, Ok(0), 1, 0),
+    (3, 1, 0, Ok(3), 4, 3),
+    (3, 1, 1, Err(CannotRead), 1, 0),
+    (3, 1, 2, Err(CannotRead), 2, 1),
+    (3, 1, 3, Err(CannotRead), 3, 2),
+    (3, 1, 4, Err(CannotRead), 4, 3),
+    (LIMIT, 60_000, 0, Ok(LIMIT), 561, LIMIT),
+    (LIMIT + 1, 60_000, 0, Err(TooLarge), 560, LIMIT + 1),
+    // Inputs that don't end; the last one fails at the read that would be too much.
+    (usize::MAX, 1_000, 0, Err(TooLarge), 33_555, 33_555_000),
+    (
+        usize::MAX,
+        1_000,
+        33_555,
+        Err(CannotRead),
+        33_555,
+        33_554_000,
+    ),
 ];
+
+/// Whether an input is read so.
+fn is_read_so(alloc: Global, input: &Input) -> bool {
+    let mut drip = Drip {
+        left: input.0,
+        most: input.1,
+        fails_at: input.2,
+        reads: 0,
+        given: 0,
+    };
+    length_read(alloc, &mut drip) == input.3 && drip.reads == input.4 && drip.given == input.5
+}
 
 #[test]
 fn an_input_is_read_to_its_end(rt: HostRuntime) {
     for i in 0..INPUTS.len() {
-        let (left, most, fails_at, want) = INPUTS[i];
-        let reads = 0;
-        let drip = Drip {
-            left,
-            most,
-            reads,
-            fails_at,
-        };
-        assert!(rt; length_read(rt.alloc(), drip) == want, "input {i}");
+        assert!(rt; is_read_so(rt.alloc(), &INPUTS[i]), "input {i}");
     }
 }

@@ -67,32 +67,61 @@ fn is_same(alloc: Global, held: &Intervals, pairs: &[Interval]) -> Option<bool> 
     }
 }
 
+/// Sets, and the union of the two.
+static UNIONS: [(&[Interval], &[Interval], &[Interval]); 3] = [
+    (&[(1, 2), (5, 5)], &[(3, 4)], &[(1, 5)]),
+    (&[(1, 1)], &[(3, 3)], &[(1, 1), (3, 3)]),
+    (&[(1, 1), (3, 3)], &[], &[(1, 1), (3, 3)]),
+];
+
+/// Whether a row's sets have their union, and the first isn't the same as it where it lacks numbers.
+fn is_union_of(alloc: Global, row: &(&[Interval], &[Interval], &[Interval])) -> bool {
+    match set(alloc, row.0) {
+        Some(held) => {
+            unites(alloc, &held, row.1, row.2)
+                && is_same(alloc, &held, row.2) == Some(row.1.is_empty())
+        }
+        None => false,
+    }
+}
+
 #[test]
 fn unions(rt: HostRuntime) {
-    let alloc = rt.alloc();
-    let mut held = Intervals::empty(alloc);
-    assert!(rt; fill(&mut held, &[(1, 2), (5, 5)]));
-    assert!(rt; unites(alloc, &held, &[(3, 4)], &[(1, 5)]));
-    assert!(rt; is_same(alloc, &held, &[(1, 5)]) == Some(false));
-    let mut apart = Intervals::empty(alloc);
-    assert!(rt; fill(&mut apart, &[(1, 1)]));
-    assert!(rt; unites(alloc, &apart, &[(3, 3)], &[(1, 1), (3, 3)]));
+    for i in 0..UNIONS.len() {
+        assert!(rt; is_union_of(rt.alloc(), &UNIONS[i]), "row {i}");
+    }
+}
+
+/// Whether a set has the first five numbers, whatever it was made of, and isn't the other.
+fn is_whole(alloc: Global, all: &Intervals, part: &Intervals) -> bool {
+    all.size() == 5
+        && unites(alloc, all, &[], &[(1, 5)])
+        && is_set(all.copy(), &[(1, 5)])
+        && is_same(alloc, all, &[(1, 5)]) == Some(true)
+        && !all.same(part)
+}
+
+/// Whether the union of two sets that are empty first is a set of its own.
+fn is_own(alloc: Global, late: &mut Intervals, held: &mut Intervals) -> bool {
+    if !(fill(late, &[(3, 4)]) && fill(held, &[(1, 2), (5, 5)])) {
+        return false;
+    }
+    match late.union(held) {
+        Ok(all) => is_whole(alloc, &all, held),
+        Err(_) => false,
+    }
 }
 
 #[test]
 fn a_union_is_a_set_of_its_own(rt: HostRuntime) {
     let alloc = rt.alloc();
-    let mut held = Intervals::empty(alloc);
-    assert!(rt; fill(&mut held, &[(1, 2), (5, 5)]));
-    let all = set(alloc, &[(3, 4)])
-        .expect(&rt, "no memory")
-        .union(&held)
-        .expect(&rt, "no memory");
-    assert!(rt; all.size() == 5);
-    assert!(rt; unites(alloc, &all, &[], &[(1, 5)]));
-    assert!(rt; is_set(all.copy(), &[(1, 5)]));
-    assert!(rt; is_same(alloc, &all, &[(1, 5)]) == Some(true));
-    assert!(rt; !all.same(&held));
+    assert!(rt;
+        is_own(
+            alloc,
+            &mut Intervals::empty(alloc),
+            &mut Intervals::empty(alloc)
+        )
+    );
 }
 
 /// Whether the difference to the numbers of intervals has just these intervals.
@@ -103,17 +132,24 @@ fn leaves(alloc: Global, held: &Intervals, pairs: &[Interval], wanted: &[Interva
     }
 }
 
+/// Whether a set of five numbers leaves three of them.
+fn leaves_three(alloc: Global, held: &mut Intervals) -> bool {
+    fill(held, &[(1, 5)]) && leaves(alloc, held, &[(2, 3)], &[(1, 1), (4, 5)])
+}
+
+/// Whether the numbers below a set's lack.
+fn lacks_three(held: &mut Intervals) -> bool {
+    held.greatest().is_none()
+        && fill(held, &[(4, 5)])
+        && is_set(held.missing(), &[(1, 3)])
+        && held.greatest() == Some(5)
+}
+
 #[test]
 fn differences(rt: HostRuntime) {
     let alloc = rt.alloc();
-    let mut held = Intervals::empty(alloc);
-    assert!(rt; fill(&mut held, &[(1, 5)]));
-    assert!(rt; leaves(alloc, &held, &[(2, 3)], &[(1, 1), (4, 5)]));
-    let mut late = Intervals::empty(alloc);
-    assert!(rt; fill(&mut late, &[(4, 5)]));
-    assert!(rt; is_set(late.missing(), &[(1, 3)]));
-    assert!(rt; late.greatest() == Some(5));
-    assert!(rt; Intervals::empty(alloc).greatest().is_none());
+    assert!(rt; leaves_three(alloc, &mut Intervals::empty(alloc)));
+    assert!(rt; lacks_three(&mut Intervals::empty(alloc)));
 }
 
 /// Whether a set contains a number.
@@ -121,17 +157,25 @@ fn contains(set: &Intervals, number: u64) -> Option<bool> {
     Some(set.contains(Sequence::of_u64(number)?))
 }
 
+/// Inserts a number between two intervals, and again.
+fn joins(held: &mut Intervals) -> bool {
+    fill(held, &[(1, 2), (4, 5)])
+        && insert(held, 3) == Some(true)
+        && has(held, &[(1, 5)])
+        && insert(held, 3) == Some(false)
+        && contains(held, 3) == Some(true)
+}
+
+/// Inserts the greatest number, and again.
+fn takes_greatest(held: &mut Intervals) -> bool {
+    insert(held, 9_223_372_036_854_775_807) == Some(true)
+        && insert(held, 9_223_372_036_854_775_807) == Some(false)
+}
+
 #[test]
 fn inserts(rt: HostRuntime) {
-    let mut held = Intervals::empty(rt.alloc());
-    assert!(rt; fill(&mut held, &[(1, 2), (4, 5)]));
-    assert!(rt; insert(&mut held, 3) == Some(true));
-    assert!(rt; has(&held, &[(1, 5)]));
-    assert!(rt; insert(&mut held, 3) == Some(false));
-    assert!(rt; contains(&held, 3) == Some(true));
-    let mut greatest = Intervals::empty(rt.alloc());
-    assert!(rt; insert(&mut greatest, 9_223_372_036_854_775_807) == Some(true));
-    assert!(rt; insert(&mut greatest, 9_223_372_036_854_775_807) == Some(false));
+    assert!(rt; joins(&mut Intervals::empty(rt.alloc())));
+    assert!(rt; takes_greatest(&mut Intervals::empty(rt.alloc())));
 }
 
 /// Inserts the odd numbers below 200, and answers whether each is new.
@@ -164,22 +208,32 @@ fn is_odd(set: &Intervals) -> bool {
     set.next_span(200).is_none()
 }
 
+/// Inserts the odd numbers and then the even ones, and answers whether the set has them.
+fn closes(held: &mut Intervals) -> bool {
+    fill_odd(held)
+        && is_odd(held)
+        && held.size() == 100
+        && fill_even(held)
+        && has(held, &[(1, 199)])
+        && held.size() == 199
+}
+
 #[test]
 fn odd_numbers_and_then_even_ones(rt: HostRuntime) {
-    let mut held = Intervals::empty(rt.alloc());
-    assert!(rt; fill_odd(&mut held) && is_odd(&held) && held.size() == 100);
-    assert!(rt; fill_even(&mut held) && has(&held, &[(1, 199)]) && held.size() == 199);
+    assert!(rt; closes(&mut Intervals::empty(rt.alloc())));
+}
+
+/// Whether the spans of three numbers come one after the other.
+fn spans(held: &mut Intervals) -> bool {
+    fill(held, &[(1, 2), (5, 5)])
+        && held.next_span(1) == Some((1, 2))
+        && held.next_span(2) == Some((5, 5))
+        && held.next_span(6).is_none()
 }
 
 #[test]
 fn next_spans(rt: HostRuntime) {
-    let mut held = Intervals::empty(rt.alloc());
-    assert!(rt; fill(&mut held, &[(1, 2), (5, 5)]));
-    assert!(rt;
-        held.next_span(1) == Some((1, 2))
-            && held.next_span(2) == Some((5, 5))
-            && held.next_span(6).is_none()
-    );
+    assert!(rt; spans(&mut Intervals::empty(rt.alloc())));
 }
 
 /// The plain program: a sorted list of pairs, joined anew at each insert.
@@ -283,17 +337,17 @@ fn go_along(first: &mut Both, second: &mut Both) -> bool {
     true
 }
 
+/// A set without a number, and no pairs.
+fn none(alloc: Global) -> Both {
+    Both {
+        set: Intervals::empty(alloc),
+        pairs: Vec::new(alloc),
+    }
+}
+
 #[test]
 fn agrees_with_the_plain_program(rt: HostRuntime) {
-    let mut first = Both {
-        set: Intervals::empty(rt.alloc()),
-        pairs: Vec::new(rt.alloc()),
-    };
-    let mut second = Both {
-        set: Intervals::empty(rt.alloc()),
-        pairs: Vec::new(rt.alloc()),
-    };
-    assert!(rt; go_along(&mut first, &mut second));
+    assert!(rt; go_along(&mut none(rt.alloc()), &mut none(rt.alloc())));
 }
 
 /// Adds numbers of a source, and answers whether it did.
@@ -370,14 +424,24 @@ fn has_two_sources(later: &Summary) -> bool {
         && later.source_at(1) == "/orders"
 }
 
+/// Adds numbers of two sources, and answers whether the summaries tell them.
+fn tell(alloc: Global, seen: &mut Summary, later: &mut Summary) -> bool {
+    add_to_both(alloc, seen, later)
+        && add_of(alloc, later, "/\"a\"", &[7])
+        && has_two_sources(later)
+        && is_copied(later, seen)
+}
+
 #[test]
 fn summaries(rt: HostRuntime) {
-    let mut seen = Summary::empty(rt.alloc());
-    let mut later = Summary::empty(rt.alloc());
-    assert!(rt; add_to_both(rt.alloc(), &mut seen, &mut later));
-    assert!(rt; add_of(rt.alloc(), &mut later, "/\"a\"", &[7]));
-    assert!(rt; has_two_sources(&later));
-    assert!(rt; is_copied(&later, &seen));
+    let alloc = rt.alloc();
+    assert!(rt;
+        tell(
+            alloc,
+            &mut Summary::empty(alloc),
+            &mut Summary::empty(alloc)
+        )
+    );
 }
 
 pub(crate) fn fault_of(alloc: Global, text: &str) -> Option<SummaryFault> {
@@ -421,8 +485,9 @@ static NOT_CANONICAL: [&str; 10] = [
     r#"{"version":1,"sources":{}}"#,
 ];
 
-static SHAPELESS: [&str; 9] = [
+static SHAPELESS: [&str; 10] = [
     r#"{"version":1}"#,
+    r#"{"version":-1}"#,
     r#"{"sources":{"/orders":[[1]]},"version":1}"#,
     r#"{"sources":{"/orders":[[1,2,3]]},"version":1}"#,
     r#"{"sources":[],"version":1}"#,
@@ -557,12 +622,17 @@ fn is_same_in_order(alloc: Global, ascending: &Summary, step: u64) -> bool {
         && is_same_by_text(alloc, &seen)
 }
 
+/// Adds sources in three orders, and answers whether each gives the same summary.
+fn is_one_order(alloc: Global, ascending: &mut Summary) -> bool {
+    add_stepped(alloc, ascending, 1)
+        && is_in_place(alloc, ascending)
+        && ascending.len() == 500
+        && ascending.source_at(499) == "/source/0499"
+        && is_same_in_order(alloc, ascending, 499)
+        && is_same_in_order(alloc, ascending, 137)
+}
+
 #[test]
 fn sources_in_any_order(rt: HostRuntime) {
-    let mut ascending = Summary::empty(rt.alloc());
-    assert!(rt; add_stepped(rt.alloc(), &mut ascending, 1));
-    assert!(rt; is_in_place(rt.alloc(), &ascending));
-    assert!(rt; ascending.len() == 500 && ascending.source_at(499) == "/source/0499");
-    assert!(rt; is_same_in_order(rt.alloc(), &ascending, 499));
-    assert!(rt; is_same_in_order(rt.alloc(), &ascending, 137));
+    assert!(rt; is_one_order(rt.alloc(), &mut Summary::empty(rt.alloc())));
 }

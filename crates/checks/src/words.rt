@@ -5,18 +5,44 @@ use command_words::{Alone, Command, Faulty, Once, Pages, Plan, plan};
 use file_reports::Query;
 use std::alloc::Global;
 
-/// The words as texts of their own.
-fn words_of(alloc: Global, words: &[&str]) -> Option<Vec<Text>> {
-    let mut own = Vec::new(alloc);
+/// Adds the words as texts of their own, and answers whether it did.
+fn add_words(alloc: Global, own: &mut Vec<Text>, words: &[&str]) -> bool {
     for word in words {
-        let Ok(word) = Text::of(alloc, word) else {
-            return None;
-        };
-        if own.push(word).is_err() {
-            return None;
+        match Text::of(alloc, word) {
+            Ok(word) => {
+                if own.push(word).is_err() {
+                    return false;
+                }
+            }
+            Err(_) => return false,
         }
     }
-    Some(own)
+    true
+}
+
+/// What the words come to; nothing where there is no memory for them.
+fn planned(alloc: Global, words: &[&str]) -> Option<Result<Plan, Faulty>> {
+    let mut own = Vec::new(alloc);
+    if add_words(alloc, &mut own, words) {
+        Some(plan(alloc, own.as_slice()))
+    } else {
+        None
+    }
+}
+
+/// What a plan is to be.
+#[derive(Clone, Copy)]
+enum Wanted<'a> {
+    /// The question about that database, if one is named, and these files.
+    Ask(Query, &'a str, &'a [&'a str]),
+    /// These pages of all events.
+    Scrub(Pages),
+    /// The lines of this file.
+    Follow(&'a str),
+    /// The service with the source `/orders`, whether the words name it, and the base.
+    Service(bool, Option<u64>),
+    /// None: the words are at fault.
+    Fault,
 }
 
 /// Whether the texts are these.
@@ -40,147 +66,107 @@ fn is_given(name: &Option<Text>, want: &str) -> bool {
     }
 }
 
-/// Whether the plan asks the question about that database, if one is named, and these files.
-fn asks(plan: &Plan, want: Query, name: &str, names: &[&str]) -> bool {
-    match plan {
-        Plan::Alone(Alone::Once(Once::Ask { query, db, files })) => {
-            *query == want && is_given(db, name) && are(files.as_slice(), names)
+/// Whether a command with one answer is the one that is wanted.
+fn is_once(once: &Once, wanted: Wanted<'_>) -> bool {
+    match (once, wanted) {
+        (Once::Ask { query, db, files }, Wanted::Ask(asked, name, names)) => {
+            *query == asked && is_given(db, name) && are(files.as_slice(), names)
         }
-        _ => false,
-    }
-}
-
-/// Whether the words are a plan that asks a question about that database and these files.
-fn plans(alloc: Global, words: &[&str], want: Query, name: &str, names: &[&str]) -> bool {
-    let Some(words) = words_of(alloc, words) else {
-        return false;
-    };
-    match plan(alloc, words.as_slice()) {
-        Ok(plan) => asks(&plan, want, name, names),
-        Err(_) => false,
-    }
-}
-
-/// Whether the words are a plan that prints these pages of all events.
-fn scrubs(alloc: Global, words: &[&str], want: Pages) -> bool {
-    let Some(words) = words_of(alloc, words) else {
-        return false;
-    };
-    match plan(alloc, words.as_slice()) {
-        Ok(Plan::Alone(Alone::Once(Once::Scrub { db, pages }))) => {
-            db.as_str() == "d" && pages == want
-        }
-        _ => false,
-    }
-}
-
-/// Whether the words are a plan that follows the lines of this file.
-fn follows(alloc: Global, words: &[&str], want: &str) -> bool {
-    let Some(words) = words_of(alloc, words) else {
-        return false;
-    };
-    match plan(alloc, words.as_slice()) {
-        Ok(Plan::Alone(Alone::Follow(lines))) => {
-            lines.db.as_str() == "d" && lines.file.as_str() == want
-        }
-        _ => false,
-    }
-}
-
-/// Whether the words are a plan that makes a service with the source `/orders` and this base, or tells
-/// of one; and whether they name that source.
-fn serves(alloc: Global, words: &[&str], is_named: bool, want: Option<u64>) -> bool {
-    let Some(words) = words_of(alloc, words) else {
-        return false;
-    };
-    match plan(alloc, words.as_slice()) {
-        Ok(
-            Plan::Alone(
-                Alone::Once(
-                    Once::Service {
-                        db,
-                        source,
-                        is_source_named,
-                        base,
-                    },
-                ),
-            ),
+        (Once::Scrub { db, pages }, Wanted::Scrub(held)) => db.as_str() == "d" && *pages == held,
+        (
+            Once::Service {
+                db,
+                source,
+                is_source_named,
+                base,
+            },
+            Wanted::Service(is_named, held),
         ) => {
             db.as_str() == "d"
                 && source.as_str() == "/orders"
-                && is_source_named == is_named
-                && base == want
+                && *is_source_named == is_named
+                && *base == held
         }
         _ => false,
     }
 }
 
-/// Whether the words are no plan.
-fn is_faulty(alloc: Global, words: &[&str]) -> bool {
-    let Some(words) = words_of(alloc, words) else {
-        return false;
-    };
-    match plan(alloc, words.as_slice()) {
-        Err(Faulty::Words { text: _, is_help }) => !is_help,
+/// Whether the plan is the one that is wanted.
+fn is_plan(plan: &Plan, wanted: Wanted<'_>) -> bool {
+    match (plan, wanted) {
+        (Plan::Alone(Alone::Once(once)), _) => is_once(once, wanted),
+        (Plan::Alone(Alone::Follow(lines)), Wanted::Follow(file)) => {
+            lines.db.as_str() == "d" && lines.file.as_str() == file
+        }
         _ => false,
     }
 }
 
+/// Whether the words are at fault, and ask for no help.
+fn is_faulty(faulty: &Faulty) -> bool {
+    match faulty {
+        Faulty::Words { text: _, is_help } => !is_help,
+        Faulty::OutOfMemory => false,
+    }
+}
+
+/// Whether the words come to what is wanted.
+fn plans(alloc: Global, words: &[&str], wanted: Wanted<'_>) -> bool {
+    match planned(alloc, words) {
+        Some(Ok(plan)) => is_plan(&plan, wanted),
+        Some(Err(faulty)) => matches!(wanted, Wanted::Fault) && is_faulty(&faulty),
+        None => false,
+    }
+}
+
+/// Words, and what they come to.
+static WORDS: [(&[&str], Wanted<'static>); 16] = [
+    (
+        &["shown", "f", "-", "--", "-g"],
+        Wanted::Ask(Query::Shown, "", &["f", "-", "-g"]),
+    ),
+    (&["days", "--db", "d"], Wanted::Ask(Query::Days, "d", &[])),
+    (
+        &["gaps", "f", "--db", "d"],
+        Wanted::Ask(Query::Gaps, "d", &["f"]),
+    ),
+    (&["kinds"], Wanted::Fault),
+    // One page or all.
+    (&["scrub", "--db", "d"], Wanted::Scrub(Pages::Behind(0))),
+    (
+        &["scrub", "--from", "0200", "--db", "d"],
+        Wanted::Scrub(Pages::Behind(200)),
+    ),
+    (&["scrub", "--db", "d", "--all"], Wanted::Scrub(Pages::All)),
+    (
+        &["scrub", "--db", "d", "--all", "--from", "0"],
+        Wanted::Fault,
+    ),
+    // Lines come from standard input where no file is named.
+    (&["follow", "--db", "d"], Wanted::Follow("-")),
+    (&["follow", "f", "--db", "d"], Wanted::Follow("f")),
+    (&["follow", "--db", "d", "f", "g"], Wanted::Fault),
+    (&["follow", "f"], Wanted::Fault),
+    // A service has a source and a base.
+    (&["service", "--db", "d"], Wanted::Service(false, None)),
+    (
+        &[
+            "service", "--source", "/orders", "--db", "d", "--base", "100",
+        ],
+        Wanted::Service(true, Some(100)),
+    ),
+    (
+        &["service", "--db", "d", "--base", "9223372036854775808"],
+        Wanted::Fault,
+    ),
+    (&["service", "--db", "d", "--source", ""], Wanted::Fault),
+];
+
 #[test]
-fn a_plan_holds_the_question_and_the_files(rt: HostRuntime) {
+fn words_come_to_plans(rt: HostRuntime) {
     assert!(rt; Command::of_word("shown") == Some(Command::Ask(Query::Shown)));
-    let words = ["shown", "f", "-", "--", "-g"];
-    assert!(rt; plans(rt.alloc(), &words, Query::Shown, "", &["f", "-", "-g"]));
-    assert!(rt; plans(rt.alloc(), &["days", "--db", "d"], Query::Days, "d", &[]));
-    assert!(rt;
-        plans(
-            rt.alloc(),
-            &["gaps", "f", "--db", "d"],
-            Query::Gaps,
-            "d",
-            &["f"]
-        )
-    );
-    assert!(rt; is_faulty(rt.alloc(), &["kinds"]));
-}
-
-#[test]
-fn a_plan_holds_one_page_or_all(rt: HostRuntime) {
-    let alloc = rt.alloc();
-    assert!(rt; scrubs(alloc, &["scrub", "--db", "d"], Pages::Behind(0)));
-    assert!(rt;
-        scrubs(
-            alloc,
-            &["scrub", "--from", "0200", "--db", "d"],
-            Pages::Behind(200)
-        )
-    );
-    assert!(rt; scrubs(alloc, &["scrub", "--db", "d", "--all"], Pages::All));
-    assert!(rt; is_faulty(alloc, &["scrub", "--db", "d", "--all", "--from", "0"]));
-}
-
-#[test]
-fn lines_come_from_standard_input_where_no_file_is_named(rt: HostRuntime) {
-    let alloc = rt.alloc();
-    assert!(rt; follows(alloc, &["follow", "--db", "d"], "-"));
-    assert!(rt; follows(alloc, &["follow", "f", "--db", "d"], "f"));
-    assert!(rt; is_faulty(alloc, &["follow", "--db", "d", "f", "g"]));
-    assert!(rt; is_faulty(alloc, &["follow", "f"]));
-}
-
-#[test]
-fn a_service_has_a_source_and_a_base(rt: HostRuntime) {
-    let alloc = rt.alloc();
-    assert!(rt; serves(alloc, &["service", "--db", "d"], false, None));
-    let named = [
-        "service", "--source", "/orders", "--db", "d", "--base", "100",
-    ];
-    assert!(rt; serves(alloc, &named, true, Some(100)));
-    assert!(rt;
-        is_faulty(
-            alloc,
-            &["service", "--db", "d", "--base", "9223372036854775808"]
-        )
-    );
-    assert!(rt; is_faulty(alloc, &["service", "--db", "d", "--source", ""]));
+    for i in 0..WORDS.len() {
+        let (words, wanted) = WORDS[i];
+        assert!(rt; plans(rt.alloc(), words, wanted), "row {i}");
+    }
 }
