@@ -37,6 +37,34 @@ run delta --db s.db nothing.json
 is 'a summary with a line end' 0 "[$e1,$e2,$e3]$lf" ''
 run delta --db new.db nothing.json
 is 'a new file' 0 "[]$lf" ''
+# A summary at fault is named, and no file is made.
+while IFS='|' read -r name summary; do
+    printf %s "$summary" >faulty.json
+    run delta --db unmade.db faulty.json
+    is "the summary $summary" 1 '' "site: faulty.json: $name$lf"
+done <<'ROWS'
+not JSON|
+not JSON|{
+Shape|[]
+Shape|{"version":1}
+Shape|{"version":-1}
+Shape|{"sources":{"/orders":[[1]]},"version":1}
+Shape|{"sources":{},"version":1,"x":0}
+Version|{"sources":{},"version":3}
+NotCanonical|{"sources":{}, "version":1}
+NotCanonical|{"sources":{"/orders":[]},"version":1}
+NotCanonical|{"sources":{"/orders":[[0,1]]},"version":1}
+NotCanonical|{"sources":{"/orders":[[2,1]]},"version":1}
+NotCanonical|{"sources":{"/orders":[[1,3],[4,6]]},"version":1}
+NotCanonical|{"sources":{"/orders":[[1,18446744073709551615]]},"version":1}
+NotCanonical|{"sources":{"":[[1,1]]},"version":1}
+NotCanonical|{"sources":{"/a":[[1,1]],"/a":[[2,2]]},"version":1}
+ROWS
+status=0
+[ ! -e unmade.db ] || status='a file was made'
+: >got.out
+: >got.err
+is 'a summary at fault makes no file' 0 '' ''
 run take --db s.db three.json missing.json
 is 'files are read before the database is opened' 1 '' "site: missing.json: cannot read$lf"
 ask s.db 'SELECT place, source, id, number, block FROM inbox2 ORDER BY place'

@@ -64,6 +64,11 @@ run cover none.json
 is 'an event without a number' 1 '' "site: none.json: event 0: NoSequence$lf"
 run cover folder
 is 'a folder' 1 '' "site: folder: cannot read$lf"
+for words in 'folder f.json bad.json' 'f.json folder bad.json' 'f.json bad.json folder'; do
+    # shellcheck disable=SC2086
+    run cover $words
+    is "a folder in $words" 1 '' "site: folder: cannot read$lf"
+done
 run cover /dev/zero
 is 'an input without end' 1 '' "site: /dev/zero: too large$lf"
 run cover "a${lf}b"

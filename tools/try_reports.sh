@@ -137,8 +137,24 @@ tells out 'Files of CloudEvents' shown --help
 tells out 'cover' --help
 tells out 'site 0.1.0' --version
 
+# Data of 120 nested arrays is the deepest, of an event and of a batch's member.
+deep() {
+    printf '{"data":%s%s,"id":"d","sequence":"00000000000000000002","source":"/orders","specversion":"1.0","type":"t"}' \
+        "$(head -c "$1" /dev/zero | tr '\0' '[')" "$(head -c "$1" /dev/zero | tr '\0' ']')"
+}
+deep 120 >deep
+answers "$(deep 120)$lf" shown deep
+printf '[%s,%s]' "$first" "$(deep 120)" >deep
+answers "$first$lf$(deep 120)$lf" shown deep
+deep 121 >deep
+refuses 'deep: event 0: TooDeep' shown deep
+printf '[%s,%s]' "$first" "$(deep 121)" >deep
+refuses 'deep: event 1: TooDeep' shown deep
+
 # A batch that is cut anywhere is no JSON text.
 whole="[$e1,$e2]"
+all=$((all + 1))
+if [ "${#whole}" -eq 225 ]; then right=$((right + 1)); else echo "wrong: the length of a batch of two events"; fi
 cut=0
 while [ "$cut" -lt "${#whole}" ]; do
     printf %s "$whole" | head -c "$cut" >cut.json
