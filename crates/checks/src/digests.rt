@@ -1,6 +1,6 @@
 //! The digests of blocks are those that another program's SHA-256 gives for their texts.
 
-use crate::answers::{take, take_all};
+use crate::answers::take;
 use crate::event::{Row, event, is_text, is_written};
 use attributes::{Batch, Sequence};
 use block_digests::{Blocks, block_of, digest_of_block};
@@ -123,6 +123,16 @@ fn has_digests(alloc: Global, summary: &Summary, first: &str) -> bool {
         && is_hex(alloc, summary.digest_of("/orders", 9007199254740991), LAST)
         && summary.digest_of("/orders", 2).is_none()
         && summary.digest_of("/order", 0).is_none()
+}
+
+/// Takes the events of rows, and answers whether it did.
+fn take_all(alloc: Global, inbox: &mut Inbox, rows: &[Row<'_>]) -> bool {
+    for row in rows {
+        if !take(alloc, inbox, *row) {
+            return false;
+        }
+    }
+    true
 }
 
 /// The summary of the inbox's events, which stand in key order.

@@ -2,8 +2,7 @@
 //! wanted, and then what it was given is as it was and a second call answers. tools/try_refusals.py
 //! runs these tests with each allocation refused; with ample memory they compare the whole answers.
 
-use crate::answers::{A1, A2, ASKED, lines, take};
-use crate::event::Row;
+use crate::answers::{ASKED, lines, take_named};
 use crate::summaries::{fault_of, fill, has, insert};
 use attributes::Text;
 use coverage::{Interval, Intervals, Summary, SummaryFault};
@@ -50,18 +49,18 @@ fn an_event_is_read_and_written_or_wants_memory(rt: HostRuntime) {
     assert!(rt; first.is_some() || spells(rt.alloc(), LONG, CANONICAL) == Some(true));
 }
 
-/// Takes the event of a row. Where memory is refused the inbox is as it was, and takes it the
+/// Takes the event of that name. Where memory is refused the inbox is as it was, and takes it the
 /// second time.
-fn take_in_the_end(alloc: Global, inbox: &mut Inbox, row: Row<'_>) -> bool {
+fn take_in_the_end(alloc: Global, inbox: &mut Inbox, name: &str) -> bool {
     let (came, held) = (inbox.arrived(), inbox.len());
-    take(alloc, inbox, row)
-        || inbox.arrived() == came && inbox.len() == held && take(alloc, inbox, row)
+    take_named(alloc, inbox, name)
+        || inbox.arrived() == came && inbox.len() == held && take_named(alloc, inbox, name)
 }
 
-/// Takes the events of rows so.
-fn take_all_in_the_end(alloc: Global, inbox: &mut Inbox, rows: &[Row<'_>]) -> bool {
-    for row in rows {
-        if !take_in_the_end(alloc, inbox, *row) {
+/// Takes the events of names so.
+fn take_all_in_the_end(alloc: Global, inbox: &mut Inbox, names: &str) -> bool {
+    for name in names.split_whitespace() {
+        if !take_in_the_end(alloc, inbox, name) {
             return false;
         }
     }
@@ -76,16 +75,17 @@ fn answers_in_the_end(alloc: Global, inbox: &Inbox, query: Query, wanted: &str) 
     }
 }
 
-/// The same of the events of rows, taken into a new inbox.
-fn are_answered(alloc: Global, rows: &[Row<'_>], query: Query, wanted: &str) -> bool {
+/// The same of the events of names, taken into a new inbox.
+fn are_answered(alloc: Global, names: &str, query: Query, wanted: &str) -> bool {
     let mut inbox = Inbox::empty(alloc);
-    take_all_in_the_end(alloc, &mut inbox, rows) && answers_in_the_end(alloc, &inbox, query, wanted)
+    take_all_in_the_end(alloc, &mut inbox, names)
+        && answers_in_the_end(alloc, &inbox, query, wanted)
 }
 
 #[test]
 fn a_question_is_answered_whole_or_wants_memory(rt: HostRuntime) {
-    for (rows, query, wanted) in &ASKED {
-        assert!(rt; are_answered(rt.alloc(), rows, *query, wanted), "{wanted}");
+    for (names, query, wanted) in &ASKED {
+        assert!(rt; are_answered(rt.alloc(), names, *query, wanted), "{wanted}");
     }
 }
 
@@ -121,8 +121,8 @@ fn merges(inbox: &mut Inbox, other: &Inbox) -> bool {
 fn merges_from_nothing(alloc: Global) -> bool {
     let mut inbox = Inbox::empty(alloc);
     let mut other = Inbox::empty(alloc);
-    take_all_in_the_end(alloc, &mut inbox, &[A1])
-        && take_all_in_the_end(alloc, &mut other, &[A2, A1])
+    take_all_in_the_end(alloc, &mut inbox, "a1")
+        && take_all_in_the_end(alloc, &mut other, "a2 a1")
         && merges(&mut inbox, &other)
 }
 

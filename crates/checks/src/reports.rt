@@ -50,14 +50,17 @@ fn told_length(alloc: Global, query: Query, files: &[Octets]) -> Option<usize> {
     }
 }
 
+/// Whether a hundred files of one event have the report of one.
+fn are_reported_as_one(alloc: Global, files: &mut Vec<Octets>) -> bool {
+    let cover = "{\"sources\":{\"/orders\":[[1,1]]},\"version\":1}\n";
+    add_events(alloc, files, 100)
+        && tells(alloc, Query::Cover, files.as_slice(), cover)
+        && told_length(alloc, Query::Shown, files.as_slice()) == Some(EVENT.len() + 1)
+}
+
 #[test]
 fn a_hundred_files_have_one_report(rt: HostRuntime) {
-    let mut files = Vec::new(rt.alloc());
-    assert!(rt; add_events(rt.alloc(), &mut files, 100));
-    let cover = "{\"sources\":{\"/orders\":[[1,1]]},\"version\":1}\n";
-    assert!(rt; tells(rt.alloc(), Query::Cover, files.as_slice(), cover));
-    let length = told_length(rt.alloc(), Query::Shown, files.as_slice());
-    assert!(rt; length == Some(EVENT.len() + 1));
+    assert!(rt; are_reported_as_one(rt.alloc(), &mut Vec::new(rt.alloc())));
 }
 
 #[test]

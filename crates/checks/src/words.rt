@@ -20,16 +20,6 @@ fn add_words(alloc: Global, own: &mut Vec<Text>, words: &[&str]) -> bool {
     true
 }
 
-/// What the words come to; nothing where there is no memory for them.
-fn planned(alloc: Global, words: &[&str]) -> Option<Result<Plan, Faulty>> {
-    let mut own = Vec::new(alloc);
-    if add_words(alloc, &mut own, words) {
-        Some(plan(alloc, own.as_slice()))
-    } else {
-        None
-    }
-}
-
 /// What a plan is to be.
 #[derive(Clone, Copy)]
 enum Wanted<'a> {
@@ -110,13 +100,18 @@ fn is_faulty(faulty: &Faulty) -> bool {
     }
 }
 
+/// Whether a plan, or what is said in place of one, is what is wanted.
+fn is_it(planned: &Result<Plan, Faulty>, wanted: Wanted<'_>) -> bool {
+    match planned {
+        Ok(plan) => is_plan(plan, wanted),
+        Err(faulty) => matches!(wanted, Wanted::Fault) && is_faulty(faulty),
+    }
+}
+
 /// Whether the words come to what is wanted.
 fn plans(alloc: Global, words: &[&str], wanted: Wanted<'_>) -> bool {
-    match planned(alloc, words) {
-        Some(Ok(plan)) => is_plan(&plan, wanted),
-        Some(Err(faulty)) => matches!(wanted, Wanted::Fault) && is_faulty(&faulty),
-        None => false,
-    }
+    let mut own = Vec::new(alloc);
+    add_words(alloc, &mut own, words) && is_it(&plan(alloc, own.as_slice()), wanted)
 }
 
 /// Words, and what they come to.
