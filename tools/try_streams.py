@@ -4,11 +4,12 @@ ends, and over streams whose first, second, .. write fails, that take a few byte
 
     tools/try_streams.py [PROGRAM]         by default the program at crates/site_cli/out/site_cli
 
-A read that fails: status 1, `site: FILE: cannot read`, nothing on standard output, and every file as it was; of `follow`
-the lines that were read whole before are kept and acknowledged, and no other. A write that fails: status 1, just the
-pieces that were written before on that stream, and nothing on the other; what the command keeps is kept, since it is kept
-before it is told. However small the pieces are, the answer is that of a run whose streams are whole. The C compiler `cc`
-builds the shim that stands before the C library's `read` and `write`. The last line is 'N passed, M failed'.
+A read that fails: status 1, `site: FILE: cannot read`, nothing on standard output, and every file as it was; of
+`follow` the lines that were read whole before are kept and acknowledged, and no other. A write that fails: status 1,
+just the pieces that were written before on that stream, and nothing on the other; what the command keeps is kept, since
+it is kept before it is told. However small the pieces are, the answer is that of a run whose streams are whole. An input
+without an end is too large. The C compiler `cc` builds the shim that stands before the C library's `read` and `write`.
+The last line is 'N passed, M failed'.
 """
 import collections
 import json
@@ -196,8 +197,8 @@ class Trial:
         if got == want and left == wanted:
             self.passed += 1
             return
-        what = f"{what}: {clipped(got)} in place of {clipped(want)}" if got != want else f"{what}: what is left is another"
-        self.wrong.append(what)
+        why = f"{clipped(got)} in place of {clipped(want)}" if got != want else "other files or rows are left"
+        self.wrong.append(f"{what}: {why}")
 
     def read(self, words, name):
         """Reads an input in pieces, up to each read that fails, and without an end."""
@@ -242,7 +243,8 @@ class Trial:
                 self.is_so(f"{words}, read {fails} fails", got, want, self.shown(room), events[: fails - 1])
         for fails in range(1, 4):
             with self.room() as room:
-                got = self.ran(room, words, stdin, input="lines", output="1", out=f"0,{fails},0", **{"in": f"{LINE},0,0"})
+                streams = {"in": f"{LINE},0,0", "out": f"0,{fails},0"}
+                got = self.ran(room, words, stdin, input="lines", output="1", **streams)
                 want = (1, b"".join(acks[: fails - 1]), b"")
                 # A line is kept before it is acknowledged.
                 self.is_so(f"{words}, write {fails} fails", got, want, self.shown(room), events[:fails])
@@ -263,7 +265,7 @@ class Trial:
         units = whole[row.output].splitlines(keepends=True) if row.by_line else [whole[row.output]]
         output = str(row.output)
         for step in (0, -(-len(whole[row.output]) // 7)):
-            pieces = [unit[at : at + (step or len(unit))] for unit in units for at in range(0, len(unit), step or len(unit))]
+            pieces = [part for unit in units for part in cut(unit, step or len(unit))]
             for fails in range(1, len(pieces) + 2):
                 what = f"{row.words}, write {fails} of {len(pieces)} fails"
                 want = list(whole)
@@ -275,6 +277,10 @@ class Trial:
         with self.room() as room:
             got = self.ran(room, row.words, output=output, out="0,0,1")
             self.is_so(f"{row.words}, nothing is taken", got, (1, b"", b""), self.told(room), after)
+
+
+def cut(given, step):
+    return [given[at : at + step] for at in range(0, len(given), step)]
 
 
 def contents(room):

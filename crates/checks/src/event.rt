@@ -12,28 +12,28 @@ pub fn given(alloc: Global, text: &str) -> Result<Given, AllocError> {
     Ok(Given::Words(Text::of(alloc, text)?))
 }
 
-/// Sets an attribute, and answers whether it did.
-pub fn set(alloc: Global, parts: &mut Parts, name: &str, text: &str) -> bool {
-    match given(alloc, text) {
-        Ok(value) => parts.set(name, value).is_ok(),
-        Err(_) => false,
+/// Sets an attribute.
+pub fn set(alloc: Global, parts: &mut Parts, name: &str, text: &str) -> Result<(), AllocError> {
+    parts.set(name, given(alloc, text)?)
+}
+
+/// Sets an attribute, if the text isn't empty.
+fn set_some(alloc: Global, parts: &mut Parts, name: &str, text: &str) -> Result<(), AllocError> {
+    if text.is_empty() {
+        return Ok(());
     }
+    set(alloc, parts, name, text)
 }
 
-/// Sets an attribute, if the text isn't empty; answers whether all is well.
-fn set_some(alloc: Global, parts: &mut Parts, name: &str, text: &str) -> bool {
-    text.is_empty() || set(alloc, parts, name, text)
-}
-
-/// Sets the attributes of a row, and answers whether it did.
-fn set_row(alloc: Global, parts: &mut Parts, row: Row<'_>) -> bool {
-    set_some(alloc, parts, "specversion", "1.0")
-        && set_some(alloc, parts, "source", "/orders")
-        && set_some(alloc, parts, "id", row.0)
-        && set_some(alloc, parts, "sequence", row.1)
-        && set_some(alloc, parts, "type", row.2)
-        && set_some(alloc, parts, "subject", row.3)
-        && set_some(alloc, parts, "time", row.4)
+/// Sets the attributes of a row.
+fn set_row(alloc: Global, parts: &mut Parts, row: Row<'_>) -> Result<(), AllocError> {
+    set(alloc, parts, "specversion", "1.0")?;
+    set(alloc, parts, "source", "/orders")?;
+    set_some(alloc, parts, "id", row.0)?;
+    set_some(alloc, parts, "sequence", row.1)?;
+    set_some(alloc, parts, "type", row.2)?;
+    set_some(alloc, parts, "subject", row.3)?;
+    set_some(alloc, parts, "time", row.4)
 }
 
 /// The event of parts that have no fault.
@@ -47,7 +47,7 @@ fn built(parts: Parts) -> Option<Sequenced> {
 /// The event of a row.
 pub fn event(alloc: Global, row: Row<'_>) -> Option<Sequenced> {
     let mut parts = Parts::empty(alloc);
-    if set_row(alloc, &mut parts, row) {
+    if set_row(alloc, &mut parts, row).is_ok() {
         built(parts)
     } else {
         None

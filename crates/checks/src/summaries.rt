@@ -74,7 +74,7 @@ static UNIONS: [(&[Interval], &[Interval], &[Interval]); 3] = [
     (&[(1, 1), (3, 3)], &[], &[(1, 1), (3, 3)]),
 ];
 
-/// Whether a row's sets have their union, and the first isn't the same as it where it lacks numbers.
+/// Whether a row's sets have their union, which is the first alone where the second is empty.
 fn is_union_of(alloc: Global, row: &(&[Interval], &[Interval], &[Interval])) -> bool {
     match set(alloc, row.0) {
         Some(held) => {
