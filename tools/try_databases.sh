@@ -564,11 +564,11 @@ printf '{"id":"b1","sequence":"%020d","source":"/other","specversion":"1.0","typ
 run take --db is.db other.json
 told_is is.db "$(sum is.db 4 2 2)"
 before one.db was.db
-told_is was.db "$(sum was.db 3 1 1)"
+told_is was.db "$(sum was.db 1 1 1)"
 told_is told.db "$(sum told.db 0 0 0)$lf"'{"base":100,"orders":2,"rows":3,"source":"/west"}'
 before f.db both.db
 run scrub --db both.db
-told_is both.db "$(sum both.db 3 1 2)$lf"'{"base":0,"orders":0,"rows":0,"source":"/orders"}'
+told_is both.db "$(sum both.db 4 1 2)$lf"'{"base":0,"orders":0,"rows":0,"source":"/orders"}'
 ask bare.db VACUUM
 told_is bare.db "$(sum bare.db 0 0 0)"
 run check --db is.db three.json

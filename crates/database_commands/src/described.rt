@@ -19,7 +19,7 @@ use crate::page::site_of;
 use crate::text::database_line;
 use crate::told::told;
 use attributes::{Batch, Text};
-use database_layout::{has_inbox, has_name};
+use database_layout::{Layout, has_inbox, has_name};
 use inbox_table::{Inspected, Version, inspect};
 use sqlite::{Alter, Connection};
 use std::alloc::{AllocError, Global};
@@ -80,7 +80,8 @@ fn joined(first: Text, rest: &Text) -> Result<Text, CommandFault>
     Ok(Text::from_string(text))
 }
 
-/// The line that tells of the inbox of a database, whether it has one or not.
+/// The line that tells of the inbox of a database, whether it has one or not. `Store` where it has
+/// tables of others alone.
 fn inbox_line<S: Alter>(
     alloc: Global,
     conn: &mut Connection<S>,
@@ -97,6 +98,9 @@ fn inbox_line<S: Alter>(
     ensures fault { IfErr result IsUntold }
 {
     if !has_inbox(conn.schema()) {
+        if !has_name(conn.schema()) && Layout::of(conn.schema()).is_none() {
+            return Err(CommandFault::Store);
+        }
         return events_line(alloc, name, 0, Batch::empty(alloc));
     }
     match inspect(alloc, conn) {
