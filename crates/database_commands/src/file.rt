@@ -53,10 +53,10 @@ const CACHE: &str = "SITE_CACHE_MIB";
 const MOST_MIB: u64 = 1_048_576;
 /// The pages of a MiB.
 const MIB: u64 = 256;
-/// The most pages that are kept in memory where the variable isn't set, 1 GiB. The cache is made
+/// The most pages that are kept in memory where the variable isn't set, 256 MiB. The cache is made
 /// once the first page is found to be a database's, so a huge file that only begins like one may not
 /// ask for more; of a database past this size an open reads pages again.
-const MOST_PAGES: u64 = 262_144;
+const MOST_PAGES: u64 = 65_536;
 
 /// The commands over databases, by the names of their files. Each opens the database, makes its
 /// file where there is none unless it says otherwise, and closes it in the end; what was committed
