@@ -2,22 +2,31 @@
 """Reads and writes database files that were damaged or made up, with the built program: it ends by itself, says
 one line or an answer, and leaves a file that it refuses as it was.
 
-    tools/try_hostile_files.py [--flips N] [--jobs N] [--seconds N] [PROGRAM]
-                                           by default 2,000 flips, the program at crates/site_cli/out/site_cli
+    tools/try_hostile_files.py [--flips N] [--masks N] [--only WORD] [--flips-alone] [--jobs N] [--seconds N]
+                               [--seed N] [--folder FOLDER] [PROGRAM]
 
-Bytes of a small file are flipped, its pages are dropped, repeated, exchanged and emptied, it is cut at each 512
-bytes, and logs of other states lie beside it. A file has no sums, so some damage can't be told: then the answer is
-of other rows, which the last lines count by where the byte stands. By hand, not in the gate.
+Three files: one as the program leaves it, the same in pages of 512 bytes, and one of those with inner pages, texts
+that run over several pages, and free pages. Each byte is flipped in turn, by N masks (1 by default) where it is used;
+pages are dropped, repeated, emptied, exchanged and laid over others; each file is cut at each 512 bytes; and logs of
+other states lie beside it. `--flips N` tries some N bytes of each file instead of all, `--only WORD` those files alone
+that have the word in their name, `--flips-alone` no other damage.
+
+Each damaged file is asked for its events and its orders' rows, and then takes an event more (where a byte is flipped
+that nothing uses, each sixteenth does); and SQLite of Python is asked what it says of the same file (`PRAGMA
+integrity_check`) and which rows it reads. A file has no sums, so some damage can't be told: then the answer is of
+other rows, which the tables count by where the byte stands. Each process has a folder of its own in FOLDER, by
+default /dev/shm where it is there. By hand, not in the gate.
 """
 
 import argparse
 import collections
-import concurrent.futures
 import itertools
 import json
+import multiprocessing
 import os
 import random
-import shutil
+import resource
+import signal
 import sqlite3
 import subprocess
 import sys
@@ -28,62 +37,36 @@ HERE = os.path.dirname(os.path.dirname(os.path.realpath(__file__)))
 AT = "2024-02-29T10:00:00Z"
 PATIENCE = 20
 # The words that a refusal may name.
-REFUSALS = ("Store", "Foreign")
+REFUSALS = [f"site: x.db: {it}\n".encode() for it in ("Store", "Foreign")]
 QUESTIONS = (["scrub", "--db", "x.db"], ["relay", "--db", "x.db", "--after", "0"])
+MASKS = (1, 2, 4, 8, 16, 32, 64, 128, 255)
+KINDS = {1: "order.placed", 2: "order.shipped", 3: "order.cancelled"}
+# The fields of a file's header, by the place where each begins.
+HEADER = {
+    0: "magic", 16: "page size", 18: "write version", 19: "read version", 20: "reserved space", 21: "fractions",
+    24: "change counter", 28: "count of pages", 32: "first free page", 36: "count of free pages", 40: "schema cookie",
+    44: "schema format", 48: "cache size", 52: "vacuum", 56: "encoding", 60: "user version", 64: "vacuum",
+    68: "application id", 72: "for later", 92: "change counter of the version", 96: "version of SQLite",
+}
+COLUMNS = {
+    "schema": ("type", "name", "tbl_name", "rootpage", "sql"),
+    "inbox2": ("place", "source", "id", "number", "body", "block"),
+    "sqlite_autoindex_inbox2_1": ("source", "id", "body", "place"),
+    "service": ("one", "source", "base"),
+    "orders": ("number", "state"),
+    "outbox": ("number", "kind", "order_number", "at"),
+}
 
 
-def event(number):
+def event(number, more=""):
     return {
         "id": f"a{number}",
         "sequence": f"{number:020}",
         "source": "/orders",
         "specversion": "1.0",
-        "subject": "somebody",
+        "subject": "somebody" + more,
         "type": "t.a",
     }
-
-
-class Trial:
-    def __init__(self, program, seconds):
-        self.program, self.until = program, time.monotonic() + seconds
-        self.right, self.all, self.skipped = 0, 0, 0
-        self.counts = collections.defaultdict(collections.Counter)
-        self.untold = collections.defaultdict(list)
-
-    def run(self, folder, words):
-        how = {"cwd": folder, "stdin": subprocess.DEVNULL, "capture_output": True, "timeout": PATIENCE}
-        try:
-            ran = subprocess.run([self.program, *words], **how)
-        except subprocess.TimeoutExpired:
-            return "hangs", b"", b""
-        return ran.returncode, ran.stdout, ran.stderr
-
-    def judge(self, folder, words, right, also=()):
-        """What an answer is: 'right', 'refused', 'other rows', 'another state' or, where it may not be, what it is."""
-        before = read(f"{folder}/x.db")
-        beside = set(os.listdir(folder))
-        status, out, err = self.run(folder, words)
-        if status == 0 and err == b"":
-            if out == right:
-                return "right"
-            if out in also:
-                return "another state"
-            try:
-                return f"other rows: {difference(json.loads(right), json.loads(out))}"
-            except ValueError:
-                return f"wrong: no JSON: {out[:80]}"
-        if status == 1 and out == b"" and err in [f"site: x.db: {it}\n".encode() for it in REFUSALS]:
-            if read(f"{folder}/x.db") != before and "x.db-wal" not in beside:
-                return "wrong: refused, and the file changed"
-            return "refused"
-        return f"wrong: {status} {out[:80]} {err[:80]}"
-
-
-def difference(right, rows):
-    """What of the rows isn't right."""
-    if len(right) != len(rows):
-        return f"{len(rows)} rows in place of {len(right)}"
-    return " ".join(sorted({key for a, b in zip(right, rows) for key in {**a, **b} if a.get(key) != b.get(key)}))
 
 
 def read(name):
@@ -94,31 +77,98 @@ def read(name):
         return None
 
 
-def made(program, folder, count):
-    """A file with so many events and orders, made by the program; its bytes."""
+def write(name, data):
+    with open(name, "wb") as file:
+        file.write(data)
+
+
+class TooLong(Exception):
+    pass
+
+
+def rung(*_):
+    raise TooLong
+
+
+def run(program, words):
+    """The status and both streams of a run in this folder; a status below 0 is a signal."""
+    to = os.O_WRONLY | os.O_CREAT | os.O_TRUNC
+    streams = [
+        (os.POSIX_SPAWN_OPEN, 0, "/dev/null", os.O_RDONLY, 0),
+        (os.POSIX_SPAWN_OPEN, 1, "out", to, 0o600),
+        (os.POSIX_SPAWN_OPEN, 2, "err", to, 0o600),
+    ]
+    child = os.posix_spawn(program, [program, *words], os.environ, file_actions=streams)
+    signal.setitimer(signal.ITIMER_REAL, PATIENCE)
+    try:
+        _, status = os.waitpid(child, 0)
+    except TooLong:
+        os.kill(child, signal.SIGKILL)
+        os.waitpid(child, 0)
+        return "hangs", b"", b""
+    finally:
+        signal.setitimer(signal.ITIMER_REAL, 0)
+    return os.waitstatus_to_exitcode(status), read("out"), read("err")
+
+
+def is_refusal(status, out, err):
+    return status == 1 and out == b"" and err in REFUSALS
+
+
+def made(program, folder, count, first=1, more=lambda number: ""):
+    """Puts so many events and orders into a file, by the program; its bytes."""
     name = f"{folder}/x.db"
     with open(f"{folder}/e.json", "w", encoding="utf-8") as file:
-        json.dump([event(n) for n in range(1, count + 1)], file)
+        json.dump([event(n, more(n)) for n in range(first, count + 1)], file)
     commands = [["take", "--db", name, f"{folder}/e.json"]]
-    for order in range(1, count + 1):
+    for order in range(first, count + 1):
         commands += [["order", "--db", name, "--at", AT, it, str(order)] for it in ("place", "ship")]
     for words in commands:
         subprocess.run([program, *words], check=True, stdin=subprocess.DEVNULL, capture_output=True, timeout=PATIENCE)
     return read(name)
 
 
-def answers(trial, data):
-    """What each question is answered over a file with these bytes."""
-    with tempfile.TemporaryDirectory() as folder:
-        write(f"{folder}/x.db", data)
-        given = [trial.run(folder, words) for words in QUESTIONS]
-        assert all(it[0] == 0 for it in given), given
-        return [it[1] for it in given]
+def in_small_pages(data, folder):
+    """The same database in pages of 512 bytes, as SQLite writes it."""
+    name = f"{folder}/x.db"
+    write(name, data)
+    base = sqlite3.connect(name, isolation_level=None)
+    for it in ("PRAGMA journal_mode = delete", "PRAGMA page_size = 512", "VACUUM", "PRAGMA journal_mode = wal"):
+        base.execute(it)
+    base.close()
+    return read(name)
 
 
-def write(name, data):
-    with open(name, "wb") as file:
-        file.write(data)
+def with_free_pages(data, folder):
+    """The same database with pages that a table left free."""
+    name = f"{folder}/x.db"
+    write(name, data)
+    base = sqlite3.connect(name, isolation_level=None)
+    for it in ("CREATE TABLE spare (a)", "INSERT INTO spare VALUES (zeroblob(2000))", "DROP TABLE spare"):
+        base.execute(it)
+    base.close()
+    return read(name)
+
+
+def states(program, folder):
+    """Each file that is damaged, by its name: its bytes, and those of states before and after it."""
+    found = {}
+    several = []
+    for count in (1, 2, 3):
+        os.mkdir(f"{folder}/{count}")
+        several.append(made(program, f"{folder}/{count}", count))
+    older, data, newer = several
+    found["as the program leaves it"] = data, older, newer
+    older, data, newer = [in_small_pages(it, folder) for it in several]
+    found["in pages of 512 bytes"] = data, older, newer
+    os.mkdir(f"{folder}/deep")
+    write(f"{folder}/deep/x.db", data)
+    long = made(program, f"{folder}/deep", 9, 3, lambda number: "x" * 700 if number % 3 == 0 else "")
+    found["with inner, long and free pages"] = with_free_pages(long, folder), data, long
+    return found
+
+
+# Where a byte stands.
 
 
 def page_size(data):
@@ -126,59 +176,162 @@ def page_size(data):
     return 65536 if size == 1 else size
 
 
-def page_names(data):
-    """What each page of a file is for, as SQLite's own table of them says."""
-    size = page_size(data)
-    names = {0: "schema"}
-    with tempfile.TemporaryDirectory() as folder:
-        write(f"{folder}/x.db", data)
-        base = sqlite3.connect(f"{folder}/x.db")
-        for name, root in base.execute("SELECT name, rootpage FROM sqlite_schema"):
-            names[root - 1] = name
-        base.close()
-    return [names.get(it, "other page") for it in range(len(data) // size)]
+def whole(data, at):
+    """A whole number of one to nine bytes at a place, and the place behind it."""
+    value = 0
+    for i in range(9):
+        byte = data[at + i]
+        if i == 8:
+            return value << 8 | byte, at + 9
+        value = value << 7 | byte & 127
+        if byte < 128:
+            return value, at + i + 1
+    raise AssertionError
 
 
-def flips(data, count):
-    """The places that are flipped, by which mask: all of the headers and of what isn't zero as far as count reaches."""
-    busy = [it for it in range(len(data)) if data[it] or it % page_size(data) < 16 or it < 100]
-    idle = sorted(set(range(len(data))) - set(busy))
-    chosen = busy if len(busy) <= count * 9 // 10 else random.sample(busy, count * 9 // 10)
-    chosen += random.sample(idle, min(len(idle), count - len(chosen)))
-    return [(place, random.choice((1, 2, 4, 8, 16, 32, 64, 128, 255))) for place in chosen]
+def width(serial):
+    """How many bytes a value of this serial type takes."""
+    return (serial - 12) // 2 if serial >= 12 else (0, 1, 2, 3, 4, 6, 8, 8, 0, 0)[serial]
 
 
-def cases(trial, data, older, newer, count):
-    """Each case: its kind, where it strikes, the file's bytes, and those of the files beside it."""
-    size = page_size(data)
-    names = page_names(data)
-    pages = [data[it : it + size] for it in range(0, len(data), size)]
-    for place, mask in flips(data, count):
-        flipped = bytearray(data)
-        flipped[place] ^= mask
-        where = "header" if place < 100 else names[place // size]
-        if place % size >= 100 and not data[place]:
-            where = "unused or zero"
-        yield "flip", where, bytes(flipped), {}
+class Places:
+    """What each byte of a sound file is for."""
+
+    def __init__(self, data):
+        self.data, self.size = data, page_size(data)
+        self.names = ["unused"] * len(data)
+        self.pages = ["free page"] * (len(data) // self.size)
+        with tempfile.TemporaryDirectory() as folder:
+            write(f"{folder}/x.db", data)
+            base = sqlite3.connect(f"{folder}/x.db")
+            roots = [(name, root) for name, root in base.execute("SELECT name, rootpage FROM sqlite_schema")]
+            base.close()
+        for name, root in [("schema", 1), *roots]:
+            self.tree(name, root)
+        for i, name in enumerate(self.pages):
+            if name == "free page":
+                self.names[i * self.size : (i + 1) * self.size] = [name] * self.size
+        for at in range(100):
+            self.names[at] = "header: " + HEADER[max(it for it in HEADER if it <= at)]
+
+    def mark(self, start, end, name):
+        self.names[start:end] = [name] * (end - start)
+
+    def number(self, at, count):
+        return int.from_bytes(self.data[at : at + count], "big")
+
+    def tree(self, name, page):
+        base = (page - 1) * self.size
+        at = base + (100 if page == 1 else 0)
+        kind, cells = self.data[at], self.number(at + 3, 2)
+        inner = kind in (2, 5)
+        self.pages[page - 1] = name
+        behind = at + (12 if inner else 8)
+        self.mark(at, behind, f"{name}: page's header")
+        self.mark(behind, behind + 2 * cells, f"{name}: places of cells")
+        children = [self.number(at + 8, 4)] if inner else []
+        for i in range(cells):
+            cell = base + self.number(behind + 2 * i, 2)
+            start = cell
+            if inner:
+                children.append(self.number(cell, 4))
+                cell += 4
+            if kind == 5:
+                _, cell = whole(self.data, cell)
+                self.mark(start, cell, f"{name}: child and key")
+                continue
+            length, cell = whole(self.data, cell)
+            if kind == 13:
+                _, cell = whole(self.data, cell)
+            self.mark(start, cell, f"{name}: child, length or row's number")
+            self.record(name, self.payload(name, cell, length, kind == 13))
+        for child in children:
+            self.tree(name, child)
+
+    def payload(self, name, at, length, is_table):
+        """The places of the bytes of a record, which may run over several pages."""
+        usable = self.size - self.data[20]
+        most = usable - 35 if is_table else (usable - 12) * 64 // 255 - 23
+        least = (usable - 12) * 32 // 255 - 23
+        here = length
+        if length > most:
+            here = least + (length - least) % (usable - 4)
+            here = here if here <= most else least
+        places = list(range(at, at + here))
+        link = at + here
+        while len(places) < length:
+            page = self.number(link, 4)
+            self.mark(link, link + 4, f"{name}: link to the next page")
+            self.pages[page - 1] = name
+            link = (page - 1) * self.size
+            places += range(link + 4, link + 4 + min(usable - 4, length - len(places)))
+        if link != at + here:
+            self.mark(link, link + 4, f"{name}: link to the next page")
+        return places
+
+    def record(self, name, places):
+        text = bytes(self.data[it] for it in places)
+        end, at = whole(text, 0)
+        serials = []
+        while at < end:
+            serial, at = whole(text, at)
+            serials.append(serial)
+        for it in places[:end]:
+            self.names[it] = f"{name}: types of a row"
+        for column, serial in zip(COLUMNS[name], serials, strict=True):
+            for it in places[end : end + width(serial)]:
+                self.names[it] = f"{name}.{column}"
+            end += width(serial)
+
+
+# The damage. A case is its kind, where it strikes, what it does to the bytes, and the files beside.
+
+
+def flips(places, count, masks):
+    """The bytes that are flipped, each with its mask: all of them, or some."""
+    every = range(len(places.names))
+    used = [it for it in every if places.names[it] not in ("unused", "free page")]
+    idle = sorted(set(every) - set(used))
+    if count:
+        used = used if len(used) <= count * 9 // 10 else random.sample(used, count * 9 // 10)
+        idle = random.sample(idle, min(len(idle), count - len(used)))
+    chosen = [(it, mask) for it in used for mask in random.sample(MASKS, masks)]
+    return chosen + [(it, random.choice(MASKS)) for it in idle]
+
+
+def page_cases(places, names, some):
+    count = len(names)
+    whole_file = list(range(count))
     for i, name in enumerate(names):
-        yield "page dropped", name, b"".join(pages[:i] + pages[i + 1 :]), {}
-        yield "page repeated", name, b"".join(pages[: i + 1] + pages[i:]), {}
-        yield "page emptied", name, b"".join(pages[:i] + [bytes(size)] + pages[i + 1 :]), {}
-    for i, j in itertools.combinations(range(len(pages)), 2):
-        other = list(pages)
-        other[i], other[j] = pages[j], pages[i]
-        yield "pages exchanged", f"{names[i]}, {names[j]}", b"".join(other), {}
+        yield "page dropped", name, whole_file[:i] + whole_file[i + 1 :]
+        yield "page repeated", name, whole_file[: i + 1] + whole_file[i:]
+        yield "page emptied", name, whole_file[:i] + [None] + whole_file[i + 1 :]
+    pairs = list(itertools.combinations(range(count), 2))
+    if some and len(pairs) > some:
+        pairs = random.sample(pairs, some)
+    for i, j in pairs:
+        other = list(whole_file)
+        other[i], other[j] = j, i
+        yield "pages exchanged", f"{names[i]}, {names[j]}", other
         for a, b in ((i, j), (j, i)):
-            other = list(pages)
-            other[a] = pages[b]
-            yield "page over another", f"{names[b]} over {names[a]}", b"".join(other), {}
+            other = list(whole_file)
+            other[a] = b
+            yield "page over another", f"{names[b]} over {names[a]}", other
+
+
+def cases(data, older, newer, count, masks):
+    places = Places(data)
+    for place, mask in flips(places, count, masks):
+        yield "flip", places.names[place], ("flip", place, mask), {}
+    for kind, where, pages in page_cases(places, places.pages, count):
+        yield kind, where, ("pages", pages), {}
     for end in range(512, len(data), 512):
-        yield "cut", "", data[:end], {}
-    yield "cut to nothing, as a new file", "", b"", {}
-    yield "longer", "", data + bytes(size), {}
-    yield "longer", "", data + pages[-1], {}
+        yield "cut", "", ("cut", end), {}
+    yield "cut to nothing, as a new file", "", ("cut", 0), {}
+    yield "longer", "zeros", ("longer", bytes(places.size)), {}
+    yield "longer", "the last page", ("longer", data[-places.size :]), {}
     for name, beside in left_over(data, older, newer):
-        yield "files beside", name, data, beside
+        yield "files beside", name, ("cut", len(data)), beside
 
 
 def left_over(data, older, newer):
@@ -192,119 +345,302 @@ def left_over(data, older, newer):
                 base.execute(f"PRAGMA journal_mode = {mode}")
                 base.execute("PRAGMA cache_size = 1")
                 base.execute("BEGIN")
-                base.execute("UPDATE orders SET state = 3 WHERE number = 1")
+                base.execute("INSERT INTO orders VALUES (77, 1)")
+                base.execute("INSERT INTO outbox SELECT max(number) + 1, 1, 77, ? FROM outbox", (AT,))
                 if mode == "wal":
                     base.execute("COMMIT")
                 else:
                     base.execute("CREATE TABLE spill (a)")
-                    base.execute("INSERT INTO spill SELECT randomblob(3000) FROM (VALUES (1), (2), (3), (4), (5), (6), (7), (8))")
+                    many = ", ".join(f"({it})" for it in range(8))
+                    base.execute(f"INSERT INTO spill SELECT randomblob(3000) FROM (VALUES {many})")
                 kept = {it[4:]: read(f"{folder}/{it}") for it in os.listdir(folder) if it != "x.db"}
                 found.append((f"{mode} {name}", kept))
                 for ending, text in kept.items():
-                    found.append((f"{mode} {name}, half of it", {ending: text[: len(text) // 2]}))
-                    if text:
-                        flipped = bytearray(text)
-                        flipped[len(text) // 2] ^= 1
-                        found.append((f"{mode} {name}, a byte flipped", {ending: bytes(flipped)}))
+                    found.append((f"{mode} {name}, {ending[1:]} alone", {ending: text}))
+                    for end in range(512, len(text), max(512, len(text) // 16 // 512 * 512)):
+                        found.append((f"{mode} {name}, {ending[1:]} cut", {**kept, ending: text[:end]}))
+                    struck = random.sample(range(len(text)), min(24, len(text)))
+                    for place in [*range(0, min(64, len(text)), 4), *struck]:
+                        flipped = {**kept, ending: damaged(text, ("flip", place, random.choice(MASKS)))}
+                        found.append((f"{mode} {name}, a byte of {ending[1:]} flipped", flipped))
                 base.close()
     for ending in ("-wal", "-shm", "-journal"):
-        for what, text in (("empty", b""), ("zeros", bytes(4096)), ("random", random.randbytes(8192)), ("the file", data)):
+        texts = {"empty": b"", "zeros": bytes(4096), "random": random.randbytes(8192), "the file": data}
+        for what, text in texts.items():
             found.append((f"{ending[1:]}, {what}", {ending: text}))
     return found
 
 
-def tried(trial, right, also, base_take, case):
-    """The verdicts over one case, by question, and then of a take over it."""
-    kind, where, data, beside = case
-    if time.monotonic() > trial.until:
-        return kind, where, None
-    verdicts = []
-    with tempfile.TemporaryDirectory() as folder:
-
-        def lay():
-            for it in os.listdir(folder):
-                os.remove(f"{folder}/{it}")
-            write(f"{folder}/x.db", data)
-            for ending, text in beside.items():
-                write(f"{folder}/x.db{ending}", text)
-
-        for words, answer, others in zip(QUESTIONS, right, also):
-            lay()
-            verdicts.append(trial.judge(folder, words, answer, others))
-        lay()
-        shutil.copy(base_take, f"{folder}/more.json")
-        verdicts.append(taken(trial, folder, right[0]))
-    return kind, where, verdicts
+def damaged(data, damage):
+    what, *how = damage
+    if what == "flip":
+        flipped = bytearray(data)
+        flipped[how[0]] ^= how[1]
+        return bytes(flipped)
+    if what == "pages":
+        size = page_size(data)
+        return b"".join(bytes(size) if it is None else data[it * size : (it + 1) * size] for it in how[0])
+    return data[: how[0]] if what == "cut" else data + how[0]
 
 
-def taken(trial, folder, before):
-    """Takes an event more, and reads all: a take that is done isn't lost, whatever the file was."""
-    before_file = read(f"{folder}/x.db")
-    has_log = any(it.startswith("x.db-") for it in os.listdir(folder))
-    status, out, err = trial.run(folder, ["take", "--db", "x.db", "more.json"])
-    if status == 1 and out == b"" and err in [f"site: x.db: {it}\n".encode() for it in REFUSALS]:
-        if not has_log and read(f"{folder}/x.db") != before_file:
-            return "wrong: a refused take changed the file"
-        return "refused"
-    if status != 0 or err:
-        return f"wrong: take: {status} {out[:80]} {err[:80]}"
-    status, out, err = trial.run(folder, QUESTIONS[0])
-    if status == 0 and b'"id":"more"' in out:
-        return "right" if out.startswith(before[:-2]) else "other rows"
-    return f"wrong: a take was done and is lost: {status} {out[:80]} {err[:80]}"
+# What SQLite says of a file.
+
+
+def of_sqlite(name):
+    """Whether SQLite finds a file sound, what it says, and what our questions answer of the rows that it reads."""
+    base = sqlite3.connect(name, isolation_level=None)
+    base.text_factory = bytes
+    said, rows = b"", [None, None]
+    try:
+        said = base.execute("PRAGMA integrity_check").fetchone()[0]
+        for i, ask in enumerate((events_of, rows_of)):
+            try:
+                rows[i] = ask(base)
+            except (sqlite3.Error, TypeError, ValueError, KeyError, AttributeError):
+                pass
+    except (sqlite3.Error, UnicodeDecodeError) as fault:
+        said = str(fault).encode()
+    finally:
+        base.close()
+    return said == b"ok", said.decode(errors="replace"), rows
+
+
+def events_of(base):
+    rows = base.execute("SELECT source, id, body FROM inbox2 NOT INDEXED").fetchall()
+    return [json.loads(body) for _, _, body in sorted(rows)]
+
+
+def rows_of(base):
+    ((source,),) = base.execute("SELECT source FROM service").fetchall()
+    asked = "SELECT number, kind, order_number, at FROM outbox ORDER BY number"
+    return [
+        {
+            "id": f"{number:020}",
+            "sequence": f"{number:020}",
+            "source": source.decode(),
+            "specversion": "1.0",
+            "subject": str(order),
+            "time": at.decode(),
+            "type": KINDS[kind],
+        }
+        for number, kind, order, at in base.execute(asked)
+    ]
+
+
+# One damaged file.
+
+
+class Told:
+    """What was seen of one file. `wrong` is empty where all is as it may be."""
+
+    def __init__(self, kind, where, place=None):
+        self.kind, self.where, self.place = kind, where, place
+        self.sound, self.said, self.wrong, self.verdicts, self.printed, self.columns = False, "", [], [], [], []
+
+    def verdict(self):
+        """One word for both questions; other rows count, whatever the second question says."""
+        return next((it for it in ("other rows", "refused", "another state") if it in self.verdicts), "same")
+
+
+class Trial:
+    """What each process has at hand; it works in a folder of its own."""
+
+    def __init__(self, program, until, more):
+        self.program, self.until, self.more = program, until, more
+        self.files, self.right, self.every = {}, {}, []
+
+    def ask(self, data, words):
+        for it in os.listdir("."):
+            os.remove(it)
+        write("x.db", data)
+        return run(self.program, words)
+
+    def lay(self, data, beside):
+        for it in os.listdir("."):
+            os.remove(it)
+        write("x.db", data)
+        for ending, text in beside.items():
+            write(f"x.db{ending}", text)
+
+    def tried(self, file, case):
+        kind, where, damage, beside = case
+        told = Told(kind, where, damage[1:] if damage[0] == "flip" else None)
+        data = damaged(self.files[file], damage)
+        self.lay(data, beside)
+        told.sound, told.said, rows = of_sqlite("x.db")
+        for words, right, seen in zip(QUESTIONS, self.right[file], rows):
+            self.lay(data, beside)
+            self.judge(told, words, right, seen, data, beside)
+        if where != "unused" or damage[1] % 16 == 0:
+            self.lay(data, beside)
+            self.take(told, self.right[file][0], data, beside)
+        return told
+
+    def judge(self, told, words, right, seen, data, beside):
+        status, out, err = run(self.program, words)
+        told.printed.append((status, out, err))
+        if read("x.db") != data and data and not beside:
+            told.wrong.append(f"{words[0]} changed the file")
+        if is_refusal(status, out, err):
+            told.verdicts.append("refused")
+        elif status == 0 and err == b"":
+            self.compare(told, right, seen, out, data, beside)
+        else:
+            told.wrong.append(f"{words[0]}: {status} {out[:80]} {err[:80]}")
+
+    def compare(self, told, right, seen, out, data, beside):
+        try:
+            rows = json.loads(out)
+        except ValueError:
+            told.wrong.append(f"no JSON: {out[:80]}")
+            return
+        if out == right:
+            told.verdicts.append("same")
+        elif beside and rows == seen or not data and rows == []:
+            told.verdicts.append("another state")
+        else:
+            told.verdicts.append("other rows")
+            told.columns.append(difference(json.loads(right), rows))
+        if told.sound and seen is not None and rows != seen:
+            told.wrong.append(f"other rows than SQLite reads: {out[:200]}")
+
+    def take(self, told, before, data, beside):
+        """Takes an event more, and reads all: a take that is done isn't lost, whatever the file was."""
+        write("more.json", self.more)
+        status, out, err = run(self.program, ["take", "--db", "x.db", "more.json"])
+        if is_refusal(status, out, err):
+            if read("x.db") != data and not beside:
+                told.wrong.append("a refused take changed the file")
+            return
+        if status != 0 or err:
+            told.wrong.append(f"take: {status} {out[:80]} {err[:80]}")
+            return
+        status, out, err = run(self.program, QUESTIONS[0])
+        if status != 0 or b'"id":"more"' not in out:
+            told.wrong.append(f"a take was done and is lost: {status} {out[:80]} {err[:80]}")
+        elif not out.startswith(before[:-2]) and "same" in told.verdicts[:1]:
+            told.wrong.append(f"a take changed other rows: {out[:200]}")
+        if told.sound and not of_sqlite("x.db")[0]:
+            told.wrong.append("a take into a file that SQLite found sound left one that it doesn't")
+
+
+def difference(right, rows):
+    """What of the rows isn't right."""
+    if len(right) != len(rows):
+        return f"{len(rows)} rows in place of {len(right)}"
+    return " ".join(sorted({key for a, b in zip(right, rows) for key in {**a, **b} if a.get(key) != b.get(key)}))
+
+
+TRIAL = None
+
+
+def begin(folder):
+    signal.signal(signal.SIGALRM, rung)
+    os.chdir(tempfile.mkdtemp(dir=folder))
+
+
+def one(number):
+    file, case = TRIAL.every[number]
+    if time.monotonic() > TRIAL.until:
+        return file, None
+    return file, TRIAL.tried(file, case)
+
+
+# What is printed.
+
+
+def row(cells):
+    return "| " + " | ".join(str(it) for it in cells) + " |"
+
+
+def tables(all_told):
+    """Where a flipped byte can't be told, and the counts beside those of SQLite."""
+    columns = ("same", "another state", "other rows", "refused")
+    kinds = collections.defaultdict(collections.Counter)
+    places = collections.defaultdict(collections.Counter)
+    beside = collections.defaultdict(collections.Counter)
+    for it in all_told:
+        kinds[it.kind][it.verdict()] += 1
+        beside["ok" if it.sound else "not ok"][it.verdict()] += 1
+        if it.kind == "flip":
+            places[it.where][it.verdict()] += 1
+    for head, counts in (("damage", kinds), ("flip in", places), ("integrity_check", beside)):
+        print("\n" + row((head, "files", *columns)) + "\n" + "|---" * 6 + "|")
+        for name, count in sorted(counts.items()):
+            print(row((name, count.total(), *(count[it] for it in columns))))
+
+
+def told_of(file, all_told):
+    for it in all_told:
+        if it.wrong:
+            print(f"wrong: {file}: {it.kind} {it.where} {it.place or ''}: {it.wrong}"[:600])
+    odd = [it for it in all_told if not it.sound and it.verdict() == "other rows"]
+    for it in odd:
+        where = f"{file}: {it.kind} {it.where} {it.place or ''}"
+        print(f"unsound by SQLite, and other rows: {where}: {it.said[:80]}: {it.printed}")
+    untold = collections.Counter((it.where, ", ".join(it.columns)) for it in all_told if it.verdict() == "other rows")
+    for (where, columns), count in untold.most_common():
+        print(f"not told: {count} in {where}: {columns}")
+    missed = [it for it in all_told if not it.sound and it.verdict() == "same"]
+    said = collections.Counter(it.said.splitlines()[0][:70] for it in missed)
+    for what, count in said.most_common(12):
+        print(f"unsound by SQLite, and the same answers: {count}: {what}")
 
 
 def main():
-    words = argparse.ArgumentParser()
+    global TRIAL
+    words = argparse.ArgumentParser(description=__doc__, formatter_class=argparse.RawDescriptionHelpFormatter)
     words.add_argument("program", nargs="?", default=os.path.join(HERE, "crates/site_cli/out/site_cli"))
-    words.add_argument("--flips", type=int, default=2000)
+    words.add_argument("--flips", type=int, default=0)
+    words.add_argument("--masks", type=int, default=1)
+    words.add_argument("--only", default="")
+    words.add_argument("--flips-alone", action="store_true")
     words.add_argument("--jobs", type=int, default=4)
-    words.add_argument("--seconds", type=int, default=600)
+    words.add_argument("--seconds", type=int, default=1800)
     words.add_argument("--seed", type=int, default=25)
+    words.add_argument("--folder", default="/dev/shm" if os.path.isdir("/dev/shm") else None)
     asked = words.parse_args()
     random.seed(asked.seed)
-    trial = Trial(os.path.realpath(asked.program), asked.seconds)
-    began = time.monotonic()
-    with tempfile.TemporaryDirectory() as folder:
-        states = []
-        for count in (1, 2, 3):
-            os.mkdir(f"{folder}/{count}")
-            states.append(made(trial.program, f"{folder}/{count}", count))
-        older, data, newer = states
-        right = answers(trial, data)
-        also = list(zip(answers(trial, older), answers(trial, newer)))
-        more = {**event(9), "id": "more"}
-        with open(f"{folder}/more.json", "w", encoding="utf-8") as file:
-            json.dump(more, file)
-        every = list(cases(trial, data, older, newer, asked.flips))
-        wrong = []
-        with concurrent.futures.ThreadPoolExecutor(asked.jobs) as pool:
-            for kind, where, verdicts in pool.map(
-                lambda it: tried(trial, right, also, f"{folder}/more.json", it), every
-            ):
-                if verdicts is None:
-                    trial.skipped += 1
-                    continue
-                trial.all += 1
-                bad = [it for it in verdicts if it.startswith("wrong")]
-                if bad:
-                    wrong.append((kind, where, bad))
-                else:
-                    trial.right += 1
-                for it in verdicts[:2]:
-                    trial.counts[kind][it.split(":")[0]] += 1
-                untold = {it.partition(": ")[2] or it for it in verdicts if it.startswith(("other rows", "another state"))}
-                if untold:
-                    trial.untold[kind].append(f"{where or 'the file'}: {', '.join(sorted(untold))}")
-    for kind, where, bad in wrong[:20]:
-        print(f"wrong: {kind} ({where}): {bad}")
-    for kind, counts in trial.counts.items():
-        print(f"{kind}: " + ", ".join(f"{count} {it}" for it, count in sorted(counts.items())))
-        for where, count in collections.Counter(trial.untold[kind]).most_common():
-            print(f"    not told: {count} in {where}")
-    print(f"a file of {len(data)} bytes; {trial.skipped} cases left out for time; {time.monotonic() - began:.0f} s")
-    print(f"{trial.right} of {trial.all} damaged files were right")
-    return 0 if trial.right == trial.all else 1
+    signal.signal(signal.SIGALRM, rung)
+    more = json.dumps([{**event(9), "id": "more"}]).encode()
+    TRIAL = Trial(os.path.realpath(asked.program), time.monotonic() + asked.seconds, more)
+    with tempfile.TemporaryDirectory(dir=asked.folder) as folder:
+        for name, (data, older, newer) in states(TRIAL.program, folder).items():
+            if asked.only not in name:
+                continue
+            os.makedirs(f"{folder}/first", exist_ok=True)
+            os.chdir(f"{folder}/first")
+            given = [TRIAL.ask(data, it) for it in QUESTIONS]
+            assert all(it[0] == 0 for it in given) and of_sqlite("x.db")[0], given
+            TRIAL.files[name], TRIAL.right[name] = data, [it[1] for it in given]
+            struck = cases(data, older, newer, asked.flips, asked.masks)
+            TRIAL.every += [(name, it) for it in struck if it[0] == "flip" or not asked.flips_alone]
+        began, found = time.monotonic(), {name: [] for name in TRIAL.files}
+        with multiprocessing.get_context("fork").Pool(asked.jobs, begin, (folder,)) as pool:
+            for name, told in pool.imap_unordered(one, range(len(TRIAL.every)), 16):
+                if told:
+                    found[name].append(told)
+            pool.close()
+            pool.join()
+        took = time.monotonic() - began
+        os.chdir("/")
+    for name, all_told in found.items():
+        data = TRIAL.files[name]
+        print(f"\n{name}: {len(data)} bytes in pages of {page_size(data)}, {len(all_told)} damaged files")
+        tables(all_told)
+        print()
+        told_of(name, all_told)
+    everything = [it for all_told in found.values() for it in all_told]
+    print("\nall files:")
+    tables(everything)
+    right, count = sum(not it.wrong for it in everything), len(everything)
+    used = resource.getrusage(resource.RUSAGE_CHILDREN)
+    spent = used.ru_utime + used.ru_stime
+    times = f"{took:.0f} s by the clock, {spent:.0f} s of processor time"
+    each = f"10,000 files take {took / count * 10000:.0f} s, {spent / count * 10000:.0f} s of processor time"
+    print(f"\n{len(TRIAL.every) - count} left out for time; {times}; {each}")
+    print(f"{right} of {count} damaged files were right")
+    return 0 if right == count else 1
 
 
 if __name__ == "__main__":
