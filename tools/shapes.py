@@ -4,16 +4,19 @@ file of about its size, and prints how much more processor time a byte of it cos
 
 usage: tools/shapes.py PROGRAM [--size BYTES] [--runs N] [--limit RATIO] [--only WORD] [--commands COMMAND ..]
 
-The commands are `cover` and `shown` where none is named. `take`, `summary`, `delta` and `scrub` go over databases: `take`
-brings the file into a new one; the others, and `delta` of the empty summary, read what such a `take` left, all pages at
-once. The exit status is 1 where a shape costs more than RATIO times its friendly file. The shapes are the same for
-everybody.
+The commands are `cover` and `shown` where none is named; `all` means every one. `take`, `run` and `follow` bring the
+file into a new database, `follow` its events one a line; `summary`, `scrub` and `delta` of the empty summary read what
+a `take` left, all pages at once. `relay`, `order` and `service` have shapes of their own: databases of orders that SQLite
+of Python made. The exit status is 1 where a shape costs more than RATIO times its friendly file. The shapes are the same
+for everybody.
 """
 import argparse
 import datetime
 import os
 import random
 import resource
+import shutil
+import sqlite3
 import subprocess
 import sys
 import tempfile
@@ -64,6 +67,21 @@ def with_attributes(kind, count):
 
 def with_data(text):
     return lambda place: event(place, ',"data":' + text)
+
+
+def of_one_hash(place):
+    """A text for each place; all of them have one hash where characters are summed up by powers of 31."""
+    return "".join("BB" if place >> bit & 1 else "Aa" for bit in range(20))
+
+
+def of_many_hashes(place):
+    return of_one_hash(place).replace("BB", "Bb")
+
+
+def largest(place):
+    """An event whose canonical text has 262,144 bytes, the most that is allowed."""
+    room = 262_144 - len(event(place, ',"x":""'))
+    return event(place, ',"x":"' + "b" * room + '"')
 
 
 def members(kind):
@@ -123,23 +141,80 @@ def shapes(size):
     yield "a day of its own", ordered(size, "shuffled", by_day(its_own)), ordered(size, "ascending", by_day(of_ten))
     yield "keys that begin alike", batch(size, lambda place: event(place, key="k" * 180 + str(place))), plain
     yield "a name repeated", batch(size, lambda place: event(place, ',"x":1' * 30)), few
-    yield "bodies of 262,000 bytes", batch(size, lambda place: event(place, ',"x":"' + "b" * 261_800 + '"')), plain
-    ids = ordered(size, "ascending", lambda place: event(place, number=1))
-    yield "ids shuffled", ordered(size, "shuffled", lambda place: event(place, key=f"e{place:07d}", number=1)), ids
+    yield "bodies of 262,144 bytes", batch(size, largest), plain
+
+    def by_id(place):
+        return event(place, key=f"e{place:07d}")
+
+    def by_text(text):
+        return lambda place: event(place, f',"subject":"{text(place)}"', key=text(place), kind=text(place))
+
+    ids = ordered(size, "ascending", by_id)
+    yield "ids descending", ordered(size, "descending", by_id), ids
+    yield "ids shuffled", ordered(size, "shuffled", by_id), ids
+    one_number = ordered(size, "shuffled", lambda place: event(place, key=f"e{place:07d}", number=1))
+    yield "ids shuffled, one number", one_number, ids
+    yield "one hash for all", *(ordered(size, "shuffled", by_text(it)) for it in (of_one_hash, of_many_hashes))
     yield "each number in a block of its own", ordered(size, "shuffled", lambda place: event(place, number=1024 * place + 1)), numbers
 
 
-# Commands over the database that a `take` of the file leaves.
+TABLES = (
+    "CREATE TABLE service (one INTEGER PRIMARY KEY CHECK (one = 1), source TEXT NOT NULL, "
+    "base INTEGER NOT NULL CHECK (base >= 0)) STRICT",
+    "CREATE TABLE orders (number INTEGER PRIMARY KEY, state INTEGER NOT NULL CHECK (state >= 1 AND state <= 3)) STRICT",
+    "CREATE TABLE outbox (number INTEGER PRIMARY KEY, kind INTEGER NOT NULL CHECK (kind >= 1 AND kind <= 3), "
+    "order_number INTEGER NOT NULL, at TEXT NOT NULL) STRICT",
+)
+AT = "2026-11-25T12:00:00Z"
+
+
+def services(count):
+    """Name of the shape; of the odd service and the friendly one the base, and each row's kind, order and time."""
+    def placed(numbers, at=AT):
+        return [(1, number, at) for number in numbers]
+
+    numbers = list(range(1, count + 1))
+    shuffled = random.Random(1).sample(numbers, count)
+    friendly = 0, placed(numbers)
+    yield "orders descending", (0, placed(numbers[::-1])), friendly
+    yield "orders shuffled", (0, placed(shuffled)), friendly
+    yield "orders far apart", (0, placed([(1 << 62) + (it << 30) for it in shuffled])), friendly
+    yield "the last numbers", ((1 << 63) - 1 - 2 * count, placed(numbers)), friendly
+    yield "times of 64 bytes", (0, placed(numbers, AT[:-1] + "." + "0" * 43 + "Z")), friendly
+    half = shuffled[: count // 2]
+    yield "each shipped in the end", (0, placed(half) + [(2, it, AT) for it in half[::-1]]), friendly
+
+
+def make_service(path, base, rows):
+    """A database with a service of these rows."""
+    forget(path)
+    made = sqlite3.connect(f"{path}.db", isolation_level=None)
+    for it in ("PRAGMA journal_mode = wal", "BEGIN", *TABLES):
+        made.execute(it)
+    made.execute("INSERT INTO service VALUES (1, '/orders', ?)", (base,))
+    states = {order: kind for kind, order, _ in rows}
+    made.executemany("INSERT INTO orders VALUES (?, ?)", states.items())
+    made.executemany("INSERT INTO outbox VALUES (?, ?, ?, ?)", [(base + 1 + i, *it) for i, it in enumerate(rows)])
+    made.execute("COMMIT")
+    made.close()
+
+
+QUESTIONS = ["cover", "shown", "gaps", "latest", "kinds", "days", "conflicts", "check"]
+# Commands that bring a file into a new database, and those over what a `take` leaves.
+WRITERS = ["take", "run", "follow"]
 READERS = {"summary": [], "scrub": ["--all"], "delta": ["--all", "empty.summary"]}
+OF_ORDERS = {"relay": ["--after", "0", "--all"], "service": [], "order": ["--at", AT, "place", str(1 << 61)]}
 
 
 def words(command, path):
     """The words of a command about a file, or about its database."""
-    if command == "take":
+    if command == "follow":
+        return [command, "--db", f"{path}.db", f"{path}.lines"]
+    if command in WRITERS:
         return [command, "--db", f"{path}.db", path]
-    if command in READERS:
-        return [command, "--db", f"{path}.db", *READERS[command]]
-    return [command, path]
+    if command in QUESTIONS:
+        return [command, path]
+    return [command, "--db", f"{path}.db", *{**READERS, **OF_ORDERS}[command]]
 
 
 def forget(path):
@@ -149,20 +224,71 @@ def forget(path):
             os.remove(path + end)
 
 
-def seconds(program, command, path, runs):
-    """The least processor time of the runs."""
-    least, where = None, os.path.dirname(path)
-    for _ in range(runs):
-        if command == "take":
-            forget(path)
-        elif command in READERS and not os.path.exists(f"{path}.db"):
-            subprocess.run([program, *words("take", path)], cwd=where, stdout=subprocess.DEVNULL, check=True)
-        before = resource.getrusage(resource.RUSAGE_CHILDREN)
-        subprocess.run([program, *words(command, path)], cwd=where, stdout=subprocess.DEVNULL, check=True)
-        after = resource.getrusage(resource.RUSAGE_CHILDREN)
-        spent = after.ru_utime + after.ru_stime - before.ru_utime - before.ru_stime
-        least = spent if least is None else min(least, spent)
-    return least
+def write(path, text):
+    """A file as a batch, and its events one a line."""
+    forget(path)
+    for name, content in ((path, text), (f"{path}.lines", text[1:-1].replace(",\n", "\n"))):
+        with open(name, "w", encoding="utf-8") as file:
+            file.write(content)
+
+
+def seconds(program, command, path):
+    """The processor time of one run."""
+    where = os.path.dirname(path)
+    how = {"cwd": where, "stdout": subprocess.DEVNULL, "check": True}
+    if command in WRITERS:
+        forget(path)
+    elif command in READERS and not os.path.exists(f"{path}.db"):
+        subprocess.run([program, *words("take", path)], **how)
+    kept = f"{path}.kept"
+    if command == "order":
+        shutil.copy(f"{path}.db", kept)
+    before = resource.getrusage(resource.RUSAGE_CHILDREN)
+    subprocess.run([program, *words(command, path)], **how)
+    after = resource.getrusage(resource.RUSAGE_CHILDREN)
+    if command == "order":
+        forget(path)
+        os.rename(kept, f"{path}.db")
+    elif command in WRITERS:
+        forget(path)
+    return after.ru_utime + after.ru_stime - before.ru_utime - before.ru_stime
+
+
+class Bench:
+    """The files that are compared, and how many shapes were dear."""
+
+    def __init__(self, options, folder):
+        self.options, self.dear = options, 0
+        self.odd, self.friendly = f"{folder}/odd.json", f"{folder}/friendly.json"
+
+    def compare(self, name, command, scale):
+        """Runs both in turn, and compares the least of each."""
+        turns = [[seconds(self.options.program, command, it) for it in (self.odd, self.friendly)]
+                 for _ in range(self.options.runs)]
+        mine, theirs = (min(it) for it in zip(*turns))
+        ratio = mine / theirs / scale
+        mark = " DEAR" if ratio > self.options.limit else ""
+        self.dear += ratio > self.options.limit
+        times = f"{mine:6.2f} s  friendly {theirs:6.2f} s  ratio a byte {ratio:5.2f}{mark}"
+        print(f"{name:32} {command:9}  {times}", flush=True)
+
+    def files(self, commands):
+        for name, text, other in shapes(self.options.size):
+            if commands and self.options.only in name:
+                write(self.odd, text)
+                write(self.friendly, other)
+                scale = os.path.getsize(self.odd) / os.path.getsize(self.friendly)
+                for command in commands:
+                    self.compare(name, command, scale)
+
+    def orders(self, commands):
+        for name, odd, friendly in services(self.options.size // 50):
+            if commands and self.options.only in name:
+                make_service(self.odd, *odd)
+                make_service(self.friendly, *friendly)
+                scale = os.path.getsize(f"{self.odd}.db") / os.path.getsize(f"{self.friendly}.db")
+                for command in commands:
+                    self.compare(name, command, scale)
 
 
 def main():
@@ -174,30 +300,17 @@ def main():
     parser.add_argument("--only", default="")
     parser.add_argument("--commands", nargs="+", default=["cover", "shown"])
     options = parser.parse_args()
-    dear = 0
     options.program = os.path.abspath(options.program)
+    every = [*QUESTIONS, *WRITERS, *READERS, *OF_ORDERS]
+    asked = every if "all" in options.commands else options.commands
     with tempfile.TemporaryDirectory() as folder:
         with open(f"{folder}/empty.summary", "w", encoding="utf-8") as file:
             file.write('{"sources":{},"version":1}')
-        odd, friendly = os.path.join(folder, "odd.json"), os.path.join(folder, "friendly.json")
-        for name, text, other in shapes(options.size):
-            if options.only not in name:
-                continue
-            for path, content in ((odd, text), (friendly, other)):
-                forget(path)
-                with open(path, "w", encoding="utf-8") as file:
-                    file.write(content)
-            scale = os.path.getsize(odd) / os.path.getsize(friendly)
-            for command in options.commands:
-                mine = seconds(options.program, command, odd, options.runs)
-                theirs = seconds(options.program, command, friendly, options.runs)
-                ratio = mine / theirs / scale
-                mark = " DEAR" if ratio > options.limit else ""
-                dear += ratio > options.limit
-                times = f"{mine:6.2f} s  friendly {theirs:6.2f} s  ratio a byte {ratio:5.2f}{mark}"
-                print(f"{name:32} {command:9}  {times}", flush=True)
-    print(f"{dear} shapes above {options.limit} times their friendly file")
-    return 1 if dear else 0
+        bench = Bench(options, folder)
+        bench.files([it for it in asked if it not in OF_ORDERS])
+        bench.orders([it for it in asked if it in OF_ORDERS])
+    print(f"{bench.dear} shapes above {options.limit} times their friendly file")
+    return 1 if bench.dear else 0
 
 
 sys.exit(main())

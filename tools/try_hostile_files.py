@@ -229,6 +229,10 @@ class Places:
         behind = at + (12 if inner else 8)
         self.mark(at, behind, f"{name}: page's header")
         self.mark(behind, behind + 2 * cells, f"{name}: places of cells")
+        block = self.number(at + 1, 2)
+        while block:
+            self.mark(base + block, base + block + 4, f"{name}: free block")
+            block = self.number(base + block, 2)
         children = [self.number(at + 8, 4)] if inner else []
         for i in range(cells):
             cell = base + self.number(behind + 2 * i, 2)
@@ -554,17 +558,18 @@ def row(cells):
 
 
 def tables(all_told):
-    """Where a flipped byte can't be told, and the counts beside those of SQLite."""
+    """The counts by kind, beside what SQLite says, and by where a byte was flipped or what lies beside."""
     columns = ("same", "another state", "other rows", "refused")
     kinds = collections.defaultdict(collections.Counter)
-    places = collections.defaultdict(collections.Counter)
+    places = collections.defaultdict(lambda: collections.defaultdict(collections.Counter))
     beside = collections.defaultdict(collections.Counter)
     for it in all_told:
         kinds[it.kind][it.verdict()] += 1
         beside["ok" if it.sound else "not ok"][it.verdict()] += 1
-        if it.kind == "flip":
-            places[it.where][it.verdict()] += 1
-    for head, counts in (("damage", kinds), ("flip in", places), ("integrity_check", beside)):
+        if it.kind in ("flip", "files beside"):
+            places[it.kind][it.where][it.verdict()] += 1
+    every = [("damage", kinds), ("integrity_check", beside)]
+    for head, counts in every + [(f"{kind}: where", places[kind]) for kind in sorted(places)]:
         print("\n" + row((head, "files", *columns)) + "\n" + "|---" * 6 + "|")
         for name, count in sorted(counts.items()):
             print(row((name, count.total(), *(count[it] for it in columns))))
@@ -631,8 +636,9 @@ def main():
         print()
         told_of(name, all_told)
     everything = [it for all_told in found.values() for it in all_told]
-    print("\nall files:")
-    tables(everything)
+    if len(found) > 1:
+        print("\nall files:")
+        tables(everything)
     right, count = sum(not it.wrong for it in everything), len(everything)
     used = resource.getrusage(resource.RUSAGE_CHILDREN)
     spent = used.ru_utime + used.ru_stime
