@@ -586,6 +586,9 @@ def told_of(file, all_told):
     untold = collections.Counter((it.where, ", ".join(it.columns)) for it in all_told if it.verdict() == "other rows")
     for (where, columns), count in untold.most_common():
         print(f"not told: {count} in {where}: {columns}")
+    strict = [it for it in all_told if it.sound and it.verdict() == "refused"]
+    for (kind, where), count in collections.Counter((it.kind, it.where) for it in strict).most_common():
+        print(f"sound by SQLite, and refused: {count}: {kind} {where}")
     missed = [it for it in all_told if not it.sound and it.verdict() == "same"]
     said = collections.Counter(it.said.splitlines()[0][:70] for it in missed)
     for what, count in said.most_common(12):
