@@ -138,7 +138,8 @@ def shapes(size):
     yield "one subject", ordered(size, "shuffled", by_subject(lambda place: 1)), ten_subjects
     yield "a subject of its own", ordered(size, "shuffled", by_subject(its_own)), ten_subjects
     yield "a type of its own", ordered(size, "shuffled", by_type(its_own)), ten_types
-    yield "a day of its own", ordered(size, "shuffled", by_day(its_own)), ordered(size, "ascending", by_day(of_ten))
+    ten_days = ordered(size, "ascending", by_day(of_ten))
+    yield "a day of its own", ordered(size, "shuffled", by_day(its_own)), ten_days
     yield "keys that begin alike", batch(size, lambda place: event(place, key="k" * 180 + str(place))), plain
     yield "a name repeated", batch(size, lambda place: event(place, ',"x":1' * 30)), few
     yield "bodies of 262,144 bytes", batch(size, largest), plain
@@ -154,8 +155,10 @@ def shapes(size):
     yield "ids shuffled", ordered(size, "shuffled", by_id), ids
     one_number = ordered(size, "shuffled", lambda place: event(place, key=f"e{place:07d}", number=1))
     yield "ids shuffled, one number", one_number, ids
-    yield "one hash for all", *(ordered(size, "shuffled", by_text(it)) for it in (of_one_hash, of_many_hashes))
-    yield "each number in a block of its own", ordered(size, "shuffled", lambda place: event(place, number=1024 * place + 1)), numbers
+    texts = of_one_hash, of_many_hashes
+    yield "one hash for all", *(ordered(size, "shuffled", by_text(it)) for it in texts)
+    apart = ordered(size, "shuffled", lambda place: event(place, number=1024 * place + 1))
+    yield "each number in a block of its own", apart, numbers
 
 
 TABLES = (
@@ -194,7 +197,8 @@ def make_service(path, base, rows):
     made.execute("INSERT INTO service VALUES (1, '/orders', ?)", (base,))
     states = {order: kind for kind, order, _ in rows}
     made.executemany("INSERT INTO orders VALUES (?, ?)", states.items())
-    made.executemany("INSERT INTO outbox VALUES (?, ?, ?, ?)", [(base + 1 + i, *it) for i, it in enumerate(rows)])
+    numbered = [(base + 1 + i, *it) for i, it in enumerate(rows)]
+    made.executemany("INSERT INTO outbox VALUES (?, ?, ?, ?)", numbered)
     made.execute("COMMIT")
     made.close()
 
@@ -203,7 +207,11 @@ QUESTIONS = ["cover", "shown", "gaps", "latest", "kinds", "days", "conflicts", "
 # Commands that bring a file into a new database, and those over what a `take` leaves.
 WRITERS = ["take", "run", "follow"]
 READERS = {"summary": [], "scrub": ["--all"], "delta": ["--all", "empty.summary"]}
-OF_ORDERS = {"relay": ["--after", "0", "--all"], "service": [], "order": ["--at", AT, "place", str(1 << 61)]}
+OF_ORDERS = {
+    "relay": ["--after", "0", "--all"],
+    "service": [],
+    "order": ["--at", AT, "place", str(1 << 61)],
+}
 
 
 def words(command, path):
