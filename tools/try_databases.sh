@@ -598,6 +598,22 @@ foreign="its tables or rows aren't as site leaves them: take the events from a c
 for name in loose.db wrong.db gap.db bad.db block.db; do trouble_is $name Foreign "$foreign"; done
 run check --db wrong.db unnumbered.json
 is 'a database at fault, and a fault' 1 "{\"db\":\"wrong.db\",\"fault\":\"Foreign\",\"hint\":\"$foreign\"}$lf$fault$lf" ''
+# A page whose first byte is none of SQLite's, and a journal of a transaction that was written in part.
+python3 -c 'import shutil, sqlite3
+data = bytearray(open("many.db", "rb").read())
+data[4096] = 0x77
+open("damaged.db", "wb").write(data)
+shutil.copy("many.db", "begun.db")
+base = sqlite3.connect("begun.db", isolation_level=None)
+base.execute("PRAGMA journal_mode = DELETE")
+base.execute("PRAGMA cache_size = 1")
+base.execute("BEGIN")
+base.execute("UPDATE inbox2 SET id = id || char(120)")
+shutil.copy("begun.db", "hot.db")
+shutil.copy("begun.db-journal", "hot.db-journal")
+base.execute("ROLLBACK")'
+trouble_is damaged.db Store 'a page of it is damaged: PRAGMA integrity_check of sqlite3 says where'
+trouble_is hot.db Store 'SQLite left a journal that it alone can play back: open the file once with sqlite3'
 ln is.db linked.db
 trouble_is linked.db Store "$system"
 rm linked.db
