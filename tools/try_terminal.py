@@ -1,5 +1,5 @@
 #!/usr/bin/env python3
-"""Runs `take` and `run` with standard error on a terminal, where they show how far they came on one line
+"""Runs `take`, `run` and `follow` with standard error on a terminal, where they show how far they came on one line
 that they take away in the end, and on a pipe, where they are silent.
 
     tools/try_terminal.py [PROGRAM]        by default crates/site_cli/out/site_cli
@@ -27,6 +27,21 @@ def event(source, number):
     }
 
 
+def all_of(ours):
+    """What a terminal is given until its other end is closed."""
+    seen = b""
+    while True:
+        try:
+            more = os.read(ours, 65536)
+        except OSError:  # the other end is closed
+            break
+        if not more:
+            break
+        seen += more
+    os.close(ours)
+    return seen
+
+
 def ran(program, words, on_terminal):
     """The status, standard output, and what standard error was given."""
     if not on_terminal:
@@ -36,19 +51,19 @@ def ran(program, words, on_terminal):
     with tempfile.TemporaryFile() as out:
         run = subprocess.Popen([program, *words], stdin=subprocess.DEVNULL, stdout=out, stderr=theirs)
         os.close(theirs)
-        seen = b""
-        while True:
-            try:
-                more = os.read(ours, 65536)
-            except OSError:  # the other end is closed
-                break
-            if not more:
-                break
-            seen += more
-        os.close(ours)
+        seen = all_of(ours)
         status = run.wait(timeout=60)
         out.seek(0)
         return status, out.read(), seen
+
+
+def ran_on_one_terminal(program, words):
+    """The status, and what the terminal was given where both streams go there."""
+    ours, theirs = pty.openpty()
+    run = subprocess.Popen([program, *words], stdin=subprocess.DEVNULL, stdout=theirs, stderr=theirs)
+    os.close(theirs)
+    seen = all_of(ours)
+    return run.wait(timeout=60), seen
 
 
 def main():
@@ -88,6 +103,27 @@ def main():
             is_so(f"{what}: the line is gone", shown[0] == b"" and shown[-1] == b"", seen)
             status, out, seen = ran(program, words, False)
             is_so(f"{what}: silent on a pipe", status == 0 and out and seen == b"", (status, out, seen))
+        with open("lines", "w", encoding="ascii") as file:
+            file.writelines(json.dumps(event("c", number + 1)) + "\n" for number in range(2500))
+        status, out, seen = ran(program, ["follow", "--db", "follow.db", "lines"], True)
+        shown = seen.split(AWAY)
+        counts = [int(line.removeprefix(b"site: lines followed: ")) for line in shown[1:-1]]
+        is_so("follow: its answers", status == 0 and out.count(b'"new":1,') == 2500, (status, out[-200:]))
+        is_so("follow: lines that are done with", counts == sorted(counts) and counts and 0 < counts[0] < 2500, seen)
+        is_so("follow: all of them in the end", counts and counts[-1] == 2500, seen)
+        is_so("follow: the line is gone", shown[0] == b"" and shown[-1] == b"", seen)
+        status, out, seen = ran(program, ["follow", "--db", "follow.db", "lines"], False)
+        is_so("follow: silent on a pipe", status == 0 and out and seen == b"", (status, seen))
+        status, seen = ran_on_one_terminal(program, ["follow", "--db", "follow.db", "lines"])
+        is_so("follow: answers alone, where they go there too", status == 0 and b"site:" not in seen, seen[-200:])
+        status, out, seen = ran(program, ["follow", "--db", "follow.db", "void", "lines"], True)
+        is_so("follow: faulty words", status == 2 and not out, (status, out))
+        with open("faulty", "w", encoding="ascii") as file:
+            file.writelines(json.dumps(event("d", number + 1)) + "\n" for number in range(1500))
+            file.write("no\n")
+        status, out, seen = ran(program, ["follow", "--db", "follow.db", "faulty"], True)
+        line = b"site: 1 lines refused\r\n"
+        is_so("follow: a refusal", status == 1 and seen.endswith(AWAY + line), (status, seen[-200:]))
         for words in (["take", "--db", "void.db", "void"], ["run", "--db", "void.db", "void"]):
             status, out, seen = ran(program, words, True)
             line = b"site: void: not JSON\r\n"

@@ -1,5 +1,6 @@
--- The members at fault of a value, and a step of the walk that tells them.
-use Rattle.std.proofs.Common.{◌≡◌, ◌≢◌, ℕ, suc, ◌+◌, List, [], ◌∷◌, ◌++◌, map, Option, Some, None, String, BTreeMap, Global, sym, ap, ◌∙◌, subst, append_assoc, add-one, codes}
+-- A step of the walk that tells the members at fault; no fault of theirs is want of memory.
+use Rattle.std.proofs.Common.{◌≡◌, ◌≢◌, ℕ, suc, ◌+◌, List, [], ◌∷◌, ◌++◌, map, Option, Some, None, String, BTreeMap, Global, ◌<◌, ◌≤◌, length, IsSome, option_to_list, refl, sym, ap, ◌∙◌, subst, append_assoc, add-one, codes, arith}
+use Rattle.std.specs.Option.{option_flatten}
 use Rattle.std.proofs.lemmas.List.{map-append}
 use Rattle.std.specs.List.{AllByRecursion}
 use Rattle.serde_json.specs.Data.{Data}
@@ -11,10 +12,12 @@ use Rattle.attributes.specs.Sequence.{fault_at, number_of}
 use Rattle.attributes.specs.declared.scalar.Scalar.{Scalar}
 use Rattle.attributes.specs.declared.fault.Fault.{Fault}
 use Rattle.attributes.specs.declared.fault.Fault.TheVariants.{OutOfMemory}
+use Rattle.attributes.specs.JsonText.{IsJsonText}
+use Rattle.event_json.specs.Reading.{IsTextOf, max_input}
 use Rattle.event_json.specs.Spelling.{candidates, event_in, fault_in}
-use Rattle.event_json.specs.Faulty.{FaultyMember, fault_unless, faulty, member_fault, member_of, number_fault, with_fault}
+use Rattle.event_json.specs.Faulty.{FaultyMember, TellsFaulty, fault_unless, faulty, member_fault, member_of, number_fault, with_fault}
 use Rattle.event_json.specs.declared.faulty.Faulty.{Faulty}
-use Rattle.event_json.specs.steps.Told.{TellsFaultyIn}
+use Rattle.event_json.specs.steps.Told.{AllAreNone}
 use Rattle.event_json.proofs.FaultLemmas.{IsMemory, either_other, fault_in-other}
 use Rattle.event_json.proofs.WalkLemmas.{candidates-Object}
 
@@ -33,6 +36,43 @@ told_step n m told new t v vs rest o all is_vs is_m is_o is_f at is_tree is_new 
     ∙ ap (λ f. map member_of told ++ with_fault n (view v) f (faulty (suc n) (map view rest))) (sym is_f ∙ is_o)
     ∙ ap (λ l. map member_of told ++ faulty n (map view l)) (sym is_vs)
     ∙ whole
+
+-- the value v at n, which has none, is passed over
+pub quiet_step : (n m : ℕ) (told : List Faulty) (v : Value) (vs rest : List Value) (o : Option Fault) (all : List FaultyMember) → vs ≡ v ∷ rest → m ≡ n + 1
+    → o ≡ member_fault (view v) → ((f : Fault) → o ≡ Some f → ⊥) → map member_of told ++ faulty n (map view vs) ≡ all → map member_of told ++ faulty m (map view rest) ≡ all
+quiet_step n m told v vs rest None all is_vs is_m is_o quiet whole =
+    ap (λ k. map member_of told ++ faulty k (map view rest)) (is_m ∙ add-one n)
+    ∙ ap (λ f. map member_of told ++ with_fault n (view v) f (faulty (suc n) (map view rest))) is_o
+    ∙ ap (λ l. map member_of told ++ faulty n (map view l)) (sym is_vs)
+    ∙ whole
+quiet_step n m told v vs rest (Some f) all is_vs is_m is_o quiet whole = absurd (quiet f refl)
+
+nothing_given : IsSome {T = Option Fault} None → ⊥
+nothing_given h = cc
+
+-- what n faults, which begin so, give up first
+pub first_given : (r : Option (Option Fault)) (fs new rest : List (Option Fault)) (f : Option Fault) (n : ℕ) → n ≡ length fs → (0 < n → IsSome r) → fs ≡ option_to_list r ++ new → fs ≡ f ∷ rest
+    → (option_flatten r ≡ f) × (new ≡ rest)
+first_given None fs new rest f n is_n some is begins =
+    let some_left = is_n ∙ ap length begins in
+    absurd (nothing_given (some (omega (arith, some_left))))
+first_given (Some x) fs new rest f n is_n some is begins = (cc, cc)
+
+none_faulty : (n : ℕ) (ds : List Data) → AllAreNone (map member_fault ds) → faulty n ds ≡ []
+none_faulty n [] h = refl
+none_faulty n (d ∷ ds) h = ap (λ o. with_fault n d o (faulty (suc n) ds)) h.0 ∙ none_faulty (suc n) ds h.1
+
+-- where none is at fault nothing is told
+pub tells_nothing : (b : List ℕ) (value : Data) (ds : List Data) (fs : List (Option Fault)) → length b ≤ max_input → IsJsonText b value → candidates value ≡ Some ds → fs ≡ map member_fault ds → AllAreNone fs → TellsFaulty b []
+tells_nothing b value ds fs fits is_json found are none =
+    record { value = value; is_text = record { fits = fits; is_json = is_json }; found = ds; are_found = found; are_faulty = sym (none_faulty 0 ds (subst AllAreNone are none)) }
+
+same_candidates : (v w : Data) (ds es : List Data) → Some v ≡ Some w → candidates v ≡ Some ds → candidates w ≡ Some es → ds ≡ es
+same_candidates v w ds es same found again = cc
+
+-- the same bytes read once more have the same faults
+pub same_faults : (b : List ℕ) (v w : Data) (ds es : List Data) (fs : List (Option Fault)) → IsJsonText b v → IsJsonText b w → candidates v ≡ Some ds → candidates w ≡ Some es → fs ≡ map member_fault ds → fs ≡ map member_fault es
+same_faults b v w ds es fs is_v is_w found again are = are ∙ ap (map member_fault) (same_candidates v w ds es (sym is_v.1 ∙ is_w.1) found again)
 
 pub candidates-alone : (m : BTreeMap (String Global) Value) → candidates (view (Object m)) ≡ Some (view (Object m) ∷ [])
 candidates-alone m = candidates-Object m ∙ ap (λ d. Some (d ∷ [])) (sym (view-Object m))
@@ -68,5 +108,5 @@ of_members : (told : List Faulty) → AllByRecursion IsNamed (map member_of told
 of_members [] h = tt
 of_members (t ∷ told) h = (h.0, of_members told h.1)
 
-pub told-named : (value : Data) (told : List Faulty) → TellsFaultyIn value (map member_of told) → AllByRecursion (λ (t : Faulty). t.fault ≢ OutOfMemory) told
-told-named value told h = of_members told (subst (AllByRecursion IsNamed) (sym h.2) (faulty-named 0 h.0))
+pub told-named : (found : List Data) (told : List Faulty) → map member_of told ≡ faulty 0 found → AllByRecursion (λ (t : Faulty). t.fault ≢ OutOfMemory) told
+told-named found told is = of_members told (subst (AllByRecursion IsNamed) (sym is) (faulty-named 0 found))

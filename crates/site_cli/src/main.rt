@@ -6,12 +6,13 @@ mod system;
 
 use site_commands::exit;
 use status_line::StatusLine;
+use std::io::IsTerminal;
 use std::process::ExitCode;
 use system::{taken, words};
 
 fn main(rt: HostRuntime) -> ExitCode {
     // Kept to the end, so that no file takes the place of a stream that is closed.
     let _taken = taken(&rt);
-    let line = StatusLine::on(rt.stderr(), rt.alloc());
+    let line = StatusLine::on(rt.stderr(), rt.stdout().is_terminal(), rt.alloc());
     exit(&rt, words(&rt), &mut rt.stdout(), &mut rt.stderr(), &line)
 }

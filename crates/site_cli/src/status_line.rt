@@ -16,18 +16,21 @@ pub struct StatusLine<E> {
     to: E,
     alloc: Global,
     is_terminal: bool,
+    is_out_terminal: bool,
     is_shown: Cell<bool>,
     told: Cell<(u64, u64)>,
 }
 
 impl<E: Print + IsTerminal> StatusLine<E> {
-    /// An empty line on the stream.
-    pub fn on(to: E, alloc: Global) -> StatusLine<E> {
+    /// An empty line on the stream. Where answers go to a terminal too, nothing is shown of a stream
+    /// of lines, each of which has its answer there.
+    pub fn on(to: E, is_out_terminal: bool, alloc: Global) -> StatusLine<E> {
         let is_terminal = to.is_terminal();
         StatusLine {
             to,
             alloc,
             is_terminal,
+            is_out_terminal,
             is_shown: Cell::new(false),
             told: Cell::new((u64::MAX, u64::MAX)),
         }
@@ -66,6 +69,16 @@ impl<E: Print> Progress for StatusLine<E> {
             return;
         }
         let line = format!(in self.alloc; "\r\u{1b}[Ksite: files left to read: {files}");
+        if let Ok(line) = line {
+            self.show(line.as_str());
+        }
+    }
+
+    fn lines(&self, count: u64) {
+        if !self.is_terminal || self.is_out_terminal || count == 0 {
+            return;
+        }
+        let line = format!(in self.alloc; "\r\u{1b}[Ksite: lines followed: {count}");
         if let Ok(line) = line {
             self.show(line.as_str());
         }

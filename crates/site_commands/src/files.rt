@@ -8,6 +8,7 @@ use file_reports::{Shelf, Unread, read_all};
 use std::alloc::Global;
 use std::cell::Cell;
 use std::fs::File;
+use std::io;
 use std::io::Read;
 use std::rt::Files;
 
@@ -52,13 +53,36 @@ impl<'a, R: AllocGlobal + Files, P: Progress> Shelf for SystemFiles<'a, R, P> {
 }
 
 impl<'a, R: AllocGlobal + Files, P: Progress> Streams for SystemFiles<'a, R, P> {
-    type Input = R::File;
+    type Input = WatchedInput<'a, R::File, P>;
 
-    fn open(&self, name: &str) -> Result<R::File, Unread> {
+    fn open(&self, name: &str) -> Result<WatchedInput<'a, R::File, P>, Unread> {
         match File::open(self.rt, path_of(name)) {
-            Ok(file) => Ok(file),
+            Ok(file) => Ok(WatchedInput {
+                file,
+                progress: self.progress,
+                lines: 0,
+            }),
             Err(_) => Err(Unread::CannotRead),
         }
+    }
+}
+
+/// A file that is followed. A stream is read on only once all lines that were read whole are done
+/// with, so each read tells how many these are.
+#[derive(Drop)]
+pub struct WatchedInput<'a, F, P> {
+    file: F,
+    progress: &'a P,
+    lines: u64,
+}
+
+impl<'a, F: Read, P: Progress> Read for WatchedInput<'a, F, P> {
+    fn read(&mut self, buf: &mut [u8]) -> io::Result<usize> {
+        self.progress.lines(self.lines);
+        let count = self.file.read(buf)?;
+        let ends = buf[..count].iter().filter(|b| **b == b'\n').count();
+        self.lines = self.lines.saturating_add(ends as u64);
+        Ok(count)
     }
 }
 

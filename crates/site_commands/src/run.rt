@@ -62,7 +62,8 @@ pub fn exit<
 /// `err`. Help that was asked for goes to `out`, what is said of faulty words to `err`. After a
 /// write that fails nothing more is written. It waits where `run` does.
 ///
-/// How far `take`, `check` and `run` came is told by `progress` alone, before anything is written.
+/// How far `take`, `check` and `run` came is told by `progress` alone, before anything is written,
+/// and how far `follow` came before it reads on.
 pub fn perform<
     R: AllocGlobal + Files + Databases + Runs + Threads + Wait + Sync,
     O: Write,
@@ -124,7 +125,7 @@ pub fn perform_alone<R: AllocGlobal + Files + Databases, O: Write, E: Write, P: 
         Alone::Follow(plan) => {
             let left = Cell::new(0);
             let shelf = SystemFiles { rt, progress, left };
-            follow(rt.alloc(), &shelf, rt, plan, out, err)
+            follow(rt.alloc(), &shelf, rt, plan, out, err, progress)
         }
         Alone::Check(plan) => {
             let left = Cell::new(plan.files.len());

@@ -7,6 +7,7 @@ use crate::ending::{DONE, REFUSED, say};
 use crate::files::Streams;
 use crate::line::Refusal;
 use crate::names::Names;
+use crate::progress::Progress;
 use command_words::Follow;
 use database_commands::{Databases, StreamFault};
 use file_reports::{Unread, UnreadAt};
@@ -26,26 +27,30 @@ pub enum StreamEnd {
 }
 
 /// Keeps the lines of a file in a database as they come, and acknowledges each on `out` once it is
-/// kept; answers the status. What is wrong is said on `err`, once nothing more is acknowledged.
-pub fn follow<S: Streams, D: Databases, O: Write, E: Write>(
+/// kept; answers the status. What is wrong is said on `err`, once nothing more is acknowledged or
+/// told.
+pub fn follow<S: Streams, D: Databases, O: Write, E: Write, P: Progress>(
     alloc: Global,
     shelf: &S,
     databases: &D,
     plan: &Follow,
     out: &mut O,
     err: &mut E,
+    progress: &P,
 ) -> u8
     ensures { EndsStream (S.is_content shelf.now) (S.is_unread shelf.now) plan.now result
         (O.contents out.old) (O.contents out.new) (E.contents err.old) (E.contents err.new) }
 {
-    match kept(
+    let end = kept(
         alloc,
         shelf,
         databases,
         plan.db.as_str(),
         plan.file.as_str(),
         out,
-    ) {
+    );
+    progress.over();
+    match end {
         StreamEnd::Done => DONE,
         StreamEnd::Refused(refusal) => say(alloc, Names::of_follow(plan), refusal, err),
         StreamEnd::Unwritten => REFUSED,

@@ -1,16 +1,17 @@
--- The members at fault of a value.
-use Rattle.std.specs.Prelude.{◌≡◌, List, Some, None}
+-- Which members of a value are at fault.
+use Rattle.std.specs.Prelude.{◌≡◌, List, Option, None}
+use Rattle.std.specs.List.{AllByRecursion}
 use Rattle.serde_json.specs.Data.{Data}
+use Rattle.attributes.specs.declared.fault.Fault.{Fault}
 use Rattle.event_json.specs.Spelling.{candidates}
-use Rattle.event_json.specs.Faulty.{FaultyMember, faulty}
 use Rattle.event_json.specs.declared.fault.ReadFault.{ReadFault}
 use Rattle.event_json.specs.declared.fault.ReadFault.TheVariants.{NotEvent}
 
--- the value is an object or an array, and these are the faulty ones of it
-abbrev pub TellsFaultyIn : Data → List FaultyMember → Type 0
-TellsFaultyIn value told = (found : List Data) × (candidates value ≡ Some found) × (told ≡ faulty 0 found)
-
--- the value is neither
+-- the value is neither an object nor an array
 abbrev pub IsNoMember : Data → ReadFault → Type 0
 IsNoMember value NotEvent = candidates value ≡ None
 IsNoMember value _ = ⊥
+
+-- none is at fault
+abbrev pub AllAreNone : List (Option Fault) → Type 0
+AllAreNone faults = AllByRecursion (λ f. f ≡ None) faults
