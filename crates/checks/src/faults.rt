@@ -62,7 +62,7 @@ fn each_member_at_fault_is_told(rt: HostRuntime) {
 }
 
 /// Texts, and the lines that tell what is wrong with a file of the name `a"b` with each.
-static LINES: [(&str, &str); 6] = [
+static LINES: [(&str, &str); 7] = [
     ("[]", ""),
     (
         "[1]",
@@ -78,6 +78,13 @@ static LINES: [(&str, &str); 6] = [
             {"specversion":"1.0","id":"c","source":"/o","type":"t","time":[1]},
             {"specversion":"1.0","id":"d","source":"/o","type":"t"}]"#,
         "{\"file\":\"a\\\"b\",\"index\":1,\"fault\":\"Id\",\"attribute\":\"id\",\"value\":5,\"hint\":\"an id is a text with at least one character and no control character\"}\n{\"file\":\"a\\\"b\",\"index\":2,\"id\":\"c\",\"fault\":\"Time\",\"attribute\":\"time\",\"hint\":\"a time is written as in RFC 3339, such as 2026-11-24T10:00:00Z, or left out\"}\n{\"file\":\"a\\\"b\",\"index\":3,\"id\":\"d\",\"fault\":\"NoSequence\",\"attribute\":\"sequence\",\"hint\":\"an event needs a sequence of twenty digits, such as 00000000000000000001\"}\n",
+    ),
+    (
+        r#"[{"specversion":"1.0","id":"a","source":"/o","type":"t","data":{"B":1},"data_base64":null,"Z":null,"b_c":"x","d":[],"e-f":2},
+            {"specversion":"1.0","id":"b","source":"/o","type":"t","data":[],"c":null,"d":2147483647,"e":2147483648,"f":"\u0001"},
+            {"specversion":"1.0","id":"c","source":"/o","type":"t","data":1,"e":{},"g\"h":"x"},
+            {"specversion":"1.0","id":"d","source":"/o","type":"t","e":1.5}]"#,
+        "{\"file\":\"a\\\"b\",\"index\":0,\"id\":\"a\",\"fault\":\"ExtensionName\",\"attribute\":\"b_c\",\"value\":\"x\",\"hint\":\"names have only the letters a to z and the digits 0 to 9\"}\n{\"file\":\"a\\\"b\",\"index\":1,\"id\":\"b\",\"fault\":\"ExtensionValue\",\"attribute\":\"e\",\"value\":2147483648,\"hint\":\"attributes are truth values, 32-bit whole numbers or texts; put others into data\"}\n{\"file\":\"a\\\"b\",\"index\":2,\"id\":\"c\",\"fault\":\"ExtensionName\",\"attribute\":\"g\\\"h\",\"value\":\"x\",\"hint\":\"names have only the letters a to z and the digits 0 to 9\"}\n{\"file\":\"a\\\"b\",\"index\":3,\"id\":\"d\",\"fault\":\"ExtensionValue\",\"attribute\":\"e\",\"hint\":\"attributes are truth values, 32-bit whole numbers or texts; put others into data\"}\n",
     ),
     (
         "[5",

@@ -123,6 +123,18 @@ pub fn db<'a>(alloc: Global) -> Arg<'a>
         .required(true)
 }
 
+/// `--db DB` of a command that prints one page or all.
+pub fn paged_db<'a>(alloc: Global) -> Arg<'a>
+    ensures rule { rule_of result ≡ needed_rule (codes "db") }
+    ensures local { result.global ≡ false }
+{
+    Arg::new(alloc, "db")
+        .long("db")
+        .value_name("DB")
+        .help("The database file; for one page it is made where there is none")
+        .required(true)
+}
+
 /// `--from N`
 pub fn from<'a>(alloc: Global) -> Arg<'a>
     ensures rule { rule_of result ≡ from_rule }
@@ -142,7 +154,9 @@ pub fn summary<'a>(alloc: Global) -> Arg<'a>
 {
     Arg::new(alloc, "summary")
         .value_name("SUMMARY")
-        .help("A file with the other site's summary, as cover prints it; - is standard input")
+        .help(
+            "A file with the other site's summary, as summary or cover prints it; - is standard input",
+        )
         .required(true)
 }
 

@@ -6,7 +6,7 @@ ghost use Rattle.command_words.specs.declared.command.Command.{Command};
 
 use crate::argument::{
     action, after, all, at, base, checked_db, checked_files, db, files, from, lines,
-    numbered_files, order, peer, question_db, question_files, read_db, source, summary,
+    numbered_files, order, paged_db, peer, question_db, question_files, read_db, source, summary,
 };
 use std::alloc::{AllocError, Global};
 use views::Query;
@@ -210,10 +210,10 @@ impl<'a> Row<'a> {
             Command::Take => bare.arg(db(alloc))?.arg(numbered_files(alloc)),
             Command::Follow => bare.arg(db(alloc))?.arg(lines(alloc)),
             Command::Delta => {
-                let begun = bare.arg(db(alloc))?.arg(from(alloc))?;
+                let begun = bare.arg(paged_db(alloc))?.arg(from(alloc))?;
                 begun.arg(all(alloc))?.arg(summary(alloc))
             }
-            Command::Scrub => bare.arg(db(alloc))?.arg(from(alloc))?.arg(all(alloc)),
+            Command::Scrub => bare.arg(paged_db(alloc))?.arg(from(alloc))?.arg(all(alloc)),
             Command::Run => bare.arg(db(alloc))?.arg(peer(alloc))?.arg(files(alloc)),
             Command::Service => {
                 let begun = bare.arg(db(alloc))?.arg(source(alloc))?;
@@ -223,7 +223,10 @@ impl<'a> Row<'a> {
                 let begun = bare.arg(db(alloc))?.arg(source(alloc))?;
                 with_request(alloc, begun)
             }
-            Command::Relay => bare.arg(db(alloc))?.arg(after(alloc))?.arg(all(alloc)),
+            Command::Relay => bare
+                .arg(paged_db(alloc))?
+                .arg(after(alloc))?
+                .arg(all(alloc)),
         }
     }
 

@@ -1,7 +1,8 @@
 -- The rows of a service, page after page.
-use Rattle.std.proofs.Common.{◌≡◌, ◌∙◌, ◌≤◌, ◌<◌, ◌+◌, ◌*◌, ◌-◌, ◌++◌, ℕ, zero, suc, List, [], ◌∷◌, IsTrue, ap, arith, drop, length, refl, subst, sym, take, append_assoc, append-nil, length-append, take-append-drop, Bool, true, false}
+use Rattle.std.proofs.Common.{◌≡◌, ◌∙◌, ◌≤◌, ◌<◌, ◌+◌, ◌*◌, ◌-◌, ◌++◌, ℕ, zero, suc, List, [], ◌∷◌, IsTrue, ap, arith, drop, length, refl, subst, sym, take, append_assoc, append-nil, length-append, take-append-drop, add-one, slice_get, Bool, true, false}
 use Rattle.std.specs.Prelude.{Option, None, Some}
 use Rattle.std.proofs.lemmas.List.{drop-append-le, drop-drop, drop_all, length-drop, take-append-le, take_all}
+use Rattle.std.specs.List.{AllByRecursion}
 use Rattle.sqlite.specs.Effect.{Database}
 use Rattle.sqlite.specs.State.{State, HasCleanDisk}
 use Rattle.attributes.specs.Event.{EventValue}
@@ -13,7 +14,7 @@ use Rattle.outbox.specs.Service.{IsService}
 use Rattle.outbox.specs.Shown.{HasNoOther}
 use Rattle.outbox.proofs.FoundLemmas.{has_all}
 use Rattle.relay.proofs.ReadLemmas.{same_none, same_then, service_then}
-use Rattle.database_commands.specs.Held.{ForAllRows, KeepsRows, ShowsAllRows}
+use Rattle.database_commands.specs.Held.{ForAllRows, IsBehind, KeepsRows, ShowsAllRows}
 use Rattle.database_commands.specs.Pages.{max_page, pages_below, pages_text}
 use Rattle.database_commands.specs.Print.{batch_line}
 use Rattle.database_commands.specs.steps.Left.{IsNextPage}
@@ -61,6 +62,30 @@ short_page zero xs few = absurd (omega (arith, few))
 short_page (suc n) [] few = refl
 short_page (suc n) (x ∷ xs) few = ap (λ l. x ∷ l) (short_page n xs (omega (arith, few)))
 
+-- ---- the numbers of rows
+
+-- the events before a place and the one that stands there
+behind_step : (after i : ℕ) (es : List EventValue) (e : EventValue) → slice_get es i ≡ Some e → IsBehind after e → AllByRecursion (IsBehind after) (take i es) → AllByRecursion (IsBehind after) (take (suc i) es)
+behind_step after zero [] e here is before = absurd (cc)
+behind_step after (suc i) [] e here is before = absurd (cc)
+behind_step after zero (x ∷ xs) e here is before = (let same : e ≡ x = cc in subst (IsBehind after) same is, tt)
+behind_step after (suc i) (x ∷ xs) e here is before = (before.0, behind_step after i xs e here is before.1)
+
+pub behind_next : (after i : ℕ) (es : List EventValue) (e : EventValue) → slice_get es i ≡ Some e → IsBehind after e → AllByRecursion (IsBehind after) (take i es) → AllByRecursion (IsBehind after) (take (i + 1) es)
+behind_next after i es e here is before = subst (λ k. AllByRecursion (IsBehind after) (take k es)) (sym (add-one i)) (behind_step after i es e here is before)
+
+pub behind_all : (after i : ℕ) (es : List EventValue) → length es ≤ i → AllByRecursion (IsBehind after) (take i es) → AllByRecursion (IsBehind after) es
+behind_all after i es past h = subst (AllByRecursion (IsBehind after)) (take_all i es past) h
+
+behind_both : (after : ℕ) (es ds : List EventValue) → AllByRecursion (IsBehind after) es → AllByRecursion (IsBehind after) ds → AllByRecursion (IsBehind after) (es ++ ds)
+behind_both after [] ds h k = k
+behind_both after (e ∷ es) ds h k = (h.0, behind_both after es ds h.1 k)
+
+-- events behind a number are behind each lesser one
+behind_less : (after mark : ℕ) (es : List EventValue) → after ≤ mark → AllByRecursion (IsBehind mark) es → AllByRecursion (IsBehind after) es
+behind_less after mark [] less h = tt
+behind_less after mark (e ∷ es) less h = ((h.0.0, h.0.1, omega (arith, less, h.0.2)), behind_less after mark es less h.1)
+
 -- ---- rows that were put behind one another
 
 -- the text has the rows up to the mark, in full pages, and those behind it are left; meanwhile the
@@ -71,6 +96,8 @@ pub record IsSent (source : List ℕ) (base after : ℕ) (start now : State) (te
   pub full : ℕ
   pub even : length events ≡ 100 * full
   pub ahead : base ≤ mark
+  pub far : after ≤ mark
+  pub behind : AllByRecursion (IsBehind after) events
   pub same : IsSame start now
   pub rest : HasCleanDisk now → (commands : List Accepted) → IsService start.now source base commands
       → events ++ drop (mark - base) (rows_of source base commands) ≡ drop (after - base) (rows_of source base commands)
@@ -83,12 +110,14 @@ sent_none source base after mark start ahead as_far = record {
   full = 0;
   even = refl;
   ahead = ahead;
+  far = omega (arith, ahead, as_far);
+  behind = tt;
   same = same_none start;
   rest = λ clean commands is. ap (λ k. drop k (rows_of source base commands)) as_far;
 }
 
 module _ (source : List ℕ) (base after : ℕ) (start now new : State) (text more : List ℕ) (mark : ℕ) (rows : List EventValue)
-    (sent : IsSent source base after start now text mark) (same : IsSame now new) (opened : HasCleanDisk new → IsTrue now.is_open)
+    (sent : IsSent source base after start now text mark) (later : AllByRecursion (IsBehind mark) rows) (same : IsSame now new) (opened : HasCleanDisk new → IsTrue now.is_open)
     (shows : HasCleanDisk new → ShowsAfter source base mark max_page now.now rows) (line : more ≡ text ++ pages_text rows) where
   clean_before : HasCleanDisk new → HasCleanDisk now
   clean_before clean = omega (arith, same.clean, clean)
@@ -99,6 +128,9 @@ module _ (source : List ℕ) (base after : ℕ) (start now new : State) (text mo
   lines_now : more ≡ pages_text (sent.events ++ rows)
   lines_now = line ∙ ap (λ l. l ++ pages_text rows) sent.lines ∙ sym (lines_more sent.full sent.events rows sent.even)
 
+  all_behind : AllByRecursion (IsBehind after) (sent.events ++ rows)
+  all_behind = behind_both after sent.events rows sent.behind (behind_less after mark rows sent.far later)
+
   -- a full page goes on behind it
   pub sent_more : (next : ℕ) → length rows ≡ max_page → next ≡ mark + max_page → IsSent source base after start new more next
   sent_more next whole behind = record {
@@ -107,6 +139,8 @@ module _ (source : List ℕ) (base after : ℕ) (start now new : State) (text mo
     full = suc sent.full;
     even = (let e : length (sent.events ++ rows) ≡ 100 * suc sent.full = omega (arith, whole, sent.even, length-append sent.events rows) in e);
     ahead = omega (arith, behind, sent.ahead);
+    far = omega (arith, behind, sent.far);
+    behind = all_behind;
     same = same_then start now new sent.same same;
     rest = λ clean commands is.
         let all = rows_of source base commands in
@@ -120,10 +154,11 @@ module _ (source : List ℕ) (base after : ℕ) (start now new : State) (text mo
   }
 
   -- one that isn't is the last
-  pub sent_all : length rows < max_page → (events : List EventValue) × (more ≡ pages_text events) × (HasCleanDisk new → ForAllRows source base after start.now (λ all. events ≡ all))
+  pub sent_all : length rows < max_page → (events : List EventValue) × (more ≡ pages_text events) × AllByRecursion (IsBehind after) events × (HasCleanDisk new → ForAllRows source base after start.now (λ all. events ≡ all))
   sent_all few = (
     sent.events ++ rows,
     lines_now,
+    all_behind,
     λ clean commands is.
         let left = drop (mark - base) (rows_of source base commands) in
         let page = next_rows clean commands is in
@@ -131,28 +166,32 @@ module _ (source : List ℕ) (base after : ℕ) (start now new : State) (text mo
         ap (λ l. sent.events ++ l) (page ∙ short_page max_page left short) ∙ sent.rest (clean_before clean) commands is,
   )
 
+-- the rows of a page behind a mark
+abbrev pub Page : State → State → ℕ → List ℕ → ℕ → List EventValue → Type 0
+Page new now mark source base rows = AllByRecursion (IsBehind mark) rows × (HasCleanDisk new → ShowsAfter source base mark max_page now.now rows)
+
 -- the same of the rows that a page was put behind the text of, of a service that has this source and base
 pub sent_next : (source : List ℕ) (base after : ℕ) (start now new : State) (text more : List ℕ) (mark : ℕ) (s : List ℕ) (b : ℕ) (o : Option ℕ) (next : ℕ)
     → s ≡ source → b ≡ base → Some next ≡ o → IsSent source base after start now text mark
-    → IsNextPage text more mark o (λ rows. HasCleanDisk new → ShowsAfter s b mark max_page now.now rows) → IsSame now new → (HasCleanDisk new → IsTrue now.is_open)
+    → IsNextPage text more mark o (Page new now mark s b) → IsSame now new → (HasCleanDisk new → IsTrue now.is_open)
     → IsSent source base after start new more next
 sent_next source base after start now new text more mark s b o next same_source same_base is sent page same opened =
-    let here : IsNextPage text more mark (Some next) (λ rows. HasCleanDisk new → ShowsAfter source base mark max_page now.now rows) =
-    subst (λ q. IsNextPage text more mark q (λ rows. HasCleanDisk new → ShowsAfter source base mark max_page now.now rows)) (sym is)
-    (subst (λ n. IsNextPage text more mark o (λ rows. HasCleanDisk new → ShowsAfter source n mark max_page now.now rows)) same_base
-    (subst (λ x. IsNextPage text more mark o (λ rows. HasCleanDisk new → ShowsAfter x b mark max_page now.now rows)) same_source page)) in
-    sent_more source base after start now new text more mark here.0 sent same opened here.3 here.1 next here.2.0 here.2.1
+    let here : IsNextPage text more mark (Some next) (Page new now mark source base) =
+    subst (λ q. IsNextPage text more mark q (Page new now mark source base)) (sym is)
+    (subst (λ n. IsNextPage text more mark o (Page new now mark source n)) same_base
+    (subst (λ x. IsNextPage text more mark o (Page new now mark x b)) same_source page)) in
+    sent_more source base after start now new text more mark here.0 sent here.3.0 same opened here.3.1 here.1 next here.2.0 here.2.1
 
 pub sent_last : (source : List ℕ) (base after : ℕ) (start now new : State) (text more : List ℕ) (mark : ℕ) (s : List ℕ) (b : ℕ) (o : Option ℕ)
     → s ≡ source → b ≡ base → ◌≡◌ {A = Option ℕ} None o → IsSent source base after start now text mark
-    → IsNextPage text more mark o (λ rows. HasCleanDisk new → ShowsAfter s b mark max_page now.now rows) → IsSame now new → (HasCleanDisk new → IsTrue now.is_open)
-    → (events : List EventValue) × (more ≡ pages_text events) × (HasCleanDisk new → ForAllRows source base after start.now (λ all. events ≡ all))
+    → IsNextPage text more mark o (Page new now mark s b) → IsSame now new → (HasCleanDisk new → IsTrue now.is_open)
+    → (events : List EventValue) × (more ≡ pages_text events) × AllByRecursion (IsBehind after) events × (HasCleanDisk new → ForAllRows source base after start.now (λ all. events ≡ all))
 sent_last source base after start now new text more mark s b o same_source same_base is sent page same opened =
-    let here : IsNextPage text more mark None (λ rows. HasCleanDisk new → ShowsAfter source base mark max_page now.now rows) =
-    subst (λ q. IsNextPage text more mark q (λ rows. HasCleanDisk new → ShowsAfter source base mark max_page now.now rows)) (sym is)
-    (subst (λ n. IsNextPage text more mark o (λ rows. HasCleanDisk new → ShowsAfter source n mark max_page now.now rows)) same_base
-    (subst (λ x. IsNextPage text more mark o (λ rows. HasCleanDisk new → ShowsAfter x b mark max_page now.now rows)) same_source page)) in
-    sent_all source base after start now new text more mark here.0 sent same opened here.3 here.1 here.2
+    let here : IsNextPage text more mark None (Page new now mark source base) =
+    subst (λ q. IsNextPage text more mark q (Page new now mark source base)) (sym is)
+    (subst (λ n. IsNextPage text more mark o (Page new now mark source n)) same_base
+    (subst (λ x. IsNextPage text more mark o (Page new now mark x b)) same_source page)) in
+    sent_all source base after start now new text more mark here.0 sent here.3.0 same opened here.3.1 here.1 here.2
 
 -- ---- the service of a database
 

@@ -1,8 +1,10 @@
 -- What a database holds for a command.
-use Rattle.std.specs.Prelude.{◌≡◌, ◌≢◌, ◌⊎◌, ◌+◌, ◌-◌, ◌++◌, ℕ, suc, Bool, List, [], ◌∷◌, Some, None, drop, length, true, false, IsTrue}
+use Rattle.std.specs.Prelude.{◌≡◌, ◌≢◌, ◌⊎◌, ◌+◌, ◌-◌, ◌<◌, ◌++◌, ℕ, suc, Bool, List, [], ◌∷◌, Some, None, drop, length, true, false, IsTrue}
 use Rattle.sqlite_trees.specs.Tree.{Trees}
 use Rattle.sqlite.specs.Effect.{Database, IsDatabase}
+use Rattle.std.specs.List.{AllByRecursion}
 use Rattle.attributes.specs.Event.{EventValue}
+use Rattle.attributes.specs.Sequence.{number_of}
 use Rattle.inbox.specs.KeyOrder.{key_cmp}
 use Rattle.inbox.specs.Ordered.{append_new}
 use Rattle.inbox.specs.Sets.{set_of}
@@ -189,9 +191,19 @@ abbrev pub ShowsAllRows : ℕ → Database → List ℕ → Type 0
 ShowsAllRows after db text = (source : List ℕ) (base : ℕ)
     → ForAllRows source base after db (λ rows. text ≡ pages_text rows)
 
--- the text has some events, a page a line
-abbrev pub SaysAllRows : List ℕ → Type 0
-SaysAllRows text = (events : List EventValue) × (text ≡ pages_text events)
+-- an event has a number, which is greater than this
+abbrev pub IsBehind : ℕ → EventValue → Type 0
+IsBehind after e = (n : ℕ) × (number_of e ≡ Some n) × (after < n)
+
+-- the text is the batch of events behind this number
+abbrev pub SaysRows : ℕ → List ℕ → Type 0
+SaysRows after text = (events : List EventValue) × (text ≡ batch_line events)
+    × AllByRecursion (IsBehind after) events
+
+-- the text has events behind this number, a page a line
+abbrev pub SaysAllRows : ℕ → List ℕ → Type 0
+SaysAllRows after text = (events : List EventValue) × (text ≡ pages_text events)
+    × AllByRecursion (IsBehind after) events
 
 -- a service that is there is as it was
 abbrev pub KeepsRows : Database → Database → Type 0

@@ -1,15 +1,14 @@
 //! Databases by the names of their files.
-ghost use Rattle.std.specs.Prelude.{◌≡◌, ◌≤◌, ◌↔◌, ℕ, List, length, true, IfErr, IfOk, IfSome, IsErrOf, IsTrue};
+ghost use Rattle.std.specs.Prelude.{◌≡◌, ◌≤◌, ◌↔◌, ℕ, length, true, IfErr, IfOk, IfSome, IsErrOf, IsTrue};
 ghost use Rattle.attributes.specs.Character.{is_filled};
-ghost use Rattle.attributes.specs.Event.{EventValue};
 ghost use Rattle.attributes.specs.Sequence.{max_sequence};
 ghost use Rattle.line_intake.specs.Acknowledged.{TellsAll};
 ghost use Rattle.database_commands.specs.Described.{SaysDatabase};
-ghost use Rattle.database_commands.specs.Held.{HasDelta, HasEvents, SaysAllRows, SaysDelta, SaysOrder, SaysPage, SaysSummary};
+ghost use Rattle.database_commands.specs.Held.{HasDelta, HasEvents, SaysAllRows, SaysDelta, SaysOrder, SaysPage, SaysRows, SaysSummary};
 ghost use Rattle.database_commands.specs.Name.{IsNoFile};
 ghost use Rattle.database_commands.specs.declared.fault.CommandFault.TheVariants as CommandFault;
 ghost use Rattle.database_commands.specs.declared.trouble.Trouble.TheVariants as trouble;
-ghost use Rattle.database_commands.specs.Print.{batch_line, counts_line};
+ghost use Rattle.database_commands.specs.Print.{counts_line};
 ghost use Rattle.database_commands.specs.Service.{SaysService};
 ghost use Rattle.database_commands.specs.Streams.{AcknowledgesUntil};
 
@@ -166,11 +165,11 @@ pub trait Databases {
         after: u64,
     ) -> Result<Text, CommandFault>
         requires { (is_filled source.now ≡ true) × (length source.now ≤ 1024) }
-        ensures { IfOk result (λ text. (events : List EventValue) × (text ≡ batch_line events)) };
+        ensures { IfOk result (SaysRows after) };
 
     /// As [`crate::relay_all`]. A file that isn't there is not made: `CannotRead`.
     fn relay_all(&self, alloc: Global, name: &str, after: u64) -> Result<Text, CommandFault>
-        ensures { IfOk result SaysAllRows };
+        ensures { IfOk result (SaysAllRows after) };
 }
 
 impl Databases for HostRuntime {

@@ -9,6 +9,7 @@ ghost use Rattle.inbox.specs.Sets.{set_of};
 ghost use Rattle.site.specs.Delta.{delta};
 ghost use Rattle.site.specs.Page.{page};
 ghost use Rattle.database_layout.specs.Layout.{has_inbox};
+ghost use Rattle.outbox.specs.Call.{Leaves};
 ghost use Rattle.database_commands.specs.Held.{HasDelta, HasEvents, Holds, KeepsEvents, SaysDelta, SaysPage, SaysSummary, SaysSummaryOf, ShowsDelta, ShowsPage, ShowsSummary};
 ghost use Rattle.database_commands.specs.Print.{batch_line};
 
@@ -20,7 +21,7 @@ use crate::text::batch_line;
 use attributes::{Batch, Text};
 use coverage::Summary;
 use database_layout::has_inbox;
-use inbox_table::{Loaded, NotMade};
+use inbox_table::{Inspected, Loaded, NotMade, inspect};
 use site::Site;
 use sqlite::{Alter, Connection};
 use std::alloc::{AllocError, Global};
@@ -66,35 +67,44 @@ fn contents_of<S: Alter + Drop>(alloc: Global, conn: Connection<S>) -> Contents<
     }
 }
 
-/// The events that a database holds. Nothing is made: where there is no inbox, there are none. One of
-/// version 1 gives way to one of version 2. Time in proportion to all events.
+/// The events that a database holds. Nothing is written: where there is no inbox, there are none, and
+/// one of version 1 stays what it is. Time in proportion to all events.
 pub fn held<S: Alter + Drop>(alloc: Global, conn: Connection<S>) -> Contents<S>
     ensures events { HasCleanDisk (state S.Store result.conn) → IfOk result.events (λ events.
         (held : List EventValue) → Holds (state S.Store conn).now held → events ≡ held) }
-    ensures list { HasCleanDisk (state S.Store result.conn)
-        → IsTrue (state S.Store result.conn).is_open
-        → KeepsEvents (state S.Store conn).now (state S.Store result.conn).now }
+    ensures left { Leaves (state S.Store conn) (state S.Store result.conn) }
     ensures without { has_inbox (state S.Store conn).now.schema ≡ false
         → ((state S.Store result.conn).now ≡ (state S.Store conn).now) × IfOk result.events (λ es. es ≡ [])
         × IsOk result.events }
 {
-    if has_inbox(conn.schema()) {
-        return contents_of(alloc, conn);
+    let mut conn = conn;
+    if !has_inbox(conn.schema()) {
+        return Contents {
+            conn,
+            events: Ok(Batch::empty(alloc)),
+        };
     }
-    Contents {
-        conn,
-        events: Ok(Batch::empty(alloc)),
+    match inspect(alloc, &mut conn) {
+        Ok(found) => {
+            let Inspected { version: _, events } = found;
+            Contents {
+                conn,
+                events: Ok(events),
+            }
+        }
+        Err(fault) => Contents {
+            conn,
+            events: Err(of_table(fault)),
+        },
     }
 }
 
-/// Which events a database holds, as the line of its summary. Nothing is made, and the events stay,
-/// also where it is refused. Time in proportion to all events and their texts.
+/// Which events a database holds, as the line of its summary. Nothing is written, also where it is
+/// refused. Time in proportion to all events and their texts.
 pub fn summary<S: Alter + Drop>(alloc: Global, conn: Connection<S>) -> Ended<S>
     ensures shown { HasCleanDisk (state S.Store result.conn) → IfOk result.outcome
         (ShowsSummary (state S.Store conn).now) }
-    ensures list { HasCleanDisk (state S.Store result.conn)
-        → IsTrue (state S.Store result.conn).is_open
-        → KeepsEvents (state S.Store conn).now (state S.Store result.conn).now }
+    ensures left { Leaves (state S.Store conn) (state S.Store result.conn) }
     ensures line { IfOk result.outcome SaysSummary }
     ensures without { has_inbox (state S.Store conn).now.schema ≡ false
         → (state S.Store result.conn).now ≡ (state S.Store conn).now }
@@ -112,15 +122,13 @@ pub fn summary<S: Alter + Drop>(alloc: Global, conn: Connection<S>) -> Ended<S>
     }
 }
 
-/// All events of a database in key order, to be printed page after page. Nothing is made, and the
-/// events stay, also where it is refused. Time in proportion to all events.
+/// All events of a database in key order, to be printed page after page. Nothing is written, also
+/// where it is refused. Time in proportion to all events.
 pub fn scrub_pages<S: Alter + Drop>(alloc: Global, conn: Connection<S>) -> Paged<S>
     ensures pages { HasCleanDisk (state S.Store result.conn) → IfOk result.pages
         (λ pages. (held : List EventValue) → Holds (state S.Store conn).now held
         → pages ≡ set_of held) }
-    ensures list { HasCleanDisk (state S.Store result.conn)
-        → IsTrue (state S.Store result.conn).is_open
-        → KeepsEvents (state S.Store conn).now (state S.Store result.conn).now }
+    ensures left { Leaves (state S.Store conn) (state S.Store result.conn) }
     ensures some { IfOk result.pages HasEvents }
     ensures without { has_inbox (state S.Store conn).now.schema ≡ false
         → (state S.Store result.conn).now ≡ (state S.Store conn).now }
@@ -139,7 +147,7 @@ pub fn scrub_pages<S: Alter + Drop>(alloc: Global, conn: Connection<S>) -> Paged
 }
 
 /// What a summary lacks of all events of a database, in key order, to be printed page after page.
-/// Nothing is made, and the events stay, also where it is refused. Time in proportion to all events.
+/// Nothing is written, also where it is refused. Time in proportion to all events.
 pub fn delta_pages<S: Alter + Drop>(
     alloc: Global,
     conn: Connection<S>,
@@ -148,9 +156,7 @@ pub fn delta_pages<S: Alter + Drop>(
     ensures pages { HasCleanDisk (state S.Store result.conn) → IfOk result.pages
         (λ pages. (held : List EventValue) → Holds (state S.Store conn).now held
         → pages ≡ delta (set_of held) summary) }
-    ensures list { HasCleanDisk (state S.Store result.conn)
-        → IsTrue (state S.Store result.conn).is_open
-        → KeepsEvents (state S.Store conn).now (state S.Store result.conn).now }
+    ensures left { Leaves (state S.Store conn) (state S.Store result.conn) }
     ensures some { IfOk result.pages (HasDelta summary) }
     ensures without { has_inbox (state S.Store conn).now.schema ≡ false
         → (state S.Store result.conn).now ≡ (state S.Store conn).now }

@@ -1,5 +1,6 @@
 //! The service of a database: commands on its orders, and the rows of its outbox.
 ghost use Rattle.std.specs.Prelude.{◌≡◌, ◌≢◌, ◌<◌, ◌≤◌, ◌↔◌, ◌⊎◌, ◌++◌, ◌-◌, ℕ, suc, List, [], length, false, string_bytes, true, IfErr, IfOk, IsTrue, Ok, OnErr, OnOk};
+ghost use Rattle.std.specs.List.{AllByRecursion};
 ghost use Rattle.sqlite.specs.Held.{state};
 ghost use Rattle.sqlite.specs.State.{HasCleanDisk};
 ghost use Rattle.attributes.specs.Character.{is_filled};
@@ -13,7 +14,7 @@ ghost use Rattle.outbox.specs.declared.fault.OutboxFault.TheVariants.{OutOfMemor
 ghost use Rattle.relay.specs.Relay.{ForNextRows};
 ghost use Rattle.database_commands.specs.declared.fault.CommandFault.TheVariants as command;
 ghost use Rattle.database_commands.specs.Fault.{of_outbox};
-ghost use Rattle.database_commands.specs.Held.{ForAllRows, HasAnother, IsMeant, IsNoOrders, IsServed, KeepsRows, KeepsService, Orders, RefusesOrder, SaysAllRows, SaysOrder, ShowsAllRows, ShowsRows};
+ghost use Rattle.database_commands.specs.Held.{ForAllRows, HasAnother, IsBehind, IsMeant, IsNoOrders, IsServed, KeepsRows, KeepsService, Orders, RefusesOrder, SaysAllRows, SaysOrder, SaysRows, ShowsAllRows, ShowsRows};
 ghost use Rattle.database_commands.specs.Pages.{max_page, pages_text};
 ghost use Rattle.database_commands.specs.Print.{batch_line, event_line};
 ghost use Rattle.database_commands.specs.steps.Left.{IsNextPage};
@@ -285,8 +286,7 @@ pub fn relay<S: Alter + Drop>(
         → IsTrue (state S.Store result.conn).is_open
         → KeepsService source.now (state S.Store conn).now (state S.Store result.conn).now }
     ensures fault { IfErr result.outcome (λ f. f ≢ command.AnotherSource) }
-    ensures line { IfOk result.outcome (λ text.
-        (events : List EventValue) × (text ≡ batch_line events)) }
+    ensures line { IfOk result.outcome (SaysRows after) }
 {
     match service_of(alloc, conn, source, false) {
         Ok(mut service) => {
@@ -315,15 +315,32 @@ fn rows_line<S: Alter>(
         (state S.Store service.old.conn).now (λ rows. text ≡ batch_line rows)) }
     ensures same { IsSame (state S.Store service.old.conn) (state S.Store service.new.conn) }
     ensures fault { IfErr result (λ f. f ≢ command.AnotherSource) }
-    ensures line { IfOk result (λ text.
-        (events : List EventValue) × (text ≡ batch_line events)) }
+    ensures line { IfOk result (SaysRows after) }
 {
     let mut route = MemoryRoute::empty(alloc);
     let mut relay = Relay::at(0, after);
     match relay.step(service, &mut route) {
-        Ok(_) => Ok(batch_line(alloc, route.accepted())?),
+        Ok(_) => {
+            let rows = route.accepted();
+            if !are_behind(rows, after) {
+                return Err(CommandFault::Store);
+            }
+            Ok(batch_line(alloc, rows)?)
+        }
         Err(fault) => Err(of_relay(fault)),
     }
+}
+
+/// Whether each of the events has a greater number.
+fn are_behind(events: &Batch, after: u64) -> bool
+    ensures { result ≡ true → AllByRecursion (IsBehind after) events.now }
+{
+    for i in 0..events.len() {
+        if events.at(i).number().number() <= after {
+            return false;
+        }
+    }
+    true
 }
 
 /// All rows of a database's service with a greater number than `after`, in pages of 100, each as the
@@ -339,7 +356,7 @@ pub fn relay_all<S: Alter + Drop>(alloc: Global, conn: Connection<S>, after: u64
         → ((state S.Store result.conn).now ≡ (state S.Store conn).now)
         × (result.outcome ≡ Ok []) }
     ensures fault { IfErr result.outcome (λ f. f ≢ command.AnotherSource) }
-    ensures line { IfOk result.outcome SaysAllRows }
+    ensures line { IfOk result.outcome (SaysAllRows after) }
 {
     if has_name(conn.schema()) {
         return found_rows(alloc, conn, after);
@@ -358,7 +375,7 @@ fn found_rows<S: Alter + Drop>(alloc: Global, conn: Connection<S>, after: u64) -
         → IsTrue (state S.Store result.conn).is_open
         → KeepsRows (state S.Store conn).now (state S.Store result.conn).now }
     ensures fault { IfErr result.outcome (λ f. f ≢ command.AnotherSource) }
-    ensures line { IfOk result.outcome SaysAllRows }
+    ensures line { IfOk result.outcome (SaysAllRows after) }
 {
     match Service::adopt(alloc, conn) {
         Ok(mut service) => {
@@ -389,6 +406,7 @@ fn row_lines<S: Alter>(
     after: u64,
 ) -> Result<Text, CommandFault>
     ensures rows { IfOk result (λ text. (events : List EventValue) × (text ≡ pages_text events)
+        × AllByRecursion (IsBehind after) events
         × (HasCleanDisk (state S.Store service.new.conn) → ForAllRows service.old.source
         service.old.base after (state S.Store service.old.conn).now (λ rows. events ≡ rows))) }
     ensures same { IsSame (state S.Store service.old.conn) (state S.Store service.new.conn) }
@@ -415,8 +433,9 @@ fn next_page<S: Alter>(
     mark: u64,
 ) -> Result<Option<u64>, CommandFault>
     ensures page { IfOk result (λ next. IsNextPage (string_bytes lines.old) (string_bytes lines.new)
-        mark next (λ rows. HasCleanDisk (state S.Store service.new.conn) → ShowsAfter
-        service.old.source service.old.base mark max_page (state S.Store service.old.conn).now rows)) }
+        mark next (λ rows. AllByRecursion (IsBehind mark) rows
+        × (HasCleanDisk (state S.Store service.new.conn) → ShowsAfter service.old.source
+        service.old.base mark max_page (state S.Store service.old.conn).now rows))) }
     ensures open { HasCleanDisk (state S.Store service.new.conn)
         → OnOk result (IsTrue (state S.Store service.old.conn).is_open) }
     ensures kept { (service.new.source ≡ service.old.source)
@@ -429,7 +448,7 @@ fn next_page<S: Alter>(
         Err(fault) => return Err(of_outbox(fault)),
     };
     let count = rows.len();
-    if count > MAX_PAGE {
+    if count > MAX_PAGE || !are_behind(&rows, mark) {
         return Err(CommandFault::Store);
     }
     push_page(alloc, lines, &rows)?;

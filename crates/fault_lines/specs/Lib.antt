@@ -1,3 +1,4 @@
 pub mod Words
+pub mod Member
 pub mod Lines
 pub mod Quiet

@@ -7,7 +7,8 @@ use Rattle.serde_json.specs.Find.{get, as_str, is_float}
 use Rattle.serde_json.specs.Written.{compact_text}
 use Rattle.event_json.specs.Faulty.{FaultyMember, TellsFaulty, RefusesWhole}
 use Rattle.event_json.specs.declared.fault.ReadFault.{ReadFault}
-use Rattle.fault_lines.specs.Words.{attribute_name, fault_name, hint, whole_hint, whole_words}
+use Rattle.fault_lines.specs.Member.{member_at_fault}
+use Rattle.fault_lines.specs.Words.{fault_name, hint, whole_hint, whole_words}
 
 -- a text as a JSON string
 abbrev pub string_text : List ℕ → List ℕ
@@ -31,11 +32,11 @@ abbrev pub value_member : Option Data → List ℕ
 value_member None = []
 value_member (Some d) = if is_plain d then if_short (compact_text d) else []
 
--- the members `attribute` and `value`, where the fault is of one attribute
+-- the members `attribute` and `value`, where the fault is of a member of this name
 abbrev pub attribute_members : Option (List ℕ) → Data → List ℕ
 attribute_members None tree = []
 attribute_members (Some name) tree =
-    codes ",\"attribute\":\"" ++ (name ++ (codes "\"" ++ value_member (get name tree)))
+    codes ",\"attribute\":" ++ (string_text name ++ value_member (get name tree))
 
 -- the member `id`, where there is one
 abbrev pub id_member : Option (List ℕ) → List ℕ
@@ -51,7 +52,7 @@ abbrev pub member_line : List ℕ → FaultyMember → List ℕ
 member_line file m =
     codes "{\"file\":" ++ (file ++ (codes ",\"index\":" ++ (decimal m.index
     ++ (id_member (id_of m.tree) ++ (codes ",\"fault\":\"" ++ (fault_name m.fault ++ (codes "\""
-    ++ (attribute_members (attribute_name m.fault) m.tree
+    ++ (attribute_members (member_at_fault m.fault m.tree) m.tree
     ++ (codes ",\"hint\":\"" ++ (hint m.fault ++ (codes "\"}" ++ 10 ∷ [])))))))))))
 
 -- a line for each member at fault

@@ -3,6 +3,7 @@
 
 mod laws;
 mod line;
+mod member;
 mod words;
 
 pub use laws::good_files_are_quiet;

@@ -5,10 +5,11 @@ ghost use Rattle.std.specs.Option.{option_copied};
 ghost use Rattle.serde_json.specs.View.{view};
 ghost use Rattle.serde_json.specs.Written.{has_float};
 ghost use Rattle.event_json.specs.Faulty.{member_of};
-ghost use Rattle.fault_lines.specs.Words.{attribute_name};
+ghost use Rattle.fault_lines.specs.Member.{member_at_fault};
 ghost use Rattle.fault_lines.specs.Lines.{IsFaultText, attribute_members, file_line, id_member, id_of, if_short, is_plain, member_line, member_lines, string_text, value_member};
 
-use crate::words::{attribute_name, fault_name, hint, whole_hint, whole_words};
+use crate::member::member_at_fault;
+use crate::words::{fault_name, hint, whole_hint, whole_words};
 use attributes::{Fault, Text};
 use event_json::{Faulty, ReadFault, read_faulty};
 use serde_json::Value;
@@ -106,15 +107,16 @@ fn id_member(alloc: Global, id: Option<&str>) -> Result<String, AllocError>
     }
 }
 
-/// The members `attribute` and `value` of a fault of one attribute.
+/// The members `attribute` and `value` of a fault of one member.
 fn attribute_members(alloc: Global, fault: Fault, tree: &Value) -> Result<String, AllocError>
     ensures { IfOk result (λ text. string_bytes text
-        ≡ attribute_members (attribute_name fault) (view tree.now)) }
+        ≡ attribute_members (member_at_fault fault (view tree.now)) (view tree.now)) }
 {
-    match attribute_name(fault) {
+    match member_at_fault(fault, tree) {
         Some(name) => {
             let value = value_member(alloc, tree.get(name))?;
-            let members = format!(in alloc; ",\"attribute\":\"{name}\"{value}")?;
+            let name = string_text(alloc, name)?;
+            let members = format!(in alloc; ",\"attribute\":{name}{value}")?;
             Ok(members)
         }
         None => Ok(String::new(alloc)),

@@ -16,9 +16,9 @@ use Rattle.command_words.specs.declared.request.Action.{Action}
 use Rattle.command_words.specs.declared.request.Action.TheVariants as action
 use Rattle.command_words.specs.declared.request.Pages.{Pages}
 use Rattle.command_words.specs.declared.request.Pages.TheVariants as pages
-use Rattle.database_commands.specs.Held.{HasDelta, HasEvents, SaysDelta, SaysOrder, SaysPage, SaysSummary}
+use Rattle.database_commands.specs.Held.{HasDelta, HasEvents, SaysAllRows, SaysDelta, SaysOrder, SaysPage, SaysRows, SaysSummary}
 use Rattle.database_commands.specs.Pages.{pages_text}
-use Rattle.database_commands.specs.Print.{WithoutLineEnd, batch_line, counts_line}
+use Rattle.database_commands.specs.Print.{WithoutLineEnd, counts_line}
 use Rattle.database_commands.specs.Service.{SaysService}
 use Rattle.command_words.specs.declared.request.Request.{Request}
 use Rattle.command_words.specs.declared.request.Plan.{Plan}
@@ -63,14 +63,10 @@ RefusesQuery C U (Some db) files (refusal.Database why) =
 RefusesQuery C U db files refusal.NoThread = ⊥
 RefusesQuery C U db files (refusal.Lines faults) = ⊥
 
--- the text is a batch, as one line
-abbrev pub PrintsBatch : List ℕ → Type 0
-PrintsBatch text = (events : List EventValue) × (text ≡ batch_line events)
-
--- the text is a batch, or all pages of some events
-abbrev pub SaysRows : Bool → List ℕ → Type 0
-SaysRows false text = PrintsBatch text
-SaysRows true text = (events : List EventValue) × (text ≡ pages_text events)
+-- the text is a page of rows behind a number, or all pages
+abbrev pub SaysRelay : ℕ → Bool → List ℕ → Type 0
+SaysRelay after false text = SaysRows after text
+SaysRelay after true text = SaysAllRows after text
 
 -- the status that an order gets by what is done with it
 abbrev pub status_of : Action → Status
@@ -215,7 +211,7 @@ AnswersOnce C (once.Delta db which summary) text = AnswersDelta C which summary 
 AnswersOnce C (once.Scrub db which) text = SaysPages which text
 AnswersOnce C (once.Service db source is_named base) text = SaysService is_named source base text
 AnswersOnce C (once.Order request) text = AnswersOrder request text
-AnswersOnce C (once.Relay db after is_all) text = SaysRows is_all text
+AnswersOnce C (once.Relay db after is_all) text = SaysRelay after is_all text
 
 -- the text is the answer to the plan
 abbrev pub AnswersPlan : (List ℕ → List ℕ → Type 0) → Plan → List ℕ → Type 0

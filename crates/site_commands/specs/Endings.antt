@@ -1,7 +1,7 @@
 -- What each ending writes, to which stream, with which status.
 use Rattle.std.specs.Prelude.{◌≡◌, ◌⊎◌, ℕ, List, Option}
 use Rattle.attributes.specs.Event.{EventValue}
-use Rattle.database_commands.specs.Pages.{pages_text}
+use Rattle.database_commands.specs.Pages.{pages_below, pages_text}
 use Rattle.std.specs.Io.KnownBytes.{Appends, Keeps}
 use Rattle.site_commands.specs.declared.ending.Ending.{Ending}
 use Rattle.site_commands.specs.declared.ending.Ending.TheVariants as ending
@@ -19,14 +19,15 @@ abbrev pub Writes : ℕ → ℕ → Option (List ℕ) → Option (List ℕ) → 
 Writes result status old new text = ((result ≡ status) × Appends old new text)
     ⊎ ((result ≡ 1) × (rest : List ℕ) × Wrote old new text rest)
 
--- standard output grew by all pages, or by a front of them: where the writing failed, and then nothing
--- was said; or where memory ran out, and then standard error says so
+-- standard output grew by all pages, or, where the writing failed, by a front of them, and then nothing
+-- was said; or memory ran out behind so many whole pages, and standard error says so
 abbrev pub EndsPages : List EventValue → ℕ → Option (List ℕ) → Option (List ℕ)
     → Option (List ℕ) → Option (List ℕ) → Type 0
 EndsPages events result out out' err err' =
     ((result ≡ 0) × Appends out out' (pages_text events) × Keeps err err')
-    ⊎ ((result ≡ 1) × ((rest : List ℕ) × Wrote out out' (pages_text events) rest)
-    × (Keeps err err' ⊎ Writes result 1 err err' memory_line))
+    ⊎ ((result ≡ 1) × ((((rest : List ℕ) × Wrote out out' (pages_text events) rest) × Keeps err err')
+    ⊎ ((done : ℕ) × Appends out out' (pages_below done events)
+    × Writes result 1 err err' memory_line)))
 
 -- the streams are standard output, then standard error, before and after
 abbrev pub Ends : Ending → ℕ → Option (List ℕ) → Option (List ℕ)

@@ -4,7 +4,7 @@ ghost use Rattle.attributes.specs.Character.{is_filled};
 ghost use Rattle.attributes.specs.Sequence.{max_sequence};
 ghost use Rattle.database_commands.specs.Held.{SaysSummary};
 ghost use Rattle.database_commands.specs.Service.{SaysService};
-ghost use Rattle.site_commands.specs.Answers.{AnswersDelta, AnswersOrder, AnswersTake, HasSummary, IsAllowedRequest, IsOfDatabase, RefusesDelta, RefusesTake, SaysLacking, SaysPages, SaysRows, status_of};
+ghost use Rattle.site_commands.specs.Answers.{AnswersDelta, AnswersOrder, AnswersTake, HasSummary, IsAllowedRequest, IsOfDatabase, RefusesDelta, RefusesTake, SaysLacking, SaysPages, SaysRelay, status_of};
 ghost use Rattle.site_commands.specs.Printed.{printed};
 
 use crate::line::Refusal;
@@ -203,7 +203,7 @@ pub fn relay<D: Databases>(
     after: u64,
     is_all: bool,
 ) -> Result<Text, Refusal>
-    ensures ok { IfOk result (SaysRows is_all) }
+    ensures ok { IfOk result (SaysRelay after is_all) }
     ensures err { IfErr result IsOfDatabase }
 {
     if is_all {
@@ -219,7 +219,7 @@ fn all_rows<D: Databases>(
     db: &str,
     after: u64,
 ) -> Result<Text, Refusal>
-    ensures ok { IfOk result (SaysRows true) }
+    ensures ok { IfOk result (SaysRelay after true) }
     ensures err { IfErr result IsOfDatabase }
 {
     match databases.relay_all(alloc, db, after) {
@@ -235,7 +235,7 @@ fn next_rows<D: Databases>(
     db: &str,
     after: u64,
 ) -> Result<Text, Refusal>
-    ensures ok { IfOk result (SaysRows false) }
+    ensures ok { IfOk result (SaysRelay after false) }
     ensures err { IfErr result IsOfDatabase }
 {
     let Ok(source) = Text::of(alloc, "/orders") else {

@@ -14,7 +14,7 @@ returns-in-Ok-clause-shown g c clean =
     let early : HasCleanDisk (state g.S.Store mid.conn) = omega (arith, c.row_lines-outcome.ensures.same.clean, late) in
     let of = c.in-Ok.ensures in
     IfOk-weaker c.row_lines-outcome.result _ _
-    (λ text rows. shown_all (state g.S.Store c.args.conn).now (state g.S.Store mid.conn).now mid.source mid.base c.args.after text rows.0 (of.exact early) (of.left.same early (of.open early)) rows.1 (rows.2 late))
+    (λ text rows. shown_all (state g.S.Store c.args.conn).now (state g.S.Store mid.conn).now mid.source mid.base c.args.after text rows.0 (of.exact early) (of.left.same early (of.open early)) rows.1 (rows.3 late))
     c.row_lines-outcome.ensures.rows
 
 pub returns-in-Ok-clause-kept : goal.returns-in-Ok-clause-kept
@@ -29,7 +29,7 @@ returns-in-Ok-clause-kept g c clean still =
     (rows_read (state g.S.Store c.args.conn).now (state g.S.Store mid.conn) (state g.S.Store last.conn) (of.left.same early (of.open early)) c.row_lines-outcome.ensures.same late open_late)
 
 pub returns-in-Ok-clause-line : goal.returns-in-Ok-clause-line
-returns-in-Ok-clause-line g c = IfOk-weaker c.row_lines-outcome.result _ _ (λ text rows. (rows.0, rows.1)) c.row_lines-outcome.ensures.rows
+returns-in-Ok-clause-line g c = IfOk-weaker c.row_lines-outcome.result _ _ (λ text rows. (rows.0, rows.1, rows.2)) c.row_lines-outcome.ensures.rows
 
 pub returns-in-Err-clause-kept : goal.returns-in-Err-clause-kept
 returns-in-Err-clause-kept g c clean still = rows_kept (state g.S.Store c.args.conn).now (state g.S.Store c.in-Err.refused.conn).now (c.in-Err.ensures.back.same clean still)

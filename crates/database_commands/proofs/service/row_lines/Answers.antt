@@ -22,7 +22,7 @@ returns-in-Ok-None-clause-rows g c =
     let there : ◌≡◌ {A = Option ℕ} None c.in-Ok-None.field-0 = search rules in
     let all = sent_last it.source it.base c.args.after (state g.S.Store it.conn) (state g.S.Store c.loop.service.conn) (state g.S.Store c.next_page.new.service.conn) (string_bytes c.loop.lines) (string_bytes c.next_page.new.lines) c.loop.mark
     c.loop.service.source c.loop.service.base c.in-Ok-None.field-0 c.loop.invariant.1 c.loop.invariant.2 there c.loop.invariant.0 c.in-Ok-None.ensures.page c.in-Ok-None.ensures.same c.in-Ok-None.ensures.open in
-    (all.0, c.from_string.ensures ∙ all.1, all.2)
+    (all.0, c.from_string.ensures ∙ all.1, all.2, all.3)
 
 pub loop-preserved : goal.loop-preserved
 loop-preserved g c =

@@ -1,7 +1,7 @@
 use Rattle.std.proofs.Common.{◌≡◌, ◌<◌, ◌-◌, ◌+◌, ◌∙◌, suc, Some, ap, arith, inl, inr, refl, rules, subst}
 use Rattle.site_commands.specs.Endings.{Writes}
 use Rattle.site_commands.specs.Lines.{memory_line}
-use Rattle.site_commands.proofs.EndingLemmas.{Keeps-same, Paging-failed, Paging-more, Paging-stopped}
+use Rattle.site_commands.proofs.EndingLemmas.{Keeps-same, Paging-failed, Paging-more}
 use Rattle.site_commands.proofs.ending.print_pages.Goals as goal
 
 pub returns-in-Err-put : goal.returns-in-Err-put
@@ -13,8 +13,10 @@ returns-in-Err-put g c =
     let failed = c.in-Err-put.ensures.err in
     inr (
       refl,
-      Paging-failed _ _ _ c.args.left.now c.loop-page.left _ _ c.as_bytes.result.now failed.0 c.loop-page.invariant.0 next line failed.1,
-      inl (Keeps-same _ _ c.loop-page.invariant.1),
+      inl (
+        Paging-failed _ _ _ c.args.left.now c.loop-page.left _ _ c.as_bytes.result.now failed.0 c.loop-page.invariant.0 next line failed.1,
+        Keeps-same _ _ c.loop-page.invariant.1,
+      ),
     )
 
 pub returns-in-Err : goal.returns-in-Err
@@ -23,8 +25,7 @@ returns-in-Err g c =
     subst (λ o. Writes c.print.result 1 o (g.E.Write.contents c.print.new.to) memory_line) c.loop-page.invariant.1 c.print.ensures in
     inr (
       elim said [ inl w ↦ w.0 | inr w ↦ w.0 ],
-      Paging-stopped _ _ c.args.left.now c.loop-page.left _ c.loop-page.invariant.0,
-      inr said,
+      inr (c.loop-page.invariant.0.done, c.loop-page.invariant.0.grown, said),
     )
 
 pub loop-page-preserved : goal.loop-page-preserved

@@ -1,0 +1,10 @@
+use Rattle.std.proofs.Common.{◌≡◌}
+use Rattle.serde_json.specs.View.{members_view}
+use Rattle.fault_lines.specs.Member.{first_where, is_misnamed}
+use Rattle.fault_lines.proofs.member.misnamed_of.Given as goal
+
+abbrev pub invariant-loop-name : goal.invariant-loop-name
+invariant-loop-name l =
+    (goal.iterator-loop-name).can_next l.name-iterator
+    × (goal.iterator-loop-name).is_finite l.name-iterator
+    × (first_where is_misnamed (members_view l.name-iterator) ≡ first_where is_misnamed (members_view l.members.entries))
