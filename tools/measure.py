@@ -10,10 +10,11 @@ ratios of ours to the plain one, middle by middle. Where two programs answer a q
 byte for byte, or the exit status is 1. The batches are made in FOLDER, or in one of its own that goes in the end.
 
 The groups: questions (no data), data, conflicts (times and conflicts), files (several files), tables (take and run),
-million. All but the last by default.
+streams (follow, pages and questions over a database), million. All but the last by default.
 """
 import argparse
 import hashlib
+import json
 import os
 import subprocess
 import sys
@@ -31,7 +32,9 @@ BATCHES = {
     **{f"part{i}": ["--data", "200", "--events", "7500", "--seed", str(i)] for i in range(1, 9)},
     **{f"many{i}": ["--data", "200", "--events", "25000", "--seed", str(i)] for i in range(1, 41)},
 }
-GROUPS = ("questions", "data", "conflicts", "files", "tables", "million")
+GROUPS = ("questions", "data", "conflicts", "files", "tables", "streams", "million")
+# How many lines a waiting producer sends.
+WAITING = 1_000
 
 
 class Measured:
@@ -57,6 +60,21 @@ class Measured:
 
     def text(self):
         return f"{min(self.processor):.2f} s, {middle(self.processor):.2f} s, {self.memory / 1e6:.0f} MB"
+
+
+def waited(words, events):
+    """How long each line took to its answer, the first apart, which waits for the open."""
+    took = []
+    with subprocess.Popen(words, stdin=subprocess.PIPE, stdout=subprocess.PIPE) as ran:
+        for event in events:
+            began = time.monotonic()
+            ran.stdin.write(json.dumps(event).encode() + b"\n")
+            ran.stdin.flush()
+            if b'"new":1' not in ran.stdout.readline():
+                sys.exit(f"{' '.join(words)} took none of {event}")
+            took.append(time.monotonic() - began)
+        ran.stdin.close()
+    return took[1:]
 
 
 def middle(values):
@@ -133,6 +151,52 @@ class Bench:
             print(f"| plain Rust takes the 60,000 with data | {found.text()} | {middle(found.clock):.2f} s |", flush=True)
         gone()
 
+    def streams(self):
+        """Lines of one event each, sent without waiting and each behind the answer to the one before; pages; questions."""
+        batch, lines, few = self.batch("plain"), f"{self.folder}/lines", f"{self.folder}/few"
+        with open(batch, encoding="utf-8") as file:
+            events = json.load(file)
+        with open(lines, "w", encoding="utf-8") as file:
+            file.writelines(json.dumps(it) + "\n" for it in events)
+        more = [{**it, "id": it["id"] + "-late", "source": "/late"} for it in events[:WAITING]]
+        names = [f"{self.folder}/ours.db", f"{self.folder}/plain.db"]
+        programs = [[self.given.program, "follow", "--db", names[0], lines]]
+        if self.given.plain_tables:
+            programs.append([self.given.plain_tables, "follow", names[1], lines])
+
+        def gone():
+            for name in names:
+                for end in ("", "-wal", "-shm", "-journal"):
+                    if os.path.exists(name + end):
+                        os.remove(name + end)
+
+        gone()
+        found = self.turns(programs, gone)
+        print("\n| what | processor time, memory | by the clock |\n|---|---|---|")
+        for whose, it in zip(("`site`", "plain Rust"), found):
+            print(f"| {whose}: {len(events):,} lines into a new file | {it.text()} | {middle(it.clock):.2f} s |", flush=True)
+        gone()
+        for words in programs:
+            subprocess.run(words, stdout=subprocess.DEVNULL, check=True)
+        for whose, words in zip(("`site`", "plain Rust"), programs):
+            took = waited([*words[:-1], "/dev/stdin"], more)
+            print(f"| {whose}: a line that waits, over {len(events):,} events, the middle of {WAITING:,} | | {middle(took) * 1e3:.2f} ms |", flush=True)
+        with open(few, "w", encoding="ascii") as file:
+            file.write('{"sources":{},"version":1}')
+        for what, words in (
+            ("`scrub`, a page", ["scrub", "--db", names[0]]),
+            ("`scrub --all`", ["scrub", "--db", names[0], "--all"]),
+            ("`delta --all` of an empty summary", ["delta", "--db", names[0], "--all", few]),
+            ("`summary`", ["summary", "--db", names[0]]),
+            ("`kinds --db`", ["kinds", "--db", names[0]]),
+            ("`kinds` of the batch", ["kinds", batch]),
+            ("`cover --db`", ["cover", "--db", names[0]]),
+            ("`cover` of the batch", ["cover", batch]),
+        ):
+            it = self.turns([[self.given.program, *words]])[0]
+            print(f"| {what} | {it.text()} | {middle(it.clock):.2f} s |", flush=True)
+        gone()
+
     def million(self):
         """Forty files, and the memory that grows from twenty of them to all: that of the files and what is kept."""
         paths = [self.batch(f"many{i}") for i in range(1, 41)]
@@ -147,7 +211,7 @@ class Bench:
         print(f"{kept / text:.2f} times the text, or the text and {(kept - text) / events:.0f} bytes an event")
 
     def run(self, group):
-        if group in ("files", "tables", "million"):
+        if group in ("files", "tables", "streams", "million"):
             getattr(self, group)()
         else:
             self.questions("plain" if group == "questions" else group)

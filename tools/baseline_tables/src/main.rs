@@ -1,7 +1,8 @@
 //! What the database commands of `site` do, by a plain Rust program over rusqlite: the measure for time and memory.
 //! It proves nothing, and doesn't test the rows that it finds.
 //!
-//! usage: site-baseline-tables take DB FILE.. | delta DB FROM SUMMARY | scrub DB FROM | place DB ORDER | relay DB AFTER
+//! usage: site-baseline-tables take DB FILE.. | follow DB FILE | delta DB FROM SUMMARY | scrub DB FROM | place DB ORDER
+//!     | relay DB AFTER
 
 #[allow(dead_code)]
 #[path = "../../baseline/src/event.rs"]
@@ -11,6 +12,9 @@ use event::Event;
 use rusqlite::{params, Connection};
 use serde_json::Value;
 use std::error::Error;
+use std::fmt::Write as _;
+use std::fs::File;
+use std::io::{BufRead, BufReader, Write};
 
 type Done = Result<String, Box<dyn Error>>;
 
@@ -70,6 +74,85 @@ fn take(path: &str, files: &[String]) -> Done {
     }
     change.commit()?;
     Ok(format!("read {read} new {fresh} repeated {}\n", read - fresh))
+}
+
+fn events_in(line: &[u8]) -> Result<Vec<Event>, String> {
+    let members = match serde_json::from_slice(line).map_err(|_| "not JSON")? {
+        Value::Array(items) => items,
+        event => vec![event],
+    };
+    let mut events = Vec::with_capacity(members.len());
+    for (index, member) in members.into_iter().enumerate() {
+        let event = Event::of(member).map_err(|fault| format!("event {index}: {fault:?}"))?;
+        event.sequence.as_ref().map_err(|fault| format!("event {index}: {fault:?}"))?;
+        events.push(event);
+    }
+    Ok(events)
+}
+
+/// Keeps the lines that stand whole in the buffer, up to a thousand events, in one transaction, then answers them.
+fn follow(path: &str, file: &str) -> Done {
+    let mut input = BufReader::with_capacity(65_536, File::open(file)?);
+    let mut base = open(path)?;
+    let mut last: i64 = base.query_row("SELECT coalesce(max(place), 0) FROM inbox", [], |row| row.get(0))?;
+    let (mut at, mut line, mut faults) = (0, Vec::new(), 0);
+    let mut out = std::io::stdout().lock();
+    loop {
+        let (mut lines, mut events, mut is_over) = (Vec::new(), 0, false);
+        while events < 1_000 {
+            line.clear();
+            is_over = input.read_until(b'\n', &mut line)? == 0;
+            if is_over {
+                break;
+            }
+            at += 1;
+            let text = line.strip_suffix(b"\n").unwrap_or(&line);
+            if !text.is_empty() {
+                let found = events_in(text);
+                events += found.as_ref().map_or(0, Vec::len);
+                lines.push((at, found));
+            }
+            if !input.buffer().contains(&b'\n') {
+                break;
+            }
+        }
+        let mut answers = String::new();
+        let change = base.transaction()?;
+        {
+            let mut insert = change.prepare_cached(
+                "INSERT INTO inbox (place, source, id, number, body) VALUES (?1, ?2, ?3, ?4, ?5) ON CONFLICT DO NOTHING",
+            )?;
+            for (at, found) in &lines {
+                match found {
+                    Ok(events) => {
+                        let mut fresh = 0;
+                        for event in events {
+                            let number = *event.sequence.as_ref().map_err(|fault| format!("{fault:?}"))? as i64;
+                            let new = insert.execute(params![last + 1, event.source, event.id, number, event.text])?;
+                            last += new as i64;
+                            fresh += new;
+                        }
+                        let there = events.len() - fresh;
+                        writeln!(answers, "{{\"line\":{at},\"new\":{fresh},\"repeated\":{there}}}")?;
+                    }
+                    Err(fault) => {
+                        faults += 1;
+                        writeln!(answers, "{{\"line\":{at},\"fault\":\"{fault}\"}}")?;
+                    }
+                }
+            }
+        }
+        change.commit()?;
+        out.write_all(answers.as_bytes())?;
+        out.flush()?;
+        if is_over {
+            break;
+        }
+    }
+    if faults > 0 {
+        return Err(format!("{faults} lines refused").into());
+    }
+    Ok(String::new())
 }
 
 fn batch(texts: &[String]) -> String {
@@ -138,6 +221,7 @@ fn main() -> Result<(), Box<dyn Error>> {
     let words: Vec<String> = std::env::args().skip(1).collect();
     let text = match (words[0].as_str(), words[1].as_str()) {
         ("take", db) => take(db, &words[2..])?,
+        ("follow", db) => follow(db, &words[2])?,
         ("delta", db) => delta(db, words[2].parse()?, &words[3])?,
         ("scrub", db) => scrub(db, words[2].parse()?)?,
         ("place", db) => place(db, words[2].parse()?)?,
