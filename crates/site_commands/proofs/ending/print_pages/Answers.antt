@@ -1,8 +1,18 @@
-use Rattle.std.proofs.Common.{◌≡◌, ◌<◌, ◌-◌, ◌+◌, ◌∙◌, suc, Some, ap, arith, inl, inr, refl, rules, subst}
+use Rattle.std.proofs.Common.{◌≡◌, ◌<◌, ◌-◌, ◌+◌, ◌∙◌, ℕ, suc, List, Some, None, ap, arith, inl, inr, refl, rules, subst}
+use Rattle.std.specs.Prelude.{Option}
 use Rattle.site_commands.specs.Endings.{Writes}
 use Rattle.site_commands.specs.Lines.{memory_line}
-use Rattle.site_commands.proofs.EndingLemmas.{Keeps-same, Paging-failed, Paging-more}
+use Rattle.site_commands.proofs.EndingLemmas.{Keeps-same, Paging-failed, Paging-more, Paging-none}
 use Rattle.site_commands.proofs.ending.print_pages.Goals as goal
+
+pub returns-in-Ok-None : goal.returns-in-Ok-None
+returns-in-Ok-None g c =
+    let there : ◌≡◌ {A = Option (List ℕ)} None c.in-Ok-None.field-0 = search rules in
+    inl (
+      refl,
+      Paging-none _ _ c.args.left.now c.loop-page.left _ c.loop-page.invariant.0 (there ∙ c.in-Ok-None.ensures.line),
+      Keeps-same _ _ c.loop-page.invariant.1,
+    )
 
 pub returns-in-Err-put : goal.returns-in-Err-put
 returns-in-Err-put g c =
