@@ -439,8 +439,8 @@ base.commit()'
 run_over gap.db relay --db gap.db --after 0
 is 'an outbox with a gap' 1 '' "site: gap.db: Foreign$lf"
 
-# Files of before, whose inbox has no blocks: the first command that needs the events makes the table
-# of now in its place. Made of a file of now, with whatever stands beside the inbox.
+# Files of before, whose inbox has no blocks: the first command that may write to it makes the table of
+# now in its place. Made of a file of now, with whatever stands beside the inbox.
 before() {
     python3 -c 'import os, sqlite3, sys
 old, new = sys.argv[1:3]
@@ -477,8 +477,25 @@ for words in 'scrub --db old.db' 'delta --db old.db nothing.json'; do
     ask old.db 'PRAGMA integrity_check'
     is 'as SQLite tests it' 0 "ok$lf" ''
 done
+before high.db old.db
+for words in summary 'scrub --all' 'delta --all nothing.json' cover shown kinds latest days gaps conflicts; do
+    # shellcheck disable=SC2086
+    set -- $words
+    word=$1
+    shift
+    run "$word" --db high.db "$@"
+    want=$(cat got.out; printf x)
+    run_over old.db "$word" --db old.db "$@"
+    is "who only reads leaves a file of before as it is: $words" 0 "${want%x}" ''
+done
 printf '[%s]' "$e1" >first.json
 run take --db one.db first.json
+before one.db old.db
+printf '%s\n' "$e2" >second.line
+run follow --db old.db second.line
+is 'a stream into a file of before' 0 '{"line":1,"new":1,"repeated":0}'"$lf" ''
+tables old.db
+is 'which has the table of now behind it' 0 "inbox2$lf" ''
 before one.db old.db
 printf '[%s,%s]' "$e1" "$e2" >first_two.json
 run take --db old.db first_two.json
@@ -582,8 +599,9 @@ is 'a file that is not there' 1 '' "site: missing.json: cannot read$lf"
 run check
 [ "$status" = 2 ] && : >got.out && : >got.err
 is 'a check of nothing' 2 '' ''
-trouble_is '' Store "a database is a file: its name is neither empty nor :memory:, and doesn't begin with file:"
-trouble_is :memory: Store "a database is a file: its name is neither empty nor :memory:, and doesn't begin with file:"
+for name in '' :memory: file: file:s.db 'file:s.db?mode=ro'; do
+    trouble_is "$name" Store "a database is a file: its name is neither empty nor :memory:, and doesn't begin with file:"
+done
 trouble_is missing.db 'cannot read' 'there is no file of that name, or none that this user may look at'
 [ -e missing.db ] && echo 'wrong: a check made a file'
 no_database="it is no database of SQLite in UTF-8, or has a schema that site can't read"
@@ -646,8 +664,13 @@ done
 unset SITE_CACHE_MIB
 
 # Names that mean no file to SQLite.
+every_file() { find . -type f ! -name 'got.*' ! -name 'want.*' -exec cksum {} + | LC_ALL=C sort; }
+every_file >want.files
 for name in '' :memory: file: file:s.db 'file:s.db?mode=ro'; do
-    for words in 'take three.json' 'scrub' 'scrub --all' 'summary' 'kinds' 'run three.json' 'relay --after 0'; do
+    for words in 'take three.json' 'follow two.lines' 'follow' 'scrub' 'scrub --all' 'summary' 'kinds' 'run three.json' \
+        'delta nothing.json' 'delta --all nothing.json' 'service' 'service --source /west --base 5' \
+        'order --at 2024-02-29T10:00:00Z place 7' 'relay --after 0' 'relay --after 0 --all'; do
+        # shellcheck disable=SC2086
         set -- $words
         word=$1
         shift
@@ -661,6 +684,9 @@ done
 : >got.out
 : >got.err
 is 'such names make no file' 1 '' ''
+every_file | diff want.files - >got.out
+status=$?
+is 'and change none' 0 '' ''
 
 # Faulty words: status 2, and no file is made.
 for words in 'take three.json' 'take --db w.db' 'delta --db w.db' 'delta --db w.db --from x held.json' \
