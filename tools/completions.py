@@ -4,7 +4,9 @@
     tools/completions.py [--program FILE] bash|zsh|fish|man        to standard output
     tools/completions.py [--program FILE] --all FOLDER              site.bash, _site, site.fish and site.1
 
-The help is made of the table of commands, so that none of these can name what the program doesn't take.
+The help is made of the table of commands, so that none of these can name what the program doesn't take. What statuses
+mean is the table of docs/FORMATS.md. A line of help that isn't understood, and a value of which it isn't known here
+whether it is a file, is a refusal: status 1, and nothing is written.
 """
 import argparse
 import os
@@ -16,9 +18,17 @@ TOP = os.path.dirname(os.path.dirname(os.path.realpath(__file__)))
 OPTION = re.compile(r"^\s+(?:-(\w), |)--([\w-]+)(?: <(\w+)>)?(?:\s\s+(\S.*))?$")
 ARGUMENT = re.compile(r"^\s+[<\[](\w+)[>\]](\.\.\.)?(?:\s\s+(\S.*))?$")
 COMMAND = re.compile(r"^\s+(\w+)\s\s+(\S.*)$")
-# What an argument of one of these names stands for, beside a file.
-WORDS_FOR = {"ACTION": ("place", "ship", "cancel")}
+# What ends the help of an argument whose words it lists.
+CHOICE = re.compile(r": ((?:\w+, )*\w+ or \w+)$")
+# A row of the table of exit statuses.
+STATUS = re.compile(r"^\| (\d) \| (.*?) \|", re.M)
+# The values that are files, and those that aren't.
+FILES = {"DB", "FILE", "SUMMARY"}
 NO_FILES = {"ACTION", "ORDER", "N", "S", "TIME"}
+
+
+class Unknown(Exception):
+    """Something that nothing is known of here."""
 
 
 class Help:
@@ -38,6 +48,8 @@ class Help:
                 self.arguments.append((found[1], bool(found[2]), found[3] or ""))
             elif part == "Commands" and (found := COMMAND.match(line)):
                 self.commands.append((found[1], found[2]))
+            elif part and line:
+                raise Unknown(f"a line of help isn't understood: {line.strip()}")
 
 
 def read(program):
@@ -46,7 +58,25 @@ def read(program):
         return Help(subprocess.run([program, *words, "--help"], capture_output=True, text=True).stdout)
 
     whole = asked()
-    return whole, {word: asked(word) for word, _ in whole.commands if word != "help"}
+    commands = {word: asked(word) for word, _ in whole.commands if word != "help"}
+    if not commands:
+        raise Unknown("the help lists no commands")
+    values = {it[2] for its in commands.values() for it in its.options if it[2]}
+    values |= {name for its in commands.values() for name, _, _ in its.arguments}
+    for name in sorted(values - FILES - NO_FILES):
+        raise Unknown(f"is the value {name} a file?")
+    for name in sorted((FILES | NO_FILES) - values):
+        raise Unknown(f"no help has the value {name}")
+    return whole, commands
+
+
+def statuses():
+    """Each exit status with what it means."""
+    with open(f"{TOP}/docs/FORMATS.md", encoding="utf-8") as it:
+        found = STATUS.findall(it.read().partition("\n## Exit statuses")[2].partition("\n## ")[0])
+    if not found:
+        raise Unknown("docs/FORMATS.md has no table of exit statuses")
+    return found
 
 
 def dashed(option):
@@ -54,9 +84,10 @@ def dashed(option):
     return [f"-{short}"] * bool(short) + [f"--{long}"]
 
 
-def words_of(text):
-    """What an argument or an option's value may be, beside a file, and whether a file is meant."""
-    return WORDS_FOR.get(text, ()), text is not None and text not in NO_FILES
+def words_of(name, about):
+    """What an argument or an option's value may be, where its help lists the words, and whether it is a file."""
+    found = CHOICE.search(about)
+    return re.split(", | or ", found[1]) if found else [], name in FILES
 
 
 def bash(whole, commands):
@@ -71,14 +102,14 @@ def bash(whole, commands):
     for word, its in commands.items():
         for option in its.options:
             if option[2]:
-                given, is_file = words_of(option[2])
+                given, is_file = words_of(option[2], option[3])
                 yield f"        '{word} --{option[1]}') words='{' '.join(given)}' files={'yes' if is_file else 'no'} ;;"
     yield "        *)"
     yield '            case "${COMP_WORDS[1]}" in'
     for word, its in commands.items():
         given = [it for option in its.options for it in dashed(option)]
-        given += [it for name, _, _ in its.arguments for it in words_of(name)[0]]
-        files = any(words_of(name)[1] for name, _, _ in its.arguments)
+        given += [it for name, _, about in its.arguments for it in words_of(name, about)[0]]
+        files = any(words_of(name, about)[1] for name, _, about in its.arguments)
         yield f"            {word}) words='{' '.join(given)}' files={'yes' if files else 'no'} ;;"
     yield f"            help) words='{' '.join(commands)}' ;;"
     yield "            esac"
@@ -104,7 +135,13 @@ def zsh(whole, commands):
     for word, about in whole.commands:
         yield f"            '{word}:{escaped(about)}'"
     yield "        )"
+    yield "        local -a options=("
+    for option in whole.options:
+        for name in dashed(option):
+            yield f"            '{name}:{escaped(option[3])}'"
+    yield "        )"
     yield "        _describe command commands"
+    yield "        _describe -o option options"
     yield "        return"
     yield "    fi"
     yield "    local command=$words[2]"
@@ -117,16 +154,19 @@ def zsh(whole, commands):
         for option in its.options:
             value = ""
             if option[2]:
-                given, is_file = words_of(option[2])
+                given, is_file = words_of(option[2], option[3])
                 value = f":{option[2]}:" + ("_files" if is_file else f"({' '.join(given)})" if given else "")
             for name in dashed(option):
                 yield f"            '{name}[{escaped(option[3])}]{value}' \\"
-        for name, is_list, _ in its.arguments:
-            given, is_file = words_of(name)
+        for name, is_list, about in its.arguments:
+            given, is_file = words_of(name, about)
             action = f"({' '.join(given)})" if given else "_files" if is_file else ""
             yield f"            '{'*' if is_list else ''}:{name}:{action}' \\"
         yield "            && return"
         yield "        ;;"
+    yield "    help)"
+    yield f"        _arguments ':COMMAND:({' '.join(commands)})'"
+    yield "        ;;"
     yield "    esac"
     yield "}"
     yield '_site "$@"'
@@ -136,17 +176,21 @@ def fish(whole, commands):
     yield "# Completes the words of `site` in fish: put it into ~/.config/fish/completions."
     yield "complete -c site -f"
     quoted = lambda text: "'" + text.replace("\\", "\\\\").replace("'", "\\'") + "'"
+    named = lambda option: f"-l {option[1]}" + (f" -s {option[0]}" if option[0] else "")
     for word, about in whole.commands:
         yield f"complete -c site -n __fish_use_subcommand -a {word} -d {quoted(about)}"
+    for option in whole.options:
+        yield f"complete -c site -n __fish_use_subcommand {named(option)} -d {quoted(option[3])}"
+    yield f"complete -c site -n '__fish_seen_subcommand_from help' -a '{' '.join(commands)}'"
     for word, its in commands.items():
         on = f"complete -c site -n '__fish_seen_subcommand_from {word}'"
         for option in its.options:
-            line = f"{on} -l {option[1]}" + (f" -s {option[0]}" if option[0] else "")
+            line = f"{on} {named(option)}"
             if option[2]:
-                line += " -r" + (" -F" if words_of(option[2])[1] else "")
+                line += " -r" + (" -F" if words_of(*option[2:])[1] else "")
             yield f"{line} -d {quoted(option[3])}"
         for name, _, about in its.arguments:
-            given, is_file = words_of(name)
+            given, is_file = words_of(name, about)
             if given:
                 yield f"{on} -a '{' '.join(given)}' -d {quoted(about)}"
             elif is_file:
@@ -155,6 +199,14 @@ def fish(whole, commands):
 
 def roff(text):
     return text.replace("\\", "\\e").replace("-", "\\-")
+
+
+def rows(options):
+    """The rows of a man page on these options."""
+    for option in options:
+        yield ".TP"
+        yield f".B {roff(', '.join(dashed(option)))} {roff(option[2] or '')}".rstrip()
+        yield roff(option[3])
 
 
 def man(whole, commands):
@@ -167,20 +219,25 @@ def man(whole, commands):
         yield ".br"
     yield ".SH DESCRIPTION"
     yield roff(whole.about)
+    yield ".SH OPTIONS"
+    yield from rows(whole.options)
     yield ".SH COMMANDS"
-    for word, its in commands.items():
+    for word, about in whole.commands:
+        its = commands.get(word)
         yield f".SS {word}"
-        yield roff(its.about)
-        for name, _, about in its.arguments:
+        yield roff(about)
+        if not its:
+            continue
+        for name, _, meant in its.arguments:
             yield ".TP"
             yield f".I {roff(name)}"
-            yield roff(about)
-        for option in its.options:
-            yield ".TP"
-            yield f".B {roff(', '.join(dashed(option)))} {roff(option[2] or '')}".rstrip()
-            yield roff(option[3])
+            yield roff(meant)
+        yield from rows(its.options)
     yield ".SH EXIT STATUS"
-    yield "0: an answer; 1: refused, or the output couldn't be written; 2: the words are faulty."
+    for status, meant in statuses():
+        yield ".TP"
+        yield f".B {status}"
+        yield re.sub("`(.*?)`", r"\\fB\1\\fR", roff(meant))
     yield ".SH SEE ALSO"
     yield "GUIDE.md and FORMATS.md, which come with the program."
 
@@ -196,14 +253,20 @@ def main():
     given = words.parse_args()
     if bool(given.all) == bool(given.kind):
         words.error("one of bash, zsh, fish and man, or --all FOLDER")
-    whole, commands = read(os.path.abspath(given.program))
+    try:
+        whole, commands = read(os.path.abspath(given.program))
+        kinds = [given.kind] if given.kind else list(KINDS)
+        made = {kind: "\n".join(KINDS[kind][0](whole, commands)) + "\n" for kind in kinds}
+    except Unknown as why:
+        print(f"completions: {why}", file=sys.stderr)
+        return 1
     if given.kind:
-        print("\n".join(KINDS[given.kind][0](whole, commands)))
+        sys.stdout.write(made[given.kind])
         return 0
     os.makedirs(given.all, exist_ok=True)
-    for make, name in KINDS.values():
-        with open(f"{given.all}/{name}", "w", encoding="utf-8") as it:
-            it.write("\n".join(make(whole, commands)) + "\n")
+    for kind, text in made.items():
+        with open(f"{given.all}/{KINDS[kind][1]}", "w", encoding="utf-8") as it:
+            it.write(text)
     return 0
 
 

@@ -3,10 +3,16 @@
 
 usage: tools/make_batch.py [--events N] [--seed N] [--data BYTES] [--conflicts SHARE] [--gaps SHARE] [--days N]
            [--subjects N] > FILE
+       tools/make_batch.py --region north|south [--events N] > FILE
 
 With no argument: 120,000 events in 30 MB, of five services in four regions, each with a sequence of its own. Numbers
 come in a shuffled order, one in fifty is left out and one event in a hundred stands twice. No two different events
 have one source and id, and none has a time.
+
+With --region: the events of one of two regions that are to come to one view. Half of them are its own, of the source
+/north or /south. The others are of the source /shared, which both regions have, and of those three in a hundred stand
+otherwise in each, with another subject: one source and id, two events. No number is left out and no event stands
+twice, and they come in an order that has nothing to do with their numbers. 100,000 events are 19 MB.
 """
 import argparse
 import datetime
@@ -56,16 +62,8 @@ def event(dice, service, region, number, options):
     return made
 
 
-def main():
-    parser = argparse.ArgumentParser()
-    parser.add_argument("--events", type=int, default=120_000)
-    parser.add_argument("--seed", type=int, default=1)
-    parser.add_argument("--data", type=int, default=0, help="bytes of data an event, about")
-    parser.add_argument("--conflicts", type=float, default=0, help="share of events that are another one, changed")
-    parser.add_argument("--gaps", type=float, default=0.02, help="share of the numbers that are left out")
-    parser.add_argument("--days", type=int, default=0, help="days that the events' times are from")
-    parser.add_argument("--subjects", type=int, default=40_000, help="customers that the events are about")
-    options = parser.parse_args()
+def batch(options):
+    """The events of many services."""
     dice = random.Random(options.seed)
     streams = [(service, region) for service in KINDS for region in REGIONS]
     events = []
@@ -82,12 +80,57 @@ def main():
         other = dice.choice(events)
         events[place] = dict(other, attempt=other["attempt"] + 3)
     dice.shuffle(events)
-    out = sys.stdout
+    return events
+
+
+def event_of_region(source, number, subject):
+    return {
+        "specversion": "1.0",
+        "id": f"{source[1:]}-{number * 7919 % 1_000_003:07d}-{number:07d}",
+        "source": source,
+        "type": f"com.example.{('placed', 'shipped', 'cancelled')[number % 3]}",
+        "subject": subject,
+        "time": f"2026-01-{number % 28 + 1:02d}T{number % 24:02d}:00:00Z",
+        "sequence": f"{number:020d}",
+    }
+
+
+def region(name, count):
+    """The events of a region: half are its own, half those that both have, some of which stand otherwise here."""
+    shared = count // 2
+    differ = shared * 3 // 100
+    every = shared // max(1, differ)
+    events = [event_of_region(f"/{name}", number, f"customer/{number % 9000:05d}") for number in range(1, count - shared + 1)]
+    for number in range(1, shared + 1):
+        whose = name if number % every == 0 and number // every <= differ else "both"
+        events.append(event_of_region("/shared", number, f"customer/{whose}-{number % 7000:05d}"))
+    events.sort(key=lambda it: it["id"][-3:] + it["id"])
+    return events
+
+
+def write(events, out):
     out.write("[")
     for place, made in enumerate(events):
         out.write(",\n" if place else "\n")
         out.write(json.dumps(made, separators=(",", ":"), ensure_ascii=False))
     out.write("\n]\n")
+
+
+def main():
+    parser = argparse.ArgumentParser()
+    parser.add_argument("--events", type=int, default=120_000)
+    parser.add_argument("--seed", type=int, default=1)
+    parser.add_argument("--data", type=int, default=0, help="bytes of data an event, about")
+    parser.add_argument("--conflicts", type=float, default=0, help="share of events that are another one, changed")
+    parser.add_argument("--gaps", type=float, default=0.02, help="share of the numbers that are left out")
+    parser.add_argument("--days", type=int, default=0, help="days that the events' times are from")
+    parser.add_argument("--subjects", type=int, default=40_000, help="customers that the events are about")
+    parser.add_argument("--region", choices=["north", "south"], help="the events of one of two regions; only --events goes with it")
+    options = parser.parse_args()
+    others = {name for name, value in vars(options).items() if value != parser.get_default(name)} - {"events", "region"}
+    if options.region and others:
+        parser.error(f"--region goes with --events alone, not with --{' and --'.join(sorted(others))}")
+    write(region(options.region, options.events) if options.region else batch(options), sys.stdout)
 
 
 main()

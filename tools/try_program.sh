@@ -1,7 +1,7 @@
 #!/bin/sh
 # Runs the built program as a shell does, with odd words, files and streams, and looks at its status
 # and at both streams. `rt ci` runs it once, on good input, and no contract reaches `main`: so the gate
-# runs this too.
+# runs this too. What tools/completions.py makes of the program's help is held against that help.
 #
 #   tools/try_program.sh [PROGRAM]       by default crates/site_cli/out/site_cli
 #
@@ -227,14 +227,6 @@ is 'standard error full' 1 '' ''
 status=$?
 is 'all streams closed' 1 '' ''
 run order --db rows.db --at 2024-02-29T10:00:00Z place 7
-: >got.out
-: >got.err
-"$program" relay --db rows.db --after 0 --all 2>got.err >&-
-status=$?
-is 'all rows to a closed stream' 1 '' ''
-"$program" relay --db rows.db --after 0 --all >/dev/full 2>got.err
-status=$?
-is 'all rows to a full device' 1 '' ''
 run relay --db rows.db --all
 is 'all rows behind no number' 2 '' '*'
 run relay --db rows.db --after 0 --all rows
@@ -243,6 +235,76 @@ awk -v n=20000 'BEGIN { printf "["; for (i = 1; i <= n; i++) printf "%s{\"id\":\
 { "$program" shown many.json 2>got.err; echo $? >got.status; } | head -n 1 >got.out
 status=$(cat got.status)
 is 'a reader that leaves' 1 '*' ''
+
+# Commands over databases, to a closed stream, a full device, and a pipe whose reader has left.
+mkfifo left.pipe
+: <left.pipe &
+exec 9>left.pipe
+wait "$!"
+unheard() {
+    to=$1
+    shift
+    : >got.out
+    eval "\"\$program\" \"\$@\" 2>got.err >$to" </dev/null
+    status=$?
+}
+unchanged() { [ "$before" = "$(cksum <"$1")" ] || status="$status, and the file changed"; }
+printf '%s' "$nothing" >nothing.summary
+made=
+for to in '&-' /dev/full '&9'; do
+    while read -r db words; do
+        before=$(cksum <"$db")
+        # shellcheck disable=SC2086
+        unheard "$to" $words
+        unchanged "$db"
+        is "$words >$to" 1 '' ''
+    done <<'ROWS'
+stream.db kinds --db stream.db
+stream.db shown --db stream.db f.json
+stream.db summary --db stream.db
+stream.db delta --db stream.db --all nothing.summary
+stream.db scrub --db stream.db --all
+rows.db service --db rows.db
+rows.db relay --db rows.db --after 0 --all
+rows.db check --db rows.db
+ROWS
+    made=x$made
+    unheard "$to" service --db "$made.db" --source /west --base 5
+    is "a service that is made >$to" 1 '' ''
+    run service --db "$made.db"
+    is 'it was made all the same' 0 '{"base":5,"orders":0,"rows":0,"source":"/west"}'"$lf" ''
+done
+exec 9>&-
+
+# Readers that leave behind the first line, where more follows than a pipe holds.
+leaves() {
+    db=$1
+    shift
+    before=$(cksum <"$db")
+    { "$program" "$@" 2>got.err; echo $? >got.status; } | head -n 1 >got.out
+    status=$(cat got.status)
+    unchanged "$db"
+    is "a reader that leaves $*" 1 "$(cat first)$lf" ''
+}
+head -n 2000 many.lines >some.lines
+run follow --db some.db some.lines
+run scrub --db some.db
+cp got.out first
+leaves some.db scrub --db some.db --all
+leaves some.db delta --db some.db --all nothing.summary
+head -n 1 some.lines >first
+leaves some.db shown --db some.db
+run order --db pages.db --at 2024-02-29T10:00:00Z place 1
+python3 -c 'import sqlite3
+base = sqlite3.connect("pages.db")
+base.execute("PRAGMA journal_mode = DELETE")
+more = range(2, 1001)
+base.executemany("INSERT INTO orders VALUES (?, 1)", [(n,) for n in more])
+base.executemany("INSERT INTO outbox VALUES (?, 1, ?, ?)", [(n, n, "2024-02-29T10:00:00Z") for n in more])
+base.commit()'
+run relay --db pages.db --after 0
+cp got.out first
+leaves pages.db relay --db pages.db --after 0 --all
 
 # What is at fault in files.
 whole='a file is an event, which is an object, or an array of events'
@@ -255,13 +317,6 @@ run check
 is 'a check of no file' 2 '' '*'
 run check --db none.db f.json
 is 'a check of a database that is not there' 1 '{"db":"none.db","fault":"cannot read","hint":"there is no file of that name, or none that this user may look at"}'"$lf" ''
-: >got.out
-"$program" check --db rows.db 2>got.err >&-
-status=$?
-is 'what a database is, to a closed stream' 1 '' ''
-"$program" check --db rows.db >/dev/full 2>got.err
-status=$?
-is 'what a database is, to a full device' 1 '' ''
 run check bad.json folder
 is 'a check of a folder' 1 '' "site: folder: cannot read$lf"
 "$program" check - <bad.json >got.out 2>got.err
@@ -282,6 +337,114 @@ sed 's/000000000/0/g' many.json >short.json
 { "$program" check short.json 2>got.err; echo $? >got.status; } | head -n 1 >got.out
 status=$(cat got.status)
 is 'a reader that leaves what is at fault' 1 '*' ''
+
+# Completions and the man page: just what help names, and no word of which nothing is known.
+making() {
+    EDIT=$1 SITE=$program "$here/tools/completions.py" --program "$2" "$3" ${4+"$4"} >got.out 2>got.err
+    status=$?
+}
+options() {
+    awk -v word="$1" '/^[A-Z][a-z]*:$/ { part = $1; next }
+        part == "Options:" { for (i = 1; $i ~ /^-/; i++) { sub(/,$/, "", $i); print word, $i } }'
+}
+run --help
+options site <got.out >named
+awk '/^[A-Z][a-z]*:$/ { part = $1; next } part == "Commands:" && NF { print $1 }' got.out >words
+tr '\n' ' ' <words >got.out
+commands='cover gaps shown latest kinds days conflicts check take follow summary delta scrub run service order relay'
+is 'the commands of help' 2 "$commands help " ''
+for word in $commands; do "$program" "$word" --help | options "$word"; done >>named
+LC_ALL=C sort words named -o named
+grep '^delta' named | tr '\n' ' ' >got.out
+is 'the options of delta' 2 'delta delta --all delta --db delta --from delta --help delta -h ' ''
+making '' "$program" --all shells
+is 'completions and a man page' 0 '' ''
+ls shells | tr '\n' ' ' >got.out
+is 'their files' 0 '_site site.1 site.bash site.fish ' ''
+cat >ask <<'END'
+. shells/site.bash
+cd shells || exit 1
+COMP_WORDS=(site "$@")
+COMP_CWORD=$#
+_site
+[ ${#COMPREPLY[@]} = 0 ] || printf '%s\n' "${COMPREPLY[@]}"
+END
+of_bash() {
+    bash ask '' | sed 's/^-/site -/'
+    for word in $(bash ask '' | grep -v '^-'); do bash ask "$word" - | sed "s/^/$word /"; done
+}
+of_zsh() {
+    sed -n "s/^    \([a-z]*\))\$/in \1/p; s/^ *'\([^':[]*\)[:[].*/\1/p" shells/_site |
+        awk -v word=site '$1 == "in" { word = $2; next } /^-/ { print word, $1 } word == "site" && /^[a-z]+$/'
+}
+of_fish() {
+    tr -d "'" <shells/site.fish | awk '{ at = 0 }
+        $5 == "__fish_use_subcommand" { word = "site"; at = 6 }
+        $5 == "__fish_seen_subcommand_from" { word = $6; at = 7 }
+        at == 6 && $at == "-a" { print $7 }
+        at && $at == "-l" { print word, "--" $(at + 1); if ($(at + 2) == "-s") print word, "-" $(at + 3) }'
+}
+of_man() {
+    sed 's/\\-/-/g' shells/site.1 | awk -v word=site '/^\.SS / { word = $2; print word }
+        /^\.B -/ { for (i = 2; $i ~ /^-/; i++) { sub(/,$/, "", $i); print word, $i } }'
+}
+while read -r kind name tool check; do
+    making '' "$program" "$kind"
+    cmp -s got.out "shells/$name" || status='another text'
+    : >got.out
+    is "$kind by itself" 0 '' ''
+    "of_$kind" 2>got.err | LC_ALL=C sort | diff named - >got.out
+    status=$?
+    is "what $name names" 0 '' ''
+    if command -v "$tool" >has; then
+        # shellcheck disable=SC2086
+        "$tool" $check "shells/$name" >got.out 2>got.err
+        status=$?
+        is "$tool reads $name" 0 '' ''
+    else
+        echo "$tool isn't here, so $name isn't given to it"
+    fi
+done <<'ROWS'
+bash site.bash bash -n
+zsh _site zsh -n
+fish site.fish fish -n
+man site.1 groff -man -Tutf8 -ww -z
+ROWS
+awk -F ' *[|] *' '/^## / { on = /Exit statuses/ } on && $2 ~ /^[0-9]$/ { print $2, $3 }' \
+    "$here/docs/FORMATS.md" >statuses
+sed 's/\\-/-/g; s/\\f[BR]/`/g' shells/site.1 |
+    awk '/^\.SH / { on = /EXIT STATUS/ } on && $1 == ".B" { status = $2; getline; print status, $0 }' >got.out
+is 'the exit statuses of the man page' 0 "$(cat statuses)$lf" ''
+completes() {
+    want=$1
+    shift
+    bash ask "$@" 2>got.err | LC_ALL=C sort | tr '\n' ' ' >got.out
+    status=$?
+    is "bash completes $*" 0 "$want" ''
+}
+completes 'take ' ta
+completes '--help --version -V -h ' -
+completes 'days delta ' help d
+completes '--at --db --help --source -h cancel place ship ' order ''
+completes 'cancel ' order --db x ca
+completes 'site.1 site.bash site.fish ' take --db si
+completes 'site.1 site.bash site.fish ' delta si
+completes '' scrub --from ''
+printf '#!/bin/sh\n"$SITE" "$@" | sed "$EDIT"\n' >edited
+chmod +x edited
+while read -r edit why; do
+    making "$edit" ./edited --all none
+    is "completions of help by $edit" 1 '' "completions: $why$lf"
+done <<'ROWS'
+s/<TIME>/<WHEN>/ is the value WHEN a file?
+/--at/d no help has the value TIME
+$aodd a line of help isn't understood: odd
+d the help lists no commands
+ROWS
+[ ! -e none ]
+status=$?
+: >got.err
+is 'nothing is made of them' 0 '' ''
 
 # The script ./site, where it has built this program already.
 if [ "$program" = "$here/crates/site_cli/out/site_cli" ] && [ -e "$program.built" ]; then

@@ -4,9 +4,10 @@
     tools/try_refusals.py [--program FILE] [--jobs N] [COMMAND..|TEST..]
 
 Each run has to end with the answer of the run that meets no refusal, or with status 1, `site: out of memory` and
-nothing on standard output (`run` with `site: no thread` too, where a thread's start was refused; `relay` with
-`site: route failed`, since its route goes into memory and fails for want of that alone; `follow` with a front of its
-acknowledgements on standard output). A command that writes is given once more after each refused run, with memory: it
+nothing on standard output (`run` with `site: no thread` too, where a thread's start was refused; `relay` of one page
+with `site: route failed`, since its route goes into memory and fails for want of that alone; `follow` with a front of
+its acknowledgements on standard output, and `delta` and `scrub` of all pages with those before the refusal, which has
+to come behind each but the last). A command that writes is given once more after each refused run, with memory: it
 then has to answer as it does the first time, or as it does when it was done already, and its database to hold what it
 holds after the run that meets no refusal. So nothing that was refused was half done, and nothing that was done is
 refused for good.
@@ -17,9 +18,12 @@ last line is 'N passed, M failed', of the refused allocations.
 """
 import argparse
 import collections
+import contextlib
+import itertools
 import json
 import os
 import shutil
+import sqlite3
 import subprocess
 import sys
 import tempfile
@@ -48,6 +52,7 @@ FILES = {
     "more.json": [E2, E4],
     "peer.json": [E3, E4],
     "faulty.json": [E1, {**E2, "sequence": "2"}, 3],
+    "paged.json": [event(f"a{number}", number, "t", "x") for number in range(1, 102)],
 }
 # Lines of an event or a batch each.
 LINES = [[E1], E2, [E2, E3]]
@@ -56,18 +61,35 @@ HELD = ["scrub", "--db", "s.db", "--from", "0"]
 ROWS = ["relay", "--db", "o.db", "--after", "0"]
 THREE = [["take", "--db", "s.db", "three.json"]]
 PLACED = [["order", "--db", "o.db", "--at", AT, "place", "7"]]
+# A database with a gap, a conflict and a day, and two of two pages.
+ASKED = [["take", "--db", "s.db", "asked.json"]]
+PAGED = [["take", "--db", "s.db", "paged.json"]]
+PAGED_ROWS = [["order", "--db", "o.db", "--at", AT, "place", str(number)] for number in range(1, 102)]
+
+
+def foreign(room):
+    """Makes a database whose inbox isn't one that these commands leave."""
+    with contextlib.closing(sqlite3.connect(f"{room}/f.db")) as base:
+        base.execute("CREATE TABLE inbox (place INTEGER PRIMARY KEY, body TEXT)")
+
+
 # What is said of lines that are there.
 ACKNOWLEDGED = b"".join(b'{"line":%d,"new":0,"repeated":%d}\n' % it for it in ((1, 1), (2, 1), (3, 2)))
-# A command: its words, the commands before it, how what its database then holds is told where it writes, and what it
-# answers where it was done already, if that is another answer.
-Row = collections.namedtuple("Row", "words before told again", defaults=([], None, None))
+# A command: its words, the commands before it, how what its database then holds is told where it writes, what it
+# answers where it was done already, if that is another answer, how many pages it writes as each is made, and how many
+# of its first and of its last allocations are refused, if not all: others open the same database.
+Row = collections.namedtuple("Row", "words before told again pages ends", defaults=([], None, None, None, None))
 ROWS_OF_ALL = [
     *[Row([it, "asked.json"]) for it in ("cover", "gaps", "shown", "latest", "kinds", "days", "conflicts")],
     Row(["check", "asked.json"]),
     Row(["check", "faulty.json", "asked.json"]),
     Row(["check", "--db", "s.db", "faulty.json"], THREE),
     Row(["check", "--db", "o.db"], PLACED),
+    Row(["check", "--db", "none.db"]),
+    Row(["check", "--db", "faulty.json"]),
+    Row(["check", "--db", "f.db", "faulty.json"], [foreign], ends=(50, 150)),
     *[Row([it, "--db", "s.db", "asked.json"], THREE) for it in ("latest", "conflicts")],
+    *[Row([it, "--db", "s.db"], ASKED, ends=(50, 100)) for it in ("cover", "gaps", "shown", "kinds", "days")],
     Row(["take", "--db", "n.db", "three.json"], [], ["scrub", "--db", "n.db"], b"read 3 new 0 repeated 3\n"),
     Row(["take", "--db", "s.db", "more.json"], THREE, HELD, b"read 2 new 0 repeated 2\n"),
     Row(["follow", "--db", "n.db", "lines"], [], ["scrub", "--db", "n.db"], ACKNOWLEDGED),
@@ -75,8 +97,10 @@ ROWS_OF_ALL = [
     Row(["summary", "--db", "s.db"], THREE),
     Row(["delta", "--db", "s.db", "asked.summary"], THREE),
     Row(["delta", "--db", "s.db", "--all", "asked.summary"], THREE),
+    Row(["delta", "--db", "s.db", "--all", "nothing.summary"], PAGED, pages=2, ends=(0, 220)),
     Row(["scrub", "--db", "s.db"], THREE),
     Row(["scrub", "--db", "s.db", "--all"], THREE),
+    Row(["scrub", "--db", "s.db", "--all"], PAGED, pages=2, ends=(0, 220)),
     Row(["service", "--db", "n.db", "--source", "/north", "--base", "5"], [], ["relay", "--db", "n.db", "--after", "0"]),
     Row(["service", "--db", "o.db"], PLACED, ROWS),
     Row(["order", "--db", "n.db", "--source", "/north", "--at", AT, "place", "7"], [], ["relay", "--db", "n.db", "--after", "0"]),
@@ -86,6 +110,7 @@ ROWS_OF_ALL = [
     Row(["order", "--db", "o.db", "--at", AT, "place", "7"], PLACED, ROWS),
     Row(["relay", "--db", "o.db", "--after", "0"], PLACED),
     Row(["relay", "--db", "o.db", "--after", "0", "--all"], PLACED),
+    Row(["relay", "--db", "o.db", "--after", "0", "--all"], PAGED_ROWS, ends=(0, 220)),
     Row(["run", "--db", "s.db", "--peer", "peer.json", "two.json", "more.json"], THREE, HELD),
 ]
 
@@ -123,7 +148,7 @@ class Trial:
 
     def __init__(self, program, row, refuser):
         self.program, self.row, self.refuser = program, row, refuser
-        self.lock, self.next, self.end, self.refused, self.wrong = threading.Lock(), 1, None, 0, []
+        self.lock, self.end, self.met, self.refused, self.wrong, self.behind = threading.Lock(), None, 0, 0, [], set()
         self.start = tempfile.mkdtemp(prefix="refusals-")
         for name, events in FILES.items():
             with open(f"{self.start}/{name}", "w", encoding="utf-8") as it:
@@ -132,11 +157,19 @@ class Trial:
             it.writelines(json.dumps(line, separators=(",", ":")) + "\n" for line in LINES)
         with open(f"{self.start}/asked.summary", "w", encoding="utf-8") as it:
             it.write('{"sources":{"/orders":[[2,2]]},"version":1}')
-        for words in row.before:
-            self.ran(words, self.start, check=True)
+        with open(f"{self.start}/nothing.summary", "w", encoding="utf-8") as it:
+            it.write('{"sources":{},"version":1}')
+        for step in row.before:
+            if callable(step):
+                step(self.start)
+            else:
+                self.ran(step, self.start, check=True)
         with self.room() as room:
             self.whole = self.said(self.ran(row.words, room))
             self.holds = row.told and self.said(self.ran(row.told, room))
+        first, last = row.ends or (0, 0)
+        last_ones = itertools.count(max(first, self.count() - last if row.ends else 0) + 1)
+        self.numbers = itertools.chain(range(1, first + 1), last_ones)
 
     def ran(self, words, room, **more):
         return subprocess.run([self.program, *words], cwd=room, capture_output=True, stdin=subprocess.DEVNULL, timeout=60, **more)
@@ -151,6 +184,20 @@ class Trial:
         shutil.copytree(self.start, room.name, dirs_exist_ok=True)
         return room
 
+    def count(self):
+        """How many allocations the command makes."""
+        def is_met(at):
+            with self.room() as room:
+                return self.refuser.ran([self.program, *self.row.words], at, cwd=room)[1]
+
+        below, high = 0, 1
+        while is_met(high):
+            below, high = high, 2 * high
+        while high - below > 1:
+            middle = (below + high) // 2
+            below, high = (middle, high) if is_met(middle) else (below, middle)
+        return below
+
     def tried(self, at):
         """What is wrong with the run whose allocation of this number is refused, if anything; None where it met none."""
         with self.room() as room:
@@ -162,11 +209,14 @@ class Trial:
                 return []
             with self.lock:
                 self.refused += 1
-            if self.row.words[0] == "follow":
-                # What was acknowledged before the refusal is written, in whole lines.
-                is_front = self.whole[1].startswith(said[1]) and said[1][-1:] in (b"", b"\n")
-                said = (said[0], b"" if is_front else said[1], said[2])
-            if said not in (REFUSED, OTHER_WORDS.get(self.row.words[0])):
+            is_front = self.whole[1].startswith(said[1]) and said[1][-1:] in (b"", b"\n")
+            count = said[1].count(b"\n")
+            if is_front and (self.row.words[0] == "follow" or count < (self.row.pages or 0)):
+                # What was acknowledged, or the pages before the refusal, is written, in whole lines.
+                with self.lock:
+                    self.behind.add(count)
+                said = (said[0], b"", said[2])
+            if said != REFUSED and ("--all" in self.row.words or said != OTHER_WORDS.get(self.row.words[0])):
                 return [f"allocation {at}: {said}"]
             if not self.row.told:
                 return []
@@ -179,8 +229,7 @@ class Trial:
     def work(self):
         while True:
             with self.lock:
-                at = self.next
-                self.next += 1
+                at = next(self.numbers)
             if self.end is not None and at >= self.end:
                 return
             wrong = self.tried(at)
@@ -188,6 +237,7 @@ class Trial:
                 if wrong is None:
                     self.end = min(at, self.end or at)
                     return
+                self.met += 1
                 self.wrong += wrong
 
     def run(self, jobs):
@@ -197,7 +247,9 @@ class Trial:
         for it in workers:
             it.join()
         shutil.rmtree(self.start)
-        return self.end - 1
+        if self.row.pages and self.behind != set(range(self.row.pages)):
+            self.wrong.append(f"refusals came behind {sorted(self.behind)} pages alone")
+        return self.met
 
 
 def tests_built():

@@ -115,16 +115,18 @@ FILES = {
     "lines": b"".join(text(it) + b"\n" for it in (E1, E2, E3)),
     "one.summary": b'{"sources":{"/orders":[[1,1]]},"version":1}',
 }
+# A service with two pages of rows is among them.
 MADE = (
     ["take", "--db", "s.db", "three.json"],
     ["take", "--db", "m.db", "many.json"],
-    ["order", "--db", "o.db", "--at", AT, "place", "7"],
+    *[["order", "--db", "o.db", "--at", AT, "place", str(order)] for order in range(1, 102)],
 )
 # How what a database has is told.
-TOLD = {
-    **{name: ["scrub", "--db", name, "--all"] for name in ("s.db", "m.db", "n.db")},
-    "o.db": ["relay", "--db", "o.db", "--after", "0", "--all"],
-}
+TOLD = (
+    *[(name, ["scrub", "--db", name, "--all"]) for name in ("s.db", "m.db", "n.db")],
+    ("n.db", ["check", "--db", "n.db"]),
+    ("o.db", ["relay", "--db", "o.db", "--after", "0", "--all"]),
+)
 # Commands, and the file that each reads: by its name, or, where the words name none, as standard input.
 READS = (
     (["cover", "two.json"], "two.json"),
@@ -132,6 +134,7 @@ READS = (
     (["shown", "three.json", "two.json"], "two.json"),
     (["gaps", "two.json", "--db", "s.db"], "two.json"),
     (["check", "faulty.json"], "faulty.json"),
+    (["check", "--db", "s.db", "faulty.json"], "faulty.json"),
     (["take", "--db", "n.db", "two.json"], "two.json"),
     (["take", "--db", "s.db", "two.json"], "two.json"),
     (["delta", "--db", "s.db", "one.summary"], "one.summary"),
@@ -146,14 +149,19 @@ WRITES = (
     Row(["cover", "two.json"]),
     Row(["kinds", "two.json", "--db", "s.db"]),
     Row(["check", "faulty.json"]),
+    Row(["check", "--db", "s.db"]),
+    Row(["check", "--db", "o.db", "faulty.json"]),
+    Row(["check", "--db", "faulty.json"]),
     Row(["take", "--db", "n.db", "two.json"]),
     Row(["summary", "--db", "s.db"]),
     Row(["delta", "--db", "s.db", "one.summary"]),
     Row(["scrub", "--db", "m.db", "--all"], by_line=True),
     Row(["delta", "--db", "m.db", "--all", "one.summary"], by_line=True),
     Row(["service", "--db", "o.db"]),
+    Row(["service", "--db", "n.db", "--source", "/west", "--base", "5"]),
     Row(["order", "--db", "o.db", "--at", AT, "ship", "7"]),
     Row(["relay", "--db", "o.db", "--after", "0"]),
+    Row(["relay", "--db", "o.db", "--after", "0", "--all"]),
     Row(["run", "--db", "n.db", "two.json"]),
     Row(["--help"]),
     Row(["--version"]),
@@ -253,15 +261,18 @@ class Trial:
         """The texts of the events that the new database has, in the order of their numbers."""
         return self.ran(room, ["shown", "--db", "n.db"])[1].splitlines() if os.path.exists(f"{room}/n.db") else []
 
-    def told(self, room):
-        """What each database tells of itself; two with the same rows may differ in their bytes."""
-        return {name: self.ran(room, words) for name, words in TOLD.items() if os.path.exists(f"{room}/{name}")}
+    def left(self, room, words):
+        """What the database of the words tells of itself, since two with the same rows may differ in their bytes, and
+        the bytes of all other files but logs."""
+        told = [self.ran(room, it) for name, it in TOLD if name in words and os.path.exists(f"{room}/{name}")]
+        others = {name: it for name, it in contents(room).items() if name not in words or name not in dict(TOLD)}
+        return told, {name: it for name, it in others.items() if not name.endswith("-wal")}
 
     def write(self, row):
         """Writes in pieces, up to each write that fails, and to a stream that takes nothing."""
         with self.room() as room:
             whole = self.ran(room, row.words)
-            after = self.told(room)
+            after = self.left(room, row.words)
         units = whole[row.output].splitlines(keepends=True) if row.by_line else [whole[row.output]]
         output = str(row.output)
         for step in (0, -(-len(whole[row.output]) // 7)):
@@ -273,10 +284,10 @@ class Trial:
                     want[0], want[row.output] = 1, b"".join(pieces[: fails - 1])
                 with self.room() as room:
                     got = self.ran(room, row.words, output=output, out=f"{step},{fails},0")
-                    self.is_so(what, got, tuple(want), self.told(room), after)
+                    self.is_so(what, got, tuple(want), self.left(room, row.words), after)
         with self.room() as room:
             got = self.ran(room, row.words, output=output, out="0,0,1")
-            self.is_so(f"{row.words}, nothing is taken", got, (1, b"", b""), self.told(room), after)
+            self.is_so(f"{row.words}, nothing is taken", got, (1, b"", b""), self.left(room, row.words), after)
 
 
 def cut(given, step):
