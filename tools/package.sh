@@ -25,7 +25,7 @@ name=site-$(git rev-parse --short=12 HEAD)-x86_64-linux
 room=$(mktemp -d) || exit 1
 trap 'rm -rf "$room"' EXIT
 mkdir "$room/$name" && cp "$program" "$room/$name/site" || exit 1
-cp -r docs/GUIDE.md docs/FORMATS.md examples "$room/$name/" || exit 1
+cp -r docs/GUIDE.md docs/PRODUCERS.md docs/FORMATS.md tools/make_batch.py examples "$room/$name/" || exit 1
 tools/completions.py --program "$room/$name/site" --all "$room/$name/complete" || exit 1
 printf '%s  site\n' "$sum" >"$room/$name/site.sha256"
 {
