@@ -187,7 +187,7 @@ def fish(whole, commands):
         for option in its.options:
             line = f"{on} {named(option)}"
             if option[2]:
-                line += " -r" + (" -F" if words_of(*option[2:])[1] else "")
+                line += " -r -F" if words_of(*option[2:])[1] else " -x"
             yield f"{line} -d {quoted(option[3])}"
         for name, _, about in its.arguments:
             given, is_file = words_of(name, about)
