@@ -1,5 +1,5 @@
 -- A reading changes nothing.
-use Rattle.std.proofs.Common.{◌≡◌, ◌⊎◌, inl, inr, ℕ, List, Option, Some, None, IsTrue, sym, ap, subst, ◌∙◌}
+use Rattle.std.proofs.Common.{◌≡◌, ◌⊎◌, inl, inr, ℕ, List, Option, Some, None, Ok, Err, Result, OnOk, IsTrue, sym, ap, subst, ◌∙◌}
 use Rattle.sqlite_value.specs.Order.{Row}
 use Rattle.sqlite_trees.specs.Tree.{Trees}
 use Rattle.sqlite_schema.specs.declared.command.Returning.{Returning}
@@ -11,6 +11,11 @@ use Rattle.sqlite.proofs.Callers.{IsPlain}
 use Rattle.outbox.specs.Layout.{schema_in}
 use Rattle.outbox.specs.Call.{IsSame, LeavesAsBefore}
 use Rattle.outbox.specs.Layout.{ServiceLayout}
+use Rattle.outbox.specs.steps.Rest.{HasCommitted}
+
+pub on_ok : {T E : Type 0} (r : Result T E) {P : Type 0} → P → OnOk r P
+on_ok (Ok v) holds = holds
+on_ok (Err e) holds = tt
 
 pub not_shown : (sql : List ℕ) (params : Row) (old new : State) (e : Error) → FailsToQuery sql params old new e → IsUnchanged old new ⊎ IsRolledBack old new
 unfolding FailsToQuery IsNotRun
@@ -63,6 +68,12 @@ refused_same sql params old new e survives settled fails = record {
   was_open = λ clean still. open_where old new (not_shown sql params old new e (fails clean)) still;
   same = λ clean still l has. let how = not_shown sql params old new e (fails clean) in same_where old new (settled (open_where old new how still)) how still;
 }
+
+-- what is shown after a question that writes nothing, outside a transaction, is committed
+pub committed : (sql : List ℕ) (params : Row) (old new : State) (rows : List Row) → ArePlain sql → (IsTrue old.is_open → old.now ≡ old.committed) → Shown sql params old new rows → HasCommitted old new
+committed sql params old new rows plain settled shows l has =
+    let is = shown l sql params old new rows (plain l) has shows in
+    is.0.now_is ∙ settled is.0.was_open ∙ sym is.0.committed_is
 
 pub shown_open : (sql : List ℕ) (params : Row) (old new : State) (rows : List Row) → Shown sql params old new rows → IsTrue old.is_open
 unfolding Shown

@@ -2,3 +2,4 @@
 pub mod Statement
 pub mod Change
 pub mod Replay
+pub mod Rest

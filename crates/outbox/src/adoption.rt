@@ -14,8 +14,9 @@ ghost use Rattle.attributes.specs.Time.{time_day};
 ghost use Rattle.outbox.specs.Order.{Accepted, AreAccepted, IsCommand, status_of};
 ghost use Rattle.database_layout.specs.Layout.{HasService, lacks_name, schema_in as whole_schema};
 ghost use Rattle.outbox.specs.Shown.{CountsOrders, HasNoOther, IsAllowed, IsNoService, Stands, StandsFor, max_source};
-ghost use Rattle.outbox.specs.Call.{IsSame, Leaves, LeavesAsBefore};
+ghost use Rattle.outbox.specs.Call.{IsSame, IsSettled, Leaves, LeavesAsBefore};
 ghost use Rattle.outbox.specs.steps.Change.{ShowOrders, shown_row, shown_rows, shown_service};
+ghost use Rattle.outbox.specs.steps.Rest.{HasCommitted};
 ghost use Rattle.outbox.specs.steps.Replay.{IsReplay};
 ghost use Rattle.outbox.specs.declared.fault.OutboxFault.TheVariants.{OutOfMemory, Store, Foreign};
 ghost use Rattle.outbox.specs.Layout.{IsOthers, ServiceLayout, schema_in};
@@ -201,6 +202,8 @@ fn all_of<S: Alter>(conn: &mut Connection<S>, sql: &str) -> Result<Vec<Row>, Out
     ensures live { IsLive (state S.Store conn.old) }
     ensures open { HasCleanDisk (state S.Store conn.new) → OnOk result
         (IsTrue (state S.Store conn.old).is_open × IsTrue (state S.Store conn.new).is_open) }
+    ensures settled { HasCleanDisk (state S.Store conn.new)
+        → OnOk result (HasCommitted (state S.Store conn.old) (state S.Store conn.new)) }
     ensures fault { IfErr result (λ f. (f ≡ OutOfMemory) ⊎ (f ≡ Store)) }
 {
     let _schema = conn.schema();
@@ -233,6 +236,8 @@ pub(crate) fn found_in<S: Alter>(
         HasNoOther (state S.Store conn.old).now f.source f.base)) }
     ensures open { HasCleanDisk (state S.Store conn.new)
         → IfOk result (λ o. IfSome o (λ _. IsTrue (state S.Store conn.new).is_open)) }
+    ensures settled { HasCleanDisk (state S.Store conn.new) → IfOk result (λ o. IfSome o (λ _.
+        (state S.Store conn.new).now ≡ (state S.Store conn.new).committed)) }
     ensures left { Leaves (state S.Store conn.old) (state S.Store conn.new) }
     ensures fault { IfErr result (λ f. (f ≡ OutOfMemory) ⊎ (f ≡ Store)) }
 {
@@ -284,6 +289,8 @@ fn read<S: Alter>(alloc: Global, conn: &mut Connection<S>) -> Result<Found, Outb
         → IfOk result (λ f. HasNoOther (state S.Store conn.old).now f.source f.base) }
     ensures open { HasCleanDisk (state S.Store conn.new)
         → OnOk result (IsTrue (state S.Store conn.new).is_open) }
+    ensures settled { HasCleanDisk (state S.Store conn.new) → OnOk result (
+        (state S.Store conn.new).now ≡ (state S.Store conn.new).committed) }
     ensures missing { lacks_name (state S.Store conn.old).now.schema ≡ true → result ≡ Err Foreign }
     ensures strange { lacks_name (state S.Store conn.old).now.schema ≡ false
         → IsOthers (state S.Store conn.old).now.schema → result ≢ Err Foreign }
@@ -323,6 +330,8 @@ impl<S: Alter + Drop> Service<S> {
             → HasNoOther (state S.Store conn).now s.source s.base) }
         ensures open { IfOk result (λ s. HasCleanDisk (state S.Store s.conn)
             → IsTrue (state S.Store s.conn).is_open) }
+        ensures settled { IfOk result (λ s. HasCleanDisk (state S.Store s.conn)
+            → IsSettled (state S.Store s.conn)) }
 
         // A table that is missing is found before any memory is asked for.
         ensures missing { lacks_name (state S.Store conn).now.schema ≡ true

@@ -10,7 +10,7 @@ ghost use Rattle.outbox.specs.Order.{Accepted, status_of, refusal};
 ghost use Rattle.outbox.specs.Row.{row_event, events_from};
 ghost use Rattle.outbox.specs.Service.{code, IsService};
 ghost use Rattle.outbox.specs.Shown.{CountsOrders, CountsRows, StandsFor};
-ghost use Rattle.outbox.specs.Call.{CommandCall, CommandEffect, IsSame, LeavesAsBefore, ShowsAfter};
+ghost use Rattle.outbox.specs.Call.{CommandCall, CommandEffect, IsSame, IsSettled, LeavesAsBefore, ShowsAfter};
 ghost use Rattle.outbox.specs.steps.Change.{shown_row, shown_rows};
 ghost use Rattle.outbox.specs.declared.fault.OutboxFault.TheVariants.{OutOfMemory, Store, Foreign};
 ghost use Rattle.outbox.specs.declared.status.Status.TheVariants.{Placed, Shipped, Cancelled};
@@ -363,6 +363,10 @@ impl<S: Alter> Service<S> {
             (state S.Store self.old.conn).now) }
         ensures open { HasCleanDisk (state S.Store self.new.conn)
             → OnOk result (IsTrue (state S.Store self.old.conn).is_open) }
+        ensures stays_open { HasCleanDisk (state S.Store self.new.conn)
+            → OnOk result (IsTrue (state S.Store self.new.conn).is_open) }
+        ensures settled { HasCleanDisk (state S.Store self.new.conn)
+            → OnOk result (IsSettled (state S.Store self.new.conn)) }
         ensures crash { LeavesAsBefore (state S.Store self.old.conn)
             (state S.Store self.new.conn) }
         ensures same { IsSame (state S.Store self.old.conn) (state S.Store self.new.conn) }

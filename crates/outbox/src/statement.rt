@@ -9,6 +9,7 @@ ghost use Rattle.outbox.specs.Order.{Accepted};
 ghost use Rattle.outbox.specs.Service.{IsService};
 ghost use Rattle.outbox.specs.Call.{IsSame, LeavesAsBefore};
 ghost use Rattle.outbox.specs.steps.Change.{Adds, MayAdd, TellsStatus, shown_rows};
+ghost use Rattle.outbox.specs.steps.Rest.{HasCommitted};
 ghost use Rattle.outbox.specs.steps.Statement.{note_text, append_text, page_text, status_text};
 ghost use Rattle.outbox.specs.declared.fault.OutboxFault.TheVariants.{OutOfMemory, Store};
 
@@ -163,8 +164,10 @@ pub(crate) fn page<S: Alter>(
         → IsService (state S.Store conn.old).now source base commands
         → rows.items ≡ take limit
         (shown_rows (suc base + (after - base)) (drop (after - base) commands))) }
-    ensures open { HasCleanDisk (state S.Store conn.new)
-        → OnOk result (IsTrue (state S.Store conn.old).is_open) }
+    ensures open { HasCleanDisk (state S.Store conn.new) → OnOk result
+        (IsTrue (state S.Store conn.old).is_open × IsTrue (state S.Store conn.new).is_open) }
+    ensures settled { HasCleanDisk (state S.Store conn.new)
+        → OnOk result (HasCommitted (state S.Store conn.old) (state S.Store conn.new)) }
     ensures crash { LeavesAsBefore (state S.Store conn.old) (state S.Store conn.new) }
     ensures same { IsSame (state S.Store conn.old) (state S.Store conn.new) }
     ensures fault { IfErr result (λ f. (f ≡ OutOfMemory) ⊎ (f ≡ Store)) }

@@ -1,6 +1,6 @@
 use Rattle.std.proofs.Common.{IsTrue, rules}
 use Rattle.sqlite.specs.Held.{state}
-use Rattle.outbox.proofs.SameLemmas.{leaves, refused_same, answered_same, shown_open, shown_stays_open}
+use Rattle.outbox.proofs.SameLemmas.{committed, leaves, refused_same, answered_same, shown_open, shown_stays_open}
 use Rattle.outbox.proofs.adoption.all_of.Goals as goal
 
 pub returns-in_err-query_all-clause-same : goal.returns-in_err-query_all-clause-same
@@ -23,3 +23,8 @@ returns-in_err-query_all-clause-crash g c = leaves c.args.sql.now _ (state g.S.S
 
 pub returns-clause-crash : goal.returns-clause-crash
 returns-clause-crash g c = leaves c.args.sql.now _ (state g.S.Store c.args.conn.now) (state g.S.Store c.query_all.new.self) c.requires.plain c.query_all.ensures.survives
+
+pub returns-clause-settled : goal.returns-clause-settled
+returns-clause-settled g c clean =
+    let auto : IsTrue c.is_autocommit.result = search rules in
+    committed c.args.sql.now _ (state g.S.Store c.args.conn.now) (state g.S.Store c.query_all.new.self) _ c.requires.plain (c.is_autocommit.ensures.settled auto) (c.in_ok-query_all.ensures.ok clean)

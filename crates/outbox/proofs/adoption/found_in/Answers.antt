@@ -2,6 +2,7 @@ use Rattle.std.proofs.Common.{◌≡◌, [], ◌∷◌, sym, ◌∙◌, ap, arit
 use Rattle.sqlite.specs.Effect.{Database}
 use Rattle.sqlite.specs.State.{HasCleanDisk}
 use Rattle.sqlite.specs.Held.{state}
+use Rattle.outbox.specs.Layout.{ServiceLayout}
 use Rattle.outbox.specs.steps.Change.{ShowOrders, shown_service}
 use Rattle.outbox.specs.steps.Replay.{IsReplay}
 use Rattle.outbox.proofs.FoundLemmas.{all_leave, found, found_counts, not_both, no_orders, no_other, no_rows, no_source, one_leaves, two_leave}
@@ -103,3 +104,15 @@ returns-then-branch-clause-left g c = all_leave (state g.S.Store c.args.conn.now
 
 pub returns-clause-left : goal.returns-clause-left
 returns-clause-left g c = all_leave (state g.S.Store c.args.conn.now) (state g.S.Store c.all_of.new.conn) (state g.S.Store c.all_of-2.new.conn) (state g.S.Store c.all_of-3.new.conn) c.args.layout c.requires.there c.requires.schema c.all_of.ensures.same c.all_of.ensures.crash c.in_ok-services.ensures.open c.all_of-2.ensures.same c.all_of-2.ensures.crash c.in_ok-rows.ensures.open c.all_of-3.ensures.same c.all_of-3.ensures.crash
+
+pub returns-then-branch-clause-settled : goal.returns-then-branch-clause-settled
+returns-then-branch-clause-settled g c clean =
+    let b = state g.S.Store c.all_of.new.conn in
+    let d = state g.S.Store c.all_of-2.new.conn in
+    let clean_d : HasCleanDisk d = omega (arith, c.all_of-3.ensures.same.clean, clean) in
+    let clean_b : HasCleanDisk b = omega (arith, c.all_of-2.ensures.same.clean, clean_d) in
+    let l : ServiceLayout = (c.args.layout, c.requires.there) in
+    let ab : b.now ≡ (state g.S.Store c.args.conn.now).now = (c.all_of.ensures.same.same clean_b (c.in_ok-rows.ensures.open clean_d).0 l c.requires.schema).0 in
+    let has_b = ap (λ (x : Database). x.schema) ab ∙ c.requires.schema in
+    let bd : d.now ≡ b.now = (c.all_of-2.ensures.same.same clean_d (c.in_ok-orders.ensures.open clean).0 l has_b).0 in
+    c.in_ok-orders.ensures.settled clean l (ap (λ (x : Database). x.schema) bd ∙ has_b)
