@@ -15,3 +15,4 @@ pub mod ReplayLemmas
 pub mod FoundLemmas
 pub mod CreateLemmas
 pub mod LawLemmas
+pub mod OpeningLemmas

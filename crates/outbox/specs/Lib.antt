@@ -4,6 +4,7 @@ pub mod Layout
 pub mod Service
 pub mod Shown
 pub mod Call
+pub mod Opening
 pub mod Fault
 pub mod Law
 pub mod steps

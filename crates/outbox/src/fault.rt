@@ -29,8 +29,8 @@ pub enum OutboxFault {
     /// The database refused a statement, or stands inside a transaction.
     #[error("Store")]
     Store,
-    /// `create`: a table of a service is there. `adopt`: one is missing, or the rows aren't those
-    /// that the calls of a service leave.
+    /// `create`: a table of a service is there. `adopt`, and `open` where one is there: another is
+    /// missing, or the rows aren't those that the calls of a service leave.
     #[error("Foreign")]
     Foreign,
 }

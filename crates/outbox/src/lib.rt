@@ -5,6 +5,7 @@ mod adoption;
 mod creation;
 mod fault;
 pub mod laws;
+mod opening;
 mod row;
 mod service;
 mod statement;
