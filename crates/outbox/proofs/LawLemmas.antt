@@ -5,7 +5,8 @@ use Rattle.std.proofs.lemmas.List.Concat.{flat_map-append}
 use Rattle.std.proofs.lemmas.List.Sums.{sum_by-append}
 use Rattle.sqlite.specs.Effect.{Database}
 use Rattle.database_layout.specs.Law.{TreesTellTables}
-use Rattle.outbox.specs.Law.{OrdersHaveAStatus, StopsLeaveAService}
+use Rattle.outbox.specs.Call.{IsFounded}
+use Rattle.outbox.specs.Law.{OrdersHaveAStatus, StopsLeaveANewServiceOrNone, StopsLeaveAService}
 use Rattle.outbox.specs.Order.{Accepted, AreAccepted, orders_of, placed_by, status_fault, status_of}
 use Rattle.outbox.specs.Service.{IsService}
 use Rattle.outbox.specs.declared.fault.OutboxFault.{OutboxFault}
@@ -19,6 +20,11 @@ found_again tell source base commands c old again sound back service (inl before
     inl (subst (λ (d : Database). IsService d source base commands) (sym (tell old again sound back before)) service)
 found_again tell source base commands c old again sound back service (inr after) =
     inr (subst (λ (d : Database). IsService d source base (commands ++ c ∷ [])) (sym (tell after.db again after.sound back after.are)) (after.service commands service))
+
+pub new_again : TreesTellTables → StopsLeaveANewServiceOrNone
+new_again tell source base old again sound back (inl before) = inl (tell old again sound back before)
+new_again tell source base old again sound back (inr after) =
+    inr (subst (λ (d : Database). IsFounded source base old d) (sym (tell after.db again after.sound back after.are)) after.founded)
 
 -- ---- orders and their statuses
 

@@ -1,7 +1,7 @@
 -- What holds of services, whatever was done.
 use Rattle.std.specs.Prelude.{◌≡◌, ◌⊎◌, ◌==◌, ℕ, List, [], ◌∷◌, ◌++◌, count_by, if◌then◌else◌, is_some}
 use Rattle.sqlite.specs.Effect.{Database, IsDatabase}
-use Rattle.outbox.specs.Call.{MayAccept}
+use Rattle.outbox.specs.Call.{IsFounded, MayAccept, MayFound}
 use Rattle.outbox.specs.Order.{Accepted, AreAccepted, orders_of, status_of}
 use Rattle.outbox.specs.Service.{IsService}
 
@@ -14,6 +14,15 @@ StopsLeaveAService = (source : List ℕ) (base : ℕ) (commands : List Accepted)
     → IsService old source base commands
     → (again.trees ≡ old.trees) ⊎ MayAccept source base c old again.trees
     → IsService again source base commands ⊎ IsService again source base (commands ++ c ∷ [])
+
+-- a service was being made with this source and base, and stopped at any write: what it left is what was
+-- there, or what the commit makes. The database that is opened again is the one of before, or has the
+-- service with that source and base and no commands, beside what was there
+abbrev pub StopsLeaveANewServiceOrNone : Type 0
+StopsLeaveANewServiceOrNone = (source : List ℕ) (base : ℕ) (old again : Database)
+    → IsDatabase old → IsDatabase again
+    → (again.trees ≡ old.trees) ⊎ MayFound source base old again.trees
+    → (again ≡ old) ⊎ IsFounded source base old again
 
 -- of commands that were accepted one after another, the orders are those that have a status, each
 -- once

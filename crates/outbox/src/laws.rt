@@ -1,6 +1,6 @@
 //! Laws of services, each as the contract of a function that does nothing.
 
-ghost use Rattle.outbox.specs.Law.{OrdersHaveAStatus, StopsLeaveAService};
+ghost use Rattle.outbox.specs.Law.{OrdersHaveAStatus, StopsLeaveANewServiceOrNone, StopsLeaveAService};
 
 use database_layout::laws::trees_tell_tables;
 
@@ -11,6 +11,17 @@ use database_layout::laws::trees_tell_tables;
 /// latter alone.
 pub fn stops_leave_a_service()
     ensures { StopsLeaveAService }
+{
+    trees_tell_tables();
+}
+
+/// [`crate::Service::create`] and [`crate::Service::open`] may be stopped at any write: then their
+/// clauses on a crash tell what is left. The file that is opened again is as it was before, and
+/// `open` makes the service then, or it has the service with the source and base that were given and
+/// no commands, which `open` finds. Where the call had answered, the clause `settled` leaves the
+/// latter alone.
+pub fn stops_leave_a_new_service_or_none()
+    ensures { StopsLeaveANewServiceOrNone }
 {
     trees_tell_tables();
 }
