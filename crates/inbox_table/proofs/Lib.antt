@@ -7,6 +7,7 @@ pub mod KeepLemmas
 pub mod CreateLemmas
 pub mod UpgradeLemmas
 pub mod TableLemmas
+pub mod OpenLemmas
 pub mod SameLemmas
 pub mod ReadLemmas
 pub mod LoadLemmas

@@ -1,6 +1,7 @@
 -- A table of version 2 in the place of one of version 1, and what a crash may find.
-use Rattle.std.proofs.Common.{◌≡◌, ◌⊎◌, inl, inr, ℕ, List, [], ◌∷◌, Bool, true, false, filter, refl, sym, ap, subst, ◌∙◌, arith, IsTrue, IsPermutation}
+use Rattle.std.proofs.Common.{◌≡◌, ◌⊎◌, inl, inr, ℕ, List, [], ◌∷◌, Bool, true, false, filter, refl, sym, ap, subst, ◌∙◌, arith, IsTrue, IsPermutation, length, Ok, Err, Result}
 use Rattle.std.proofs.lemmas.List.Sorted.{IsPermutation-refl}
+use Rattle.std.specs.Result.{IfOk, OnOk}
 use Rattle.sqlite_catalog.specs.Change.{KeepsRows}
 use Rattle.sqlite.specs.Effect.{Database}
 use Rattle.sqlite_schema.specs.declared.schema.Schema.{Schema}
@@ -12,7 +13,7 @@ use Rattle.database_layout.specs.Making.{Changes, Makes, both_in, upgraded}
 use Rattle.database_layout.specs.declared.layout.Layout.{Layout}
 use Rattle.database_layout.specs.declared.layout.Layout.TheVariants.{Inbox, InboxService, ServiceInbox}
 use Rattle.inbox_table.specs.Beside.{HasSameService, UpgradesTables}
-use Rattle.inbox_table.specs.Calls.{Adopts, Finds, IsAsItWas, IsSettled, MayUpgrade, Rejects, has_both}
+use Rattle.inbox_table.specs.Calls.{Adopts, Finds, IsAsItWas, IsSettled, IsTold, MayUpgrade, Rejects, has_both}
 use Rattle.inbox_table.specs.Fault.{IsOfStore}
 use Rattle.inbox_table.specs.Rows.{IsAnyInbox, IsInbox, IsListed, IsOldInbox, rows_from}
 use Rattle.inbox_table.specs.Version.{HasTable}
@@ -160,7 +161,7 @@ any_alone : (db : Database) (m : List EventValue) → IsAnyInbox db m → has_bo
 any_alone db m (inl box) = ap has_both box.schema ∙ one_alone box.layout
 any_alone db m (inr box) = ap has_both box.schema ∙ one_alone box.layout
 
-not_told : (b : Bool) → b ≡ true → b ≡ false → ⊥
+pub not_told : (b : Bool) → b ≡ true → b ≡ false → ⊥
 not_told true h none = absurd (cc)
 not_told false h none = absurd (cc)
 
@@ -218,3 +219,15 @@ as_it_was old mid new same still last clean open_now = let it = still clean in l
 -- a layout has one version at most
 pub both_none : (s : Schema) (l : Layout) → s ≡ schema_in l → has_both s ≡ true → ⊥
 both_none s l is both = not_told (has_both s) both (ap has_both is ∙ one_alone l)
+
+-- ---- what the watch was told
+
+pub on_ok : {T E : Type 0} (r : Result T E) (P : Type 0) → P → OnOk r P
+on_ok (Ok x) P p = p
+on_ok (Err y) P p = tt
+
+-- those that were put in are those that were there
+pub upgrade_told : {T : Type 0} (rows : T → ℕ) (events : T → List EventValue) (told : ℕ → ℕ → Type 0) (old new : State) (r : Result T TableFault) → IfOk r (λ f. HasAdopted true old new (rows f) (events f)) → IfOk r (λ f. IsTold told (length (events f)))
+    → OnOk r ((m : List EventValue) → IsOldInbox old.now m → IsTold told (length m))
+upgrade_told rows events told old new (Ok f) it were = λ m box. subst (λ (l : List EventValue). IsTold told (length l)) (it.kept refl ∙ it.adopts.only m (inr box)) were
+upgrade_told rows events told old new (Err fault) it were = tt

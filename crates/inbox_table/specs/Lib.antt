@@ -3,6 +3,7 @@ pub mod Texts
 pub mod Rows
 pub mod Beside
 pub mod Calls
+pub mod Opening
 pub mod Codes
 pub mod Fault
 pub mod Law

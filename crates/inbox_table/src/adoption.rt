@@ -1,12 +1,12 @@
 //! What a database has to be to be taken as a table.
 
-ghost use Rattle.std.specs.Prelude.{◌≡◌, ◌⊎◌, true, false, Err, List, IsTrue, IfOk, IfErr, OnOk};
+ghost use Rattle.std.specs.Prelude.{◌≡◌, ◌⊎◌, true, false, Err, List, length, IsTrue, IfOk, IfErr, OnOk};
 ghost use Rattle.sqlite.specs.Held.{state};
 ghost use Rattle.sqlite.specs.State.{HasCleanDisk, Survives};
 ghost use Rattle.attributes.specs.Event.{EventValue};
 ghost use Rattle.database_layout.specs.Layout.{HasInbox2, HasInboxForm, has_inbox, schema_in};
-ghost use Rattle.inbox_table.specs.Calls.{MayUpgrade, Rejects, has_both};
-ghost use Rattle.inbox_table.specs.Rows.{IsInbox};
+ghost use Rattle.inbox_table.specs.Calls.{IsTold, MayUpgrade, Rejects, has_both};
+ghost use Rattle.inbox_table.specs.Rows.{IsInbox, IsOldInbox};
 ghost use Rattle.inbox_table.specs.steps.Reads.{IsSame, Tells};
 ghost use Rattle.inbox_table.specs.steps.Upgrades.{HasAdopted};
 ghost use Rattle.inbox_table.specs.declared.fault.TableFault.TheVariants.{Foreign, Store};
@@ -17,6 +17,7 @@ use crate::reading::{Found, read};
 use crate::upgrade::upgrade;
 use crate::version::Version;
 use crate::wanted::{Each, Wanted};
+use crate::watch::Watch;
 use database_layout::{Layout, has_inbox, has_inbox_form};
 use sqlite::{Alter, Connection};
 use sqlite_schema::schema::Schema;
@@ -93,14 +94,19 @@ fn taken_in<S: Alter>(
 }
 
 /// How many rows the table has, and their events where these are to be kept, where there is one
-/// whose rows the calls can have left so. One of version 1 gives way to one of version 2.
-pub(crate) fn found_in<S: Alter>(
+/// whose rows the calls can have left so. One of version 1 gives way to one of version 2; the watch
+/// is told after each thousand how many of its events are in that.
+pub(crate) fn found_in<S: Alter, W: Watch>(
     alloc: Global,
     conn: &mut Connection<S>,
     keeps: bool,
+    watch: &W,
 ) -> Result<Found, TableFault>
     ensures adopts { HasCleanDisk (state S.Store conn.new) → IfOk result (λ f. HasAdopted keeps
         (state S.Store conn.old) (state S.Store conn.new) f.rows f.events) }
+    ensures told { HasCleanDisk (state S.Store conn.new) → OnOk result (
+        (events : List EventValue) → IsOldInbox (state S.Store conn.old).now events
+        → IsTold (W.told watch.now) (length events)) }
     ensures rejects { IfErr result (Rejects (state S.Store conn.old) (state S.Store conn.new)) }
     ensures missing { has_inbox (state S.Store conn.old).now.schema ≡ false
         → result ≡ Err Foreign }
@@ -118,7 +124,7 @@ pub(crate) fn found_in<S: Alter>(
         return taken_in(alloc, conn, layout, keeps);
     }
     if layout.has_inbox() {
-        return upgrade(alloc, conn, layout);
+        return upgrade(alloc, conn, layout, watch);
     }
     Err(TableFault::Store)
 }

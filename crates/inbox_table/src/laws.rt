@@ -1,6 +1,6 @@
 //! Laws of tables, each as the contract of a function that does nothing.
 
-ghost use Rattle.inbox_table.specs.Law.{StopsLeaveAList, StopsLeaveOneVersion};
+ghost use Rattle.inbox_table.specs.Law.{StopsLeaveAList, StopsLeaveNoEvents, StopsLeaveOneVersion};
 
 use database_layout::laws::trees_tell_tables;
 
@@ -10,6 +10,14 @@ use database_layout::laws::trees_tell_tables;
 /// alone.
 pub fn stops_leave_a_list()
     ensures { StopsLeaveAList }
+{
+    trees_tell_tables();
+}
+
+/// So may a `create`. The file that is opened again is as it was, or has the table without events,
+/// and so [`crate::Table::open`] finds it.
+pub fn stops_leave_no_events()
+    ensures { StopsLeaveNoEvents }
 {
     trees_tell_tables();
 }

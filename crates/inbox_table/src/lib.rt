@@ -8,6 +8,7 @@ mod inspection;
 pub mod laws;
 mod listed;
 mod lists;
+mod opening;
 mod reading;
 mod row;
 mod statement;

@@ -30,9 +30,9 @@ pub(crate) const MAX_PLACE: u64 = 9_223_372_036_854_775_807;
 /// many events there are; while the disk gives back what was written and the connection is open,
 /// the database has the table with so many events.
 pub struct Table<S: Alter> {
-    conn: Connection<S>,
-    rows: u64,
-    alloc: Global,
+    pub(crate) conn: Connection<S>,
+    pub(crate) rows: u64,
+    pub(crate) alloc: Global,
 }
 
 /// A connection of which no table was made, and why.
@@ -136,7 +136,7 @@ impl<S: Alter> Table<S> {
             (state S.Store conn) (state S.Store n.conn) (MayUpgrade (state S.Store conn).now)) }
     {
         let mut conn = conn;
-        match found_in(alloc, &mut conn, true) {
+        match found_in(alloc, &mut conn, true, &Unwatched) {
             Ok(found) => {
                 let Found { rows: _, events } = found;
                 let rows = events.len();
@@ -166,7 +166,7 @@ impl<S: Alter> Table<S> {
             (state S.Store conn) (state S.Store n.conn) (MayUpgrade (state S.Store conn).now)) }
     {
         let mut conn = conn;
-        match found_in(alloc, &mut conn, false) {
+        match found_in(alloc, &mut conn, false, &Unwatched) {
             Ok(found) => {
                 let Found { rows, events: _ } = found;
                 Ok(Table { conn, rows, alloc })

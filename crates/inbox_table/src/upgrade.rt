@@ -4,7 +4,7 @@ ghost use Rattle.std.specs.Prelude.{◌≡◌, ◌<◌, ◌^◌, true, length, I
 ghost use Rattle.sqlite.specs.Held.{state};
 ghost use Rattle.sqlite.specs.State.{HasCleanDisk, KeepsCommit, Survives};
 ghost use Rattle.database_layout.specs.Layout.{HasInbox, schema_in};
-ghost use Rattle.inbox_table.specs.Calls.{IsAsItWas, MayUpgrade, Rejects};
+ghost use Rattle.inbox_table.specs.Calls.{IsAsItWas, IsTold, MayUpgrade, Rejects};
 ghost use Rattle.inbox_table.specs.Rows.{IsOldInbox};
 ghost use Rattle.inbox_table.specs.steps.Upgrades.{Copies, HasAdopted, Refills};
 
@@ -14,18 +14,19 @@ use crate::statement::put_all;
 use crate::table::MAX_PLACE;
 use crate::version::Version;
 use crate::wanted::Each;
-use crate::watch::Unwatched;
+use crate::watch::Watch;
 use attributes::Batch;
 use database_layout::{Layout, drop_inbox, make_inbox};
 use sqlite::{Alter, Connection, Error, ErrorCode, Transaction};
 use std::alloc::Global;
 
 /// Makes the table of version 2, puts the events of that of version 1 in, each at the place that it
-/// had, and drops that of version 1.
-fn refill<S: Alter>(
+/// had, and drops that of version 1. The watch is told after each thousand how many are in.
+fn refill<S: Alter, W: Watch>(
     tx: &mut Transaction<'_, S>,
     layout: Layout,
     events: &Batch,
+    watch: &W,
 ) -> Result<(), Error>
     requires has { HasInbox layout }
     requires schema { HasCleanDisk (state S.Store tx.old.conn.now)
@@ -36,6 +37,7 @@ fn refill<S: Alter>(
         → IsTrue (state S.Store tx.old.conn.now).in_transaction
         → OnOk result (Refills events.now
         (state S.Store tx.old.conn.now) (state S.Store tx.new.conn.now)) }
+    ensures told { OnOk result (IsTold (W.told watch.now) (length events.now)) }
     ensures failed { HasCleanDisk (state S.Store tx.new.conn.now)
         → IsTrue (state S.Store tx.old.conn.now).in_transaction → OnErr result (KeepsCommit
         (state S.Store tx.old.conn.now) (state S.Store tx.new.conn.now)) }
@@ -43,14 +45,19 @@ fn refill<S: Alter>(
         (state S.Store tx.old.conn.now) (state S.Store tx.new.conn.now) (λ _. ⊥) }
 {
     make_inbox(tx)?;
-    put_all(tx, 0, events, &Unwatched)?;
+    put_all(tx, 0, events, watch)?;
     drop_inbox(tx)?;
     Ok(())
 }
 
 /// Copies the events of the table of version 1, which are these, into one of version 2 in its
-/// place, in one transaction.
-fn copy<S: Alter>(conn: &mut Connection<S>, layout: Layout, events: &Batch) -> Result<(), Error>
+/// place, in one transaction. The watch is told as in [`refill`].
+fn copy<S: Alter, W: Watch>(
+    conn: &mut Connection<S>,
+    layout: Layout,
+    events: &Batch,
+    watch: &W,
+) -> Result<(), Error>
     requires has { HasInbox layout }
     requires schema { HasCleanDisk (state S.Store conn.old)
         → (state S.Store conn.old).now.schema ≡ schema_in layout }
@@ -58,6 +65,7 @@ fn copy<S: Alter>(conn: &mut Connection<S>, layout: Layout, events: &Batch) -> R
     ensures copies { HasCleanDisk (state S.Store conn.new)
         → IsOldInbox (state S.Store conn.old).now events.now
         → OnOk result (Copies events.now (state S.Store conn.old).now (state S.Store conn.new)) }
+    ensures told { OnOk result (IsTold (W.told watch.now) (length events.now)) }
     ensures was_open { HasCleanDisk (state S.Store conn.new)
         → IsTrue (state S.Store conn.new).is_open → IsTrue (state S.Store conn.old).is_open }
     ensures same { OnErr result (IsAsItWas (state S.Store conn.old) (state S.Store conn.new)) }
@@ -69,22 +77,24 @@ fn copy<S: Alter>(conn: &mut Connection<S>, layout: Layout, events: &Batch) -> R
         return Err(Error::SqliteFailure(ErrorCode::TransactionState));
     }
     let mut tx = conn.transaction();
-    refill(&mut tx, layout, events)?;
+    refill(&mut tx, layout, events, watch)?;
     tx.commit()?;
     Ok(())
 }
 
 /// Tests each row of a table of version 1, and then puts one of version 2 with its events in its
-/// place. Its events.
-pub(crate) fn upgrade<S: Alter>(
+/// place. Its events. The watch is told after each thousand how many of them are in.
+pub(crate) fn upgrade<S: Alter, W: Watch>(
     alloc: Global,
     conn: &mut Connection<S>,
     layout: Layout,
+    watch: &W,
 ) -> Result<Found, TableFault>
     requires has { HasInbox layout }
     requires schema { (state S.Store conn.old).now.schema ≡ schema_in layout }
     ensures adopts { HasCleanDisk (state S.Store conn.new) → IfOk result (λ f. HasAdopted true
         (state S.Store conn.old) (state S.Store conn.new) f.rows f.events) }
+    ensures told { IfOk result (λ f. IsTold (W.told watch.now) (length f.events)) }
     ensures rejects { IfErr result (Rejects (state S.Store conn.old) (state S.Store conn.new)) }
     ensures crash { Survives (state S.Store conn.old) (state S.Store conn.new)
         (MayUpgrade (state S.Store conn.old).now) }
@@ -98,7 +108,7 @@ pub(crate) fn upgrade<S: Alter>(
     if rows > MAX_PLACE {
         return Err(TableFault::Store);
     }
-    match copy(conn, layout, &events) {
+    match copy(conn, layout, &events, watch) {
         Ok(()) => Ok(Found { rows, events }),
         Err(error) => Err(TableFault::from(error)),
     }

@@ -9,12 +9,14 @@ use Rattle.sqlite.specs.State.{State, HasCleanDisk, Survives}
 use Rattle.attributes.specs.Event.{EventValue}
 use Rattle.inbox.specs.KeyOrder.{key_cmp}
 use Rattle.inbox.specs.Ordered.{append_new}
+use Rattle.inbox_table.specs.Beside.{KeepsService}
 use Rattle.inbox_table.specs.Calls.{AreFresh, MayTake, Takes}
 use Rattle.inbox_table.specs.Rows.{IsInbox}
 use Rattle.site.specs.Arrival.{AreDistinct}
 use Rattle.site.specs.Page.{page}
 use Rattle.keeper.proofs.NewLemmas.{all_new, grows}
 use Rattle.keeper.specs.Keep.{Grows, HasAll, HasFirst, KeepsUp, MayGrow, MayKeep, MayKeepAll}
+use Rattle.keeper.specs.steps.Flushes.{keeps_none}
 
 -- the page behind the first arrivals is new to them, and they are the first ones with it
 record IsNext (A : List EventValue) (rows most : ℕ) (b : List EventValue) : Type 0 where
@@ -75,6 +77,7 @@ took_survives old new b s = survives_as old new _ _ s (λ clean trees takes is_o
       are = m.are;
       sound = m.sound;
       list = λ held box. let g = grows key_cmp held b in (g.0, subst (IsInbox m.db) g.1 (m.takes held box));
+      beside = m.beside;
     })
 
 pub still_grows : (old new : State) → (HasCleanDisk new → HasCleanDisk old) → (HasCleanDisk new → IsTrue new.is_open → IsTrue old.is_open)
@@ -83,6 +86,7 @@ still_grows old new was_clean was_open same b crash = record {
   was_clean = was_clean;
   was_open = was_open;
   list = λ clean is_open held box. ([], subst (λ d. IsInbox d (held ++ [])) (sym (same clean is_open)) (subst (IsInbox old.now) (sym (append-nil held)) box));
+  beside = λ clean is_open. subst (KeepsService old.now) (sym (same clean is_open)) (keeps_none old.now);
   survives = took_survives old new b crash;
 }
 
@@ -99,11 +103,13 @@ loaded_first s rows events db box same count = record {
 
 -- what a table takes comes behind what it had
 pub taken_grows : (old new : State) (b : List EventValue) → (HasCleanDisk new → HasCleanDisk old) → (HasCleanDisk new → IsTrue new.is_open → IsTrue old.is_open)
-    → (HasCleanDisk new → Takes b old.now new.now) → Survives old new (λ trees. IsTrue old.is_open → MayTake b old.now trees) → Grows old new
-taken_grows old new b was_clean was_open takes crash = record {
+    → (HasCleanDisk new → Takes b old.now new.now) → (HasCleanDisk new → KeepsService old.now new.now)
+    → Survives old new (λ trees. IsTrue old.is_open → MayTake b old.now trees) → Grows old new
+taken_grows old new b was_clean was_open takes beside crash = record {
   was_clean = was_clean;
   was_open = was_open;
   list = λ clean is_open held box. let g = grows key_cmp held b in (g.0, subst (IsInbox new.now) g.1 (takes clean held box));
+  beside = λ clean is_open. beside clean;
   survives = took_survives old new b crash;
 }
 
@@ -152,8 +158,8 @@ module _ (old new : State) (rows rows' fresh most : ℕ) (A B b others : List Ev
   pub page_count : HasCleanDisk new → fresh ≡ min most (length B - rows)
   page_count clean = fresh_is clean ∙ (next clean).count
 
-  pub page_grows : Survives old new (λ trees. IsTrue old.is_open → MayTake b old.now trees) → Grows old new
-  page_grows crash = taken_grows old new b was_clean was_open takes crash
+  pub page_grows : (HasCleanDisk new → KeepsService old.now new.now) → Survives old new (λ trees. IsTrue old.is_open → MayTake b old.now trees) → Grows old new
+  page_grows beside crash = taken_grows old new b was_clean was_open takes beside crash
 
 pub survives_same : (s : State) (P : Trees → Type 0) → Survives s s P
 survives_same s P = record { clean = omega arith; shield = λ h. h; counts = omega arith; limit = refl; closes = λ clean h. inl h; crash = λ clean db h. inl h }

@@ -47,22 +47,25 @@ AsksPages pages rows p q =
     (times : ℕ) × (1 ≤ times) × (times ≤ pages) × AsksTimes times rows p q
 
 -- these are the trees of a database that has whatever events the table had, and more behind them or
--- none
+-- none; what lies beside the table is as it was
 pub record MayGrow (old : Database) (trees : Trees) : Type 0 where
   pub db : Database
   pub are : trees ≡ db.trees
   pub sound : IsDatabase db
   pub list : (held : List EventValue) → IsInbox old held
       → (more : List EventValue) × IsInbox db (held ++ more)
+  pub beside : KeepsService old db
 
--- whatever events the table had, it has them, and more behind them or none; this is so while the
--- disk gives back what was written and the database is open, and then it was so before. A crash
--- leaves what it could leave before, or such a database
+-- whatever events the table had, it has them, and more behind them or none, and what lies beside it
+-- is as it was, after a refusal too; this is so while the disk gives back what was written and the
+-- database is open, and then it was so before. A crash leaves what it could leave before, or such a
+-- database
 pub record Grows (old new : State) : Type 0 where
   pub was_clean : HasCleanDisk new → HasCleanDisk old
   pub was_open : HasCleanDisk new → IsTrue new.is_open → IsTrue old.is_open
   pub list : HasCleanDisk new → IsTrue new.is_open → (held : List EventValue)
       → IsInbox old.now held → (more : List EventValue) × IsInbox new.now (held ++ more)
+  pub beside : HasCleanDisk new → IsTrue new.is_open → KeepsService old.now new.now
   pub survives : Survives old new (λ trees. IsTrue old.is_open → MayGrow old.now trees)
 
 -- these are the trees of a database that has the first so many of the arrivals, and behind them the

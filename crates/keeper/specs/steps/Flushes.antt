@@ -3,8 +3,10 @@ use Rattle.std.specs.Prelude.{◌≡◌, ◌≤◌, ◌⊎◌, ℕ, [], ◌++◌
 use Rattle.std.proofs.Common.{◌∙◌, arith, sym, ap, subst, append_assoc, append-nil, inl, inr}
 use Rattle.sqlite_disk.specs.Disk.{MoreFaults}
 use Rattle.sqlite_trees.specs.Tree.{Trees}
+use Rattle.sqlite.specs.Effect.{Database}
 use Rattle.sqlite.specs.Held.{Held}
 use Rattle.sqlite.specs.State.{State, HasCleanDisk, Survives}
+use Rattle.inbox_table.specs.Beside.{KeepsService}
 use Rattle.inbox_table.specs.Rows.{IsInbox}
 use Rattle.keeper.specs.Flush.{Flushes, Flushing}
 use Rattle.keeper.specs.Keep.{Grows, MayGrow}
@@ -46,11 +48,26 @@ module _ (s t u : State) (P Q : Trees → Type 0) (one : Survives s t P) (two : 
     crash = λ clean trees may. left (was_clean clean) trees (two.crash clean trees may);
   }
 
+-- what lies beside a table is as it was where nothing was done, and after two calls that leave it so
+pub keeps_none : (db : Database) → KeepsService db db
+keeps_none db = record { schema = refl; service = λ l has is. record { service = refl; orders = refl; outbox = refl } }
+
+pub keeps_on : (a b c : Database) → KeepsService a b → KeepsService b c → KeepsService a c
+keeps_on a b c one two = record {
+  schema = two.schema ∙ one.schema;
+  service = λ l has is. let x = one.service l has is in let y = two.service l has (one.schema ∙ is) in record {
+    service = y.service ∙ x.service;
+    orders = y.orders ∙ x.orders;
+    outbox = y.outbox ∙ x.outbox;
+  };
+}
+
 pub grows_none : (s : State) → Grows s s
 grows_none s = record {
   was_clean = λ clean. clean;
   was_open = λ clean is_open. is_open;
   list = λ clean is_open held box. ([], subst (IsInbox s.now) (sym (append-nil held)) box);
+  beside = λ clean is_open. keeps_none s.now;
   survives = survives_none s _;
 }
 
@@ -65,6 +82,7 @@ module _ (s t u : State) (one : Grows s t) (two : Grows t u) (stays_open : HasCl
         let a = one.list clean (stays_open clean is_open) held box in
         let b = m.list (held ++ a.0) a.1 in
         (a.0 ++ b.0, subst (IsInbox m.db) (append_assoc held a.0 b.0) b.1);
+    beside = keeps_on s.now t.now m.db (one.beside clean (stays_open clean is_open)) m.beside;
   }
 
   pub grows_on : Grows s u
@@ -75,6 +93,7 @@ module _ (s t u : State) (one : Grows s t) (two : Grows t u) (stays_open : HasCl
         let a = one.list (two.was_clean clean) (two.was_open clean is_open) held box in
         let b = two.list clean is_open (held ++ a.0) a.1 in
         (a.0 ++ b.0, subst (IsInbox u.now) (append_assoc held a.0 b.0) b.1);
+    beside = λ clean is_open. keeps_on s.now t.now u.now (one.beside (two.was_clean clean) (two.was_open clean is_open)) (two.beside clean is_open);
     survives = survives_on s t u _ _ one.survives two.survives behind;
   }
 

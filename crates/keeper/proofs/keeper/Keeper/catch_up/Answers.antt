@@ -26,7 +26,7 @@ returns-clause-list g c =
     let rest = drop c.rest_of-rest.result.n c.rest_of-rest.result.site.now in
     let was_clean : (HasCleanDisk new → HasCleanDisk old) = λ clean. omega (arith, c.in-Ok.ensures.crash.clean, clean) in
     subst (λ (k : Kept _). Grows (state g.S.Store k.conn) new) c.self.view_is
-    (taken_grows old new rest was_clean (λ clean. (c.in-Ok.ensures.effect clean).was_open) (λ clean. (c.in-Ok.ensures.effect clean).takes) c.in-Ok.ensures.crash)
+    (taken_grows old new rest was_clean (λ clean. (c.in-Ok.ensures.effect clean).was_open) (λ clean. (c.in-Ok.ensures.effect clean).takes) (λ clean. (c.in-Ok.ensures.effect clean).beside) c.in-Ok.ensures.crash)
 
 pub returns-in-Err-clause-list : goal.returns-in-Err-clause-list
 returns-in-Err-clause-list g c =

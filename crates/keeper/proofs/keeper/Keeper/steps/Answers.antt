@@ -45,7 +45,7 @@ returns-in-Ok-keep-clause-list g c =
     let was_clean : (HasCleanDisk new → HasCleanDisk old) = λ clean. omega (arith, c.in-Ok-keep.ensures.crash.clean, clean) in
     subst (λ (k : Kept _). Grows (state g.S.Store k.conn) new) c.self.view_is
     (page_grows old new c.rows-mark.result c.keep.new.self.rows c.in-Ok-keep.fresh (max_page * c.args.pages) A (leaves c.gathered.new.pass) c.in-Ok.events c.gathered.ensures.added.0 c.gathered.ensures.added.1 c.in-Ok.ensures.page c.gathered.ensures.once first was_clean
-    (λ clean. (c.in-Ok-keep.ensures.effect clean).was_open) (λ clean. (c.in-Ok-keep.ensures.effect clean).stays_open) (λ clean. (c.in-Ok-keep.ensures.effect clean).takes) (λ clean. (c.in-Ok-keep.ensures.effect clean).fresh) (c.in-Ok-keep.ensures.call.counted ∙ ap (λ n. n + c.in-Ok-keep.fresh) (sym mark)) c.in-Ok-keep.ensures.crash)
+    (λ clean. (c.in-Ok-keep.ensures.effect clean).was_open) (λ clean. (c.in-Ok-keep.ensures.effect clean).stays_open) (λ clean. (c.in-Ok-keep.ensures.effect clean).takes) (λ clean. (c.in-Ok-keep.ensures.effect clean).fresh) (c.in-Ok-keep.ensures.call.counted ∙ ap (λ n. n + c.in-Ok-keep.fresh) (sym mark)) (λ clean. (c.in-Ok-keep.ensures.effect clean).beside) c.in-Ok-keep.ensures.crash)
 
 pub returns-in-Ok-clause-first : goal.returns-in-Ok-clause-first
 returns-in-Ok-clause-first g c =
