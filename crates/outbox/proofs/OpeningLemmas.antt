@@ -62,6 +62,7 @@ module _ (source : List ℕ) (base : ℕ) (old new : State) where
 
   pub not_taken : (f : OutboxFault) → has_name old.now.schema ≡ true → Leaves old new → (HasCleanDisk new → f ≡ Foreign → IsNoService old.now) → (lacks_name old.now.schema ≡ false → IsOthers old.now.schema → f ≢ Foreign) → (f ≡ OutOfMemory) ⊎ ((f ≡ Store) ⊎ (f ≡ Foreign)) → IsRefused source base old new f
   not_taken f there left foreign strange fault = record {
+    clean = left.clean;
     same = λ clean still. left.same clean still;
     crash = left_crash left;
     there = λ _. there;
@@ -72,6 +73,7 @@ module _ (source : List ℕ) (base : ℕ) (old new : State) where
 
   pub not_founded : (f : OutboxFault) → has_name old.now.schema ≡ false → IsAsItWas old new → Survives old new (MayFound source base old.now) → (f ≡ Foreign → has_name old.now.schema ≡ true) → (f ≡ OutOfMemory) ⊎ ((f ≡ Store) ⊎ (f ≡ Foreign)) → IsRefused source base old new f
   not_founded f none same survives there fault = record {
+    clean = survives.clean;
     same = same;
     crash = founded_crash none survives;
     there = there;

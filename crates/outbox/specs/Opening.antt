@@ -39,12 +39,13 @@ pub record Opens {S : Type 0} (source : List ℕ) (base : ℕ) (old : State) (is
   pub stands : HasCleanDisk new → Stands new.now is.source is.base is.last
   pub stays_open : HasCleanDisk new → IsTrue new.is_open
   pub settled : HasCleanDisk new → IsSettled new
-  -- a crash after it leaves what is told here, whichever it was
+  -- whichever it was, a crash leaves one of the two
   pub crash : LeavesOrMakes source base old new
 
 -- no service was opened, for this fault
 pub record IsRefused (source : List ℕ) (base : ℕ) (old new : State) (f : OutboxFault) : Type 0 where
-  -- the database is as it was
+  -- no fault of the disk is forgotten, and the database is as it was
+  pub clean : doubt old.is_clean ≤ doubt new.is_clean
   pub same : IsAsItWas old new
   pub crash : LeavesOrMakes source base old new
   -- `Foreign`: a table of one of the names is there, and the database is that of no service

@@ -3,7 +3,7 @@
 ghost use Rattle.std.specs.Prelude.{◌≡◌, ◌≢◌, ◌⊎◌, ◌↔◌, ◌≤◌, ◌+◌, Err, OnOk, OnErr, IfOk, IfErr, IfSome, IsTrue, false};
 ghost use Rattle.sqlite.specs.State.{HasCleanDisk};
 ghost use Rattle.sqlite.specs.Held.{state};
-ghost use Rattle.outbox.specs.Call.{IsSame};
+ghost use Rattle.outbox.specs.Call.{IsSame, IsSettled, LeavesAsBefore};
 ghost use Rattle.relay.specs.Route.{AreIn, AreOf};
 ghost use Rattle.relay.specs.Relay.{ForNextRows, HandsOn, HasRows, IsLast, Sends};
 ghost use Rattle.relay.specs.declared.fault.RelayFault.TheVariants.{OutOfMemory, RouteFailed, Stranger, Store};
@@ -122,6 +122,12 @@ impl Relay {
         ensures kept_service { (service.new.source ≡ service.old.source)
             × (service.new.base ≡ service.old.base) × (service.new.last ≡ service.old.last) }
         ensures service { IsSame (state S.Store service.old.conn) (state S.Store service.new.conn) }
+        ensures stays_open { HasCleanDisk (state S.Store service.new.conn)
+            → OnOk result (IsTrue (state S.Store service.new.conn).is_open) }
+        ensures settled { HasCleanDisk (state S.Store service.new.conn)
+            → OnOk result (IsSettled (state S.Store service.new.conn)) }
+        ensures crash { LeavesAsBefore (state S.Store service.old.conn)
+            (state S.Store service.new.conn) }
         ensures site { self.new.site ≡ self.old.site }
         ensures sent { HasCleanDisk (state S.Store service.new.conn) → IfOk result (λ n.
             ForNextRows service.old.source service.old.base self.old.mark
@@ -160,6 +166,12 @@ impl Relay {
         ensures kept_service { (service.new.source ≡ service.old.source)
             × (service.new.base ≡ service.old.base) × (service.new.last ≡ service.old.last) }
         ensures service { IsSame (state S.Store service.old.conn) (state S.Store service.new.conn) }
+        ensures stays_open { HasCleanDisk (state S.Store service.new.conn)
+            → OnOk result (IsTrue (state S.Store service.new.conn).is_open) }
+        ensures settled { HasCleanDisk (state S.Store service.new.conn)
+            → OnOk result (IsSettled (state S.Store service.new.conn)) }
+        ensures crash { LeavesAsBefore (state S.Store service.old.conn)
+            (state S.Store service.new.conn) }
         ensures site { IfOk result (λ o. IfSome o (λ j. (j.site ≡ self.now.site)
             × (j.first ≡ self.now.mark + 1))) }
         ensures last { IfOk result (λ o. IfSome o (λ j. IsLast self.now.mark j.rows j.last)) }
