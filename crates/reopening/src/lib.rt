@@ -2,5 +2,9 @@
 #![tactic(auto)]
 
 mod files;
+mod services;
+mod tables;
 
 pub use files::{crashed, reopened};
+pub use services::{NoService, service_reopened};
+pub use tables::{NoTable, table_reopened};
