@@ -1,11 +1,13 @@
 -- From what a crash may leave of a service to the one that is found.
-use Rattle.std.proofs.Common.{◌≡◌, ◌≢◌, ◌⊎◌, ◌∙◌, ℕ, List, [], ◌∷◌, ◌++◌, IsTrue, sym, ap, subst, inl, inr, arith}
+use Rattle.std.proofs.Common.{◌≡◌, ◌≢◌, ◌⊎◌, ◌∙◌, ℕ, List, [], ◌∷◌, ◌++◌, true, IsTrue, sym, ap, subst, inl, inr, arith}
 use Rattle.sqlite_disk.specs.declared.Disk.{Ghosts}
 use Rattle.sqlite_store.specs.declared.store.FileStore.{FileStore}
 use Rattle.sqlite.specs.Effect.{Database}
 use Rattle.sqlite.specs.Files.{file_state}
 use Rattle.sqlite.specs.Held.{Held}
 use Rattle.sqlite.specs.State.{HasCleanDisk, State}
+use Rattle.database_layout.specs.Law.{TreesTellTables}
+use Rattle.database_layout.specs.Layout.{lacks_name}
 use Rattle.outbox.specs.Call.{Leaves, MayAccept}
 use Rattle.outbox.specs.Law.{StopsLeaveAService}
 use Rattle.outbox.specs.Order.{Accepted}
@@ -14,7 +16,7 @@ use Rattle.outbox.specs.Shown.{HasNoOther, IsAllowed, IsNoService, Shown}
 use Rattle.outbox.specs.declared.fault.OutboxFault.{OutboxFault}
 use Rattle.outbox.specs.declared.fault.OutboxFault.TheVariants.{Foreign}
 use Rattle.reopening.specs.Crash.{IsReopened}
-use Rattle.reopening.specs.Services.{CommandsUntil, FindsService, HadService}
+use Rattle.reopening.specs.Services.{AfterCommand, AfterCreate, CommandsUntil, FindsService, FoundsUntil, HadNoService, HadService}
 
 -- the database that is found is the service of before, or has accepted the command too
 service_kept : StopsLeaveAService → (old stopped again : State) → IsReopened stopped again
@@ -27,6 +29,16 @@ service_kept law old stopped again re source base commands a had until =
       | inl before ↦ inl (shown ∙ had.settled had.is_open again.committed.trees before)
       | inr after ↦ inr (subst (MayAccept source base a old.now) (sym shown) after)
     ])
+
+-- or it is that of before, or has the service that was being made
+service_made : TreesTellTables → (old stopped again : State) → IsReopened stopped again → (source : List ℕ) (base : ℕ) → HadNoService old → FoundsUntil old source base stopped
+    → (again.now ≡ old.now) ⊎ IsService again.now source base []
+service_made tell old stopped again re source base had until =
+    let shown = ap (λ (d : Database). d.trees) re.opens.clean in
+    elim (until.crash re.clean again.committed.trees re.found) [
+      | inl before ↦ inl (tell old.now again.now had.sound re.sound (shown ∙ had.settled had.is_open again.committed.trees before))
+      | inr after ↦ inr (subst (λ (d : Database). IsService d source base []) (sym (tell after.db again.now after.sound re.sound (shown ∙ after.are))) after.founded.service)
+    ]
 
 module _ {D : Type 0} {g : Ghosts D} (law : StopsLeaveAService) (c again : Held (FileStore D g)) (new : State)
     (opened : HasCleanDisk (file_state again) → IsReopened (file_state c) (file_state again))
@@ -59,23 +71,34 @@ module _ {D : Type 0} {g : Ghosts D} (law : StopsLeaveAService) (c again : Held 
         | inr after ↦ only source base (commands ++ a ∷ []) after
       ]
 
+  pub made_in : TreesTellTables → (lacks_name (file_state again).now.schema ≡ true → ⊥) → AfterCreate c (λ source base. IsService (file_state again).now source base [])
+  made_in tell there old source base had until =
+      elim (service_made tell (file_state old) (file_state c) (file_state again) is_reopened source base had until) [
+        | inl before ↦ absurd (there (ap (λ (d : Database). lacks_name d.schema) before ∙ had.service))
+        | inr made ↦ made
+      ]
+
   pub service_known : (fault : OutboxFault) → (HasCleanDisk new → fault ≡ Foreign → IsNoService (file_state again).now)
-      → (old : Held (FileStore D g)) (source : List ℕ) (base : ℕ) (commands : List Accepted) (a : Accepted) → IsAllowed source base
-      → HadService (file_state old) source base commands → CommandsUntil (file_state old) source base a (file_state c) → fault ≢ Foreign
-  service_known fault none old source base commands a allowed had until foreign =
+      → AfterCommand c (λ source base commands a. IsAllowed source base → fault ≢ Foreign)
+  service_known fault none old source base commands a had until allowed foreign =
       elim (kept_in old source base commands a had until) [
         | inl before ↦ none clean foreign source base commands allowed before
         | inr after ↦ none clean foreign source base (commands ++ a ∷ []) allowed after
       ]
 
-pub service_found : {D : Type 0} {g : Ghosts D} → StopsLeaveAService → (c again : Held (FileStore D g)) (s : Shown (FileStore D g))
+pub service_found : {D : Type 0} {g : Ghosts D} → StopsLeaveAService → TreesTellTables → (c again : Held (FileStore D g)) (s : Shown (FileStore D g))
     → (HasCleanDisk (file_state again) → IsReopened (file_state c) (file_state again))
     → Leaves (file_state again) (file_state s.conn) → (HasCleanDisk (file_state s.conn) → IsTrue (file_state s.conn).is_open)
     → (HasCleanDisk (file_state s.conn) → HasNoOther (file_state again).now s.source s.base)
+    → (lacks_name (file_state again).now.schema ≡ true → ⊥)
     → HasCleanDisk (file_state s.conn) → FindsService c s
-service_found law c again s opened left on only clean =
+service_found law tell c again s opened left on only there clean =
+    let made = made_in law c again (file_state s.conn) opened left clean tell there in
+    let same = sym (left.same clean (on clean)) in
     record {
       accepted = accepted_found law c again (file_state s.conn) opened left clean (on clean);
       named = named_found law c again (file_state s.conn) opened left clean s.source s.base (only clean);
+      founded = λ old source base had until. subst (λ (d : Database). IsService d source base []) same (made old source base had until);
+      given = λ old source base had until. only clean source base [] (made old source base had until);
       is_open = on clean;
     }

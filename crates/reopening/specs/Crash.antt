@@ -8,7 +8,8 @@ use Rattle.sqlite_trees.specs.Tree.{Trees}
 use Rattle.sqlite_store.specs.Report.{named}
 use Rattle.sqlite_store.specs.declared.store.FileStore.{FileStore}
 use Rattle.sqlite.specs.Effect.{IsDatabase}
-use Rattle.sqlite.specs.Files.{HoldsDatabase, IsFullLeft, faults_left, faults_of, file_state, image_of, tally_left}
+use Rattle.sqlite.specs.Files.{HoldsDatabase, IsFullLeft, file_state, image_of}
+use Rattle.sqlite.specs.Files.{faults_left, faults_of, tally_left}
 use Rattle.sqlite.specs.Held.{Held}
 use Rattle.sqlite.specs.Opening.{FailsAs}
 use Rattle.sqlite.specs.State.{HasCleanDisk, Opens, State}
@@ -46,7 +47,8 @@ pub record IsReopened (old new : State) : Type 0 where
   pub opens : Opens new
 
 -- files that crashed aren't opened for this error
-pub record FailsToReopen {D : Type 0} {g : Ghosts D} (c : Held (FileStore D g)) (rest : Leftover D g) (e : Error) : Type 0 where
+pub record FailsToReopen {D : Type 0} {g : Ghosts D} (c : Held (FileStore D g)) (rest : Leftover D g)
+    (e : Error) : Type 0 where
   pub files : Files D
   pub crashed : IsCrashed c files
   -- for want of memory, a fault of the disk meanwhile, by its name, or a limit of the format: where

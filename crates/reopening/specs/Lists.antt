@@ -28,7 +28,8 @@ pub record HadList (old : State) (held : List EventValue) : Type 0 where
 -- and then events L were given to `Table::keep`, which came to its end or was stopped at any write:
 -- this is its clause `crash`
 abbrev pub KeepsUntil : State → List EventValue → State → Type 0
-KeepsUntil old L stopped = Survives old stopped (λ trees. IsTrue old.is_open → MayTake L old.now trees)
+KeepsUntil old L stopped =
+    Survives old stopped (λ trees. IsTrue old.is_open → MayTake L old.now trees)
 
 -- before a call the database had no table of events
 pub record HadNoList (old : State) : Type 0 where
@@ -47,10 +48,11 @@ module _ {D : Type 0} {g : Ghosts D} (c : Held (FileStore D g)) where
     -- they are the list of before the call, or that list and the events that it was given, each in
     -- its turn behind the last
     pub kept : (old : Held (FileStore D g)) (held L : List EventValue) → HadList (file_state old) held
-        → KeepsUntil (file_state old) L (file_state c) → (events ≡ held) ⊎ (events ≡ append_new key_cmp held L)
+        → KeepsUntil (file_state old) L (file_state c)
+        → (events ≡ held) ⊎ (events ≡ append_new key_cmp held L)
     -- there are none where the table was being made
-    pub made : (old : Held (FileStore D g)) → HadNoList (file_state old) → MakesUntil (file_state old) (file_state c)
-        → events ≡ []
+    pub made : (old : Held (FileStore D g)) → HadNoList (file_state old)
+        → MakesUntil (file_state old) (file_state c) → events ≡ []
     -- the database is open and has them, and a crash leaves them
     pub list : IsInbox found.now events
     pub is_open : IsTrue found.is_open
@@ -61,5 +63,7 @@ module _ {D : Type 0} {g : Ghosts D} (c : Held (FileStore D g)) where
   -- the files weren't opened, for this error
   FindsNoTable (none.Unopened e rest) = IsCleanLeft rest → FailsToReopen c rest e
   -- they were: a list that was there before a call isn't taken for something else
-  FindsNoTable (none.Refused n) = HasCleanDisk (file_state n.conn) → (old : Held (FileStore D g)) (held L : List EventValue)
-      → HadList (file_state old) held → KeepsUntil (file_state old) L (file_state c) → n.fault ≢ Foreign
+  FindsNoTable (none.Refused n) = HasCleanDisk (file_state n.conn)
+      → (old : Held (FileStore D g)) (held L : List EventValue)
+      → HadList (file_state old) held → KeepsUntil (file_state old) L (file_state c)
+      → n.fault ≢ Foreign

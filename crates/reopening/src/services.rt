@@ -6,6 +6,7 @@ ghost use Rattle.sqlite.specs.State.{HasCleanDisk};
 ghost use Rattle.reopening.specs.Services.{FindsNoService, FindsService};
 
 use crate::files::reopened;
+use database_layout::laws::trees_tell_tables;
 use outbox::laws::stops_leave_a_service;
 use outbox::{NotMade, Service};
 use sqlite::{Connection, Error, FileStore, Leftover, Options};
@@ -22,7 +23,8 @@ pub enum NoService<D: Disk + Drop> {
 }
 
 /// Lets the machine crash, opens the files again and takes the service in them: after a command that
-/// came to its end or was stopped at any write, it has the commands of before, or those and that one.
+/// came to its end or was stopped at any write, it has the commands of before, or those and that one;
+/// after [`Service::create`] it has none.
 ///
 /// It is refused as [`reopened`] and then [`Service::adopt`] are, but for one: a service that was
 /// there before the command isn't `Foreign`. Time and memory are those of both.
@@ -36,6 +38,7 @@ pub fn service_reopened<D: Crash + Drop>(
     ensures refused { IfErr result (FindsNoService conn) }
 {
     stops_leave_a_service();
+    trees_tell_tables();
     let again = match reopened(alloc, conn, options) {
         Ok(again) => again,
         Err((error, left)) => return Err(NoService::Unopened(error, left)),
