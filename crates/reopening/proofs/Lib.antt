@@ -1,0 +1,4 @@
+pub mod CrashLemmas
+pub mod OpenLemmas
+pub mod ListLemmas
+pub mod ServiceLemmas

@@ -1,0 +1,3 @@
+pub mod Crash
+pub mod Lists
+pub mod Services
