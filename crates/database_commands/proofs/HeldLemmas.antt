@@ -1,16 +1,19 @@
 -- What a database holds for a command, before and after.
-use Rattle.std.proofs.Common.{◌≡◌, ◌∙◌, List, [], Bool, true, false, Ok, Err, Result, inl, inr, sym, subst, refl}
+use Rattle.std.proofs.Common.{◌≡◌, ◌∙◌, ℕ, List, [], length, Bool, true, false, Ok, Err, Result, inl, inr, sym, subst, refl}
 use Rattle.std.specs.Result.{IfOk, OnErr, OnOk}
 use Rattle.sqlite_trees.specs.Tree.{Trees}
 use Rattle.sqlite.specs.Effect.{Database}
+use Rattle.sqlite.specs.State.{State}
 use Rattle.attributes.specs.Event.{EventValue}
 use Rattle.inbox.specs.KeyOrder.{key_cmp}
 use Rattle.inbox.specs.Ordered.{append_new}
 use Rattle.database_layout.specs.Layout.{has_inbox}
-use Rattle.inbox_table.specs.Calls.{MayMake, MayUpgrade}
-use Rattle.inbox_table.specs.Rows.{IsAnyInbox, IsInbox}
+use Rattle.inbox_table.specs.Calls.{Adopts, IsTold, MayMake, MayUpgrade}
+use Rattle.inbox_table.specs.Opening.{MayOpen, Opens}
+use Rattle.inbox_table.specs.Rows.{IsAnyInbox, IsInbox, IsOldInbox}
 use Rattle.inbox_table.proofs.UpgradeLemmas.{any_named}
-use Rattle.database_commands.specs.Held.{Holds, MayHold}
+use Rattle.database_commands.specs.Held.{Holds, KeepsRows, MayHold, TellsUpgrade}
+use Rattle.database_commands.proofs.BesideLemmas.{service_gained, service_same, service_upgraded}
 
 -- where there was no table, the one that was made has what the database held
 pub made_holds : (old new : Database) (held : List EventValue) → has_inbox old.schema ≡ false → IsInbox new [] → Holds old held → IsInbox new held
@@ -61,6 +64,45 @@ upgraded_may_hold old trees may = record {
   is = inbox_holds may.db may.events may.is;
 }
 
+-- what is left after a stop in opening one
+pub opened_may_hold : (old : Database) (trees : Trees) → MayOpen old trees → MayHold old trees
+opened_may_hold old trees (inl (absent, made)) = made_may_hold old trees absent made
+opened_may_hold old trees (inr (there, upgraded)) = upgraded_may_hold old trees upgraded
+
+-- a table that was opened, with these events
+module _ (tells : ℕ → ℕ → Type 0) (old new : State) (events : List EventValue) (opens : Opens tells old new events) where
+  pub opened_events : (held : List EventValue) → Holds old.now held → events ≡ held
+  opened_events held h = go (has_inbox old.now.schema) refl
+    where
+      go : (b : Bool) → has_inbox old.now.schema ≡ b → events ≡ held
+      go true there = (opens.adopts there).only held (h.there there)
+      go false absent = opens.none absent ∙ sym (h.none absent)
+
+  pub opened_holds : Holds old.now events
+  opened_holds = go (has_inbox old.now.schema) refl
+    where
+      go : (b : Bool) → has_inbox old.now.schema ≡ b → Holds old.now events
+      go true there = any_holds old.now events (opens.adopts there).found
+      go false absent = subst (λ l. Holds old.now l) (sym (opens.none absent)) (absent_holds old.now absent)
+
+  pub opened_rows : KeepsRows old.now new.now
+  opened_rows = go (has_inbox old.now.schema) refl
+    where
+      taken : Adopts old new events → IsAnyInbox old.now events → KeepsRows old.now new.now
+      taken it (inl two) = service_same old.now new.now (it.same two)
+      taken it (inr one) = service_upgraded old.now new.now (it.upgraded one)
+
+      go : (b : Bool) → has_inbox old.now.schema ≡ b → KeepsRows old.now new.now
+      go true there = let it = opens.adopts there in taken it it.found
+      go false absent = service_gained old.now new.now (opens.creates absent).made.beside
+
+  -- and of one of version 1 who looked on was told
+  pub opened_tells : TellsUpgrade tells old.now
+  opened_tells held box = subst (λ l. IsTold tells (length l)) same (opens.told (subst (IsOldInbox old.now) (sym same) box))
+    where
+      same : events ≡ held
+      same = opened_events held (any_holds old.now held (inr box))
+
 once_in : (db : Database) (held : List EventValue) → IsAnyInbox db held → append_new key_cmp [] held ≡ held
 once_in db held (inl box) = box.once
 once_in db held (inr box) = box.once
@@ -84,3 +126,11 @@ on_ok (Err y) P p = tt
 pub on_err : {T E : Type 0} (r : Result T E) (P Q : Type 0) → (P → Q) → OnErr r P → OnErr r Q
 on_err (Ok x) P Q f p = tt
 on_err (Err y) P Q f p = f p
+
+pub on_okay : {T E : Type 0} (r : Result T E) (P Q : Type 0) → (P → Q) → OnOk r P → OnOk r Q
+on_okay (Ok x) P Q f p = f p
+on_okay (Err y) P Q f p = tt
+
+pub either_way : {T E : Type 0} (r : Result T E) (P : Type 0) → OnOk r P → OnErr r P → P
+either_way (Ok x) P one other = one
+either_way (Err y) P one other = other

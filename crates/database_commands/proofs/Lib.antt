@@ -5,3 +5,4 @@ mod ServedLemmas
 mod RowLemmas
 mod ToldLemmas
 mod DescribedLemmas
+mod BesideLemmas

@@ -1,5 +1,5 @@
 -- The service that a database has, before and after a command.
-use Rattle.std.proofs.Common.{◌≡◌, inl, inr, Bool, ℕ, List, [], true, false, Some, IsTrue, sym, ap, subst, ◌∙◌}
+use Rattle.std.proofs.Common.{◌≡◌, inl, inr, Bool, ℕ, List, [], true, false, Some, IsTrue, sym, ap, subst, refl, ◌∙◌}
 use Rattle.sqlite.specs.Effect.{Database}
 use Rattle.sqlite.specs.State.{State, HasCleanDisk}
 use Rattle.attributes.specs.Event.{EventValue}
@@ -8,14 +8,16 @@ use Rattle.outbox.specs.Order.{Accepted}
 use Rattle.outbox.specs.Row.{rows_after}
 use Rattle.database_layout.specs.Layout.{has_name}
 use Rattle.outbox.specs.Service.{IsService}
-use Rattle.outbox.specs.Shown.{HasNoOther}
+use Rattle.outbox.specs.Opening.{Opens}
+use Rattle.outbox.specs.Shown.{HasNoOther, Shown, Stands}
 use Rattle.outbox.specs.declared.fault.OutboxFault.{OutboxFault}
 use Rattle.outbox.specs.declared.status.Status.{Status}
 use Rattle.relay.specs.Relay.{ForNextRows}
 use Rattle.database_commands.specs.Fault.{of_outbox}
-use Rattle.database_commands.specs.Held.{IsOrdered, IsServed, KeepsService, Orders, RefusesOrder, Serves, ShowsRows}
+use Rattle.database_commands.specs.Held.{HasAnother, IsOrdered, IsServed, KeepsEvents, KeepsService, Orders, RefusesOrder, Serves, ShowsRows}
 use Rattle.database_commands.specs.Print.{batch_line, event_line}
 use Rattle.database_commands.specs.declared.fault.CommandFault.{CommandFault}
+use Rattle.database_commands.proofs.BesideLemmas.{events_gained, events_over, events_same}
 
 -- a service that is new
 pub made_served : (old new : Database) (given source : List ℕ) (base : ℕ) → ((s : List ℕ) (b : ℕ) (commands : List Accepted) → IsService old s b commands → ⊥) → IsService new given 0 [] → source ≡ given → base ≡ 0 → IsServed given old source base new
@@ -63,6 +65,45 @@ pub kept_read : (given : List ℕ) (old : Database) (mid new : State) (source : 
 kept_read given old mid new source base served same clean still s b commands h =
     let box = (served s b commands h).2 in
     inl (subst (λ db. IsService db s b commands) (sym (same.same clean still box.layout box.schema).0) box)
+
+-- a service that was opened, with what is given where none was there
+module _ {S : Type 0} (given : List ℕ) (old : State) (it : Shown S) (new : State) (opens : Opens given 0 old it new) (clean : HasCleanDisk new) where
+  pub opened_served : IsServed given old.now it.source it.base new.now
+  opened_served = go (has_name old.now.schema) refl
+    where
+      go : (b : Bool) → has_name old.now.schema ≡ b → IsServed given old.now it.source it.base new.now
+      go true there = taken_served old.now new.now given it.source it.base there (opens.exact clean there) ((opens.left there).same clean (opens.stays_open clean))
+      go false absent = made_served old.now new.now given it.source it.base (opens.first absent) (opens.made clean absent).service (opens.given absent).0 (opens.given absent).1
+
+  pub opened_other : (it.source ≡ given → ⊥) → HasAnother given old.now × (new.now ≡ old.now)
+  opened_other differs = go (has_name old.now.schema) refl
+    where
+      go : (b : Bool) → has_name old.now.schema ≡ b → HasAnother given old.now × (new.now ≡ old.now)
+      go true there =
+          let same = (opens.left there).same clean (opens.stays_open clean) in
+          let stands = opens.stands clean in (
+            record {
+              source = it.source;
+              base = it.base;
+              commands = stands.commands;
+              service = subst (λ db. IsService db it.source it.base stands.commands) same stands.table;
+              other = differs;
+            },
+            same,
+          )
+      go false absent = absurd (differs (opens.given absent).0)
+
+  pub opened_beside : KeepsEvents old.now new.now
+  opened_beside = go (has_name old.now.schema) refl
+    where
+      go : (b : Bool) → has_name old.now.schema ≡ b → KeepsEvents old.now new.now
+      go true there = events_same old.now new.now ((opens.left there).same clean (opens.stays_open clean))
+      go false absent = events_gained old.now new.now (opens.made clean absent).gains
+
+-- the inbox beside a service that was only read
+pub beside_read : (old : Database) (mid new : State) (source : List ℕ) (base last : ℕ) → KeepsEvents old mid.now → Stands mid.now source base last → IsSame mid new → HasCleanDisk new → IsTrue new.is_open → KeepsEvents old new.now
+beside_read old mid new source base last keeps stands same clean still =
+    events_over old mid.now new.now keeps (events_same mid.now new.now (same.same clean still stands.table.layout stands.table.schema).0)
 
 -- a database that is as it was
 pub kept_all : (given : List ℕ) (old new : Database) → new ≡ old → KeepsService given old new

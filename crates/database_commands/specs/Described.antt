@@ -23,8 +23,8 @@ version_number One = 1
 version_number Two = 2
 
 -- the inbox of the database has these events in the version with this number; 0 where there is none
-abbrev pub HasVersion : Database → List EventValue → ℕ → Type 0
-HasVersion db events n = ((n ≡ 0) × (has_inbox db.schema ≡ false))
+abbrev pub HasVersionNumber : Database → List EventValue → ℕ → Type 0
+HasVersionNumber db events n = ((n ≡ 0) × (has_inbox db.schema ≡ false))
     ⊎ ((v : Version) × (n ≡ version_number v) × IsListed v db events)
 
 -- the text tells of the inbox of this database, which has this name
@@ -34,7 +34,7 @@ pub record TellsInbox (name : List ℕ) (db : Database) (text : List ℕ) : Type
   -- which are all that it holds
   pub only : (held : List EventValue) → Holds db held → events ≡ held
   pub version : ℕ
-  pub is_version : HasVersion db events version
+  pub is_version : HasVersionNumber db events version
   pub sources : ℕ
   pub counts : CountsSources events sources
   pub line : text ≡ database_line name (length events) sources version

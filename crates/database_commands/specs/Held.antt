@@ -13,7 +13,8 @@ use Rattle.site.specs.Delta.{delta}
 use Rattle.site.specs.Page.{page}
 use Rattle.coverage.specs.Digests.{Digests}
 use Rattle.coverage.specs.SummaryText.{summary_text}
-use Rattle.inbox_table.specs.Rows.{IsAnyInbox, IsInbox}
+use Rattle.inbox_table.specs.Calls.{IsTold}
+use Rattle.inbox_table.specs.Rows.{IsAnyInbox, IsInbox, IsOldInbox}
 use Rattle.outbox.specs.Order.{Accepted, refusal}
 use Rattle.outbox.specs.Row.{row_event, rows_after, rows_of}
 use Rattle.database_layout.specs.Layout.{has_inbox, has_name}
@@ -209,3 +210,8 @@ SaysAllRows after text = (events : List EventValue) × (text ≡ pages_text even
 abbrev pub KeepsRows : Database → Database → Type 0
 KeepsRows old new = (source : List ℕ) (base : ℕ) (commands : List Accepted)
     → IsService old source base commands → IsService new source base commands
+
+-- where the database had an inbox of version 1, what looks on was told, after each thousand of its
+-- events, how many of them were in the one that took its place
+abbrev pub TellsUpgrade : (ℕ → ℕ → Type 0) → Database → Type 0
+TellsUpgrade tells db = (events : List EventValue) → IsOldInbox db events → IsTold tells (length events)

@@ -8,3 +8,4 @@ pub mod Described
 pub mod Trouble
 pub mod Streams
 pub mod steps
+pub mod OfFile

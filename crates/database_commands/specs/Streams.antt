@@ -1,5 +1,5 @@
 -- A stream of lines into a database.
-use Rattle.std.specs.Prelude.{◌≡◌, ◌⊎◌, ℕ, List, Option}
+use Rattle.std.specs.Prelude.{◌≡◌, ◌⊎◌, ℕ, List, Option, Result, IfOk}
 use Rattle.std.specs.Io.KnownBytes.{Keeps}
 use Rattle.sqlite.specs.Effect.{Database}
 use Rattle.sqlite.specs.State.{State, HasCleanDisk}
@@ -8,7 +8,7 @@ use Rattle.inbox_table.specs.Calls.{IsAsItWas}
 use Rattle.inbox_table.specs.Rows.{IsInbox}
 use Rattle.inbox_table.specs.declared.fault.TableFault.{TableFault}
 use Rattle.line_intake.specs.Acknowledged.{TellsPart, TellsSome}
-use Rattle.line_intake.specs.Follow.{AreKept, Place, StopsStream, Turn}
+use Rattle.line_intake.specs.Follow.{AreKept, IsFollowed, Place, StopsStream, Turn}
 use Rattle.line_intake.specs.declared.step.FollowFault.{FollowFault}
 use Rattle.database_commands.specs.Fault.{of_follow, of_table}
 use Rattle.database_commands.specs.Held.{Holds}
@@ -44,3 +44,11 @@ abbrev pub AcknowledgesUntil : StreamFault → Option (List ℕ) → Option (Lis
 AcknowledgesUntil (stream.Input why) old out out' = TellsSome old out out'
 AcknowledgesUntil (stream.Database why) old out out' = TellsSome old out out'
 AcknowledgesUntil stream.Unwritten old out out' = TellsPart old out out'
+
+-- lines of an input, of which this was left, went into a database, from one state to the other, and
+-- were acknowledged: to the input's end where nothing refused them
+abbrev pub FollowsOver : Option (List ℕ) → Option (List ℕ) → Option (List ℕ) → Result ℕ StreamFault
+    → State → State → Type 0
+FollowsOver input out out' outcome old new = (left : Option (List ℕ)) × Keeps input left
+    × IfOk outcome (λ faults. IsFollowed (record { lines = 0; left = left; out = out }) out' faults
+    (λ turns. HasCleanDisk new → HoldsTurns turns old.now new.now))

@@ -1,49 +1,26 @@
-//! Databases by the names of their files.
-ghost use Rattle.std.specs.Prelude.{◌≡◌, ◌≤◌, ◌↔◌, ℕ, length, true, IfErr, IfOk, IfSome, IsErrOf, IsTrue};
-ghost use Rattle.attributes.specs.Character.{is_filled};
-ghost use Rattle.attributes.specs.Sequence.{max_sequence};
-ghost use Rattle.line_intake.specs.Acknowledged.{TellsAll};
-ghost use Rattle.database_commands.specs.Described.{SaysDatabase};
-ghost use Rattle.database_commands.specs.Held.{HasDelta, HasEvents, SaysAllRows, SaysDelta, SaysOrder, SaysPage, SaysRows, SaysSummary};
+//! The files of a database, opened by their name.
+ghost use Rattle.std.specs.Prelude.{◌≡◌, ◌≤◌, IfOk, IfSome, IsErrOf, IsTrue};
+ghost use Rattle.sqlite.specs.Files.{file_state};
+ghost use Rattle.sqlite_wal.specs.Files.{image_at};
 ghost use Rattle.database_commands.specs.Name.{IsNoFile};
+ghost use Rattle.database_commands.specs.OfFile.{IsOver};
 ghost use Rattle.database_commands.specs.declared.fault.CommandFault.TheVariants as CommandFault;
 ghost use Rattle.database_commands.specs.declared.trouble.Trouble.TheVariants as trouble;
-ghost use Rattle.database_commands.specs.Print.{counts_line};
-ghost use Rattle.database_commands.specs.Service.{SaysService};
-ghost use Rattle.database_commands.specs.Streams.{AcknowledgesUntil};
 
-use crate::Ended;
-use crate::described::describe;
 use crate::fault::CommandFault;
-use crate::intake::take;
-use crate::page::{Contents, Paged, delta, delta_pages, held, scrub, scrub_pages, summary};
-use crate::pages::EventPages;
-use crate::service::{order, relay, relay_all};
-use crate::stream::{StreamFault, Streamed, begun, follow};
-use crate::told::tell_service;
-use crate::trouble::{Trouble, of_error, of_fault, of_kind, of_open};
-use attributes::{Batch, Moment, Text};
-use coverage::Summary;
-use inbox_table::Watch;
-use outbox::Status;
+use crate::trouble::{Trouble, of_error, of_kind, of_open};
 use sqlite::Connection;
-use sqlite_disk::Unknown;
+use sqlite_disk::{Start, Unknown};
 use sqlite_pager::Options;
-use sqlite_std_file::File;
+use sqlite_std_file::{File, FileFrom};
 use sqlite_store::FileStore;
-use std::alloc::Global;
 use std::env::VarError;
 use std::hash::{BuildHasher, RandomState};
-use std::io::{ErrorKind, Read, Write};
+use std::io::ErrorKind;
 use std::{env, fs};
 
 /// The bytes of a database's page.
 const PAGE: u64 = 4_096;
-/// How many bytes a stream is taken to add for each that its first read brings, for the size of the
-/// cache alone, which is made whole when the file is opened. One line of one event and then a wait
-/// brings some 200 bytes and so room for 2 MB; a stream that is sent without waiting a page of 100
-/// events or more, and so room for 180 MB or all that a cache may have.
-const STREAM_GROWTH: u64 = 8_192;
 /// The fewest pages that are kept in memory.
 const LEAST_PAGES: u64 = 200;
 /// The variable of the environment that says how many MiB of a database are kept in memory at most.
@@ -56,295 +33,6 @@ const MIB: u64 = 256;
 /// once the first page is found to be a database's, so a huge file that only begins like one may not
 /// ask for more; of a database past this size an open reads pages again.
 const MOST_PAGES: u64 = 65_536;
-
-/// The commands over databases, by the names of their files. Each opens the database, makes its
-/// file where there is none unless it says otherwise, and closes it in the end; what was committed
-/// stays, also where the closing fails. What a file of the operating system holds no clause can say:
-/// those of the commands over a connection do. The clauses here say of which form an answer is, for
-/// some events or some service: the page from that place, what the summary lacks, the command that
-/// was given.
-pub trait Databases {
-    /// As [`crate::take`].
-    fn take<W: Watch>(
-        &self,
-        alloc: Global,
-        name: &str,
-        events: &Batch,
-        watch: &W,
-    ) -> Result<Text, CommandFault>
-        ensures { IfOk result (λ text. (fresh : ℕ) × (text ≡ counts_line (length events.now) fresh)) };
-
-    /// As [`crate::follow`].
-    fn follow<R: Read, W: Write>(
-        &self,
-        alloc: Global,
-        name: &str,
-        input: &mut R,
-        out: &mut W,
-    ) -> Result<u64, StreamFault>
-        ensures told { IfOk result
-            (TellsAll (R.remaining input.old) (W.contents out.old) (W.contents out.new)) }
-        ensures until { IfErr result (λ f. AcknowledgesUntil f
-            (R.remaining input.old) (W.contents out.old) (W.contents out.new)) };
-
-    /// The events that a database holds, as [`crate::held`]. A file that isn't there is not made:
-    /// `CannotRead`.
-    fn events(&self, alloc: Global, name: &str) -> Result<Batch, CommandFault>;
-
-    /// As [`crate::summary`]. A file that isn't there is not made: `CannotRead`.
-    fn summary(&self, alloc: Global, name: &str) -> Result<Text, CommandFault>
-        ensures { IfOk result SaysSummary };
-
-    /// As [`crate::delta_pages`]. A file that isn't there is not made: `CannotRead`.
-    fn delta_pages(
-        &self,
-        alloc: Global,
-        name: &str,
-        summary: Summary,
-    ) -> Result<EventPages, CommandFault>
-        ensures { IfOk result (HasDelta summary) };
-
-    /// As [`crate::scrub_pages`]. A file that isn't there is not made: `CannotRead`.
-    fn scrub_pages(&self, alloc: Global, name: &str) -> Result<EventPages, CommandFault>
-        ensures { IfOk result HasEvents };
-
-    /// As [`crate::delta`].
-    fn delta(
-        &self,
-        alloc: Global,
-        name: &str,
-        summary: &Summary,
-        from: u64,
-    ) -> Result<Text, CommandFault>
-        ensures { IfOk result (SaysDelta summary.now from) };
-
-    /// As [`crate::scrub`].
-    fn scrub(&self, alloc: Global, name: &str, from: u64) -> Result<Text, CommandFault>
-        ensures { IfOk result (SaysPage from) };
-
-    /// As [`crate::order`].
-    fn order(
-        &self,
-        alloc: Global,
-        name: &str,
-        source: &Text,
-        is_source_named: bool,
-        status: Status,
-        order: u64,
-        at: &Moment,
-    ) -> Result<Text, CommandFault>
-        requires source { (is_filled source.now ≡ true) × (length source.now ≤ 1024) }
-        requires order { (1 ≤ order) × (order ≤ max_sequence) }
-        requires short { length at.now ≤ 64 }
-        ensures { IfOk result (SaysOrder is_source_named source.now
-            (record { status = status; order = order; at = at.now })) };
-
-    /// As [`crate::tell_service`].
-    fn service(
-        &self,
-        alloc: Global,
-        name: &str,
-        source: &Text,
-        is_source_named: bool,
-        base: Option<u64>,
-    ) -> Result<Text, CommandFault>
-        requires source { (is_filled source.now ≡ true) × (length source.now ≤ 1024) }
-        requires base { IfSome base (λ n. n ≤ max_sequence) }
-        ensures { IfOk result (SaysService is_source_named source.now base) };
-
-    /// As [`crate::describe`]. A file that isn't there is not made: `CannotRead`.
-    fn describe(&self, alloc: Global, name: &str) -> Result<Text, Trouble>
-        ensures { IfOk result (SaysDatabase name.now) };
-
-    /// As [`crate::relay`].
-    fn relay(
-        &self,
-        alloc: Global,
-        name: &str,
-        source: &Text,
-        after: u64,
-    ) -> Result<Text, CommandFault>
-        requires { (is_filled source.now ≡ true) × (length source.now ≤ 1024) }
-        ensures { IfOk result (SaysRows after) };
-
-    /// As [`crate::relay_all`]. A file that isn't there is not made: `CannotRead`.
-    fn relay_all(&self, alloc: Global, name: &str, after: u64) -> Result<Text, CommandFault>
-        ensures { IfOk result (SaysAllRows after) };
-}
-
-impl Databases for HostRuntime {
-    fn take<W: Watch>(
-        &self,
-        alloc: Global,
-        name: &str,
-        events: &Batch,
-        watch: &W,
-    ) -> Result<Text, CommandFault> {
-        // A row has some 100 bytes beside the event's text, and the index half a row.
-        let growth = events.len().saturating_mul(512);
-        match open(self, name, growth) {
-            Ok(conn) => closed(take(alloc, conn, events, watch)),
-            Err(fault) => Err(fault),
-        }
-    }
-
-    fn follow<R: Read, W: Write>(
-        &self,
-        alloc: Global,
-        name: &str,
-        input: &mut R,
-        out: &mut W,
-    ) -> Result<u64, StreamFault> {
-        let mut lines = match begun(alloc, input) {
-            Ok(lines) => lines,
-            Err(why) => return Err(StreamFault::Input(why)),
-        };
-        let first = lines.buffer().len() as u64;
-        match open(self, name, first.saturating_mul(STREAM_GROWTH)) {
-            Ok(conn) => {
-                let Streamed { conn, outcome } = follow(alloc, conn, &mut lines, out);
-                let _closed = conn.close();
-                outcome
-            }
-            Err(fault) => Err(StreamFault::Database(fault)),
-        }
-    }
-
-    fn events(&self, alloc: Global, name: &str) -> Result<Batch, CommandFault> {
-        match open_there(self, name) {
-            Ok(conn) => {
-                let Contents { conn, events } = held(alloc, conn);
-                let _closed = conn.close();
-                events
-            }
-            Err(fault) => Err(fault),
-        }
-    }
-
-    fn summary(&self, alloc: Global, name: &str) -> Result<Text, CommandFault> {
-        match open_there(self, name) {
-            Ok(conn) => closed(summary(alloc, conn)),
-            Err(fault) => Err(fault),
-        }
-    }
-
-    fn delta_pages(
-        &self,
-        alloc: Global,
-        name: &str,
-        summary: Summary,
-    ) -> Result<EventPages, CommandFault> {
-        match open_there(self, name) {
-            Ok(conn) => closed_pages(delta_pages(alloc, conn, summary)),
-            Err(fault) => Err(fault),
-        }
-    }
-
-    fn scrub_pages(&self, alloc: Global, name: &str) -> Result<EventPages, CommandFault> {
-        match open_there(self, name) {
-            Ok(conn) => closed_pages(scrub_pages(alloc, conn)),
-            Err(fault) => Err(fault),
-        }
-    }
-
-    fn delta(
-        &self,
-        alloc: Global,
-        name: &str,
-        summary: &Summary,
-        from: u64,
-    ) -> Result<Text, CommandFault> {
-        match open(self, name, 0) {
-            Ok(conn) => closed(delta(alloc, conn, summary, from)),
-            Err(fault) => Err(fault),
-        }
-    }
-
-    fn scrub(&self, alloc: Global, name: &str, from: u64) -> Result<Text, CommandFault> {
-        match open(self, name, 0) {
-            Ok(conn) => closed(scrub(alloc, conn, from)),
-            Err(fault) => Err(fault),
-        }
-    }
-
-    fn order(
-        &self,
-        alloc: Global,
-        name: &str,
-        source: &Text,
-        is_source_named: bool,
-        status: Status,
-        number: u64,
-        at: &Moment,
-    ) -> Result<Text, CommandFault> {
-        match open(self, name, 0) {
-            Ok(conn) => closed(order(alloc, conn, source, is_source_named, status, number, at)),
-            Err(fault) => Err(fault),
-        }
-    }
-
-    fn service(
-        &self,
-        alloc: Global,
-        name: &str,
-        source: &Text,
-        is_source_named: bool,
-        base: Option<u64>,
-    ) -> Result<Text, CommandFault> {
-        match open(self, name, 0) {
-            Ok(conn) => closed(tell_service(alloc, conn, source, is_source_named, base)),
-            Err(fault) => Err(fault),
-        }
-    }
-
-    fn describe(&self, alloc: Global, name: &str) -> Result<Text, Trouble> {
-        match found(self, name) {
-            Ok(conn) => match closed(describe(alloc, conn, name)) {
-                Ok(text) => Ok(text),
-                Err(fault) => Err(of_fault(fault)),
-            },
-            Err(why) => Err(why),
-        }
-    }
-
-    fn relay(
-        &self,
-        alloc: Global,
-        name: &str,
-        source: &Text,
-        after: u64,
-    ) -> Result<Text, CommandFault> {
-        match open(self, name, 0) {
-            Ok(conn) => closed(relay(alloc, conn, source, after)),
-            Err(fault) => Err(fault),
-        }
-    }
-
-    fn relay_all(&self, alloc: Global, name: &str, after: u64) -> Result<Text, CommandFault> {
-        match open_there(self, name) {
-            Ok(conn) => closed(relay_all(alloc, conn, after)),
-            Err(fault) => Err(fault),
-        }
-    }
-}
-
-/// Closes the database of a command, and answers what it came to.
-fn closed(ended: Ended<FileStore<File>>) -> Result<Text, CommandFault>
-    ensures { result ≡ ended.outcome }
-{
-    let Ended { conn, outcome } = ended;
-    let _closed = conn.close();
-    outcome
-}
-
-/// Closes the database of a command, and answers the pages that it came to.
-fn closed_pages(paged: Paged<FileStore<File>>) -> Result<EventPages, CommandFault>
-    ensures { result ≡ paged.pages }
-{
-    let Paged { conn, pages } = paged;
-    let _closed = conn.close();
-    pages
-}
 
 /// Whether the name means no file of that name to SQLite: the empty one and `:memory:` are databases
 /// that go away there, and one that begins with `file:` is a URI.
@@ -361,25 +49,35 @@ fn is_no_file(name: &str) -> bool
     name.starts_with("file:")
 }
 
-/// Opens the database of that name for a command that makes none.
-fn open_there(rt: &HostRuntime, name: &str) -> Result<Connection<FileStore<File>>, CommandFault>
-    ensures { IsNoFile name.now → IsErrOf result CommandFault.Store }
+/// Opens the database of that name for a command that makes none, whatever its files hold.
+pub(crate) fn open_there<T: Start>(
+    rt: &HostRuntime,
+    name: &str,
+    start: T,
+) -> Result<Connection<FileStore<FileFrom<T>>>, CommandFault>
+    ensures over { IfOk result (IsOver (image_at T.Start)) }
+    ensures none { IsNoFile name.now → IsErrOf result CommandFault.Store }
 {
-    match found(rt, name) {
+    match found(rt, name, start) {
         Ok(conn) => Ok(conn),
         Err(why) => Err(why.fault()),
     }
 }
 
 /// As [`open_there`], with what is the matter where it isn't opened.
-fn found(rt: &HostRuntime, name: &str) -> Result<Connection<FileStore<File>>, Trouble>
-    ensures { IsNoFile name.now → IsErrOf result trouble.NoFile }
+pub(crate) fn found<T: Start>(
+    rt: &HostRuntime,
+    name: &str,
+    start: T,
+) -> Result<Connection<FileStore<FileFrom<T>>>, Trouble>
+    ensures over { IfOk result (IsOver (image_at T.Start)) }
+    ensures none { IsNoFile name.now → IsErrOf result trouble.NoFile }
 {
     if is_no_file(name) {
         return Err(Trouble::NoFile);
     }
     match fs::metadata(rt, name) {
-        Ok(_) => opened(rt, name, 0),
+        Ok(_) => opened(rt, name, 0, start),
         Err(error) => match error.kind() {
             ErrorKind::OutOfMemory => Err(Trouble::OutOfMemory),
             _ => Err(Trouble::CannotRead),
@@ -397,24 +95,40 @@ pub fn open(
 ) -> Result<Connection<FileStore<File>>, CommandFault>
     ensures { IsNoFile name.now → IsErrOf result CommandFault.Store }
 {
+    open_over(rt, name, growth, Unknown)
+}
+
+/// As [`open`], whatever the files hold: what that is, `T` says in clauses, and no code can ask.
+pub fn open_over<T: Start>(
+    rt: &HostRuntime,
+    name: &str,
+    growth: u64,
+    start: T,
+) -> Result<Connection<FileStore<FileFrom<T>>>, CommandFault>
+    ensures over { IfOk result (IsOver (image_at T.Start)) }
+    ensures none { IsNoFile name.now → IsErrOf result CommandFault.Store }
+{
     if is_no_file(name) {
         return Err(CommandFault::Store);
     }
-    match opened(rt, name, growth) {
+    match opened(rt, name, growth, start) {
         Ok(conn) => Ok(conn),
         Err(why) => Err(why.fault()),
     }
 }
 
-/// As [`open`], of a name that is a file's, with what is the matter where it isn't opened.
-fn opened(
+/// As [`open_over`], of a name that is a file's, with what is the matter where it isn't opened.
+fn opened<T: Start>(
     rt: &HostRuntime,
     name: &str,
     growth: u64,
-) -> Result<Connection<FileStore<File>>, Trouble> {
+    start: T,
+) -> Result<Connection<FileStore<FileFrom<T>>>, Trouble>
+    ensures over { IfOk result (IsOver (image_at T.Start)) }
+{
     let pages = pages_for(length_of(rt, name), growth, most_pages(rt)?);
     let options = options(rt, pages)?;
-    match sqlite_std_file::open(rt, name, Unknown) {
+    match sqlite_std_file::open(rt, name, start) {
         Ok(files) => match Connection::open_files(rt.alloc(), files, options) {
             Ok(conn) => Ok(conn),
             Err((error, _)) => Err(of_error(error)),

@@ -1,20 +1,19 @@
 //! The inbox of a database: its table, and taking events into it.
-ghost use Rattle.std.specs.Prelude.{◌≡◌, ◌⊎◌, ℕ, List, length, IfErr, IfOk, IsTrue};
+ghost use Rattle.std.specs.Prelude.{◌≡◌, ◌⊎◌, ℕ, List, length, IfErr, IfOk, IsTrue, OnOk};
 ghost use Rattle.sqlite.specs.Held.{state};
 ghost use Rattle.sqlite.specs.State.{HasCleanDisk, Survives};
 ghost use Rattle.attributes.specs.Event.{EventValue};
-ghost use Rattle.inbox_table.specs.Calls.{IsAsItWas, Takes};
+ghost use Rattle.inbox_table.specs.Calls.{IsAsItWas, IsTold, Takes};
 ghost use Rattle.inbox_table.specs.Rows.{IsInbox};
 ghost use Rattle.database_commands.specs.declared.fault.CommandFault.TheVariants.{OutOfMemory};
-ghost use Rattle.database_commands.specs.Held.{Holds, IsTaken, KeepsOrTakes, MayHold, TakesInto};
+ghost use Rattle.database_commands.specs.Held.{Holds, IsTaken, KeepsOrTakes, KeepsRows, MayHold, TakesInto, TellsUpgrade};
 ghost use Rattle.database_commands.specs.Print.{counts_line};
 
 use crate::Ended;
 use crate::fault::{CommandFault, of_table};
 use crate::text::counts_line;
 use attributes::{Batch, Text};
-use database_layout::has_inbox;
-use inbox_table::{Loaded, NotMade, Table, Watch};
+use inbox_table::{Loaded, NotMade, Table, Unwatched, Watch};
 use sqlite::{Alter, Connection};
 use std::alloc::Global;
 
@@ -35,24 +34,18 @@ pub fn loaded<S: Alter + Drop>(alloc: Global, conn: Connection<S>) -> Result<Loa
         (MayHold (state S.Store conn).now)) }
     ensures crash_refused { IfErr result (λ n. Survives (state S.Store conn)
         (state S.Store n.conn) (MayHold (state S.Store conn).now)) }
+    ensures beside { IfOk result (λ l. HasCleanDisk (state S.Store l.table.conn)
+        → KeepsRows (state S.Store conn).now (state S.Store l.table.conn).now) }
 {
-    if has_inbox(conn.schema()) {
-        return Table::adopt_and_load(alloc, conn);
-    }
-    match Table::create(alloc, conn) {
-        Ok(table) => {
-            let events = Batch::empty(alloc);
-            Ok(Loaded { table, events })
-        }
-        Err(refused) => Err(refused),
-    }
+    Table::open_and_load(alloc, conn, &Unwatched)
 }
 
 /// Adds the events that a database doesn't have, each in its turn, and answers the line that says
 /// how many of them were new. The table is made where there is none. One transaction; the events
 /// that are there already are read once and not kept. The watch is told from time to time how many
-/// of the batch are in. A refusal leaves what the database held; only where the memory for the line
-/// is wanted may the events be in.
+/// of the batch are in, and before that, where a table of version 1 gives way, how many of its events
+/// are. A refusal leaves what the database held; only where the memory for the line is wanted may the
+/// events be in. A service beside the inbox stays as it is.
 pub fn take<S: Alter + Drop, W: Watch>(
     alloc: Global,
     conn: Connection<S>,
@@ -66,8 +59,14 @@ pub fn take<S: Alter + Drop, W: Watch>(
         events.now f (state S.Store conn).now (state S.Store result.conn).now) }
     ensures line { IfOk result.outcome (λ text.
         (fresh : ℕ) × (text ≡ counts_line (length events.now) fresh)) }
+    ensures beside { HasCleanDisk (state S.Store result.conn)
+        → IsTrue (state S.Store result.conn).is_open
+        → KeepsRows (state S.Store conn).now (state S.Store result.conn).now }
+    ensures told { OnOk result.outcome (IsTold (W.told watch.now) (length events.now)) }
+    ensures upgraded { HasCleanDisk (state S.Store result.conn) → OnOk result.outcome
+        (TellsUpgrade (W.told watch.now) (state S.Store conn).now) }
 {
-    match adopted(alloc, conn) {
+    match adopted(alloc, conn, watch) {
         Ok(mut table) => {
             let outcome = kept(alloc, &mut table, events, watch);
             let conn = table.into_connection();
@@ -81,20 +80,23 @@ pub fn take<S: Alter + Drop, W: Watch>(
     }
 }
 
-/// The table of a database, made where there is none. Its events are read once and not kept.
-pub(crate) fn adopted<S: Alter + Drop>(
+/// The table of a database, made where there is none. Its events are read once and not kept. Where a
+/// table of version 1 gives way, the watch is told how many of its events are in the new one.
+pub(crate) fn adopted<S: Alter + Drop, W: Watch>(
     alloc: Global,
     conn: Connection<S>,
+    watch: &W,
 ) -> Result<Table<S>, NotMade<S>>
     ensures held { IfOk result (λ t. HasCleanDisk (state S.Store t.conn)
         → (held : List EventValue) → Holds (state S.Store conn).now held
         → IsInbox (state S.Store t.conn).now held) }
     ensures back { IfErr result (λ n. IsAsItWas (state S.Store conn) (state S.Store n.conn)) }
+    ensures beside { IfOk result (λ t. HasCleanDisk (state S.Store t.conn)
+        → KeepsRows (state S.Store conn).now (state S.Store t.conn).now) }
+    ensures upgraded { IfOk result (λ t. HasCleanDisk (state S.Store t.conn)
+        → TellsUpgrade (W.told watch.now) (state S.Store conn).now) }
 {
-    if has_inbox(conn.schema()) {
-        return Table::adopt(alloc, conn);
-    }
-    Table::create(alloc, conn)
+    Table::open(alloc, conn, watch)
 }
 
 /// Keeps the events in a table, and answers the line that says how many were new.
@@ -116,6 +118,10 @@ fn kept<S: Alter + Drop, W: Watch>(
         ((state S.Store table.new.conn).now ≡ (state S.Store table.old.conn).now)
         ⊎ ((f ≡ OutOfMemory) × Takes events.now
         (state S.Store table.old.conn).now (state S.Store table.new.conn).now)) }
+    ensures beside { HasCleanDisk (state S.Store table.new.conn)
+        → IsTrue (state S.Store table.new.conn).is_open
+        → KeepsRows (state S.Store table.old.conn).now (state S.Store table.new.conn).now }
+    ensures told { OnOk result (IsTold (W.told watch.now) (length events.now)) }
 {
     match table.keep_watched(events, watch) {
         Ok(fresh) => said(alloc, events.len(), fresh),

@@ -10,7 +10,7 @@ ghost use Rattle.site.specs.Delta.{delta};
 ghost use Rattle.site.specs.Page.{page};
 ghost use Rattle.database_layout.specs.Layout.{has_inbox};
 ghost use Rattle.outbox.specs.Call.{Leaves};
-ghost use Rattle.database_commands.specs.Held.{HasDelta, HasEvents, Holds, KeepsEvents, SaysDelta, SaysPage, SaysSummary, SaysSummaryOf, ShowsDelta, ShowsPage, ShowsSummary};
+ghost use Rattle.database_commands.specs.Held.{HasDelta, HasEvents, Holds, KeepsEvents, KeepsRows, SaysDelta, SaysPage, SaysSummary, SaysSummaryOf, ShowsDelta, ShowsPage, ShowsSummary};
 ghost use Rattle.database_commands.specs.Print.{batch_line};
 
 use crate::Ended;
@@ -47,6 +47,9 @@ fn contents_of<S: Alter + Drop>(alloc: Global, conn: Connection<S>) -> Contents<
     ensures list { HasCleanDisk (state S.Store result.conn)
         → IsTrue (state S.Store result.conn).is_open
         → KeepsEvents (state S.Store conn).now (state S.Store result.conn).now }
+    ensures beside { HasCleanDisk (state S.Store result.conn)
+        → IsTrue (state S.Store result.conn).is_open
+        → KeepsRows (state S.Store conn).now (state S.Store result.conn).now }
 {
     match loaded(alloc, conn) {
         Ok(loaded) => {
@@ -175,8 +178,8 @@ pub fn delta_pages<S: Alter + Drop>(
 }
 
 /// The page of what a summary lacks of all events of a database, at most 100 from a place on. The
-/// table is made where there is none, and the events stay, also where it is refused. Time in
-/// proportion to all events.
+/// table is made where there is none, and the events stay, also where it is refused, as does a service
+/// beside them. Time in proportion to all events.
 pub fn delta<S: Alter + Drop>(
     alloc: Global,
     conn: Connection<S>,
@@ -188,6 +191,9 @@ pub fn delta<S: Alter + Drop>(
     ensures list { HasCleanDisk (state S.Store result.conn)
         → IsTrue (state S.Store result.conn).is_open
         → KeepsEvents (state S.Store conn).now (state S.Store result.conn).now }
+    ensures beside { HasCleanDisk (state S.Store result.conn)
+        → IsTrue (state S.Store result.conn).is_open
+        → KeepsRows (state S.Store conn).now (state S.Store result.conn).now }
     ensures line { IfOk result.outcome (SaysDelta summary.now from) }
 {
     let Contents { conn, events } = contents_of(alloc, conn);
@@ -204,14 +210,17 @@ pub fn delta<S: Alter + Drop>(
 }
 
 /// The page of all events of a database in key order, at most 100 from a place on. The table is
-/// made where there is none, and the events stay, also where it is refused. Time in proportion to
-/// all events.
+/// made where there is none, and the events stay, also where it is refused, as does a service beside
+/// them. Time in proportion to all events.
 pub fn scrub<S: Alter + Drop>(alloc: Global, conn: Connection<S>, from: u64) -> Ended<S>
     ensures shown { HasCleanDisk (state S.Store result.conn) → IfOk result.outcome
         (ShowsPage from (state S.Store conn).now) }
     ensures list { HasCleanDisk (state S.Store result.conn)
         → IsTrue (state S.Store result.conn).is_open
         → KeepsEvents (state S.Store conn).now (state S.Store result.conn).now }
+    ensures beside { HasCleanDisk (state S.Store result.conn)
+        → IsTrue (state S.Store result.conn).is_open
+        → KeepsRows (state S.Store conn).now (state S.Store result.conn).now }
     ensures line { IfOk result.outcome (SaysPage from) }
 {
     let Contents { conn, events } = contents_of(alloc, conn);

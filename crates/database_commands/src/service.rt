@@ -8,13 +8,15 @@ ghost use Rattle.attributes.specs.Event.{EventValue};
 ghost use Rattle.attributes.specs.Sequence.{max_sequence};
 ghost use Rattle.outbox.specs.Call.{Accepts, IsAsItWas, IsSame, Refuses, ShowsAfter};
 ghost use Rattle.outbox.specs.Row.{row_event};
+ghost use Rattle.outbox.specs.Shown.{Stands};
+ghost use Rattle.database_layout.specs.Beside.{KeepsBeside};
 ghost use Rattle.database_layout.specs.Layout.{has_name};
 ghost use Rattle.outbox.specs.declared.fault.OutboxFault.{OutboxFault};
 ghost use Rattle.outbox.specs.declared.fault.OutboxFault.TheVariants.{OutOfMemory, Store};
 ghost use Rattle.relay.specs.Relay.{ForNextRows};
 ghost use Rattle.database_commands.specs.declared.fault.CommandFault.TheVariants as command;
 ghost use Rattle.database_commands.specs.Fault.{of_outbox};
-ghost use Rattle.database_commands.specs.Held.{ForAllRows, HasAnother, IsBehind, IsMeant, IsNoOrders, IsServed, KeepsRows, KeepsService, Orders, RefusesOrder, SaysAllRows, SaysOrder, SaysRows, ShowsAllRows, ShowsRows};
+ghost use Rattle.database_commands.specs.Held.{ForAllRows, HasAnother, IsBehind, IsMeant, IsNoOrders, IsServed, KeepsEvents, KeepsRows, KeepsService, Orders, RefusesOrder, SaysAllRows, SaysOrder, SaysRows, ShowsAllRows, ShowsRows};
 ghost use Rattle.database_commands.specs.Pages.{max_page, pages_text};
 ghost use Rattle.database_commands.specs.Print.{batch_line, event_line};
 ghost use Rattle.database_commands.specs.steps.Left.{IsNextPage};
@@ -50,43 +52,6 @@ pub(crate) fn is_same(one: &Text, other: &Text) -> bool
     one.as_str() == other.as_str()
 }
 
-/// The service that is there; where the source was named, it has to be that of the service.
-fn found<S: Alter + Drop>(
-    alloc: Global,
-    conn: Connection<S>,
-    source: &Text,
-    is_named: bool,
-) -> Result<Service<S>, NotServed<S>>
-    requires { has_name (state S.Store conn).now.schema ≡ true }
-    ensures served { IfOk result (λ s. HasCleanDisk (state S.Store s.conn)
-        → IsServed source.now (state S.Store conn).now s.source s.base
-        (state S.Store s.conn).now) }
-    ensures named { IsTrue is_named → IfOk result (λ s. s.source ≡ source.now) }
-    ensures back { IfErr result (λ e. IsAsItWas (state S.Store conn) (state S.Store e.conn)) }
-    ensures another { IfErr result (λ e. e.fault ≡ command.AnotherSource → IsTrue is_named
-        × (HasCleanDisk (state S.Store e.conn) → HasAnother source.now (state S.Store conn).now)) }
-    ensures fault { IfErr result (λ e. IsNoOrders e.fault) }
-{
-    match Service::adopt(alloc, conn) {
-        Ok(service) => {
-            if is_named && !is_same(service.source(), source) {
-                return Err(NotServed {
-                    conn: service.into_connection(),
-                    fault: CommandFault::AnotherSource,
-                });
-            }
-            Ok(service)
-        }
-        Err(refused) => {
-            let NotMade { conn, fault } = refused;
-            Err(NotServed {
-                conn,
-                fault: of_outbox(fault),
-            })
-        }
-    }
-}
-
 /// The service of a database, made with this source where there is none. Where the source was
 /// named, a service that is there has to have it.
 fn service_of<S: Alter + Drop>(
@@ -104,12 +69,21 @@ fn service_of<S: Alter + Drop>(
     ensures another { IfErr result (λ e. e.fault ≡ command.AnotherSource → IsTrue is_named
         × (HasCleanDisk (state S.Store e.conn) → HasAnother source.now (state S.Store conn).now)) }
     ensures fault { IfErr result (λ e. IsNoOrders e.fault) }
+    ensures beside { IfOk result (λ s. HasCleanDisk (state S.Store s.conn)
+        → KeepsEvents (state S.Store conn).now (state S.Store s.conn).now) }
+    ensures stands { IfOk result (λ s. HasCleanDisk (state S.Store s.conn)
+        → Stands (state S.Store s.conn).now s.source s.base s.last) }
 {
-    if has_name(conn.schema()) {
-        return found(alloc, conn, source, is_named);
-    }
-    match Service::create(alloc, conn, source, BASE) {
-        Ok(service) => Ok(service),
+    match Service::open(alloc, conn, source, BASE) {
+        Ok(service) => {
+            if is_named && !is_same(service.source(), source) {
+                return Err(NotServed {
+                    conn: service.into_connection(),
+                    fault: CommandFault::AnotherSource,
+                });
+            }
+            Ok(service)
+        }
         Err(refused) => {
             let NotMade { conn, fault } = refused;
             Err(NotServed {
@@ -143,6 +117,8 @@ fn command<S: Alter>(
         (record { status = status; order = order; at = at.now }))) }
     ensures same { OnErr result
         (IsAsItWas (state S.Store service.old.conn) (state S.Store service.new.conn)) }
+    ensures beside { HasCleanDisk (state S.Store service.new.conn) → OnOk result (KeepsBeside
+        (state S.Store service.old.conn).now (state S.Store service.new.conn).now) }
     ensures clean { HasCleanDisk (state S.Store service.new.conn)
         → HasCleanDisk (state S.Store service.old.conn) }
 {
@@ -183,6 +159,11 @@ pub fn order<S: Alter + Drop>(
     ensures another { IfErr result.outcome (λ f. f ≡ command.AnotherSource
         → IsTrue is_source_named × (HasCleanDisk (state S.Store result.conn)
         → HasAnother source.now (state S.Store conn).now)) }
+    ensures untouched { IfErr result.outcome (λ f. f ≡ command.AnotherSource
+        → IsAsItWas (state S.Store conn) (state S.Store result.conn)) }
+    ensures beside { HasCleanDisk (state S.Store result.conn)
+        → IsTrue (state S.Store result.conn).is_open
+        → KeepsEvents (state S.Store conn).now (state S.Store result.conn).now }
     ensures line { IfOk result.outcome (SaysOrder is_source_named source.now
         (record { status = status; order = order; at = at.now })) }
 {
@@ -224,6 +205,8 @@ fn command_line<S: Alter>(
         (state S.Store service.old.conn).now why) }
     ensures same { OnErr result
         (IsAsItWas (state S.Store service.old.conn) (state S.Store service.new.conn)) }
+    ensures beside { HasCleanDisk (state S.Store service.new.conn) → OnOk result (KeepsBeside
+        (state S.Store service.old.conn).now (state S.Store service.new.conn).now) }
     ensures clean { HasCleanDisk (state S.Store service.new.conn)
         → HasCleanDisk (state S.Store service.old.conn) }
     ensures fault { IfErr result (λ f. f ≢ command.AnotherSource) }
@@ -285,6 +268,9 @@ pub fn relay<S: Alter + Drop>(
     ensures kept { HasCleanDisk (state S.Store result.conn)
         → IsTrue (state S.Store result.conn).is_open
         → KeepsService source.now (state S.Store conn).now (state S.Store result.conn).now }
+    ensures beside { HasCleanDisk (state S.Store result.conn)
+        → IsTrue (state S.Store result.conn).is_open
+        → KeepsEvents (state S.Store conn).now (state S.Store result.conn).now }
     ensures fault { IfErr result.outcome (λ f. f ≢ command.AnotherSource) }
     ensures line { IfOk result.outcome (SaysRows after) }
 {

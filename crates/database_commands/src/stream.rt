@@ -12,7 +12,7 @@ ghost use Rattle.database_commands.specs.Streams.{AcknowledgesUntil, HoldsTurns,
 
 use crate::fault::{CommandFault, of_table};
 use crate::intake::adopted;
-use inbox_table::NotMade;
+use inbox_table::{NotMade, Unwatched};
 use line_intake::{FollowFault, LineFault};
 use sqlite::{Alter, Connection};
 use std::alloc::Global;
@@ -111,7 +111,7 @@ pub fn follow<S: Alter + Drop, R: Read, W: Write>(
     ensures until { IfErr result.outcome (λ f. AcknowledgesUntil f
         (R.remaining input.old) (W.contents out.old) (W.contents out.new)) }
 {
-    match adopted(alloc, conn) {
+    match adopted(alloc, conn, &Unwatched) {
         Ok(mut table) => {
             let ended = line_intake::follow(alloc, &mut table, input, out);
             let conn = table.into_connection();

@@ -79,12 +79,14 @@ pub(crate) fn create<R: AllocGlobal + Abort>(rt: &R, base: u64) -> Service<MemSt
     created(rt, database(rt, &[]), base)
 }
 
-/// The service that a database has.
+/// The service that a database has, whatever source and base a new one would get.
 pub(crate) fn adopted<R: AllocGlobal + Abort, S: Alter + Drop>(
     rt: &R,
     conn: Connection<S>,
 ) -> Service<S> {
-    match Service::adopt(rt.alloc(), conn) {
+    let source = Text::of(rt.alloc(), "/others").expect(rt, "memory");
+    assert!(rt; source.is_source() && source.as_str().len() <= 1024);
+    match Service::open(rt.alloc(), conn, &source, 9) {
         Ok(service) => service,
         Err(_) => panic!(rt; "no service"),
     }

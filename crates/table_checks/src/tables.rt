@@ -5,7 +5,7 @@ use crate::disks::Tried;
 use crate::fixture::{
     C1, E1, E2, E3, F1, INBOX, INBOX2, OUTBOX, batch, database, executes, has, insertion,
 };
-use inbox_table::{Loaded, Table, TableFault};
+use inbox_table::{Loaded, Table, TableFault, Unwatched};
 use sqlite::{Alter, Connection, MemStore};
 use std::process::Abort;
 
@@ -20,12 +20,12 @@ pub(crate) fn created<R: AllocGlobal + Abort, S: Alter + Drop>(
     }
 }
 
-/// The table of a database, and what it has.
+/// The table that a database has, and its events.
 pub(crate) fn adopted<R: AllocGlobal + Abort, S: Alter + Drop>(
     rt: &R,
     conn: Connection<S>,
 ) -> Loaded<S> {
-    match Table::adopt_and_load(rt.alloc(), conn) {
+    match Table::open_and_load(rt.alloc(), conn, &Unwatched) {
         Ok(loaded) => loaded,
         Err(_) => panic!(rt; "no table"),
     }

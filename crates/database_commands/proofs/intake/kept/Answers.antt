@@ -1,6 +1,8 @@
 use Rattle.std.proofs.Common.{◌∙◌, ap}
 use Rattle.std.proofs.lemmas.Result.{IfOk-weaker}
 use Rattle.database_commands.specs.Print.{counts_line}
+use Rattle.database_commands.proofs.BesideLemmas.{service_kept, service_same}
+use Rattle.database_commands.proofs.HeldLemmas.{on_ok}
 use Rattle.database_commands.proofs.intake.kept.Goals as goal
 
 pub returns-in-Ok-clause-taken : goal.returns-in-Ok-clause-taken
@@ -13,3 +15,12 @@ returns-in-Ok-clause-taken g c clean =
       line = line ∙ ap (λ n. counts_line n c.in-Ok.fresh) c.len.ensures;
     })
     c.said.ensures.line
+
+pub returns-in-Ok-clause-beside : goal.returns-in-Ok-clause-beside
+returns-in-Ok-clause-beside g c clean still = service_kept _ _ (c.in-Ok.ensures.effect clean).beside
+
+pub returns-in-Ok-clause-told : goal.returns-in-Ok-clause-told
+returns-in-Ok-clause-told g c = on_ok c.said.result _ c.in-Ok.ensures.told
+
+pub returns-in-Err-clause-beside : goal.returns-in-Err-clause-beside
+returns-in-Err-clause-beside g c clean still = service_same _ _ ((c.in-Err.ensures.effect clean).same still)

@@ -2,7 +2,8 @@ use Rattle.std.proofs.Common.{subst, sym}
 use Rattle.sqlite.specs.Held.{state}
 use Rattle.sqlite.specs.State.{HasCleanDisk}
 use Rattle.inbox_table.specs.Rows.{IsInbox}
-use Rattle.database_commands.specs.Held.{Holds}
+use Rattle.database_commands.specs.Held.{Holds, KeepsRows}
+use Rattle.database_commands.proofs.BesideLemmas.{service_same}
 use Rattle.database_commands.proofs.HeldLemmas.{inbox_holds}
 use Rattle.database_commands.proofs.page.contents_of.Goals as goal
 
@@ -14,3 +15,11 @@ returns-in-Ok-clause-list g c clean still held holds =
 
 pub returns-in-Err-clause-list : goal.returns-in-Err-clause-list
 returns-in-Err-clause-list g c clean still held holds = subst (λ d. Holds d held) (sym (c.in-Err.ensures.back clean still)) holds
+
+pub returns-in-Ok-clause-beside : goal.returns-in-Ok-clause-beside
+returns-in-Ok-clause-beside g c clean still =
+    let was = subst (λ h. HasCleanDisk (state g.S.Store h)) c.into_connection-conn.ensures clean in
+    subst (λ h. KeepsRows (state g.S.Store c.args.conn).now (state g.S.Store h).now) (sym c.into_connection-conn.ensures) (c.in-Ok.ensures.beside was)
+
+pub returns-in-Err-clause-beside : goal.returns-in-Err-clause-beside
+returns-in-Err-clause-beside g c clean still = service_same _ _ (c.in-Err.ensures.back clean still)

@@ -3,8 +3,9 @@ use Rattle.std.proofs.lemmas.Result.{IfErr-weaker, IfOk-weaker}
 use Rattle.sqlite.specs.Held.{state}
 use Rattle.sqlite.specs.State.{HasCleanDisk}
 use Rattle.outbox.specs.Order.{Accepted}
-use Rattle.database_commands.specs.Held.{KeepsService, Orders}
-use Rattle.database_commands.proofs.HeldLemmas.{on_err, on_ok}
+use Rattle.database_commands.specs.Held.{KeepsEvents, KeepsService, Orders}
+use Rattle.database_commands.proofs.BesideLemmas.{events_beside, events_over, events_same}
+use Rattle.database_commands.proofs.HeldLemmas.{either_way, on_err, on_ok, on_okay}
 use Rattle.database_commands.proofs.ServedLemmas.{kept_all, kept_served, ordered, refused_order}
 use Rattle.database_commands.proofs.service.order.Goals as goal
 
@@ -70,3 +71,22 @@ returns-in-Ok-clause-line g c =
     IfOk-weaker c.command_line-outcome.result _ _
     (λ text line. record { source = mid.source; number = suc mid.last; meant = c.in-Ok.ensures.named; line = line })
     c.command_line-outcome.ensures.line
+
+pub returns-in-Ok-clause-beside : goal.returns-in-Ok-clause-beside
+returns-in-Ok-clause-beside g c clean still =
+    let old = (state g.S.Store c.args.conn).now in
+    let mid = (state g.S.Store c.in-Ok.service.conn).now in
+    let last = c.command_line-outcome.new.service in
+    let late : HasCleanDisk (state g.S.Store last.conn) = subst (λ h. HasCleanDisk (state g.S.Store h)) c.into_connection-conn.ensures clean in
+    let open_late : IsTrue (state g.S.Store last.conn).is_open = subst (λ h. IsTrue (state g.S.Store h).is_open) c.into_connection-conn.ensures still in
+    let first = c.in-Ok.ensures.beside (c.command_line-outcome.ensures.clean late) in
+    subst (λ h. KeepsEvents old (state g.S.Store h).now) (sym c.into_connection-conn.ensures)
+    (either_way c.command_line-outcome.result _
+    (on_okay c.command_line-outcome.result _ _ (λ keeps. events_over old mid (state g.S.Store last.conn).now first (events_beside mid (state g.S.Store last.conn).now keeps)) (c.command_line-outcome.ensures.beside late))
+    (on_err c.command_line-outcome.result _ _ (λ same. events_over old mid (state g.S.Store last.conn).now first (events_same mid (state g.S.Store last.conn).now (same late open_late))) c.command_line-outcome.ensures.same))
+
+pub returns-in-Err-clause-beside : goal.returns-in-Err-clause-beside
+returns-in-Err-clause-beside g c clean still = events_same _ _ (c.in-Err.ensures.back clean still)
+
+pub returns-in-Ok-clause-untouched : goal.returns-in-Ok-clause-untouched
+returns-in-Ok-clause-untouched g c = IfErr-weaker c.command_line-outcome.result _ _ (λ f no is. absurd (no is)) c.command_line-outcome.ensures.fault

@@ -2,8 +2,9 @@ use Rattle.std.proofs.Common.{IsTrue, arith, subst, sym}
 use Rattle.std.proofs.lemmas.Result.{IfOk-weaker}
 use Rattle.sqlite.specs.Held.{state}
 use Rattle.sqlite.specs.State.{HasCleanDisk}
-use Rattle.database_commands.specs.Held.{KeepsService}
-use Rattle.database_commands.proofs.ServedLemmas.{kept_all, kept_read, shown_rows}
+use Rattle.database_commands.specs.Held.{KeepsEvents, KeepsService}
+use Rattle.database_commands.proofs.BesideLemmas.{events_same}
+use Rattle.database_commands.proofs.ServedLemmas.{beside_read, kept_all, kept_read, shown_rows}
 use Rattle.database_commands.proofs.service.relay.Goals as goal
 
 pub returns-in-Ok-clause-shown : goal.returns-in-Ok-clause-shown
@@ -28,3 +29,16 @@ returns-in-Ok-clause-kept g c clean still =
 
 pub returns-in-Err-clause-kept : goal.returns-in-Err-clause-kept
 returns-in-Err-clause-kept g c clean still = kept_all c.args.source.now (state g.S.Store c.args.conn).now (state g.S.Store c.in-Err.refused.conn).now (c.in-Err.ensures.back clean still)
+
+pub returns-in-Ok-clause-beside : goal.returns-in-Ok-clause-beside
+returns-in-Ok-clause-beside g c clean still =
+    let mid = c.in-Ok.service in
+    let last = c.rows_line-outcome.new.service in
+    let late : HasCleanDisk (state g.S.Store last.conn) = subst (λ h. HasCleanDisk (state g.S.Store h)) c.into_connection-conn.ensures clean in
+    let open_late : IsTrue (state g.S.Store last.conn).is_open = subst (λ h. IsTrue (state g.S.Store h).is_open) c.into_connection-conn.ensures still in
+    let early : HasCleanDisk (state g.S.Store mid.conn) = omega (arith, c.rows_line-outcome.ensures.same.clean, late) in
+    subst (λ h. KeepsEvents (state g.S.Store c.args.conn).now (state g.S.Store h).now) (sym c.into_connection-conn.ensures)
+    (beside_read (state g.S.Store c.args.conn).now (state g.S.Store mid.conn) (state g.S.Store last.conn) mid.source mid.base mid.last (c.in-Ok.ensures.beside early) (c.in-Ok.ensures.stands early) c.rows_line-outcome.ensures.same late open_late)
+
+pub returns-in-Err-clause-beside : goal.returns-in-Err-clause-beside
+returns-in-Err-clause-beside g c clean still = events_same _ _ (c.in-Err.ensures.back clean still)

@@ -1,7 +1,21 @@
+use Rattle.std.proofs.Common.{◌≡◌, IsTrue, rules, subst}
 use Rattle.sqlite.specs.Held.{state}
-use Rattle.database_commands.proofs.ServedLemmas.{made_served}
+use Rattle.sqlite.specs.State.{HasCleanDisk}
+use Rattle.database_commands.proofs.ServedLemmas.{opened_beside, opened_other, opened_served}
 use Rattle.database_commands.proofs.service.service_of.Goals as goal
 
-pub returns-in-Ok-clause-served : goal.returns-in-Ok-clause-served
-returns-in-Ok-clause-served g c clean =
-    made_served (state g.S.Store c.args.conn).now (state g.S.Store c.in-Ok.service.conn).now c.args.source.now c.in-Ok.service.source c.in-Ok.service.base c.in-Ok.ensures.first (c.in-Ok.ensures.made clean).service c.in-Ok.ensures.given.0 c.in-Ok.ensures.given.1
+pub returns-else-is_named-clause-served : goal.returns-else-is_named-clause-served
+returns-else-is_named-clause-served g c clean = opened_served c.args.source.now (state g.S.Store c.args.conn) c.in-Ok.service (state g.S.Store c.in-Ok.service.conn) c.in-Ok.ensures.opened clean
+
+pub returns-else-is_named-clause-beside : goal.returns-else-is_named-clause-beside
+returns-else-is_named-clause-beside g c clean = opened_beside c.args.source.now (state g.S.Store c.args.conn) c.in-Ok.service (state g.S.Store c.in-Ok.service.conn) c.in-Ok.ensures.opened clean
+
+pub returns-then-not-is_same-clause-another : goal.returns-then-not-is_same-clause-another
+returns-then-not-is_same-clause-another g c is =
+    let named : IsTrue c.args.is_named = search rules in
+    let differs : c.in-Ok.service.source ≡ c.args.source.now → ⊥ = search rules in (
+      named,
+      λ clean.
+          let late : HasCleanDisk (state g.S.Store c.in-Ok.service.conn) = subst (λ h. HasCleanDisk (state g.S.Store h)) c.into_connection.ensures clean in
+          (opened_other c.args.source.now (state g.S.Store c.args.conn) c.in-Ok.service (state g.S.Store c.in-Ok.service.conn) c.in-Ok.ensures.opened late differs).0,
+    )
