@@ -5,9 +5,11 @@ that they take away in the end, and on a pipe, where they are silent.
     tools/try_terminal.py [PROGRAM]        by default crates/site_cli/out/site_cli
 """
 
+import contextlib
 import json
 import os
 import pty
+import sqlite3
 import subprocess
 import sys
 import tempfile
@@ -66,6 +68,16 @@ def ran_on_one_terminal(program, words):
     return run.wait(timeout=60), seen
 
 
+def before(now, old):
+    """Makes a file of before, whose inbox has no blocks, of the inbox of a file of now."""
+    with contextlib.closing(sqlite3.connect(old)) as base:
+        base.execute("ATTACH ? AS now", (now,))
+        base.execute("CREATE TABLE inbox (place INTEGER PRIMARY KEY, source TEXT NOT NULL, id TEXT NOT NULL, "
+                     "number INTEGER NOT NULL, body TEXT NOT NULL, UNIQUE (source, id, body)) STRICT")
+        base.execute("INSERT INTO inbox SELECT place, source, id, number, body FROM now.inbox2 ORDER BY place")
+        base.commit()
+
+
 def main():
     program = sys.argv[1] if len(sys.argv) > 1 else os.path.join(HERE, "crates/site_cli/out/site_cli")
     program = os.path.realpath(program)
@@ -103,6 +115,15 @@ def main():
             is_so(f"{what}: the line is gone", shown[0] == b"" and shown[-1] == b"", seen)
             status, out, seen = ran(program, words, False)
             is_so(f"{what}: silent on a pipe", status == 0 and out and seen == b"", (status, out, seen))
+        before("take.db", "old.db")
+        with open("one", "w", encoding="ascii") as file:
+            json.dump(event("c", 1), file)
+        status, out, seen = ran(program, ["take", "--db", "old.db", "one"], True)
+        shown = seen.split(AWAY)
+        is_so("take into a file of before: its answer", status == 0 and out == b"read 1 new 1 repeated 0\n", (status, out))
+        is_so("take into a file of before: how many of its events are in the new table", any(
+            b" of 5000 events kept" in line for line in shown), seen)
+        is_so("take into a file of before: the line is gone", shown[0] == b"" and shown[-1] == b"", seen)
         with open("lines", "w", encoding="ascii") as file:
             file.writelines(json.dumps(event("c", number + 1)) + "\n" for number in range(2500))
         status, out, seen = ran(program, ["follow", "--db", "follow.db", "lines"], True)
