@@ -8,7 +8,7 @@ use attributes::Event;
 use std::marker::Model;
 
 /// A UTC day, counted from 1970-01-01, in the years 0000 to 9999.
-#[derive(Clone, Copy, PartialEq, Eq, PartialOrd, Ord, Debug)]
+#[derive(Clone, Copy, PartialEq, Eq, PartialOrd, Ord, Hash, Debug)]
 pub struct Day {
     number: i32,
 }
