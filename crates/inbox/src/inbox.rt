@@ -12,7 +12,7 @@ ghost use Rattle.inbox.specs.declared.inbox.Taken.TheVariants.{Again};
 
 use crate::conflict::{Conflict, Conflicts};
 use crate::places::Places;
-use crate::search::{event_at, find, first_of, have_same_key};
+use crate::search::{event_at, find, first_of, have_same_key, position_at};
 use attributes::{Batch, Sequenced, Text};
 use std::alloc::{AllocError, Global};
 use std::marker::Model;
@@ -202,6 +202,15 @@ impl Inbox {
         ensures { slice_get self.now.arrivals i ≡ Some result.now }
     {
         &self.arrivals[i as usize]
+    }
+
+    /// The place among what came, from 0, of the event at place i of key order: `arrived_at` of it is
+    /// that event. The time grows with the logarithm of the number of events.
+    pub fn came_at(&self, i: u64) -> u64
+        requires { i < length (events self.now) }
+        ensures { slice_get self.now.arrivals result ≡ slice_get (events self.now) i }
+    {
+        position_at(&self.arrivals, &self.places, i as usize) as u64
     }
 
     /// Whether the event at place i of key order is shown: whether it has the least text of its

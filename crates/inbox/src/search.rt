@@ -100,6 +100,15 @@ pub(crate) fn event_at<'a>(arrivals: &'a [Sequenced], places: &Places, i: usize)
     event_in(arrivals, places.at(i))
 }
 
+/// The position among the arrivals of the event at place i of key order.
+pub(crate) fn position_at(arrivals: &[Sequenced], places: &Places, i: usize) -> usize
+    requires reads { ReadsInOrder key_cmp arrivals.now (order places.now) }
+    requires in_range { i < length (order places.now) }
+    ensures { slice_get arrivals.now result ≡ slice_get (set_of arrivals.now) i }
+{
+    places.at(i)
+}
+
 /// Where a search among places up to `len` looks next: at the last place first, since what comes in
 /// key order goes behind it, and then in the middle.
 fn next_probe(low: usize, high: usize, len: usize) -> usize
