@@ -78,6 +78,22 @@ def of_many_hashes(place):
     return of_one_hash(place).replace("BB", "Bb")
 
 
+def of_the_known_hash(place):
+    """A subject for each place; all of them have one hash in a table of the kit that has no seed of its own."""
+    return f"subject-00000677B2[Pp8PM{place:08d}"
+
+
+def near_the_known_hash(place):
+    return of_the_known_hash(place).replace("PM", "Pm")
+
+
+def hidden(size):
+    """Events of one subject by their numbers; then from the last one down each again, with a lesser text."""
+    count = size // len(event(100_000, ',"subject":"x"')) // 2
+    firsts = [event(place, ',"subject":"x"') for place in range(count)]
+    return "[" + ",\n".join(firsts + [event(place, ',"subject":"w"') for place in reversed(range(count))]) + "]"
+
+
 def largest(place):
     """An event whose canonical text has 262,144 bytes, the most that is allowed."""
     room = 262_144 - len(event(place, ',"x":""'))
@@ -157,6 +173,10 @@ def shapes(size):
     yield "ids shuffled, one number", one_number, ids
     texts = of_one_hash, of_many_hashes
     yield "one hash for all", *(ordered(size, "shuffled", by_text(it)) for it in texts)
+    subjects = of_the_known_hash, near_the_known_hash
+    yield "one known hash for all", *(
+        ordered(size, "shuffled", lambda place, by=by: event(place, f',"subject":"{by(place)}"')) for by in subjects)
+    yield "the latest hidden by each next", hidden(size), ten_subjects
     apart = ordered(size, "shuffled", lambda place: event(place, number=1024 * place + 1))
     yield "each number in a block of its own", apart, numbers
 

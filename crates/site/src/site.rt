@@ -6,6 +6,7 @@ ghost use Rattle.site.specs.Arrival.{AreDistinct, AreNumbered};
 
 mod among;
 mod delta;
+mod keep;
 mod mark;
 mod merge;
 mod page;
@@ -17,6 +18,7 @@ use block_digests::Blocks;
 use coverage::Summary;
 pub use delta::DeltaPart;
 use inbox::Inbox;
+use kept_views::Views;
 use mark::Mark;
 use std::alloc::Global;
 use std::marker::Model;
@@ -31,6 +33,8 @@ pub struct Site {
     summary: Summary,
     // The blocks of what came, with the digests that were made.
     blocks: Blocks,
+    // The views of what came, where they are kept.
+    views: Option<Views>,
     // Where the pages of the peer that asked last go on, where nothing came since.
     mark: Option<Mark>,
     alloc: Global,
@@ -43,6 +47,7 @@ impl Model for Site {
     ghost use Rattle.attributes.specs.Event.{EventValue};
     ghost use Rattle.block_digests.specs.Kept.{IsKeptOf};
     ghost use Rattle.coverage.specs.Summary.{version_of};
+    ghost use Rattle.kept_views.specs.Tables.{StandsFor};
     ghost use Rattle.views.specs.Number.{HasNumbers};
     ghost use Rattle.site.specs.Arrival.{AreDistinct, AreNumbered};
     ghost use Rattle.site.specs.steps.Mark.{IsMark};
@@ -56,11 +61,12 @@ impl Model for Site {
     ghost invariant = { λ s. HasNumbers s.inbox.arrivals s.summary
         × AreNumbered s.inbox.arrivals × AreDistinct s.inbox.arrivals
         × (version_of s.summary ≡ 1) × IsKeptOf s.inbox.arrivals s.blocks
+        × IfSome s.views (StandsFor s.inbox.arrivals)
         × IfSome s.mark (λ m. IsMark s.inbox.arrivals m.peer m.own m.among m.from m.place) };
 }
 
 impl Site {
-    /// A site without events. It takes no memory.
+    /// A site without events, which keeps no views. It takes no memory.
     pub fn empty(alloc: Global) -> Site
         ensures { result ≡ [] }
     {
@@ -68,6 +74,7 @@ impl Site {
             inbox: Inbox::empty(alloc),
             summary: Summary::empty(alloc),
             blocks: Blocks::empty(alloc),
+            views: None,
             mark: None,
             alloc,
         }

@@ -144,6 +144,25 @@ pub fn take(alloc: Global, site: &mut Site, rows: &[Row<'_>]) -> Option<Counts> 
     }
 }
 
+/// The event of a row that has a time.
+fn timed_event(alloc: Global, row: Row<'_>, time: &str) -> Option<Sequenced> {
+    let mut parts = Parts::empty(alloc);
+    if set_row(alloc, &mut parts, row).is_ok() && set(alloc, &mut parts, "time", time).is_ok() {
+        built(parts)
+    } else {
+        None
+    }
+}
+
+/// A site takes the event of a row that has a time, and answers whether it did.
+pub fn take_timed(alloc: Global, site: &mut Site, row: Row<'_>, time: &str) -> bool {
+    let mut batch = Batch::empty(alloc);
+    match timed_event(alloc, row, time) {
+        Some(event) => batch.push(event).is_ok() && site.take_batch(&mut batch).is_ok(),
+        None => false,
+    }
+}
+
 /// Adds a number of a source to a summary, and answers whether it did.
 fn insert(summary: &mut Summary, source: &Text, number: u64) -> bool {
     match Sequence::of_u64(number) {

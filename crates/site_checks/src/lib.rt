@@ -11,6 +11,8 @@ mod event;
 #[cfg(test)]
 mod exchanges;
 #[cfg(test)]
+mod keeping;
+#[cfg(test)]
 mod refused;
 #[cfg(test)]
 mod restarts;

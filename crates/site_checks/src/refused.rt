@@ -3,11 +3,14 @@
 //! allocation refused; with ample memory they compare the whole answers.
 
 use crate::event::{A1, A2, A3, Row, add_numbers, fill, has, take};
+use crate::keeping::keep;
+use crate::sites::answers;
 use attributes::Batch;
 use coverage::Summary;
 use inbox::Short;
 use site::Site;
 use std::alloc::{AllocError, Global};
+use views::Query;
 
 /// Whether the events that came to a site have these numbers, the first so many of them, in this
 /// order. Takes no memory.
@@ -73,6 +76,35 @@ fn merges_from_nothing(alloc: Global) -> bool {
     let is_ready = take(alloc, &mut site, &[A2]).is_some()
         && take(alloc, &mut other, &[A3, A1, A2]).is_some();
     !is_ready || merges(&mut site, &other)
+}
+
+/// Whether a site tells how many events have each type. What is refused is asked once more.
+fn tells_kinds(alloc: Global, site: &Site) -> bool {
+    let wanted = "[\"t.a\",2]\n[\"t.b\",1]\n";
+    answers(alloc, site, Query::Kinds, wanted) || answers(alloc, site, Query::Kinds, wanted)
+}
+
+/// Whether a site that keeps views takes the same batch or its front and later the rest, and tells
+/// how many events have each type; true where there is no memory for the batch.
+fn takes_and_keeps(rt: &HostRuntime, alloc: Global) -> bool {
+    let mut batch = Batch::empty(alloc);
+    let mut site = Site::empty(alloc);
+    !fill(alloc, &mut batch, &[A2, A1, A2, A3])
+        || keep(rt, &mut site) && takes(&mut site, &mut batch) && tells_kinds(alloc, &site)
+}
+
+/// Whether a site that holds three events keeps views once it is asked to, or isn't changed and
+/// keeps them when it is asked once more.
+fn keeps(rt: &HostRuntime, site: &mut Site) -> bool {
+    let is_kept = keep(rt, site);
+    is_kept == site.keeps_views() && (is_kept || keep(rt, site)) && came(site, &[2, 1, 3], 3)
+}
+
+/// The same of a new site; true where there is no memory for what it has before.
+fn keeps_what_came(rt: &HostRuntime, alloc: Global) -> bool {
+    let mut site = Site::empty(alloc);
+    take(alloc, &mut site, &[A2, A1, A3]).is_none()
+        || keeps(rt, &mut site) && tells_kinds(alloc, &site)
 }
 
 #[test]
@@ -142,4 +174,14 @@ fn tells_from_nothing(alloc: Global) -> bool {
 #[test]
 fn a_peer_is_told_what_it_lacks_or_memory_is_wanted(rt: HostRuntime) {
     assert!(rt; tells_from_nothing(rt.alloc()));
+}
+
+#[test]
+fn a_keeping_site_takes_a_batch_or_its_front(rt: HostRuntime) {
+    assert!(rt; takes_and_keeps(&rt, rt.alloc()));
+}
+
+#[test]
+fn a_site_keeps_views_or_is_as_it_was(rt: HostRuntime) {
+    assert!(rt; keeps_what_came(&rt, rt.alloc()));
 }

@@ -26,7 +26,13 @@ impl Site {
             return Ok(());
         }
         let copy = event.copy()?;
-        grow(&mut self.inbox, &mut self.summary, &mut self.blocks, event)?;
+        grow(
+            &mut self.inbox,
+            &mut self.summary,
+            &mut self.blocks,
+            &mut self.views,
+            event,
+        )?;
         self.mark = None;
         let _taken = self.inbox.put(copy);
         Ok(())

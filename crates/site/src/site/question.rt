@@ -72,8 +72,21 @@ impl Site {
         self.summary.copy()
     }
 
+    /// The answer to a question from the views, where they are kept, else from scratch.
+    fn viewed(&self, query: Query) -> Result<Answer, AllocError>
+        ensures query { IfOk result (λ a. query_of a ≡ query) }
+        ensures answer { IfOk result (IsTrueOf (set_of self.now)) }
+        ensures err { OnErr result (set_of self.now ≢ []) }
+    {
+        match &self.views {
+            Some(views) => views.answer(&self.inbox, query),
+            None => answer(self.alloc, &self.inbox, query),
+        }
+    }
+
     /// The answer to a question about the set. `Cover` is answered by a summary of version 1,
-    /// a copy of what is kept as events come; each other question costs what `views::answer` does.
+    /// a copy of what is kept as events come; each other question costs what `Views::answer` does
+    /// where views are kept, and else what `views::answer` does.
     pub fn query(&self, query: Query) -> Result<Answer, AllocError>
         ensures query { IfOk result (λ a. query_of a ≡ query) }
         ensures answer { IfOk result (IsTrueOf (set_of self.now)) }
@@ -83,7 +96,7 @@ impl Site {
     {
         match query {
             Query::Cover => Ok(Answer::Cover(self.numbers()?)),
-            _ => answer(self.alloc, &self.inbox, query),
+            _ => self.viewed(query),
         }
     }
 

@@ -1,34 +1,39 @@
 //! Events taken.
 
-ghost use Rattle.std.specs.Prelude.{◌≡◌, ◌+◌, ◌<◌, [], ◌∷◌, drop, false, length, take, IfErr, IfOk, OnErr, OnOk};
+ghost use Rattle.std.specs.Prelude.{◌≡◌, ◌+◌, ◌<◌, [], ◌∷◌, drop, false, length, take, IfErr, IfOk, IfSome, OnErr, OnOk};
 ghost use Rattle.inbox.specs.KeyOrder.{key_cmp};
 ghost use Rattle.inbox.specs.Ordered.{append_new, has};
 ghost use Rattle.inbox.specs.Sets.{set_of, union};
 ghost use Rattle.block_digests.specs.Kept.{IsKeptOf};
 ghost use Rattle.coverage.specs.Summary.{version_of};
+ghost use Rattle.kept_views.specs.Tables.{StandsFor};
 ghost use Rattle.views.specs.Number.{HasNumbers};
 ghost use Rattle.site.specs.Arrival.{AreDistinct, AreNumbered, LacksAt};
 
 use super::Site;
+use super::keep::bring;
 use attributes::{Batch, Sequenced};
 use block_digests::Blocks;
 use coverage::Summary;
 use inbox::laws::sets_are_members;
 use inbox::{Counts, Inbox, Short};
+use kept_views::Views;
 use std::alloc::AllocError;
 
-/// Makes all that a new event needs to grow: room for it, its place in its block, and its number in
-/// the summary.
+/// Makes all that a new event needs to grow: room for it, its place in its block, its number in the
+/// summary, and what the views have of it, where they are kept.
 pub(super) fn grow(
     inbox: &mut Inbox,
     summary: &mut Summary,
     blocks: &mut Blocks,
+    views: &mut Option<Views>,
     event: &Sequenced,
 ) -> Result<(), AllocError>
     requires numbers { HasNumbers inbox.old.arrivals summary.old }
     requires numbered { AreNumbered inbox.old.arrivals }
     requires distinct { AreDistinct inbox.old.arrivals }
     requires kept { IsKeptOf inbox.old.arrivals blocks.old }
+    requires views { IfSome views.old (StandsFor inbox.old.arrivals) }
     requires new { has key_cmp inbox.old.arrivals event.now ≡ false }
     ensures same { inbox.new.arrivals ≡ inbox.old.arrivals }
     ensures room { OnOk result (0 < inbox.new.spare) }
@@ -41,8 +46,11 @@ pub(super) fn grow(
     ensures version { OnOk result (version_of summary.new ≡ 1) }
     ensures kept { OnOk result (IsKeptOf
         (append_new key_cmp inbox.old.arrivals (event.now ∷ [])) blocks.new) }
+    ensures views { OnOk result (IfSome views.new
+        (StandsFor (append_new key_cmp inbox.old.arrivals (event.now ∷ [])))) }
     ensures err { OnErr result (summary.new ≡ summary.old) }
     ensures still_kept { OnErr result (IsKeptOf inbox.old.arrivals blocks.new) }
+    ensures same_views { OnErr result (views.new ≡ views.old) }
 {
     // Only events are kept and taken, and what the set has of them is one of them.
     let place = inbox.arrived();
@@ -51,7 +59,10 @@ pub(super) fn grow(
     inbox.reserve(1)?;
     blocks.note(event, place)?;
     match summary.insert_str(event.event().source(), event.number()) {
-        Ok(_) => Ok(()),
+        Ok(_) => {
+            bring(views, inbox, event);
+            Ok(())
+        }
         Err(error) => {
             blocks.forget(event);
             Err(error)
@@ -81,6 +92,7 @@ impl Site {
             &mut self.inbox,
             &mut self.summary,
             &mut self.blocks,
+            &mut self.views,
             batch.at(0),
         )?;
         self.mark = None;
@@ -93,8 +105,8 @@ impl Site {
     /// Takes the events of a batch, from its front on. Those that are there change nothing and need
     /// no memory. After want of memory the batch holds what was not taken; those before it stay.
     /// The time is that of a search for each event; for each new one also that of `Inbox::put`, and
-    /// of a look-up of its source and number in the summary and among the blocks. Nothing is
-    /// hashed.
+    /// of a look-up of its source and number in the summary and among the blocks; where views are
+    /// kept also that of `Views::put`. No digest is made.
     pub fn take_batch(&mut self, batch: &mut Batch) -> Result<Counts, Short>
         ensures arrivals { OnOk result (self.new ≡ append_new key_cmp self.old batch.old) }
         ensures set { OnOk result (set_of self.new ≡ union (set_of self.old) batch.old) }

@@ -1,0 +1,149 @@
+//! Sites that keep views: from the moment that they are asked to they answer as sites that keep
+//! none, whatever seed their tables have.
+
+use crate::event::{A1, A2, A3, P, Q, Row, take, take_timed};
+use crate::sites::answers;
+use site::Site;
+use std::alloc::Global;
+use std::hash::RandomState;
+use views::Query;
+
+/// Asks a site to keep views, by a seed of its own.
+pub(crate) fn keep(rt: &HostRuntime, site: &mut Site) -> bool {
+    match RandomState::new(rt) {
+        Ok(state) => site.keep_views(state).is_ok() && site.keeps_views(),
+        Err(_) => false,
+    }
+}
+
+const F1: Row<'static> = ("b1", 1, "t.a", "x");
+
+const F2: Row<'static> = ("b2", 2, "t.b", "x");
+
+/// In the place of `F2`: its text is less.
+const G: Row<'static> = ("b2", 2, "t.c", "w");
+
+/// In the place of `F1`: its text is less.
+const H: Row<'static> = ("b1", 1, "t.c", "w");
+
+const LINE_F2: &str =
+    "{\"id\":\"b2\",\"sequence\":\"00000000000000000002\",\"source\":\"/orders\",\"specversion\":\"1.0\",\"subject\":\"x\",\"type\":\"t.b\"}\n";
+
+const LINE_G: &str =
+    "{\"id\":\"b2\",\"sequence\":\"00000000000000000002\",\"source\":\"/orders\",\"specversion\":\"1.0\",\"subject\":\"w\",\"type\":\"t.c\"}\n";
+
+const LINES_G_F1: &str = concat!(
+    "{\"id\":\"b2\",\"sequence\":\"00000000000000000002\",\"source\":\"/orders\",\"specversion\":\"1.0\",\"subject\":\"w\",\"type\":\"t.c\"}\n",
+    "{\"id\":\"b1\",\"sequence\":\"00000000000000000001\",\"source\":\"/orders\",\"specversion\":\"1.0\",\"subject\":\"x\",\"type\":\"t.a\"}\n",
+);
+
+/// Whether a site has these types and these latest events.
+fn shows(alloc: Global, site: &Site, kinds: &str, latest: &str) -> bool {
+    answers(alloc, site, Query::Kinds, kinds) && answers(alloc, site, Query::Latest, latest)
+}
+
+/// Whether a site that holds `F1` and `F2` tells at each step what `G` and then `H` hide.
+fn tells_what_is_hidden(alloc: Global, site: &mut Site) -> bool {
+    shows(alloc, site, "[\"t.a\",1]\n[\"t.b\",1]\n", LINE_F2)
+        && take(alloc, site, &[G]).is_some()
+        && shows(alloc, site, "[\"t.a\",1]\n[\"t.c\",1]\n", LINES_G_F1)
+        && take(alloc, site, &[F2, H, F1]).is_some()
+        && shows(alloc, site, "[\"t.c\",2]\n", LINE_G)
+}
+
+#[test]
+fn a_keeping_site_tells_what_is_hidden(rt: HostRuntime) {
+    let mut site = Site::empty(rt.alloc());
+    assert!(rt; keep(&rt, &mut site));
+    assert!(rt; take(rt.alloc(), &mut site, &[F1, F2]).is_some());
+    assert!(rt; tells_what_is_hidden(rt.alloc(), &mut site));
+    assert!(rt; site.keeps_views());
+}
+
+#[test]
+fn a_site_keeps_what_came_before(rt: HostRuntime) {
+    let mut site = Site::empty(rt.alloc());
+    assert!(rt; take(rt.alloc(), &mut site, &[F2, F1]).is_some());
+    assert!(rt; keep(&rt, &mut site));
+    assert!(rt; tells_what_is_hidden(rt.alloc(), &mut site));
+    assert!(rt; keep(&rt, &mut site));
+    assert!(rt; shows(rt.alloc(), &site, "[\"t.c\",2]\n", LINE_G));
+}
+
+#[test]
+fn a_site_without_views_answers_the_same(rt: HostRuntime) {
+    let mut site = Site::empty(rt.alloc());
+    assert!(rt; take(rt.alloc(), &mut site, &[F1, F2]).is_some());
+    assert!(rt; tells_what_is_hidden(rt.alloc(), &mut site));
+    assert!(rt; !site.keeps_views());
+}
+
+const LINES_A2_A3: &str = concat!(
+    "{\"id\":\"a2\",\"sequence\":\"00000000000000000002\",\"source\":\"/orders\",\"specversion\":\"1.0\",\"subject\":\"x\",\"type\":\"t.b\"}\n",
+    "{\"id\":\"a3\",\"sequence\":\"00000000000000000003\",\"source\":\"/orders\",\"specversion\":\"1.0\",\"subject\":\"y\",\"type\":\"t.a\"}\n",
+);
+
+/// Whether a site that takes three events in this order, and twice over, has two types and two
+/// subjects, no number missing, and covers them.
+fn unites(alloc: Global, site: &mut Site, rows: &[Row<'_>]) -> bool {
+    take(alloc, site, rows).is_some()
+        && take(alloc, site, rows).is_some()
+        && shows(alloc, site, "[\"t.a\",2]\n[\"t.b\",1]\n", LINES_A2_A3)
+        && answers(alloc, site, Query::Gaps, "")
+        && answers(
+            alloc,
+            site,
+            Query::Cover,
+            "{\"sources\":{\"/orders\":[[1,3]]},\"version\":1}\n",
+        )
+}
+
+/// The same of a new site that keeps views.
+fn keeps_and_unites(rt: &HostRuntime, rows: &[Row<'_>]) -> bool {
+    let mut site = Site::empty(rt.alloc());
+    keep(rt, &mut site) && unites(rt.alloc(), &mut site, rows)
+}
+
+#[test]
+fn keeping_sites_answer_alike_in_any_order(rt: HostRuntime) {
+    assert!(rt; keeps_and_unites(&rt, &[A1, A2, A3]));
+    assert!(rt; keeps_and_unites(&rt, &[A3, A2, A1]));
+}
+
+const LINE_Q: &str =
+    "{\"id\":\"q\",\"sequence\":\"00000000000000000001\",\"source\":\"/orders\",\"specversion\":\"1.0\",\"subject\":\"x\",\"type\":\"t.a\"}\n";
+
+/// Whether the greater id is the latest of two events with one number.
+fn tells_of_one_number(alloc: Global, site: &mut Site) -> bool {
+    take(alloc, site, &[Q, P]).is_some() && shows(alloc, site, "[\"t.a\",2]\n", LINE_Q)
+}
+
+/// Whether two events of one UTC day count for one day, and one of the day behind for another.
+fn tells_days(alloc: Global, site: &mut Site) -> bool {
+    take_timed(
+        alloc,
+        site,
+        ("d1", 5, "t.a", ""),
+        "2024-02-29T23:59:60+00:00",
+    ) && take_timed(
+        alloc,
+        site,
+        ("d2", 6, "t.a", ""),
+        "2024-03-01T00:30:00+01:00",
+    ) && answers(alloc, site, Query::Days, "[\"t.a\",\"2024-02-29\",2]\n")
+        && take_timed(alloc, site, ("d3", 7, "t.a", ""), "2024-03-01T00:00:00Z")
+        && answers(
+            alloc,
+            site,
+            Query::Days,
+            "[\"t.a\",\"2024-02-29\",2]\n[\"t.a\",\"2024-03-01\",1]\n",
+        )
+}
+
+#[test]
+fn a_keeping_site_tells_numbers_that_two_have_and_days(rt: HostRuntime) {
+    let mut site = Site::empty(rt.alloc());
+    assert!(rt; keep(&rt, &mut site));
+    assert!(rt; tells_of_one_number(rt.alloc(), &mut site));
+    assert!(rt; tells_days(rt.alloc(), &mut site));
+}
