@@ -4,5 +4,6 @@ pub mod ShownLemmas
 pub mod TableLemmas
 pub mod MemberLemmas
 pub mod StandsLemmas
+pub mod AmongLemmas
 pub mod AnswerLemmas
 pub mod LatestLemmas

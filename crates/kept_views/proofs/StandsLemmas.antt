@@ -49,7 +49,7 @@ text_back k t = from (bytes_eq k t) (bytes_eq t k) refl refl
     from false true e f = absurd (true≢false (sym ((bytes_eq-Decides k t).1 (sym ((bytes_eq-Decides t k).0 f))) ∙ e))
     from false false e f = refl
 
-from_counted : (n : ℕ) → unwrap_or (counted n) 0 ≡ n
+pub from_counted : (n : ℕ) → unwrap_or (counted n) 0 ≡ n
 from_counted zero = refl
 from_counted (suc n) = refl
 

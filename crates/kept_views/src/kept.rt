@@ -113,27 +113,33 @@ impl Views {
         let place = inbox.arrived();
         let came = event.event();
         match inbox.shown_of(came.source(), came.id()) {
-            None => self.admit(event, place),
+            None => self.admit(event, place, place),
             Some(other) => {
                 if !came.compare(other.event()).is_lt() {
                     return Ok(());
                 }
                 let slot = slot_apart(self.alloc, other, event)?;
-                self.admit(event, place)?;
+                self.admit(event, place, place)?;
                 self.dismiss(other, slot);
                 Ok(())
             }
         }
     }
 
-    /// Counts an event in, which comes at a place. On a refusal nothing has changed.
-    fn admit(&mut self, event: &Sequenced, place: u64) -> Result<(), AllocError>
-        requires fits { count_in self.old.kinds (kind_of event.now) ≤ place }
+    /// Counts an event in, which came at a place, where no more than `before` have been. On a refusal
+    /// nothing has changed.
+    pub(crate) fn admit(
+        &mut self,
+        event: &Sequenced,
+        place: u64,
+        before: u64,
+    ) -> Result<(), AllocError>
+        requires fits { count_in self.old.kinds (kind_of event.now) ≤ before }
         ensures comes { OnOk result (ComesIn event.now place self.old self.new) }
         ensures same { OnErr result (self.new ≡ self.old) }
     {
         // So many events no memory holds; a count goes as far as they.
-        if place == u64::MAX {
+        if before == u64::MAX {
             return Err(AllocError);
         }
         let kind = String::from_str(self.alloc, event.event().kind())?;

@@ -2,6 +2,7 @@
 #![tactic(auto)]
 
 mod answer;
+mod from_inbox;
 mod kept;
 mod latest;
 mod seed;

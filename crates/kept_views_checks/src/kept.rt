@@ -1,6 +1,6 @@
 //! An inbox beside its views.
 
-ghost use Rattle.std.specs.Prelude.{◌≡◌, ◌<◌, ◌∷◌, [], IsTrue, false};
+ghost use Rattle.std.specs.Prelude.{◌≡◌, ◌<◌, ◌∷◌, [], IfSome, IsTrue, false};
 ghost use Rattle.inbox.specs.KeyOrder.{key_cmp};
 ghost use Rattle.inbox.specs.Ordered.{append_new};
 ghost use Rattle.kept_views.specs.Tables.{StandsFor};
@@ -66,6 +66,19 @@ fn note(views: &mut Views, inbox: &Inbox, event: &Sequenced) -> bool
     }
 }
 
+/// The views of all that came to an inbox. What is refused is tried once more.
+fn views_of(alloc: Global, state: RandomState, inbox: &Inbox) -> Option<Views>
+    ensures { IfSome result (StandsFor inbox.now.arrivals) }
+{
+    match Views::of(alloc, state, inbox) {
+        Ok(views) => Some(views),
+        Err(_) => match Views::of(alloc, state, inbox) {
+            Ok(views) => Some(views),
+            Err(_) => None,
+        },
+    }
+}
+
 /// The event of a row. What is refused is tried once more.
 fn made(alloc: Global, row: Row<'_>) -> Option<Sequenced> {
     match event(alloc, row) {
@@ -117,6 +130,21 @@ impl Kept {
             }
         }
         true
+    }
+
+    /// Puts views that are made of the inbox in the place of those that were fed, hashed by a seed of
+    /// their own.
+    fn remake(&mut self, rt: &HostRuntime) -> bool {
+        let Ok(state) = RandomState::new(rt) else {
+            return false;
+        };
+        match views_of(rt.alloc(), state, &self.inbox) {
+            Some(views) => {
+                self.views = views;
+                true
+            }
+            None => false,
+        }
     }
 
     /// Whether the views answer a question with these lines. What is refused is tried once more.
@@ -227,4 +255,19 @@ fn replace(rt: &impl Abort, alloc: Global, kept: &mut Kept) {
 fn what_takes_the_place_of_another_is_counted_once(rt: HostRuntime) {
     let mut kept = known(rt.alloc());
     replace(&rt, rt.alloc(), &mut kept);
+}
+
+/// Views that are made of an inbox without events, and of one whose shown events came at other places
+/// than those of key order, answer as those that were fed, and are fed on.
+#[test]
+fn views_of_what_came_are_as_those_that_were_fed(rt: HostRuntime) {
+    let mut kept = known(rt.alloc());
+    assert!(rt; kept.remake(&rt));
+    assert!(rt; kept.shows(rt.alloc(), "", ""));
+    assert!(rt; kept.take_all(rt.alloc(), &[F1, F2, G]));
+    assert!(rt; kept.shows(rt.alloc(), "[\"t.a\",1]\n[\"t.c\",1]\n", LINES_G_F1));
+    assert!(rt; kept.remake(&rt));
+    assert!(rt; kept.shows(rt.alloc(), "[\"t.a\",1]\n[\"t.c\",1]\n", LINES_G_F1));
+    assert!(rt; kept.take_all(rt.alloc(), &[F2, H]));
+    assert!(rt; kept.shows(rt.alloc(), "[\"t.c\",2]\n", LINE_G));
 }

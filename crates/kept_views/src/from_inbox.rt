@@ -1,0 +1,45 @@
+//! Views of an inbox that has events already.
+
+ghost use Rattle.std.specs.Prelude.{◌≢◌, ◌+◌, ◌<◌, [], IfOk, OnErr, OnOk, length};
+ghost use Rattle.inbox.specs.Kept.{events};
+ghost use Rattle.kept_views.specs.Tables.{StandsFor};
+ghost use Rattle.kept_views.specs.steps.Among.{AreOf, shown_before};
+
+use crate::kept::Views;
+use inbox::Inbox;
+use std::alloc::{AllocError, Global};
+use std::hash::RandomState;
+
+impl Views {
+    /// The views of all that came to an inbox: those that `put` leaves where it takes each event as
+    /// it comes. Keys are hashed by the random state, which nobody else knows. One pass over the
+    /// shown events in key order, without a search for what hides what: time in proportion to the
+    /// events, times the logarithm of their number. Memory is wanted for what the tables keep, and
+    /// for hidden events none.
+    pub fn of(alloc: Global, state: RandomState, inbox: &Inbox) -> Result<Views, AllocError>
+        ensures stands { IfOk result (StandsFor inbox.now.arrivals) }
+
+        // Without events no memory is wanted.
+        ensures err { OnErr result (events inbox.now ≢ []) }
+    {
+        let mut views = Views::with_hasher(alloc, state);
+        for i in 0..inbox.len() {
+            views.admit_at(inbox, i)?;
+        }
+        Ok(views)
+    }
+
+    /// Counts the event at place i of key order in, if it is shown; those before it have been.
+    fn admit_at(&mut self, inbox: &Inbox, i: u64) -> Result<(), AllocError>
+        requires in_range { i < length (events inbox.now) }
+        requires before { AreOf inbox.now.arrivals (shown_before i (events inbox.now)) self.old }
+        ensures { OnOk result
+            (AreOf inbox.now.arrivals (shown_before (i + 1) (events inbox.now)) self.new) }
+    {
+        if !inbox.is_shown(i) {
+            return Ok(());
+        }
+        let place = inbox.came_at(i);
+        self.admit(inbox.at(i), place, i)
+    }
+}
