@@ -5,4 +5,5 @@ pub mod TableLemmas
 pub mod MemberLemmas
 pub mod StandsLemmas
 pub mod AnswerLemmas
+pub mod DayLemmas
 pub mod LatestLemmas

@@ -2,6 +2,7 @@
 #![tactic(auto)]
 
 mod answer;
+mod days;
 mod kept;
 mod latest;
 mod seed;
