@@ -98,7 +98,7 @@ impl Views {
     /// stand for what came with the event, so `Inbox::put` of it has to follow. An event that is
     /// there, or that isn't shown, changes nothing and needs no memory. After a refusal nothing has
     /// changed. Two searches of the inbox, and time logarithmic in the shown events of its source
-    /// and subject; a type, source or subject that is new is copied, and an id in any case.
+    /// and subject; a type, day, source or subject that is new is copied, and an id in any case.
     pub fn put(&mut self, inbox: &Inbox, event: &Sequenced) -> Result<(), AllocError>
         requires { StandsFor inbox.now.arrivals self.old }
         ensures stands { OnOk result
