@@ -10,9 +10,9 @@ use Rattle.attributes.specs.Event.{EventValue, kind_of}
 use Rattle.inbox.specs.Sets.{set_of}
 use Rattle.inbox.specs.Shown.{is_shown}
 use Rattle.inbox.proofs.ReadLemmas.{filter_kept, filter_left_out}
-use Rattle.kept_views.specs.Tables.{EachHasRow, Rank, RowsAreOf, StandsFor, Tables, Thread, count_of_kind, is_slot, place_at, slot_of}
+use Rattle.kept_views.specs.Tables.{EachHasRow, KindDay, Rank, RowsAreOf, StandsFor, Tables, Thread, count_of_day, count_of_kind, is_day, is_on, is_slot, place_at, slot_of}
 use Rattle.kept_views.specs.steps.Among.{AreOf, shown_before}
-use Rattle.kept_views.specs.steps.Moves.{ComesIn, count_in}
+use Rattle.kept_views.specs.steps.Moves.{ComesIn, count_in, day_count_in}
 use Rattle.kept_views.proofs.MemberLemmas.{at_head, head_or_behind, length_filtered}
 use Rattle.kept_views.proofs.StandsLemmas.{from_counted, raised, slot_exact, slot_itself}
 
@@ -74,7 +74,8 @@ module _ (A L : List EventValue) (e : EventValue) (place : ℕ) (at : slice_get 
 
   pub are_of_more : AreOf A (L ++ e ∷ []) new
   are_of_more = record {
-    kinds = raised (count_of_kind L) (count_of_kind (L ++ e ∷ [])) old.kinds new.kinds (kind_of e) was.kinds (λ k. count_pushed (λ f. bytes_eq k (kind_of f)) L e) comes.kinds;
+    kinds = raised bytes_eq (count_of_kind L) (count_of_kind (L ++ e ∷ [])) (λ k. bytes_eq k (kind_of e)) old.kinds new.kinds was.kinds (λ k. count_pushed (λ f. bytes_eq k (kind_of f)) L e) comes.kinds;
+    days = raised is_day (count_of_day L) (count_of_day (L ++ e ∷ [])) (λ k. is_on k e) old.days new.days was.days (λ k. count_pushed (is_on k) L e) comes.days;
     rows = rows;
     each = each;
   }
@@ -85,6 +86,7 @@ module _ (A : List EventValue) where
   pub are_of_none : (E : List EventValue) (T : Tables) → StandsFor [] T → AreOf A (shown_before 0 E) T
   are_of_none E T s = record {
     kinds = s.kinds;
+    days = s.days;
     rows = λ t r p h. let row = s.rows t r p h in absurd (omega (arith, row.2.1));
     each = s.each;
   }
@@ -99,13 +101,17 @@ module _ (A : List EventValue) where
   are_of_hidden E i e T here hidden was = subst (λ L. AreOf A L T) (sym (filter_left_out (is_shown E) E i e here hidden)) was
 
   -- a count fits
-  pub count_before : (E : List EventValue) (n : ℕ) (T : Tables) (k : List ℕ) → AreOf A (shown_before n E) T → count_in T.kinds k ≤ n
-  count_before E n T k was =
-      let same : count_in T.kinds k ≡ count_of_kind (shown_before n E) k = ap (λ o. unwrap_or o 0) (was.kinds k) ∙ from_counted (count_of_kind (shown_before n E) k) in
-      omega (arith, same, count_by-le-length (λ e. bytes_eq k (kind_of e)) (shown_before n E), length_filtered (is_shown E) (take n E), length-take n E)
+  few_pass : (p : EventValue → Bool) (E : List EventValue) (n : ℕ) → count_by p (shown_before n E) ≤ n
+  few_pass p E n = omega (arith, count_by-le-length p (shown_before n E), length_filtered (is_shown E) (take n E), length-take n E)
+
+  pub kind_before : (E : List EventValue) (n : ℕ) (T : Tables) (k : List ℕ) → AreOf A (shown_before n E) T → count_in T.kinds k ≤ n
+  kind_before E n T k was = omega (arith, ap (λ o. unwrap_or o 0) (was.kinds k) ∙ from_counted (count_of_kind (shown_before n E) k), few_pass (λ e. bytes_eq k (kind_of e)) E n)
+
+  pub day_before : (E : List EventValue) (n : ℕ) (T : Tables) (k : KindDay) → AreOf A (shown_before n E) T → day_count_in T.days k ≤ n
+  day_before E n T k was = omega (arith, ap (λ o. unwrap_or o 0) (was.days k) ∙ from_counted (count_of_day (shown_before n E) k), few_pass (is_on k) E n)
 
   -- all of them
   pub are_of_all : (n : ℕ) (T : Tables) → length (set_of A) ≤ n → AreOf A (shown_before n (set_of A)) T → StandsFor A T
   are_of_all n T all was =
       let s = subst (λ L. AreOf A (filter (is_shown (set_of A)) L) T) (take_all n (set_of A) all) was in
-      record { kinds = s.kinds; rows = s.rows; each = s.each }
+      record { kinds = s.kinds; days = s.days; rows = s.rows; each = s.each }

@@ -72,7 +72,7 @@ distinct_seen {K} {P} {X} {Y} f same h (x ∷ xs) d = (apart xs d.0, distinct_se
     apart (y ∷ ys) a = (a.0, apart ys a.1)
 
 -- ---- types
-positive : (n : ℕ) → 0 < n → is_some (counted n) ≡ true
+pub positive : (n : ℕ) → 0 < n → is_some (counted n) ≡ true
 positive zero h = absurd (omega arith)
 positive (suc n) h = refl
 
@@ -105,7 +105,7 @@ has_row (row ∷ rows) k =
       | false ↦ has_row rows k
     ]
 
-count_from : (n m : ℕ) → counted n ≡ Some m → m ≡ n
+pub count_from : (n m : ℕ) → counted n ≡ Some m → m ≡ n
 count_from zero m h = absurd (cc)
 count_from (suc n) m h = cc
 

@@ -6,4 +6,5 @@ pub mod MemberLemmas
 pub mod StandsLemmas
 pub mod AmongLemmas
 pub mod AnswerLemmas
+pub mod DayLemmas
 pub mod LatestLemmas

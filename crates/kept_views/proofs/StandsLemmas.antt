@@ -20,8 +20,8 @@ use Rattle.inbox.specs.Shown.{IsShownOf, NoneHas, is_shown, shown}
 use Rattle.inbox.proofs.OrderLemmas.{key_cmp_total, tied_events}
 use Rattle.inbox.proofs.SetLemmas.{all-in_order, has-in_order, in_order-push, sorted-in_order}
 use Rattle.views.specs.Number.{number_or_0}
-use Rattle.kept_views.specs.Tables.{CountsKinds, EachHasRow, Rank, RowsAreOf, StandsFor, Tables, Thread, count_of_kind, counted, is_rank, is_slot, is_thread, place_at, slot_of}
-use Rattle.kept_views.specs.steps.Moves.{ComesIn, GoesOut, are_together, count_in, slot_apart}
+use Rattle.kept_views.specs.Tables.{CountsDays, CountsKinds, EachHasRow, KindDay, Rank, RowsAreOf, StandsFor, Tables, Thread, count_of_day, count_of_kind, counted, is_day, is_on, is_rank, is_slot, is_thread, place_at, slot_of}
+use Rattle.kept_views.specs.steps.Moves.{ComesIn, CountsChange, GoesOut, are_together, count_in, day_count_in, one_less, one_more, slot_apart}
 use Rattle.kept_views.proofs.MemberLemmas.{all_in, at_place, from_filter, from_inserted, is_inserted, is_last, length_filtered, length_in_order, place_in, to_filter, to_inserted, was_there}
 use Rattle.kept_views.proofs.ShownLemmas.{first_counts, first_shows, hidden_counts, hides, hides_it, hides_none, hides_one, key_back, one_key, one_text, replaced_counts, replaces_shows, shown_of_new, stays_hidden, apart, tie_of}
 use Rattle.kept_views.proofs.TableLemmas.{rank_exact, rank_itself, thread_exact, thread_itself}
@@ -41,46 +41,34 @@ pub shown_at : (E : List EventValue) (e o : EventValue) (source id : List ℕ) �
 shown_at E e o source id h k shows = subst (λ x. IsShownOf E x (id_of e) o) h (subst (λ x. IsShownOf E source x o) k shows)
 
 -- ---- counts
-text_back : (k t : List ℕ) → bytes_eq k t ≡ bytes_eq t k
-text_back k t = from (bytes_eq k t) (bytes_eq t k) refl refl
-  where
-    from : (a b : Bool) → bytes_eq k t ≡ a → bytes_eq t k ≡ b → a ≡ b
-    from true b e f = sym (sym f ∙ (bytes_eq-Decides t k).1 (sym ((bytes_eq-Decides k t).0 e)))
-    from false true e f = absurd (true≢false (sym ((bytes_eq-Decides k t).1 (sym ((bytes_eq-Decides t k).0 f))) ∙ e))
-    from false false e f = refl
-
 pub from_counted : (n : ℕ) → unwrap_or (counted n) 0 ≡ n
 from_counted zero = refl
 from_counted (suc n) = refl
 
-one_more : (n : ℕ) → Some (n + 1) ≡ counted (1 + n)
-one_more n = ap Some (omega arith) ∙ (λ i. counted (more i))
+counted_more : (n : ℕ) → Some (n + 1) ≡ counted (1 + n)
+counted_more n = ap Some (omega arith) ∙ (λ i. counted (more i))
   where
     more : suc n ≡ 1 + n
     more = omega arith
 
-pub raised : (n m : List ℕ → ℕ) (ks ms : List (List ℕ × ℕ)) (kind : List ℕ) → ((k : List ℕ) → lookup (bytes_eq k) ks ≡ counted (n k))
-    → ((k : List ℕ) → m k ≡ cond (bytes_eq k kind) 1 0 + n k)
-    → ((k : List ℕ) → lookup (bytes_eq k) ms ≡ (if bytes_eq kind k then Some (count_in ks kind + 1) else lookup (bytes_eq k) ks))
-    → (k : List ℕ) → lookup (bytes_eq k) ms ≡ counted (m k)
-raised n m ks ms kind was counts change k =
-    change k
-    ∙ elim (bytes_eq kind k) as (λ b. bytes_eq kind k ≡ b → (if b then Some (count_in ks kind + 1) else lookup (bytes_eq k) ks) ≡ counted (cond b 1 0 + n k)) [
-      | true ↦ λ e. ap (λ c. Some (c + 1)) (ap (λ o. unwrap_or o 0) (was kind) ∙ from_counted (n kind) ∙ ap n ((bytes_eq-Decides kind k).0 e)) ∙ one_more (n k)
-      | false ↦ λ e. was k ∙ ap counted (omega arith)
-    ] refl
-    ∙ ap (λ b. counted (cond b 1 0 + n k)) (text_back kind k) ∙ ap counted (sym (counts k))
+-- a table that has the counts n, of which those that pass a test change by one, has the counts m
+module _ {K : Type 0} (same : K → K → Bool) (n m : K → ℕ) (test : K → Bool) (ks ms : List (K × ℕ)) (was : (k : K) → lookup (same k) ks ≡ counted (n k)) where
+  pub raised : ((k : K) → m k ≡ cond (test k) 1 0 + n k) → CountsChange same test one_more ks ms → (k : K) → lookup (same k) ms ≡ counted (m k)
+  raised counts change k =
+      change k
+      ∙ elim (test k) as (λ b. (if b then Some (unwrap_or (lookup (same k) ks) 0 + 1) else lookup (same k) ks) ≡ counted (cond b 1 0 + n k)) [
+        | true ↦ ap (λ o. Some (unwrap_or o 0 + 1)) (was k) ∙ ap (λ c. Some (c + 1)) (from_counted (n k)) ∙ counted_more (n k)
+        | false ↦ was k ∙ ap counted (omega arith)
+      ]
+      ∙ ap counted (sym (counts k))
 
-pub lowered : (n m : List ℕ → ℕ) (ks ms : List (List ℕ × ℕ)) (kind : List ℕ) → ((k : List ℕ) → lookup (bytes_eq k) ks ≡ counted (n k))
-    → ((k : List ℕ) → m k + cond (bytes_eq k kind) 1 0 ≡ n k)
-    → ((k : List ℕ) → lookup (bytes_eq k) ms ≡ (if bytes_eq kind k then counted (count_in ks kind - 1) else lookup (bytes_eq k) ks))
-    → (k : List ℕ) → lookup (bytes_eq k) ms ≡ counted (m k)
-lowered n m ks ms kind was counts change k =
-    change k
-    ∙ elim (bytes_eq kind k) as (λ b. bytes_eq kind k ≡ b → m k + cond b 1 0 ≡ n k → (if b then counted (count_in ks kind - 1) else lookup (bytes_eq k) ks) ≡ counted (m k)) [
-      | true ↦ λ e h. ap (λ c. counted (c - 1)) (ap (λ o. unwrap_or o 0) (was kind) ∙ from_counted (n kind) ∙ ap n ((bytes_eq-Decides kind k).0 e)) ∙ ap counted (omega (arith, h))
-      | false ↦ λ e h. was k ∙ ap counted (omega (arith, h))
-    ] refl (ap (λ b. m k + cond b 1 0) (text_back kind k) ∙ counts k)
+  pub lowered : ((k : K) → m k + cond (test k) 1 0 ≡ n k) → CountsChange same test one_less ks ms → (k : K) → lookup (same k) ms ≡ counted (m k)
+  lowered counts change k =
+      change k
+      ∙ elim (test k) as (λ b. m k + cond b 1 0 ≡ n k → (if b then counted (unwrap_or (lookup (same k) ks) 0 - 1) else lookup (same k) ks) ≡ counted (m k)) [
+        | true ↦ λ h. ap (λ o. counted (unwrap_or o 0 - 1)) (was k) ∙ ap (λ c. counted (c - 1)) (from_counted (n k)) ∙ ap counted (omega (arith, h))
+        | false ↦ λ h. was k ∙ ap counted (omega (arith, h))
+      ] (counts k)
 
 -- a count is that of what the table stands for, and fits
 pub count_is : (A : List EventValue) (T : Tables) (k : List ℕ) → StandsFor A T → count_in T.kinds k ≡ count_of_kind (shown (set_of A)) k
@@ -89,6 +77,16 @@ count_is A T k s = ap (λ o. unwrap_or o 0) (s.kinds k) ∙ from_counted (count_
 pub count_fits : (A : List EventValue) (T : Tables) (k : List ℕ) → StandsFor A T → count_in T.kinds k ≤ length A
 count_fits A T k s =
     omega (arith, count_is A T k s, count_by-le-length (λ e. bytes_eq k (kind_of e)) (shown (set_of A)), length_filtered (is_shown (set_of A)) (set_of A), length_in_order key_cmp A)
+
+pub day_fits : (A : List EventValue) (T : Tables) (k : KindDay) → StandsFor A T → day_count_in T.days k ≤ length A
+day_fits A T k s =
+    omega (
+      arith,
+      ap (λ o. unwrap_or o 0) (s.days k) ∙ from_counted (count_of_day (shown (set_of A)) k),
+      count_by-le-length (is_on k) (shown (set_of A)),
+      length_filtered (is_shown (set_of A)) (set_of A),
+      length_in_order key_cmp A,
+    )
 
 -- ---- slots
 same_slot : (s : Thread × Rank) (t : Thread) (r : Rank) → (is_thread s.0 t && is_rank s.1 r) ≡ true → s ≡ (t, r)
@@ -179,9 +177,10 @@ module _ (A : List EventValue) (e : EventValue) (fresh : has key_cmp A e ≡ fal
   grown = in_order-push key_cmp_total A e
 
   -- it is enough that they are those of the set with the event
-  stands : (T : Tables) → CountsKinds (shown E') T.kinds → RowsAreOf (A ++ e ∷ []) (shown E') T.threads → EachHasRow (shown E') T.threads → StandsFor (A ++ e ∷ []) T
-  stands T kinds rows each = record {
+  stands : (T : Tables) → CountsKinds (shown E') T.kinds → CountsDays (shown E') T.days → RowsAreOf (A ++ e ∷ []) (shown E') T.threads → EachHasRow (shown E') T.threads → StandsFor (A ++ e ∷ []) T
+  stands T kinds days rows each = record {
     kinds = subst (λ X. CountsKinds (shown X) T.kinds) (sym grown) kinds;
+    days = subst (λ X. CountsDays (shown X) T.days) (sym grown) days;
     rows = subst (λ X. RowsAreOf (A ++ e ∷ []) (shown X) T.threads) (sym grown) rows;
     each = subst (λ X. EachHasRow (shown X) T.threads) (sym grown) each;
   }
@@ -222,6 +221,7 @@ module _ (A : List EventValue) (e : EventValue) (fresh : has key_cmp A e ≡ fal
     stands_hidden o there greater =
         stands old
         (λ k. s.kinds k ∙ ap counted (sym (hidden_counts E e fresh_in o there greater (λ f. bytes_eq k (kind_of f)))))
+        (λ k. s.days k ∙ ap counted (sym (hidden_counts E e fresh_in o there greater (is_on k))))
         (λ t r p h.
         let row = s.rows t r p h in
         let f = row.0 in
@@ -262,7 +262,8 @@ module _ (A : List EventValue) (e : EventValue) (fresh : has key_cmp A e ≡ fal
       pub stands_first : NoneHas E (source_of e) (id_of e) → StandsFor (A ++ e ∷ []) mid
       stands_first none =
           stands mid
-          (raised (count_of_kind (shown E)) (count_of_kind (shown E')) old.kinds mid.kinds (kind_of e) s.kinds (λ k. first_counts E e fresh_in none (λ f. bytes_eq k (kind_of f))) comes.kinds)
+          (raised bytes_eq (count_of_kind (shown E)) (count_of_kind (shown E')) (λ k. bytes_eq k (kind_of e)) old.kinds mid.kinds s.kinds (λ k. first_counts E e fresh_in none (λ f. bytes_eq k (kind_of f))) comes.kinds)
+          (raised is_day (count_of_day (shown E)) (count_of_day (shown E')) (λ k. is_on k e) old.days mid.days s.days (λ k. first_counts E e fresh_in none (is_on k)) comes.days)
           rows
           (λ f t r c h. elim (was f c) as (λ _. (p : ℕ) × (place_at mid.threads t r ≡ Some p)) [
             | inl same ↦ (length A, row_came t r (slot_itself (slot_of e) t r (ap slot_of (sym same) ∙ h)))
@@ -289,7 +290,13 @@ module _ (A : List EventValue) (e : EventValue) (fresh : has key_cmp A e ≡ fal
         mid_count k = cond (bytes_eq k (kind_of e)) 1 0 + count_of_kind (shown E) k
 
         mid_counts : (k : List ℕ) → lookup (bytes_eq k) mid.kinds ≡ counted (mid_count k)
-        mid_counts = raised (count_of_kind (shown E)) mid_count old.kinds mid.kinds (kind_of e) s.kinds (λ k. refl) comes.kinds
+        mid_counts = raised bytes_eq (count_of_kind (shown E)) mid_count (λ k. bytes_eq k (kind_of e)) old.kinds mid.kinds s.kinds (λ k. refl) comes.kinds
+
+        abbrev mid_days : KindDay → ℕ
+        mid_days k = cond (is_on k e) 1 0 + count_of_day (shown E) k
+
+        mid_days_count : (k : KindDay) → lookup (is_day k) mid.days ≡ counted (mid_days k)
+        mid_days_count = raised is_day (count_of_day (shown E)) mid_days (λ k. is_on k e) old.days mid.days s.days (λ k. refl) comes.days
 
         goes_count : (k : List ℕ) → count_of_kind (shown E') k + cond (bytes_eq k (kind_of o)) 1 0 ≡ mid_count k
         goes_count k = replaced_counts E e fresh_in o there less (sorted-in_order key_cmp_total A) (λ f. bytes_eq k (kind_of f))
@@ -372,7 +379,8 @@ module _ (A : List EventValue) (e : EventValue) (fresh : has key_cmp A e ≡ fal
           pub stands_replaced : StandsFor (A ++ e ∷ []) new
           stands_replaced =
               stands new
-              (lowered mid_count (count_of_kind (shown E')) mid.kinds new.kinds (kind_of o) mid_counts goes_count goes.kinds)
+              (lowered bytes_eq mid_count (count_of_kind (shown E')) (λ k. bytes_eq k (kind_of o)) mid.kinds new.kinds mid_counts goes_count goes.kinds)
+              (lowered is_day mid_days (count_of_day (shown E')) (λ k. is_on k o) mid.days new.days mid_days_count (λ k. replaced_counts E e fresh_in o there less (sorted-in_order key_cmp_total A) (is_on k)) goes.days)
               rows_after
               (λ f t r c h.
               let kept : place_at new.threads t r ≡ place_at mid.threads t r = row_stays t r (not_gone f t r c h) in

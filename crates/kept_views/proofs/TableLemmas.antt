@@ -53,11 +53,11 @@ unfolding KeepsOthers
 keeps_both eq test es ms fs first second = λ other is apart. second other is apart ∙ first other is apart
 
 -- ---- threads and ranks are told apart exactly
-and_left : (a b : Bool) → (a && b) ≡ true → a ≡ true
+pub and_left : (a b : Bool) → (a && b) ≡ true → a ≡ true
 and_left true b h = refl
 and_left false b h = absurd (cc)
 
-and_right : (a b : Bool) → (a && b) ≡ true → b ≡ true
+pub and_right : (a b : Bool) → (a && b) ≡ true → b ≡ true
 and_right true b h = h
 and_right false b h = absurd (cc)
 

@@ -1,14 +1,19 @@
 -- Tables about the shown events of a set, kept as events come. A is what came, in its order.
-use Rattle.std.specs.Prelude.{◌≡◌, ◌&&◌, ℕ, zero, suc, List, [], Bool, false, Option, None, Some, Contains, bytes_eq, count_by, slice_get}
+use Rattle.std.specs.Prelude.{◌≡◌, ◌&&◌, ℕ, ℤ, zero, suc, List, [], Bool, false, Option, None, Some, Contains, bytes_eq, count_by, slice_get}
 use Rattle.std.specs.Map.{lookup}
 use Rattle.std.specs.Option.{option_map_or, option_map}
-use Rattle.std.specs.Ordering.{is_eq, nat_cmp, ordering_then}
+use Rattle.std.specs.Ordering.{int_eq, is_eq, nat_cmp, ordering_then}
 use Rattle.std.specs.declared.cmp.Ordering.{Ordering}
 use Rattle.attributes.specs.Bytes.{byte_cmp}
 use Rattle.attributes.specs.Event.{EventValue, id_of, kind_of, source_of, subject_of}
 use Rattle.inbox.specs.Sets.{set_of}
 use Rattle.inbox.specs.Shown.{shown}
 use Rattle.views.specs.Number.{number_or_0}
+use Rattle.views.specs.Tally.{kind_and_day}
+
+-- a type and a UTC day
+abbrev pub KindDay : Type 0
+KindDay = List ℕ × ℤ
 
 -- a source and a subject
 abbrev pub Thread : Type 0
@@ -22,9 +27,10 @@ Rank = ℕ × List ℕ
 abbrev pub Rows : Type 0
 Rows = List (Rank × ℕ)
 
--- the tables: types with counts, and threads with rows
+-- the tables: types with counts, types by day with counts, and threads with rows
 pub record Tables : Type 0 where
   pub kinds : List (List ℕ × ℕ)
+  pub days : List (KindDay × ℕ)
   pub threads : List (Thread × Rows)
 
 -- ---- types
@@ -42,6 +48,24 @@ count_of_kind events kind = count_by (λ e. bytes_eq kind (kind_of e)) events
 abbrev pub CountsKinds : List EventValue → List (List ℕ × ℕ) → Type 0
 CountsKinds events rows =
     (kind : List ℕ) → lookup (bytes_eq kind) rows ≡ counted (count_of_kind events kind)
+
+-- ---- types by day
+
+abbrev pub is_day : KindDay → KindDay → Bool
+is_day x y = bytes_eq x.0 y.0 && int_eq x.1 y.1
+
+-- whether the event has the type and, in UTC, the day; an event without a time has no day
+abbrev pub is_on : KindDay → EventValue → Bool
+is_on day e = option_map_or (is_day day) (kind_and_day e) false
+
+-- how many of the events have the type and the day
+abbrev pub count_of_day : List EventValue → KindDay → ℕ
+count_of_day events day = count_by (is_on day) events
+
+-- the table has each type and day of the events with how many of them have both, and nothing else
+abbrev pub CountsDays : List EventValue → List (KindDay × ℕ) → Type 0
+CountsDays events rows =
+    (day : KindDay) → lookup (is_day day) rows ≡ counted (count_of_day events day)
 
 -- ---- threads
 
@@ -87,5 +111,6 @@ EachHasRow events threads =
 -- the tables are those of the shown events of what came
 pub record StandsFor (A : List EventValue) (tables : Tables) : Type 0 where
   pub kinds : CountsKinds (shown (set_of A)) tables.kinds
+  pub days : CountsDays (shown (set_of A)) tables.days
   pub rows : RowsAreOf A (shown (set_of A)) tables.threads
   pub each : EachHasRow (shown (set_of A)) tables.threads

@@ -11,6 +11,7 @@ ghost use Rattle.views.specs.Tally.{tally};
 ghost use Rattle.kept_views.specs.Tables.{CountsKinds, EachHasRow, RowsAreOf, StandsFor};
 ghost use Rattle.kept_views.specs.steps.Seen.{kinds_in, threads_in};
 
+use crate::days::list_days;
 use crate::kept::Views;
 use crate::latest::{copied, ordered_latest};
 use crate::tally::Tally;
@@ -74,9 +75,9 @@ fn list_latest(alloc: Global, inbox: &Inbox, threads: &Threads) -> Result<Batch,
 }
 
 impl Views {
-    /// The answer to a question about the events that came, as `views::answer` gives it. `Kinds` and
-    /// `Latest` cost time in proportion to the rows of the answer, times the logarithm of their
-    /// number, and to what is copied into it, and memory in proportion to the answer; other
+    /// The answer to a question about the events that came, as `views::answer` gives it. `Kinds`,
+    /// `Days` and `Latest` cost time in proportion to the rows of the answer, times the logarithm of
+    /// their number, and to what is copied into it, and memory in proportion to the answer; other
     /// questions cost what `views::answer` costs. `AllocError` where memory is refused.
     pub fn answer(&self, inbox: &Inbox, query: Query) -> Result<Answer, AllocError>
         requires { StandsFor inbox.now.arrivals self.now }
@@ -91,6 +92,7 @@ impl Views {
         }
         match query {
             Query::Kinds => Ok(Answer::Kinds(list_kinds(self.alloc, &self.kinds)?)),
+            Query::Days => Ok(Answer::Days(list_days(self.alloc, &self.days)?)),
             Query::Latest => Ok(Answer::Latest(list_latest(self.alloc, inbox, &self.threads)?)),
             _ => answer(self.alloc, inbox, query),
         }

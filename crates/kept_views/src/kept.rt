@@ -7,10 +7,12 @@ ghost use Rattle.inbox.specs.KeyOrder.{key_cmp};
 ghost use Rattle.inbox.specs.Ordered.{append_new, has};
 ghost use Rattle.inbox.specs.Sets.{set_of};
 ghost use Rattle.inbox.specs.Shown.{is_shown};
-ghost use Rattle.kept_views.specs.Tables.{StandsFor};
-ghost use Rattle.kept_views.specs.steps.Moves.{ComesIn, GoesOut, count_in, slot_apart};
-ghost use Rattle.kept_views.specs.steps.Seen.{slot_in};
+ghost use Rattle.views.specs.Tally.{kind_and_day};
+ghost use Rattle.kept_views.specs.Tables.{KindDay, StandsFor};
+ghost use Rattle.kept_views.specs.steps.Moves.{ComesIn, GoesOut, count_in, day_count_in, slot_apart};
+ghost use Rattle.kept_views.specs.steps.Seen.{day_in, slot_in};
 
+use crate::days::{DayKey, DayTally, day_of, lower_day, raise_day};
 use crate::seed::Seed;
 use crate::tally::{Tally, lower, raise};
 use crate::threads::{Slot, Threads, bring, clear, slot_of};
@@ -23,11 +25,12 @@ use std::hash::RandomState;
 use std::marker::Model;
 
 /// Views of what came to an inbox, kept event by event: the types of the shown events with how many
-/// have each, and for each source and subject the rows of its shown events by number, then id.
-/// Contracts see these tables, whose order says nothing.
+/// have each, the same by UTC day for those with a time, and for each source and subject the rows
+/// of its shown events by number, then id. Contracts see these tables, whose order says nothing.
 #[derive(Drop)]
 pub struct Views {
     pub(crate) kinds: Tally,
+    pub(crate) days: DayTally,
     pub(crate) threads: Threads,
     pub(crate) alloc: Global,
 }
@@ -37,10 +40,11 @@ impl Model for Views {
 
     ghost Value = { Tables };
 
-    ghost use Rattle.kept_views.specs.steps.Seen.{kinds_in, threads_in};
+    ghost use Rattle.kept_views.specs.steps.Seen.{days_in, kinds_in, threads_in};
 
     ghost view = { λ v. record {
       kinds = kinds_in v.kinds.entries;
+      days = days_in v.days.entries;
       threads = threads_in v.threads.entries;
     } };
 }
@@ -84,6 +88,7 @@ impl Views {
     {
         Views {
             kinds: IndexMap::with_hasher(alloc, seed),
+            days: IndexMap::with_hasher(alloc, seed),
             threads: IndexMap::with_hasher(alloc, seed),
             alloc,
         }
@@ -93,7 +98,7 @@ impl Views {
     /// stand for what came with the event, so `Inbox::put` of it has to follow. An event that is
     /// there, or that isn't shown, changes nothing and needs no memory. After a refusal nothing has
     /// changed. Two searches of the inbox, and time logarithmic in the shown events of its source
-    /// and subject; a type, source or subject that is new is copied, and an id in any case.
+    /// and subject; a type, day, source or subject that is new is copied, and an id in any case.
     pub fn put(&mut self, inbox: &Inbox, event: &Sequenced) -> Result<(), AllocError>
         requires { StandsFor inbox.now.arrivals self.old }
         ensures stands { OnOk result
@@ -119,8 +124,9 @@ impl Views {
                     return Ok(());
                 }
                 let slot = slot_apart(self.alloc, other, event)?;
+                let day = day_of(self.alloc, other)?;
                 self.admit(event, place, place)?;
-                self.dismiss(other, slot);
+                self.dismiss(other, slot, day);
                 Ok(())
             }
         }
@@ -135,6 +141,7 @@ impl Views {
         before: u64,
     ) -> Result<(), AllocError>
         requires fits { count_in self.old.kinds (kind_of event.now) ≤ before }
+        requires days_fit { (k : KindDay) → day_count_in self.old.days k ≤ before }
         ensures comes { OnOk result (ComesIn event.now place self.old self.new) }
         ensures same { OnErr result (self.new ≡ self.old) }
     {
@@ -143,20 +150,25 @@ impl Views {
             return Err(AllocError);
         }
         let kind = String::from_str(self.alloc, event.event().kind())?;
+        let day = day_of(self.alloc, event)?;
         self.kinds.reserve(1)?;
+        self.days.reserve(1)?;
         let slot = slot_of(self.alloc, event)?;
         // The rows tell no room before, so what may be refused there is the last such step.
         bring(self.alloc, &mut self.threads, slot, place)?;
         raise(&mut self.kinds, kind);
+        raise_day(&mut self.days, day);
         Ok(())
     }
 
-    /// Counts an event out, and empties a slot.
-    fn dismiss(&mut self, event: &Sequenced, slot: Option<Slot>)
+    /// Counts an event out, of its type and of its day, and empties a slot.
+    fn dismiss(&mut self, event: &Sequenced, slot: Option<Slot>, day: Option<DayKey>)
         requires counted { 0 < count_in self.old.kinds (kind_of event.now) }
+        requires own { option_map day_in day ≡ kind_and_day event.now }
         ensures { GoesOut event.now (option_map slot_in slot) self.old self.new }
     {
         lower(&mut self.kinds, event.event().kind());
+        lower_day(&mut self.days, day);
         clear(&mut self.threads, slot);
     }
 }

@@ -2,6 +2,7 @@
 #![tactic(auto)]
 
 mod answer;
+mod days;
 mod from_inbox;
 mod kept;
 mod latest;

@@ -3,9 +3,9 @@
 use attributes::{Event, Given, Parts, Sequenced, Text};
 use std::alloc::{AllocError, Global};
 
-/// The id, the sequence number, the type and the subject of an event of the source `/orders`. An
-/// empty subject is none.
-pub type Row<'a> = (&'a str, u64, &'a str, &'a str);
+/// The id, the sequence number, the type, the subject and the time of an event of the source
+/// `/orders`. An empty subject or time is none.
+pub type Row<'a> = (&'a str, u64, &'a str, &'a str, &'a str);
 
 /// Sets an attribute.
 fn set(alloc: Global, parts: &mut Parts, name: &str, text: &str) -> Result<(), AllocError> {
@@ -28,13 +28,14 @@ fn set_some(alloc: Global, parts: &mut Parts, name: &str, text: &str) -> Result<
 
 /// Sets the attributes of a row.
 fn set_row(alloc: Global, parts: &mut Parts, row: Row<'_>) -> Result<(), AllocError> {
-    let (id, number, kind, subject) = row;
+    let (id, number, kind, subject, time) = row;
     set_number(alloc, parts, number)?;
     set(alloc, parts, "specversion", "1.0")?;
     set(alloc, parts, "source", "/orders")?;
     set_some(alloc, parts, "id", id)?;
     set_some(alloc, parts, "type", kind)?;
-    set_some(alloc, parts, "subject", subject)
+    set_some(alloc, parts, "subject", subject)?;
+    set_some(alloc, parts, "time", time)
 }
 
 /// The event of parts that have no fault.

@@ -183,13 +183,13 @@ fn known(alloc: Global) -> Kept {
     }
 }
 
-const F1: Row<'static> = ("b1", 1, "t.a", "x");
+const F1: Row<'static> = ("b1", 1, "t.a", "x", "");
 
-const F2: Row<'static> = ("b2", 2, "t.b", "x");
+const F2: Row<'static> = ("b2", 2, "t.b", "x", "");
 
-const G: Row<'static> = ("b2", 2, "t.c", "w");
+const G: Row<'static> = ("b2", 2, "t.c", "w", "");
 
-const H: Row<'static> = ("b1", 1, "t.c", "w");
+const H: Row<'static> = ("b1", 1, "t.c", "w", "");
 
 const LINE_F1: &str =
     "{\"id\":\"b1\",\"sequence\":\"00000000000000000001\",\"source\":\"/orders\",\"specversion\":\"1.0\",\"subject\":\"x\",\"type\":\"t.a\"}\n";
@@ -236,10 +236,15 @@ fn no_seed_changes_an_answer(rt: HostRuntime) {
 /// A hidden event that stood at the same number and subject, one without a subject, and one that is
 /// hidden as it comes.
 fn replace(rt: &impl Abort, alloc: Global, kept: &mut Kept) {
-    assert!(rt; kept.take_all(alloc, &[F1, ("b1", 1, "t.", "x"), ("b3", 7, "t.b", "")]));
-    assert!(rt; kept.take(alloc, ("b1", 1, "t.z", "x")));
+    assert!(rt;
+        kept.take_all(
+            alloc,
+            &[F1, ("b1", 1, "t.", "x", ""), ("b3", 7, "t.b", "", "")]
+        )
+    );
+    assert!(rt; kept.take(alloc, ("b1", 1, "t.z", "x", "")));
     assert!(rt; kept.answers(alloc, Query::Kinds, "[\"t.\",1]\n[\"t.b\",1]\n"));
-    assert!(rt; kept.take_all(alloc, &[F2, ("b2", 2, "t.a", "x")]));
+    assert!(rt; kept.take_all(alloc, &[F2, ("b2", 2, "t.a", "x", "")]));
     assert!(rt;
         kept.answers(
             alloc,
@@ -257,6 +262,79 @@ fn what_takes_the_place_of_another_is_counted_once(rt: HostRuntime) {
     replace(&rt, rt.alloc(), &mut kept);
 }
 
+/// Days in UTC, of two types, and one event without a time.
+const DATED: [Row<'static>; 5] = [
+    ("b1", 1, "t.b", "x", "2024-02-29T10:00:00Z"),
+    ("b2", 2, "t.a", "x", "2024-02-29T23:30:00-01:00"),
+    ("b3", 3, "t.b", "", "2024-02-29T00:00:00+00:30"),
+    ("b4", 4, "t.b", "w", "2024-02-29T12:00:00Z"),
+    ("b5", 5, "t.b", "", ""),
+];
+
+const DAYS: &str =
+    "[\"t.a\",\"2024-03-01\",1]\n[\"t.b\",\"2024-02-28\",1]\n[\"t.b\",\"2024-02-29\",2]\n";
+
+/// One of two goes to a day of its own.
+const DAYS_APART: &str =
+    "[\"t.a\",\"2024-03-01\",1]\n[\"t.b\",\"2024-02-28\",1]\n[\"t.b\",\"2024-02-29\",1]\n[\"t.b\",\"2024-03-01\",1]\n";
+
+/// The other has no time any more.
+const DAYS_LESS: &str =
+    "[\"t.a\",\"2024-03-01\",1]\n[\"t.b\",\"2024-02-28\",1]\n[\"t.b\",\"2024-03-01\",1]\n";
+
+/// What had no time has one.
+const DAYS_MORE: &str =
+    "[\"t.a\",\"2024-03-01\",1]\n[\"t.b\",\"2024-02-28\",1]\n[\"t.b\",\"2024-03-01\",2]\n";
+
+/// Events come on days, hide others of another day, without a time or of the same day, and are hidden
+/// as they come.
+fn date(rt: &impl Abort, alloc: Global, kept: &mut Kept) {
+    assert!(rt; kept.take_all(alloc, &DATED));
+    assert!(rt; kept.answers(alloc, Query::Days, DAYS));
+    assert!(rt; kept.take(alloc, ("b4", 4, "t.b", "v", "2024-03-01T00:00:00Z")));
+    assert!(rt; kept.answers(alloc, Query::Days, DAYS_APART));
+    assert!(rt; kept.take(alloc, ("b1", 1, "t.b", "a", "")));
+    assert!(rt; kept.answers(alloc, Query::Days, DAYS_LESS));
+    assert!(rt; kept.take(alloc, ("b2", 2, "t.a", "z", "2024-02-29T00:00:00Z")));
+    assert!(rt; kept.take_all(alloc, &DATED));
+    assert!(rt; kept.answers(alloc, Query::Days, DAYS_LESS));
+    assert!(rt; kept.take(alloc, ("b5", 5, "t.b", "", "2024-03-01T01:00:00Z")));
+    assert!(rt; kept.answers(alloc, Query::Days, DAYS_MORE));
+    assert!(rt; kept.take(alloc, ("b5", 5, "t.b", "", "2024-03-01T00:59:00Z")));
+    assert!(rt; kept.answers(alloc, Query::Days, DAYS_MORE));
+}
+
+#[test]
+fn days_are_of_what_is_shown(rt: HostRuntime) {
+    let mut kept = known(rt.alloc());
+    date(&rt, rt.alloc(), &mut kept);
+}
+
+#[test]
+fn no_seed_changes_days(rt: HostRuntime) {
+    let made = seeded(&rt);
+    assert!(rt; made.is_some());
+    if let Some(mut kept) = made {
+        date(&rt, rt.alloc(), &mut kept);
+    }
+}
+
+/// An event that hides another as it comes, one that hides another day, and one without either.
+const CAME: [Row<'static>; 6] = [
+    F1,
+    F2,
+    G,
+    ("b3", 3, "t.b", "", "2024-02-29T10:00:00Z"),
+    ("b3", 3, "t.b", "", "2024-02-28T10:00:00Z"),
+    ("b4", 4, "t.b", "", "2024-02-28T12:00:00Z"),
+];
+
+/// Whether the answers are those of these rows.
+fn tells_what_came(alloc: Global, kept: &Kept) -> bool {
+    kept.shows(alloc, "[\"t.a\",1]\n[\"t.b\",2]\n[\"t.c\",1]\n", LINES_G_F1)
+        && kept.answers(alloc, Query::Days, "[\"t.b\",\"2024-02-28\",2]\n")
+}
+
 /// Views that are made of an inbox without events, and of one whose shown events came at other places
 /// than those of key order, answer as those that were fed, and are fed on.
 #[test]
@@ -264,10 +342,10 @@ fn views_of_what_came_are_as_those_that_were_fed(rt: HostRuntime) {
     let mut kept = known(rt.alloc());
     assert!(rt; kept.remake(&rt));
     assert!(rt; kept.shows(rt.alloc(), "", ""));
-    assert!(rt; kept.take_all(rt.alloc(), &[F1, F2, G]));
-    assert!(rt; kept.shows(rt.alloc(), "[\"t.a\",1]\n[\"t.c\",1]\n", LINES_G_F1));
+    assert!(rt; kept.take_all(rt.alloc(), &CAME));
+    assert!(rt; tells_what_came(rt.alloc(), &kept));
     assert!(rt; kept.remake(&rt));
-    assert!(rt; kept.shows(rt.alloc(), "[\"t.a\",1]\n[\"t.c\",1]\n", LINES_G_F1));
+    assert!(rt; tells_what_came(rt.alloc(), &kept));
     assert!(rt; kept.take_all(rt.alloc(), &[F2, H]));
-    assert!(rt; kept.shows(rt.alloc(), "[\"t.c\",2]\n", LINE_G));
+    assert!(rt; kept.shows(rt.alloc(), "[\"t.b\",2]\n[\"t.c\",2]\n", LINE_G));
 }

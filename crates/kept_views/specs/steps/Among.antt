@@ -2,11 +2,12 @@
 use Rattle.std.specs.Prelude.{ℕ, List, filter, take}
 use Rattle.attributes.specs.Event.{EventValue}
 use Rattle.inbox.specs.Shown.{is_shown}
-use Rattle.kept_views.specs.Tables.{CountsKinds, EachHasRow, RowsAreOf, Tables}
+use Rattle.kept_views.specs.Tables.{CountsDays, CountsKinds, EachHasRow, RowsAreOf, Tables}
 
 -- the tables are those of these events, which are among what came
 pub record AreOf (A events : List EventValue) (tables : Tables) : Type 0 where
   pub kinds : CountsKinds events tables.kinds
+  pub days : CountsDays events tables.days
   pub rows : RowsAreOf A events tables.threads
   pub each : EachHasRow events tables.threads
 

@@ -1,14 +1,36 @@
 -- What a step does to the tables.
-use Rattle.std.specs.Prelude.{◌≡◌, ◌==◌, ◌&&◌, ◌+◌, ◌-◌, ℕ, List, Bool, Option, None, Some, bytes_eq, if◌then◌else◌}
+use Rattle.std.specs.Prelude.{◌≡◌, ◌==◌, ◌&&◌, ◌+◌, ◌-◌, ℕ, List, Bool, false, Option, None, Some, bytes_eq, if◌then◌else◌}
 use Rattle.std.specs.Map.{lookup}
-use Rattle.std.specs.Option.{option_eq, unwrap_or}
+use Rattle.std.specs.Option.{option_eq, option_map_or, unwrap_or}
 use Rattle.attributes.specs.Event.{EventValue, kind_of, subject_of}
 use Rattle.views.specs.Number.{number_or_0}
-use Rattle.kept_views.specs.Tables.{Rank, Rows, Tables, Thread, counted, is_slot, place_at, slot_of}
+use Rattle.views.specs.Tally.{kind_and_day}
+use Rattle.kept_views.specs.Tables.{KindDay, Rank, Rows, Tables, Thread, counted, is_day, is_slot, place_at, slot_of}
 
 -- the count of the type in a table
 abbrev pub count_in : List (List ℕ × ℕ) → List ℕ → ℕ
 count_in rows kind = unwrap_or (lookup (bytes_eq kind) rows) 0
+
+-- the count of the type and day in a table
+abbrev pub day_count_in : List (KindDay × ℕ) → KindDay → ℕ
+day_count_in rows day = unwrap_or (lookup (is_day day) rows) 0
+
+-- whether a type and day are those that there may be
+abbrev pub is_own : Option KindDay → KindDay → Bool
+is_own own day = option_map_or (is_day day) own false
+
+-- a count with one more, and with one less
+abbrev pub one_more : ℕ → Option ℕ
+one_more n = Some (n + 1)
+
+abbrev pub one_less : ℕ → Option ℕ
+one_less n = counted (n - 1)
+
+-- the counts of the keys that pass the test change so, and the others stay
+abbrev pub CountsChange : {K : Type 0} → (K → K → Bool) → (K → Bool) → (ℕ → Option ℕ) → List (K × ℕ) → List (K × ℕ) → Type 0
+CountsChange {K} same test change old new =
+    (k : K) → lookup (same k) new
+    ≡ (if test k then change (unwrap_or (lookup (same k) old) 0) else lookup (same k) old)
 
 -- a slot has this place from now on, or none, and the others what they had
 abbrev pub PutsAt : Option (Thread × Rank) → Option ℕ → List (Thread × Rows) → List (Thread × Rows) → Type 0
@@ -16,16 +38,16 @@ PutsAt slot place old new =
     (thread : Thread) (rank : Rank)
     → place_at new thread rank ≡ (if is_slot slot thread rank then place else place_at old thread rank)
 
--- an event came in at a place: its type has one more, and its slot the place
+-- an event came in at a place: its type has one more, and its type and day, and its slot the place
 pub record ComesIn (e : EventValue) (place : ℕ) (old new : Tables) : Type 0 where
-  pub kinds : (kind : List ℕ) → lookup (bytes_eq kind) new.kinds ≡ (if bytes_eq (kind_of e) kind
-      then Some (count_in old.kinds (kind_of e) + 1) else lookup (bytes_eq kind) old.kinds)
+  pub kinds : CountsChange bytes_eq (λ k. bytes_eq k (kind_of e)) one_more old.kinds new.kinds
+  pub days : CountsChange is_day (is_own (kind_and_day e)) one_more old.days new.days
   pub threads : PutsAt (slot_of e) (Some place) old.threads new.threads
 
--- an event went: its type has one less, and this slot nothing
+-- an event went: its type has one less, and its type and day, and this slot nothing
 pub record GoesOut (e : EventValue) (slot : Option (Thread × Rank)) (old new : Tables) : Type 0 where
-  pub kinds : (kind : List ℕ) → lookup (bytes_eq kind) new.kinds ≡ (if bytes_eq (kind_of e) kind
-      then counted (count_in old.kinds (kind_of e) - 1) else lookup (bytes_eq kind) old.kinds)
+  pub kinds : CountsChange bytes_eq (λ k. bytes_eq k (kind_of e)) one_less old.kinds new.kinds
+  pub days : CountsChange is_day (is_own (kind_and_day e)) one_less old.days new.days
   pub threads : PutsAt slot None old.threads new.threads
 
 -- whether two events have one subject or none, and one number

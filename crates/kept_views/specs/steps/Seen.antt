@@ -1,13 +1,19 @@
 -- Tables as the code holds them, seen as contracts see them.
-use Rattle.std.specs.Prelude.{ℕ, List, map, string_bytes}
+use Rattle.std.specs.Prelude.{ℕ, ℤ, List, map, string_bytes}
 use Rattle.std.specs.BTreeMap.{BTreeMap}
 use Rattle.std.specs.declared.string.String.{String}
 use Rattle.kept_views.specs.declared.threads.Slot.{Slot}
-use Rattle.kept_views.specs.Tables.{Rank, Rows, Thread}
+use Rattle.kept_views.specs.Tables.{KindDay, Rank, Rows, Thread}
 
 module _ {Y : Type 0} where
   abbrev pub kinds_in : List (String Y × ℕ) → List (List ℕ × ℕ)
   kinds_in es = map (λ e. (string_bytes e.0, e.1)) es
+
+  abbrev pub day_in : String Y × ℤ → KindDay
+  day_in d = (string_bytes d.0, d.1)
+
+  abbrev pub days_in : List ((String Y × ℤ) × ℕ) → List (KindDay × ℕ)
+  days_in es = map (λ e. (day_in e.0, e.1)) es
 
   abbrev pub thread_in : String Y × String Y → Thread
   thread_in t = (string_bytes t.0, string_bytes t.1)

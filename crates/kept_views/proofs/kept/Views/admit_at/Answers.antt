@@ -3,7 +3,7 @@ use Rattle.std.proofs.lemmas.Result.{on_ok_weaker}
 use Rattle.attributes.specs.Event.{kind_of}
 use Rattle.inbox.specs.Kept.{events}
 use Rattle.inbox.proofs.ReadLemmas.{item_at}
-use Rattle.kept_views.proofs.AmongLemmas.{are_of_hidden, are_of_shown, count_before}
+use Rattle.kept_views.proofs.AmongLemmas.{are_of_hidden, are_of_shown, day_before, kind_before}
 use Rattle.kept_views.proofs.kept.Views.admit_at.Goals as goal
 
 pub returns-then-not-is_shown : goal.returns-then-not-is_shown
@@ -14,7 +14,12 @@ returns-then-not-is_shown c =
 
 pub admit-requires : goal.admit-requires
 admit-requires c =
-    record { fits = count_before c.args.inbox.now.arrivals (events c.args.inbox.now) c.args.i c.args.self.now (kind_of c.at.result.now) c.requires.before }
+    let A = c.args.inbox.now.arrivals in
+    let E = events c.args.inbox.now in
+    record {
+      fits = kind_before A E c.args.i c.args.self.now (kind_of c.at.result.now) c.requires.before;
+      days_fit = λ k. day_before A E c.args.i c.args.self.now k c.requires.before;
+    }
 
 pub returns : goal.returns
 returns c =

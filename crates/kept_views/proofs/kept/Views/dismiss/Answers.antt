@@ -1,6 +1,9 @@
-use Rattle.std.proofs.Common.{◌-◌, arith, refl, ap, ◌∙◌}
+use Rattle.std.proofs.Common.{List, ℕ, arith, refl, ap, subst, ◌∙◌}
 use Rattle.attributes.specs.Event.{kind_of}
-use Rattle.kept_views.specs.Tables.{counted}
+use Rattle.views.specs.Tally.{kind_and_day}
+use Rattle.kept_views.specs.Tables.{KindDay, is_day}
+use Rattle.kept_views.specs.steps.Moves.{CountsChange, is_own, one_less}
+use Rattle.kept_views.specs.steps.Seen.{days_in}
 use Rattle.kept_views.proofs.TallyLemmas.{count_changes, count_seen}
 use Rattle.kept_views.proofs.kept.Views.dismiss.Goals as goal
 
@@ -13,6 +16,9 @@ pub returns : goal.returns
 returns c =
     let text = c.kind.ensures.value ∙ ap kind_of c.event.ensures in
     record {
-      kinds = count_changes (λ n. counted (n - 1)) c.self.inside.kinds.entries c.self.inside.kinds.entries c.lower.new.tally.entries c.args.self.now.kinds _ (kind_of c.args.event.now) (ap (λ v. v.kinds) c.self.view_is) refl text c.lower.ensures;
+      kinds = count_changes one_less c.self.inside.kinds.entries c.self.inside.kinds.entries c.lower.new.tally.entries c.args.self.now.kinds _ (kind_of c.args.event.now) (ap (λ v. v.kinds) c.self.view_is) refl text c.lower.ensures;
+      days =
+          subst (λ (l : List (KindDay × ℕ)). CountsChange is_day (is_own (kind_and_day c.args.event.now)) one_less l (days_in c.lower_day.new.tally.entries)) (ap (λ v. v.days) c.self.view_is)
+          (subst (λ o. CountsChange is_day (is_own o) one_less (days_in c.self.inside.days.entries) (days_in c.lower_day.new.tally.entries)) c.requires.own c.lower_day.ensures);
       threads = rw (← c.self.view_is) c.clear.ensures;
     }

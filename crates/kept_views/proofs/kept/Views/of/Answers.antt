@@ -1,4 +1,4 @@
-use Rattle.std.proofs.Common.{◌≡◌, Result, Ok, Err, ap, arith, length}
+use Rattle.std.proofs.Common.{Result, Ok, Err, ap, arith, length}
 use Rattle.std.specs.Result.{OnErr}
 use Rattle.inbox.specs.Kept.{events}
 use Rattle.kept_views.proofs.AmongLemmas.{are_of_all, are_of_none}

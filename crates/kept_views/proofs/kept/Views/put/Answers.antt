@@ -7,16 +7,16 @@ use Rattle.inbox.specs.KeyOrder.{key_cmp, text_cmp}
 use Rattle.inbox.specs.Ordered.{has}
 use Rattle.inbox.specs.Sets.{set_of}
 use Rattle.kept_views.specs.steps.Moves.{ComesIn, GoesOut}
-use Rattle.kept_views.proofs.StandsLemmas.{comes_new, count_fits, first_is_shown, none_at, replaced_is_shown, shown_at, stands_first, stands_hidden, stands_replaced, was_counted}
+use Rattle.kept_views.proofs.StandsLemmas.{comes_new, count_fits, day_fits, first_is_shown, none_at, replaced_is_shown, shown_at, stands_first, stands_hidden, stands_replaced, was_counted}
 use Rattle.kept_views.proofs.kept.Views.put.Goals as goal
 
 pub admit-requires : goal.admit-requires
 admit-requires c =
-    record { fits = omega (arith, count_fits c.args.inbox.now.arrivals c.args.self.now (kind_of c.args.event.now) c.requires, c.arrived-place.ensures.count) }
+    record { fits = omega (arith, count_fits c.args.inbox.now.arrivals c.args.self.now (kind_of c.args.event.now) c.requires, c.arrived-place.ensures.count); days_fit = λ k. omega (arith, day_fits c.args.inbox.now.arrivals c.args.self.now k c.requires, c.arrived-place.ensures.count) }
 
 pub admit-requires-in-Some : goal.admit-requires-in-Some
 admit-requires-in-Some c =
-    record { fits = omega (arith, count_fits c.args.inbox.now.arrivals c.args.self.now (kind_of c.args.event.now) c.requires, c.arrived-place.ensures.count) }
+    record { fits = omega (arith, count_fits c.args.inbox.now.arrivals c.args.self.now (kind_of c.args.event.now) c.requires, c.arrived-place.ensures.count); days_fit = λ k. omega (arith, day_fits c.args.inbox.now.arrivals c.args.self.now k c.requires, c.arrived-place.ensures.count) }
 
 pub returns-in-None-clause-stands : goal.returns-in-None-clause-stands
 returns-in-None-clause-stands c =
@@ -58,6 +58,18 @@ returns-in_err-slot-in-Some-clause-shown c =
     let exit = err_from_is_err_and c.from_residual.result c.from_residual.ensures.1 in
     rw exit.1 (replaced_is_shown A e new o there texts)
 
+pub returns-in_err-day-in-Some-clause-shown : goal.returns-in_err-day-in-Some-clause-shown
+returns-in_err-day-in-Some-clause-shown c =
+    let A = c.args.inbox.now.arrivals in
+    let e = c.args.event.now in
+    let o = c.in-Some.other.now in
+    let new : has key_cmp A e ≡ false = search rules in
+    let there = shown_at (set_of A) e o _ _ (c.source.ensures.value ∙ ap source_of c.event-came.ensures) (c.id.ensures.value ∙ ap id_of c.event-came.ensures) c.in-Some.ensures.some in
+    let texts : is_lt (text_cmp e o) ≡ true =
+    ap is_lt (sym (c.compare.ensures.order ∙ ap₂ (λ (x y : EventValue). byte_cmp (text x) (text y)) c.event-came.ensures c.event.ensures)) ∙ sym c.is_lt.ensures ∙ c.if-not-is_lt.false in
+    let exit = err_from_is_err_and c.from_residual-in_err-day-in-Some.result c.from_residual-in_err-day-in-Some.ensures.1 in
+    rw exit.1 (replaced_is_shown A e new o there texts)
+
 pub returns-in_err-admit-in-Some-clause-shown : goal.returns-in_err-admit-in-Some-clause-shown
 returns-in_err-admit-in-Some-clause-shown c =
     let A = c.args.inbox.now.arrivals in
@@ -80,7 +92,7 @@ dismiss-requires c =
     let there = shown_at (set_of A) e o _ _ (c.source.ensures.value ∙ ap source_of c.event-came.ensures) (c.id.ensures.value ∙ ap id_of c.event-came.ensures) c.in-Some.ensures.some in
     let texts : is_lt (text_cmp e o) ≡ true =
     ap is_lt (sym (c.compare.ensures.order ∙ ap₂ (λ (x y : EventValue). byte_cmp (text x) (text y)) c.event-came.ensures c.event.ensures)) ∙ sym c.is_lt.ensures ∙ c.if-not-is_lt.false in
-    record { counted = was_counted A e new c.args.self.now c.requires mid (subst (λ n. ComesIn e n c.args.self.now mid) c.arrived-place.ensures.count c.in_ok-admit-in-Some.ensures.comes) o there texts }
+    record { counted = was_counted A e new c.args.self.now c.requires mid (subst (λ n. ComesIn e n c.args.self.now mid) c.arrived-place.ensures.count c.in_ok-admit-in-Some.ensures.comes) o there texts; own = c.in_ok-day-in-Some.ensures }
 
 pub returns-in_ok-admit-in-Some-clause-stands : goal.returns-in_ok-admit-in-Some-clause-stands
 returns-in_ok-admit-in-Some-clause-stands c =
