@@ -22,8 +22,8 @@ const TURNS: u64 = 70_368_744_177_664;
 /// Takes the lines of an input into a table to its end, and acknowledges each on `out`; answers how
 /// many lines were at fault. In each turn the lines that stand whole in what was read are kept in
 /// one transaction, and then their acknowledgements are written in one write, so that whoever reads
-/// them knows what no crash takes back. A service beside the table stays as it is, also where the stream
-/// stops before its end. Memory for the lines of a turn.
+/// them knows what no crash takes back. A service beside the table stays as it is, also where the
+/// stream stops before the input's end. Memory for the lines of a turn.
 pub fn follow<S: Alter, R: Read, W: Write>(
     alloc: Global,
     table: &mut Table<S>,
