@@ -1,13 +1,15 @@
 -- A stream, one turn more.
-use Rattle.std.proofs.Common.{◌≡◌, ◌≤◌, ◌+◌, ◌++◌, ℕ, suc, List, [], ◌∷◌, length, cond, Option, None, Some, Bool, true, false, Result, Ok, Err, OnOk, refl, sym, ap, subst, arith}
+use Rattle.std.proofs.Common.{◌≡◌, ◌∙◌, ◌≤◌, ◌+◌, ◌++◌, ℕ, suc, List, [], ◌∷◌, length, cond, Option, None, Some, Bool, IsTrue, true, false, Result, Ok, Err, OnOk, inl, inr, refl, sym, ap, subst, arith}
 use Rattle.std.specs.Prelude.{is_some}
 use Rattle.std.specs.Io.KnownBytes.{Appends, IsAtEnd, prepend_known}
 use Rattle.std.proofs.KnownBytes.{Appends-nil, Appends-trans}
 use Rattle.std.proofs.lemmas.List.Sums.{sum_by-append, sum_by-cons}
+use Rattle.sqlite.specs.Effect.{Database}
 use Rattle.sqlite.specs.State.{State, HasCleanDisk}
 use Rattle.attributes.specs.Event.{EventValue}
 use Rattle.inbox.specs.KeyOrder.{key_cmp}
 use Rattle.inbox.specs.Ordered.{append_new}
+use Rattle.inbox_table.specs.Beside.{KeepsService}
 use Rattle.inbox_table.specs.Calls.{AreFreshEach, joined}
 use Rattle.line_intake.specs.Acknowledged.{AreTold, TellsAll, TellsSome, TellsUntil}
 use Rattle.line_intake.specs.Answers.{answers}
@@ -33,11 +35,25 @@ prepend_none [] None e = refl
 prepend_none [] (Some x) e = refl
 prepend_none (b ∷ bs) known e = absurd (cc)
 
+-- what is as it was has its service
+keeps_none : (db : Database) → KeepsService db db
+keeps_none db = record { schema = refl; service = λ l has is. record { service = refl; orders = refl; outbox = refl } }
+
+pub keeps_on : (old mid new : Database) → KeepsService old mid → KeepsService mid new → KeepsService old new
+keeps_on old mid new first then = record {
+  schema = then.schema ∙ first.schema;
+  service = λ l has is.
+      let one = first.service l has is in
+      let other = then.service l has (first.schema ∙ is) in
+      record { service = other.service ∙ one.service; orders = other.orders ∙ one.orders; outbox = other.outbox ∙ one.outbox };
+}
+
 -- so far the stream has had these turns
 pub record IsFollowing (start : Place) (lines : ℕ) (left out : Option (List ℕ)) (old now : State) (faults : ℕ) : Type 0 where
   pub turns : List Turn
   pub are : AreTurns start turns (record { lines = lines; left = left; out = out })
   pub kept : HasCleanDisk now → KeepsTurns turns old.now now.now
+  pub beside : HasCleanDisk now → KeepsService old.now now.now
   pub faulty : faults ≡ faults_of turns
   pub few : faults ≤ lines
   pub clean : HasCleanDisk now → HasCleanDisk old
@@ -53,6 +69,7 @@ following_start left out s = (let none = told_none left in record {
   turns = [];
   are = refl;
   kept = λ _ held box. (held, box, refl);
+  beside = λ _. keeps_none s.now;
   faulty = refl;
   few = omega arith;
   clean = λ clean. clean;
@@ -99,6 +116,7 @@ following_more start lines next left left' out out' old mid now faults tells lis
           let was = f.kept (cleaner clean) held box in
           let took = kept clean in
           (append_new key_cmp was.0 (joined lists), took.takes was.0 was.1, kept_more held was.0 f.turns t was.2 (took.fresh was.0 was.1));
+      beside = λ clean. keeps_on old.now mid.now now.now (f.beside (cleaner clean)) (kept clean).beside;
       faulty = (let e : faults + faults_in tells ≡ faults_of (f.turns ++ t ∷ []) = omega (arith, f.faulty, sum_by-append (λ (t : Turn). faults_in t.tells) f.turns (t ∷ []), sum_by-cons (λ (t : Turn). faults_in t.tells) t []) in e);
       few = (let few = few_gathered lines next left left' tells lists g in omega (arith, few, f.few));
       clean = λ clean. f.clean (cleaner clean);
@@ -142,6 +160,20 @@ following_stops start lines next left left' out out' old mid now faults tells li
     record { turns = f.turns; last = record { lines = lines; left = left; out = out }; are = f.are; mid = mid.now; kept = λ clean. f.kept (cleaner clean); stop = (next, left', tells, lists, g, stop) }
 following_stops start lines next left left' out out' old mid now faults tells lists Unwritten f g stop cleaner =
     record { turns = f.turns; last = record { lines = lines; left = left; out = out }; are = f.are; mid = mid.now; kept = λ clean. f.kept (cleaner clean); stop = (next, left', tells, lists, g, stop) }
+
+-- a turn that stops leaves the service beside the table too
+stop_beside : (mid : Database) (now : State) (out out' : Option (List ℕ)) (tells : List Told) (lists : List (List EventValue)) (why : FollowFault) → StopsTurn why tells lists mid now out out' → HasCleanDisk now → IsTrue now.is_open → KeepsService mid now.now
+stop_beside mid now out out' tells lists (Input fault) stop clean still = absurd stop
+stop_beside mid now out out' tells lists (Table fault) (unwritten, left) clean still = elim (left clean still) [
+  | inl same ↦ subst (KeepsService mid) (sym same) (keeps_none mid)
+  | inr took ↦ took.2.beside
+]
+stop_beside mid now out out' tells lists Unwritten (each, even, wrote, kept) clean still = (kept clean).beside
+
+pub following_beside : (start : Place) (lines : ℕ) (left out out' : Option (List ℕ)) (old mid now : State) (faults : ℕ) (tells : List Told) (lists : List (List EventValue)) (why : FollowFault) → IsFollowing start lines left out old mid faults
+    → StopsTurn why tells lists mid.now now out out' → (HasCleanDisk now → HasCleanDisk mid) → HasCleanDisk now → IsTrue now.is_open → KeepsService old.now now.now
+following_beside start lines left out out' old mid now faults tells lists why f stop cleaner clean still =
+    keeps_on old.now mid.now now.now (f.beside (cleaner clean)) (stop_beside mid.now now out out' tells lists why stop clean still)
 
 pub on_kept : {T E : Type 0} (r : Result T E) (P Q : Type 0) → (P → Q) → OnOk r P → OnOk r Q
 on_kept (Ok x) P Q f p = f p

@@ -1,7 +1,7 @@
 -- What is acknowledged of an input, turn after turn.
 use Rattle.std.proofs.Common.{◌≡◌, ◌+◌, ◌++◌, ℕ, suc, List, [], ◌∷◌, length, Option, refl, sym, ap, ◌∙◌, subst, arith, append_assoc, length-append}
-use Rattle.std.specs.Io.KnownBytes.{Appends, Consumes}
-use Rattle.std.proofs.KnownBytes.{Appends-nil, Appends-trans, Consumes-nil, Consumes-trans}
+use Rattle.std.specs.Io.KnownBytes.{Consumes}
+use Rattle.std.proofs.KnownBytes.{Consumes-nil, Consumes-trans}
 use Rattle.attributes.specs.Event.{EventValue}
 use Rattle.line_intake.specs.Acknowledged.{AreTold}
 use Rattle.line_intake.specs.Answers.{answer_line, answers}

@@ -6,6 +6,7 @@ use Rattle.sqlite.specs.State.{State, HasCleanDisk}
 use Rattle.attributes.specs.Event.{EventValue}
 use Rattle.inbox.specs.KeyOrder.{key_cmp}
 use Rattle.inbox.specs.Ordered.{append_new}
+use Rattle.inbox_table.specs.Beside.{KeepsService}
 use Rattle.inbox_table.specs.Calls.{AreFreshEach, IsSettled, Takes, joined}
 use Rattle.inbox_table.specs.Rows.{IsInbox}
 use Rattle.inbox_table.specs.declared.fault.TableFault.TheVariants.{OutOfMemory}
@@ -17,11 +18,12 @@ use Rattle.line_intake.specs.declared.step.FollowFault.{FollowFault}
 use Rattle.line_intake.specs.declared.step.FollowFault.TheVariants as fault
 
 -- the events of lines are in, each behind what was there, so many of each line were not there by
--- then, and a crash leaves them
+-- then, a crash leaves them, and a service beside the table has the rows that it had
 pub record IsKept (lists : List (List EventValue)) (each : List ℕ) (old : Database) (new : State)
     : Type 0 where
   pub takes : Takes (joined lists) old new.now
   pub fresh : (events : List EventValue) → IsInbox old events → AreFreshEach events lists each
+  pub beside : KeepsService old new.now
   pub settled : IsSettled new
 
 -- ---- one turn that stops

@@ -1,8 +1,9 @@
 //! A stream of lines, kept and acknowledged turn by turn.
 
-ghost use Rattle.std.specs.Prelude.{IfErr, IfOk, OnOk};
+ghost use Rattle.std.specs.Prelude.{IfErr, IfOk, IsTrue, OnOk};
 ghost use Rattle.sqlite.specs.Held.{state};
 ghost use Rattle.sqlite.specs.State.{HasCleanDisk};
+ghost use Rattle.inbox_table.specs.Beside.{KeepsService};
 ghost use Rattle.inbox_table.specs.Calls.{IsSettled};
 ghost use Rattle.line_intake.specs.Acknowledged.{TellsAll, TellsUntil};
 ghost use Rattle.line_intake.specs.Follow.{IsFollowed, KeepsTurns, StopsStream};
@@ -21,7 +22,8 @@ const TURNS: u64 = 70_368_744_177_664;
 /// Takes the lines of an input into a table to its end, and acknowledges each on `out`; answers how
 /// many lines were at fault. In each turn the lines that stand whole in what was read are kept in
 /// one transaction, and then their acknowledgements are written in one write, so that whoever reads
-/// them knows what no crash takes back. Memory for the lines of a turn.
+/// them knows what no crash takes back. A service beside the table stays as it is, also where the
+/// stream stops before the input's end. Memory for the lines of a turn.
 pub fn follow<S: Alter, R: Read, W: Write>(
     alloc: Global,
     table: &mut Table<S>,
@@ -41,6 +43,9 @@ pub fn follow<S: Alter, R: Read, W: Write>(
         → KeepsTurns turns (state S.Store table.old.conn).now mid)) }
     ensures clean { HasCleanDisk (state S.Store table.new.conn)
         → HasCleanDisk (state S.Store table.old.conn) }
+    ensures beside { HasCleanDisk (state S.Store table.new.conn)
+        → IsTrue (state S.Store table.new.conn).is_open
+        → KeepsService (state S.Store table.old.conn).now (state S.Store table.new.conn).now }
     ensures told { IfOk result
         (TellsAll (R.remaining input.old) (W.contents out.old) (W.contents out.new)) }
     ensures until { IfErr result (λ f.

@@ -1,7 +1,7 @@
 use Rattle.std.proofs.Common.{◌≤◌, ◌+◌, ◌*◌, arith, subst, sym}
 use Rattle.std.specs.Io.KnownBytes.{prepend_known}
 use Rattle.sqlite.specs.Held.{state}
-use Rattle.line_intake.proofs.FollowLemmas.{IsFollowing, following_done, following_more, following_some, following_start, following_stops, following_told, following_unread, following_until, prepend_none}
+use Rattle.line_intake.proofs.FollowLemmas.{IsFollowing, following_beside, following_done, following_more, following_some, following_start, following_stops, following_told, following_unread, following_until, keeps_on, prepend_none}
 use Rattle.line_intake.proofs.GatherLemmas.{even_gathered}
 use Rattle.line_intake.proofs.stream.follow.Goals as goal
 
@@ -77,3 +77,18 @@ returns-in-Err-clause-stops g c = following_unread _ c.loop.lines _ _ _ _ c.loop
 
 pub returns-clause-stops : goal.returns-clause-stops
 returns-clause-stops g c = following_unread _ c.loop.lines _ _ _ _ c.loop.faults _ c.loop.invariant.0
+
+pub returns-in-Err-clause-beside : goal.returns-in-Err-clause-beside
+returns-in-Err-clause-beside g c clean still = c.loop.invariant.0.beside clean
+
+pub returns-clause-beside : goal.returns-clause-beside
+returns-clause-beside g c clean still = c.loop.invariant.0.beside clean
+
+pub returns-in-Err-acknowledge-clause-beside : goal.returns-in-Err-acknowledge-clause-beside
+returns-in-Err-acknowledge-clause-beside g c =
+    following_beside _ c.loop.lines _ _ _ _ (state g.S.Store c.loop.table.conn) (state g.S.Store c.acknowledge.new.table.conn) c.loop.faults c.in-Ok.part.gathered.tells c.in-Ok.part.gathered.lists c.in-Err-acknowledge.fault
+    c.loop.invariant.0 c.in-Err-acknowledge.ensures.stops (λ clean. omega (arith, c.acknowledge.ensures.crash.clean, clean))
+
+pub returns-then-part-clause-beside : goal.returns-then-part-clause-beside
+returns-then-part-clause-beside g c clean still =
+    keeps_on _ _ _ (c.loop.invariant.0.beside (omega (arith, c.acknowledge.ensures.crash.clean, clean))) (c.in-Ok-acknowledge.ensures.kept.3 clean).beside
