@@ -5,7 +5,7 @@ use Rattle.sqlite_tied.specs.Compute.{everything}
 use Rattle.sqlite.specs.Effect.{Database}
 use Rattle.attributes.specs.Event.{EventValue}
 use Rattle.database_layout.specs.Beside.{GainsTables, HasAnyInbox, KeepsBeside}
-use Rattle.database_layout.specs.Layout.{GainsInbox2, GainsService, HasInbox, HasService, has_inbox, has_name, inbox_tree, schema_in, service_tree}
+use Rattle.database_layout.specs.Layout.{GainsInbox2, GainsService, HasInbox, HasService, has_inbox, has_name, schema_in, service_tree}
 use Rattle.database_layout.specs.Making.{upgraded}
 use Rattle.database_layout.specs.declared.layout.Layout.{Layout}
 use Rattle.database_layout.specs.declared.layout.Layout.TheVariants.{Empty, Service, Inbox, InboxService, ServiceInbox, Inbox2, Inbox2Service, ServiceInbox2, Upgraded, UpgradedService, ServiceUpgraded, ShiftedUpgraded}
@@ -17,7 +17,7 @@ use Rattle.inbox_table.specs.declared.version.Version.{Version}
 use Rattle.inbox_table.specs.declared.version.Version.TheVariants.{One, Two}
 use Rattle.inbox_table.proofs.HomeLemmas.{not_both_versions}
 use Rattle.outbox.specs.Order.{Accepted}
-use Rattle.outbox.specs.Layout.{ServiceLayout, first_tree}
+use Rattle.outbox.specs.Layout.{first_tree}
 use Rattle.outbox.specs.Service.{AreOrders, IsService, outbox_rows}
 use Rattle.outbox.proofs.LayoutLemmas.{same_tree}
 use Rattle.database_commands.specs.Held.{Holds, KeepsEvents, KeepsRows}

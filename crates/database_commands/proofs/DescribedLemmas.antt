@@ -17,7 +17,7 @@ use Rattle.inbox_table.specs.declared.version.Version.TheVariants.{One, Two}
 use Rattle.inbox_table.proofs.UpgradeLemmas.{any_named}
 use Rattle.database_commands.specs.declared.fault.CommandFault.{CommandFault}
 use Rattle.database_commands.specs.declared.fault.CommandFault.TheVariants as command
-use Rattle.database_commands.specs.Described.{CountsSources, Describes, SaysDatabase, SaysInbox, TellsInbox, TellsOfService, version_number}
+use Rattle.database_commands.specs.Described.{CountsSources, Describes, SaysDatabase, IsToldVersion, SaysInbox, TellsInbox, TellsOfService, version_number}
 use Rattle.database_commands.specs.Fault.{of_table}
 use Rattle.database_commands.specs.Held.{Holds, IsNoOrders, IsUntold}
 use Rattle.database_commands.specs.Print.{database_data}
@@ -68,8 +68,8 @@ describes name db first rest text inbox service both = record { first = first; r
 pub describes_one : (name : List ℕ) (db : Database) (first : List ℕ) → TellsInbox name db first → has_name db.schema ≡ false → Describes name db first
 describes_one name db first inbox none = describes name db first [] first inbox (inl (none, refl)) (sym (append-nil first))
 
-pub says_inbox : (name : List ℕ) (db : Database) (first : List ℕ) → TellsInbox name db first → SaysInbox name first
-says_inbox name db first it = (length it.events, it.sources, it.version, it.line)
+pub says_events : (name : List ℕ) (events : List EventValue) (version : ℕ) (text : List ℕ) → IsToldVersion (length events) version → TellsEvents name events version text → SaysInbox name text
+says_events name events version text told (n, counts, line) = (length events, n, version, told, line)
 
 pub says_one : (name first : List ℕ) → SaysInbox name first → SaysDatabase name first
 says_one name first it = record { first = first; rest = []; inbox = it; service = inl refl; both = sym (append-nil first) }

@@ -1,5 +1,5 @@
 -- What is said of a stream over a table, said of the database and the outcome of its command.
-use Rattle.std.proofs.Common.{◌≡◌, ◌⊎◌, ◌++◌, ℕ, List, [], ◌∷◌, Ok, Err, Result, IfOk, MatchResult, inl, inr, refl, sym, ap, subst}
+use Rattle.std.proofs.Common.{◌≡◌, ◌⊎◌, ◌++◌, ℕ, List, [], ◌∷◌, Ok, Err, Result, IfOk, IsTrue, MatchResult, inl, inr, refl, sym, ap, subst}
 use Rattle.std.specs.Prelude.{Option, None, Some}
 use Rattle.std.specs.Result.{IfErr, OnOk}
 use Rattle.std.specs.Io.KnownBytes.{Consumes, Keeps}
@@ -7,22 +7,24 @@ use Rattle.std.proofs.KnownBytes.{Appends-nil, Consumes-nil, Keeps-refl}
 use Rattle.sqlite.specs.Effect.{Database}
 use Rattle.sqlite.specs.State.{State, HasCleanDisk}
 use Rattle.attributes.specs.Event.{EventValue}
+use Rattle.inbox_table.specs.Beside.{KeepsService}
 use Rattle.inbox_table.specs.Calls.{IsAsItWas, IsSettled}
 use Rattle.inbox_table.specs.Rows.{IsInbox}
 use Rattle.inbox_table.specs.declared.fault.TableFault.{TableFault}
 use Rattle.line_intake.specs.Acknowledged.{AreTold, TellsAll, TellsPart, TellsSome, TellsUntil}
-use Rattle.line_intake.specs.Follow.{AreKept, IsFollowed, KeepsTurns, Place, StopsStream, Turn}
+use Rattle.line_intake.specs.Follow.{IsFollowed, KeepsTurns, Place, StopsStream, Turn}
 use Rattle.line_intake.specs.Judged.{TakesLines}
 use Rattle.line_intake.specs.Lines.{TakesLine}
 use Rattle.line_intake.specs.declared.answer.Told.{Told}
 use Rattle.line_intake.specs.declared.step.FollowFault.{FollowFault}
 use Rattle.line_intake.specs.declared.step.FollowFault.TheVariants.{Input, Table, Unwritten}
 use Rattle.database_commands.specs.Fault.{of_follow, of_table}
-use Rattle.database_commands.specs.Held.{Holds}
+use Rattle.database_commands.specs.Held.{Holds, KeepsRows}
 use Rattle.database_commands.specs.Streams.{AcknowledgesUntil, HoldsTurns, StaysUnread, StopsInto}
 use Rattle.database_commands.specs.declared.fault.CommandFault.{CommandFault}
 use Rattle.database_commands.specs.declared.stream.StreamFault.{StreamFault}
 use Rattle.database_commands.specs.declared.stream.StreamFault.TheVariants as stream
+use Rattle.database_commands.proofs.BesideLemmas.{service_kept, service_over}
 
 abbrev Outcome : Result ℕ FollowFault → Result ℕ StreamFault → Type 0
 Outcome ended outcome = MatchResult ended (λ n. outcome ≡ Ok n) (λ f. outcome ≡ Err (of_follow f))
@@ -107,6 +109,20 @@ tells_none left out = record {
 
 pub stays_unread : (left out : Option (List ℕ)) (old new : State) (why : TableFault) (f : CommandFault) → f ≡ of_table why → IsAsItWas old new → StaysUnread left left out out old new (stream.Database f)
 stays_unread left out old new why f is same = record { why = why; is = ap (λ x. stream.Database x) is; unread = Keeps-refl left; unwritten = Keeps-refl out; same = same }
+
+-- whatever is left of what wasn't read
+pub unread_or_stops : (left left' out out' : Option (List ℕ)) (old new : State) (f : StreamFault)
+    → StaysUnread left left' out out' old new f ⊎ StopsInto (record { lines = 0; left = left; out = out }) out' old new f
+    → ((rest : Option (List ℕ)) × StaysUnread left rest out out' old new f) ⊎ StopsInto (record { lines = 0; left = left; out = out }) out' old new f
+unread_or_stops left left' out out' old new f (inl unread) = inl (left', unread)
+unread_or_stops left left' out out' old new f (inr stops) = inr stops
+
+-- a service stays beside the table, as it stayed when that was opened
+pub stream_beside : (old : Database) (mid last conn : State) → conn ≡ last → (HasCleanDisk mid → KeepsRows old mid.now) → (HasCleanDisk last → HasCleanDisk mid)
+    → (HasCleanDisk last → IsTrue last.is_open → KeepsService mid.now last.now) → HasCleanDisk conn → IsTrue conn.is_open → KeepsRows old conn.now
+stream_beside old mid last conn same opened cleaner kept =
+    subst (λ (s : State). HasCleanDisk s → IsTrue s.is_open → KeepsRows old s.now) (sym same)
+    (λ clean still. service_over old mid.now last.now (opened (cleaner clean)) (service_kept mid.now last.now (kept clean still)))
 
 -- ---- an input whose first bytes were read, and none taken
 

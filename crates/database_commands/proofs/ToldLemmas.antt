@@ -1,5 +1,5 @@
 -- What is told of the service of a database.
-use Rattle.std.proofs.Common.{◌≡◌, ◌⊎◌, ◌≤◌, inl, inr, Bool, ℕ, List, Ok, Err, IfOk, OnErr, OnOk, Result, [], ◌∷◌, ◌++◌, true, false, length, IsTrue, refl, sym, ap, ap₂, subst, ◌∙◌}
+use Rattle.std.proofs.Common.{◌≡◌, ◌⊎◌, ◌≤◌, inl, inr, Bool, ℕ, List, Ok, Err, IfOk, OnErr, OnOk, Result, [], ◌∷◌, ◌++◌, true, false, refl, sym, ap, ap₂, subst, ◌∙◌}
 use Rattle.std.specs.Prelude.{IfSome, None, Option, Some, codes, decimal, unwrap_or}
 use Rattle.json.specs.Token.{begin_object, end_object, key, number, string}
 use Rattle.json.specs.Print.{print}

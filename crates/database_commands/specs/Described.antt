@@ -56,9 +56,14 @@ abbrev pub SaysSomeService : List ℕ → Type 0
 SaysSomeService text = (text ≡ []) ⊎ ((source : List ℕ) × (base : ℕ) × (orders : ℕ) × (rows : ℕ)
     × (text ≡ service_line source base orders rows))
 
--- the text tells of some inbox of a database with this name
+-- so many events may be told with a version of this number: it is that of a version, or 0, where there
+-- is no inbox, and then there are none
+abbrev pub IsToldVersion : ℕ → ℕ → Type 0
+IsToldVersion events n = ((n ≡ 0) × (events ≡ 0)) ⊎ ((v : Version) × (n ≡ version_number v))
+
+-- the text tells of some inbox of a database with this name, or that there is none
 abbrev pub SaysInbox : List ℕ → List ℕ → Type 0
-SaysInbox name text = (events : ℕ) × (sources : ℕ) × (version : ℕ)
+SaysInbox name text = (events : ℕ) × (sources : ℕ) × (version : ℕ) × IsToldVersion events version
     × (text ≡ database_line name events sources version)
 
 -- the text tells of some database with this name

@@ -36,6 +36,19 @@ pub record Holds (db : Database) (events : List EventValue) : Type 0 where
 abbrev pub KeepsEvents : Database → Database → Type 0
 KeepsEvents old new = (held : List EventValue) → Holds old held → Holds new held
 
+-- these are all events that the database held, in the order of their places
+abbrev pub ShowsEvents : Database → List EventValue → Type 0
+ShowsEvents db events = (held : List EventValue) → Holds db held → events ≡ held
+
+-- these are all that the database held, in key order
+abbrev pub ShowsSet : Database → List EventValue → Type 0
+ShowsSet db events = (held : List EventValue) → Holds db held → events ≡ set_of held
+
+-- these are what the summary lacks of all that the database held
+abbrev pub ShowsLacking : Sources → Database → List EventValue → Type 0
+ShowsLacking summary db events = (held : List EventValue) → Holds db held
+    → events ≡ delta (set_of held) summary
+
 -- these are the trees of a database that holds the events that the old one held
 pub record MayHold (old : Database) (trees : Trees) : Type 0 where
   pub db : Database

@@ -7,5 +7,6 @@ pub mod Service
 pub mod Described
 pub mod Trouble
 pub mod Streams
+pub mod Effect
 pub mod steps
 pub mod OfFile

@@ -1,17 +1,17 @@
 -- A stream of lines into a database.
-use Rattle.std.specs.Prelude.{◌≡◌, ◌⊎◌, ℕ, List, Option, Result, IfOk}
+use Rattle.std.specs.Prelude.{◌≡◌, ◌⊎◌, ℕ, List, Option, Result, IfErr, IfOk, IsTrue, OnOk}
 use Rattle.std.specs.Io.KnownBytes.{Keeps}
 use Rattle.sqlite.specs.Effect.{Database}
 use Rattle.sqlite.specs.State.{State, HasCleanDisk}
 use Rattle.attributes.specs.Event.{EventValue}
-use Rattle.inbox_table.specs.Calls.{IsAsItWas}
+use Rattle.inbox_table.specs.Calls.{IsAsItWas, IsSettled}
 use Rattle.inbox_table.specs.Rows.{IsInbox}
 use Rattle.inbox_table.specs.declared.fault.TableFault.{TableFault}
 use Rattle.line_intake.specs.Acknowledged.{TellsPart, TellsSome}
 use Rattle.line_intake.specs.Follow.{AreKept, IsFollowed, Place, StopsStream, Turn}
 use Rattle.line_intake.specs.declared.step.FollowFault.{FollowFault}
 use Rattle.database_commands.specs.Fault.{of_follow, of_table}
-use Rattle.database_commands.specs.Held.{Holds}
+use Rattle.database_commands.specs.Held.{Holds, KeepsRows}
 use Rattle.database_commands.specs.declared.stream.StreamFault.{StreamFault}
 use Rattle.database_commands.specs.declared.stream.StreamFault.TheVariants as stream
 
@@ -45,10 +45,21 @@ AcknowledgesUntil (stream.Input why) old out out' = TellsSome old out out'
 AcknowledgesUntil (stream.Database why) old out out' = TellsSome old out out'
 AcknowledgesUntil stream.Unwritten old out out' = TellsPart old out out'
 
--- lines of an input, of which this was left, went into a database, from one state to the other, and
--- were acknowledged: to the input's end where nothing refused them
-abbrev pub FollowsOver : Option (List ℕ) → Option (List ℕ) → Option (List ℕ) → Result ℕ StreamFault
-    → State → State → Type 0
-FollowsOver input out out' outcome old new = (left : Option (List ℕ)) × Keeps input left
-    × IfOk outcome (λ faults. IsFollowed (record { lines = 0; left = left; out = out }) out' faults
-    (λ turns. HasCleanDisk new → HoldsTurns turns old.now new.now))
+-- lines of an input went into a database, from one state to the other, and were acknowledged: to the
+-- input's end where nothing refused them, else to where the stream stopped
+pub record FollowsOver (input out out' : Option (List ℕ)) (outcome : Result ℕ StreamFault)
+    (old new : State) : Type 0 where
+  -- this was left of the input when the stream began, which is all of it
+  pub left : Option (List ℕ)
+  pub begun : Keeps input left
+  pub followed : IfOk outcome (λ faults. IsFollowed
+      (record { lines = 0; left = left; out = out }) out' faults
+      (λ turns. HasCleanDisk new → HoldsTurns turns old.now new.now))
+  -- a crash leaves them
+  pub settled : HasCleanDisk new → OnOk outcome (IsSettled new)
+  -- it stopped before, and this is what the turns before it and the last lines came to
+  pub stops : IfErr outcome (λ f. ((left' : Option (List ℕ))
+      × StaysUnread left left' out out' old new f)
+      ⊎ StopsInto (record { lines = 0; left = left; out = out }) out' old new f)
+  -- whatever came of it, a service has its rows
+  pub beside : HasCleanDisk new → IsTrue new.is_open → KeepsRows old.now new.now

@@ -1,18 +1,18 @@
-//! The commands over the files of a database, by their name, whatever the files held.
-ghost use Rattle.std.specs.Prelude.{◌≡◌, ◌≤◌, ℕ, List, length, true, unwrap_or, IfErr, IfOk, IfSome, IsTrue};
-ghost use Rattle.sqlite.specs.State.{HasCleanDisk};
+//! The commands over the files of a database, by their name, whatever the files held. Where the
+//! database can't be opened, there is the fault alone and no connection, and nothing is said of the
+//! files: an opening may make a file and play a log back. Once it is open, each clause `did` says
+//! all that the command may do over a connection, also where it is refused.
+ghost use Rattle.std.specs.Prelude.{◌≡◌, ◌≤◌, ℕ, length, true, IfErr, IfOk, IfSome};
 ghost use Rattle.sqlite_wal.specs.Files.{image_at};
 ghost use Rattle.attributes.specs.Character.{is_filled};
-ghost use Rattle.attributes.specs.Event.{EventValue};
 ghost use Rattle.attributes.specs.Sequence.{max_sequence};
-ghost use Rattle.inbox.specs.Sets.{set_of};
-ghost use Rattle.site.specs.Delta.{delta};
 ghost use Rattle.line_intake.specs.Acknowledged.{TellsAll};
-ghost use Rattle.database_commands.specs.Described.{Describes, SaysDatabase};
-ghost use Rattle.database_commands.specs.Held.{HasDelta, HasEvents, Holds, IsMeant, KeepsOrTakes, Orders, SaysAllRows, SaysDelta, SaysOrder, SaysPage, SaysRows, SaysSummary, ShowsAllRows, ShowsDelta, ShowsPage, ShowsRows, ShowsSummary, TakesInto};
+ghost use Rattle.database_commands.specs.Described.{SaysDatabase};
+ghost use Rattle.database_commands.specs.Effect.{DescribeEffect, HeldEffect, LookEffect, OrderEffect, PageEffect, RelayAllEffect, RelayEffect, ServiceEffect, TakeEffect};
+ghost use Rattle.database_commands.specs.Held.{HasDelta, HasEvents, SaysAllRows, SaysDelta, SaysOrder, SaysPage, SaysRows, SaysSummary, ShowsDelta, ShowsLacking, ShowsPage, ShowsSet, ShowsSummary};
 ghost use Rattle.database_commands.specs.OfFile.{DoesOver};
 ghost use Rattle.database_commands.specs.Print.{counts_line};
-ghost use Rattle.database_commands.specs.Service.{SaysService, TellsOrFounds};
+ghost use Rattle.database_commands.specs.Service.{SaysService};
 ghost use Rattle.database_commands.specs.Streams.{AcknowledgesUntil, FollowsOver};
 
 use crate::Ended;
@@ -50,10 +50,8 @@ pub fn take_named<T: Start, W: Watch>(
     events: &Batch,
     watch: &W,
 ) -> Result<Ended<FileStore<FileFrom<T>>>, CommandFault>
-    ensures did { IfOk result (λ e. DoesOver (image_at T.Start) (λ old new. HasCleanDisk new
-        → IfOk e.outcome (TakesInto events.now old.now new.now)
-        × (IsTrue new.is_open → IfErr e.outcome (λ f. KeepsOrTakes events.now f old.now new.now)))
-        e.conn) }
+    ensures did { IfOk result (λ e. DoesOver (image_at T.Start)
+        (TakeEffect (W.told watch.now) events.now e.outcome) e.conn) }
     ensures line { IfOk result (λ e. IfOk e.outcome (λ text.
         (fresh : ℕ) × (text ≡ counts_line (length events.now) fresh))) }
 {
@@ -103,9 +101,7 @@ pub fn held_named<T: Start>(
     name: &str,
     start: T,
 ) -> Result<Contents<FileStore<FileFrom<T>>>, CommandFault>
-    ensures did { IfOk result (λ c. DoesOver (image_at T.Start) (λ old new. HasCleanDisk new
-        → IfOk c.events (λ events. (held : List EventValue) → Holds old.now held → events ≡ held))
-        c.conn) }
+    ensures did { IfOk result (λ c. DoesOver (image_at T.Start) (HeldEffect c.events) c.conn) }
 {
     match open_there(rt, name, start) {
         Ok(conn) => Ok(held(alloc, conn)),
@@ -120,8 +116,8 @@ pub fn summary_named<T: Start>(
     name: &str,
     start: T,
 ) -> Result<Ended<FileStore<FileFrom<T>>>, CommandFault>
-    ensures did { IfOk result (λ e. DoesOver (image_at T.Start) (λ old new. HasCleanDisk new
-        → IfOk e.outcome (ShowsSummary old.now)) e.conn) }
+    ensures did { IfOk result (λ e. DoesOver (image_at T.Start)
+        (LookEffect ShowsSummary e.outcome) e.conn) }
     ensures line { IfOk result (λ e. IfOk e.outcome SaysSummary) }
 {
     match open_there(rt, name, start) {
@@ -138,9 +134,8 @@ pub fn delta_pages_named<T: Start>(
     start: T,
     summary: Summary,
 ) -> Result<Paged<FileStore<FileFrom<T>>>, CommandFault>
-    ensures did { IfOk result (λ p. DoesOver (image_at T.Start) (λ old new. HasCleanDisk new
-        → IfOk p.pages (λ pages. (held : List EventValue) → Holds old.now held
-        → pages ≡ delta (set_of held) summary)) p.conn) }
+    ensures did { IfOk result (λ p. DoesOver (image_at T.Start)
+        (LookEffect (ShowsLacking summary) p.pages) p.conn) }
     ensures some { IfOk result (λ p. IfOk p.pages (HasDelta summary)) }
 {
     match open_there(rt, name, start) {
@@ -156,9 +151,8 @@ pub fn scrub_pages_named<T: Start>(
     name: &str,
     start: T,
 ) -> Result<Paged<FileStore<FileFrom<T>>>, CommandFault>
-    ensures did { IfOk result (λ p. DoesOver (image_at T.Start) (λ old new. HasCleanDisk new
-        → IfOk p.pages (λ pages. (held : List EventValue) → Holds old.now held
-        → pages ≡ set_of held)) p.conn) }
+    ensures did { IfOk result (λ p. DoesOver (image_at T.Start)
+        (LookEffect ShowsSet p.pages) p.conn) }
     ensures some { IfOk result (λ p. IfOk p.pages HasEvents) }
 {
     match open_there(rt, name, start) {
@@ -176,8 +170,8 @@ pub fn delta_named<T: Start>(
     summary: &Summary,
     from: u64,
 ) -> Result<Ended<FileStore<FileFrom<T>>>, CommandFault>
-    ensures did { IfOk result (λ e. DoesOver (image_at T.Start) (λ old new. HasCleanDisk new
-        → IfOk e.outcome (ShowsDelta summary.now from old.now)) e.conn) }
+    ensures did { IfOk result (λ e. DoesOver (image_at T.Start)
+        (PageEffect (ShowsDelta summary.now from) e.outcome) e.conn) }
     ensures line { IfOk result (λ e. IfOk e.outcome (SaysDelta summary.now from)) }
 {
     match open_over(rt, name, 0, start) {
@@ -194,8 +188,8 @@ pub fn scrub_named<T: Start>(
     start: T,
     from: u64,
 ) -> Result<Ended<FileStore<FileFrom<T>>>, CommandFault>
-    ensures did { IfOk result (λ e. DoesOver (image_at T.Start) (λ old new. HasCleanDisk new
-        → IfOk e.outcome (ShowsPage from old.now)) e.conn) }
+    ensures did { IfOk result (λ e. DoesOver (image_at T.Start)
+        (PageEffect (ShowsPage from) e.outcome) e.conn) }
     ensures line { IfOk result (λ e. IfOk e.outcome (SaysPage from)) }
 {
     match open_over(rt, name, 0, start) {
@@ -219,9 +213,9 @@ pub fn order_named<T: Start>(
     requires source { (is_filled source.now ≡ true) × (length source.now ≤ 1024) }
     requires order { (1 ≤ number) × (number ≤ max_sequence) }
     requires short { length at.now ≤ 64 }
-    ensures did { IfOk result (λ e. DoesOver (image_at T.Start) (λ old new. HasCleanDisk new
-        → IfOk e.outcome (Orders source.now
-        (record { status = status; order = number; at = at.now }) old.now new.now)) e.conn) }
+    ensures did { IfOk result (λ e. DoesOver (image_at T.Start)
+        (OrderEffect is_source_named source.now
+        (record { status = status; order = number; at = at.now }) e.outcome) e.conn) }
     ensures line { IfOk result (λ e. IfOk e.outcome (SaysOrder is_source_named source.now
         (record { status = status; order = number; at = at.now }))) }
 {
@@ -243,8 +237,8 @@ pub fn service_named<T: Start>(
 ) -> Result<Ended<FileStore<FileFrom<T>>>, CommandFault>
     requires source { (is_filled source.now ≡ true) × (length source.now ≤ 1024) }
     requires base { IfSome base (λ n. n ≤ max_sequence) }
-    ensures did { IfOk result (λ e. DoesOver (image_at T.Start) (λ old new. HasCleanDisk new
-        → IfOk e.outcome (TellsOrFounds source.now (unwrap_or base 0) old.now new.now)) e.conn) }
+    ensures did { IfOk result (λ e. DoesOver (image_at T.Start)
+        (ServiceEffect is_source_named source.now base e.outcome) e.conn) }
     ensures line { IfOk result (λ e. IfOk e.outcome
         (SaysService is_source_named source.now base)) }
 {
@@ -261,8 +255,8 @@ pub fn describe_named<T: Start>(
     name: &str,
     start: T,
 ) -> Result<Ended<FileStore<FileFrom<T>>>, Trouble>
-    ensures did { IfOk result (λ e. DoesOver (image_at T.Start) (λ old new. HasCleanDisk new
-        → IfOk e.outcome (Describes name.now old.now)) e.conn) }
+    ensures did { IfOk result (λ e. DoesOver (image_at T.Start)
+        (DescribeEffect name.now e.outcome) e.conn) }
     ensures line { IfOk result (λ e. IfOk e.outcome (SaysDatabase name.now)) }
 {
     match found(rt, name, start) {
@@ -281,8 +275,8 @@ pub fn relay_named<T: Start>(
     after: u64,
 ) -> Result<Ended<FileStore<FileFrom<T>>>, CommandFault>
     requires { (is_filled source.now ≡ true) × (length source.now ≤ 1024) }
-    ensures did { IfOk result (λ e. DoesOver (image_at T.Start) (λ old new. HasCleanDisk new
-        → IfOk e.outcome (ShowsRows source.now after old.now)) e.conn) }
+    ensures did { IfOk result (λ e. DoesOver (image_at T.Start)
+        (RelayEffect source.now after e.outcome) e.conn) }
     ensures line { IfOk result (λ e. IfOk e.outcome (SaysRows after)) }
 {
     match open_over(rt, name, 0, start) {
@@ -299,8 +293,8 @@ pub fn relay_all_named<T: Start>(
     start: T,
     after: u64,
 ) -> Result<Ended<FileStore<FileFrom<T>>>, CommandFault>
-    ensures did { IfOk result (λ e. DoesOver (image_at T.Start) (λ old new. HasCleanDisk new
-        → IfOk e.outcome (ShowsAllRows after old.now)) e.conn) }
+    ensures did { IfOk result (λ e. DoesOver (image_at T.Start)
+        (RelayAllEffect after e.outcome) e.conn) }
     ensures line { IfOk result (λ e. IfOk e.outcome (SaysAllRows after)) }
 {
     match open_there(rt, name, start) {

@@ -1,8 +1,7 @@
 //! Pages of the events that a database holds.
-ghost use Rattle.std.specs.Prelude.{◌≡◌, ℕ, List, [], false, IfOk, IsOk, IsTrue};
+ghost use Rattle.std.specs.Prelude.{◌≡◌, [], false, IfOk, IsOk, IsTrue};
 ghost use Rattle.sqlite.specs.Held.{state};
 ghost use Rattle.sqlite.specs.State.{HasCleanDisk};
-ghost use Rattle.attributes.specs.Event.{EventValue};
 ghost use Rattle.inbox.specs.KeyOrder.{key_cmp};
 ghost use Rattle.inbox.specs.Ordered.{append_new};
 ghost use Rattle.inbox.specs.Sets.{set_of};
@@ -10,7 +9,7 @@ ghost use Rattle.site.specs.Delta.{delta};
 ghost use Rattle.site.specs.Page.{page};
 ghost use Rattle.database_layout.specs.Layout.{has_inbox};
 ghost use Rattle.outbox.specs.Call.{Leaves};
-ghost use Rattle.database_commands.specs.Held.{HasDelta, HasEvents, Holds, KeepsEvents, KeepsRows, SaysDelta, SaysPage, SaysSummary, SaysSummaryOf, ShowsDelta, ShowsPage, ShowsSummary};
+ghost use Rattle.database_commands.specs.Held.{HasDelta, HasEvents, KeepsEvents, KeepsRows, SaysDelta, SaysPage, SaysSummary, SaysSummaryOf, ShowsDelta, ShowsEvents, ShowsLacking, ShowsPage, ShowsSet, ShowsSummary};
 ghost use Rattle.database_commands.specs.Print.{batch_line};
 
 use crate::Ended;
@@ -42,8 +41,8 @@ pub struct Paged<S: Alter + Drop> {
 
 /// What a database holds; the table is made where there is none.
 fn contents_of<S: Alter + Drop>(alloc: Global, conn: Connection<S>) -> Contents<S>
-    ensures events { HasCleanDisk (state S.Store result.conn) → IfOk result.events (λ events.
-        (held : List EventValue) → Holds (state S.Store conn).now held → events ≡ held) }
+    ensures events { HasCleanDisk (state S.Store result.conn) → IfOk result.events
+        (ShowsEvents (state S.Store conn).now) }
     ensures list { HasCleanDisk (state S.Store result.conn)
         → IsTrue (state S.Store result.conn).is_open
         → KeepsEvents (state S.Store conn).now (state S.Store result.conn).now }
@@ -73,8 +72,8 @@ fn contents_of<S: Alter + Drop>(alloc: Global, conn: Connection<S>) -> Contents<
 /// The events that a database holds. Nothing is written: where there is no inbox, there are none, and
 /// one of version 1 stays what it is. Time in proportion to all events.
 pub fn held<S: Alter + Drop>(alloc: Global, conn: Connection<S>) -> Contents<S>
-    ensures events { HasCleanDisk (state S.Store result.conn) → IfOk result.events (λ events.
-        (held : List EventValue) → Holds (state S.Store conn).now held → events ≡ held) }
+    ensures events { HasCleanDisk (state S.Store result.conn) → IfOk result.events
+        (ShowsEvents (state S.Store conn).now) }
     ensures left { Leaves (state S.Store conn) (state S.Store result.conn) }
     ensures without { has_inbox (state S.Store conn).now.schema ≡ false
         → ((state S.Store result.conn).now ≡ (state S.Store conn).now) × IfOk result.events (λ es. es ≡ [])
@@ -129,8 +128,7 @@ pub fn summary<S: Alter + Drop>(alloc: Global, conn: Connection<S>) -> Ended<S>
 /// where it is refused. Time in proportion to all events.
 pub fn scrub_pages<S: Alter + Drop>(alloc: Global, conn: Connection<S>) -> Paged<S>
     ensures pages { HasCleanDisk (state S.Store result.conn) → IfOk result.pages
-        (λ pages. (held : List EventValue) → Holds (state S.Store conn).now held
-        → pages ≡ set_of held) }
+        (ShowsSet (state S.Store conn).now) }
     ensures left { Leaves (state S.Store conn) (state S.Store result.conn) }
     ensures some { IfOk result.pages HasEvents }
     ensures without { has_inbox (state S.Store conn).now.schema ≡ false
@@ -157,8 +155,7 @@ pub fn delta_pages<S: Alter + Drop>(
     summary: Summary,
 ) -> Paged<S>
     ensures pages { HasCleanDisk (state S.Store result.conn) → IfOk result.pages
-        (λ pages. (held : List EventValue) → Holds (state S.Store conn).now held
-        → pages ≡ delta (set_of held) summary) }
+        (ShowsLacking summary (state S.Store conn).now) }
     ensures left { Leaves (state S.Store conn) (state S.Store result.conn) }
     ensures some { IfOk result.pages (HasDelta summary) }
     ensures without { has_inbox (state S.Store conn).now.schema ≡ false

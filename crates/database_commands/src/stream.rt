@@ -1,5 +1,5 @@
 //! Lines that come into a database, each acknowledged when it is kept.
-ghost use Rattle.std.specs.Prelude.{◌≡◌, ◌⊎◌, Err, IfErr, IfOk, MatchResult, Ok, OnOk};
+ghost use Rattle.std.specs.Prelude.{◌≡◌, ◌⊎◌, Err, IfErr, IfOk, IsTrue, MatchResult, Ok, OnOk};
 ghost use Rattle.std.specs.Io.Buffered.{reader_remaining};
 ghost use Rattle.std.specs.Io.KnownBytes.{Keeps};
 ghost use Rattle.sqlite.specs.Held.{state};
@@ -8,6 +8,7 @@ ghost use Rattle.inbox_table.specs.Calls.{IsSettled};
 ghost use Rattle.line_intake.specs.Acknowledged.{TellsAll};
 ghost use Rattle.line_intake.specs.Follow.{IsFollowed};
 ghost use Rattle.database_commands.specs.Fault.{of_follow};
+ghost use Rattle.database_commands.specs.Held.{KeepsRows};
 ghost use Rattle.database_commands.specs.Streams.{AcknowledgesUntil, HoldsTurns, StaysUnread, StopsInto};
 
 use crate::fault::{CommandFault, of_table};
@@ -87,8 +88,8 @@ pub(crate) fn begun<'a, R: Read>(
 
 /// Takes the lines of an input into a database to the input's end, and acknowledges each on `out` once
 /// its events are kept, as [`line_intake::follow`]. The table is made where there is none, before
-/// anything is read; where it isn't to be had, nothing is read or written. Memory for the lines of one
-/// transaction.
+/// anything is read; where it isn't to be had, nothing is read or written. A service beside the
+/// inbox stays as it is, also where the stream stops. Memory for the lines of one transaction.
 pub fn follow<S: Alter + Drop, R: Read, W: Write>(
     alloc: Global,
     conn: Connection<S>,
@@ -106,6 +107,9 @@ pub fn follow<S: Alter + Drop, R: Read, W: Write>(
         (state S.Store conn) (state S.Store result.conn) f ⊎ StopsInto
         (record { lines = 0; left = R.remaining input.old; out = W.contents out.old })
         (W.contents out.new) (state S.Store conn) (state S.Store result.conn) f) }
+    ensures beside { HasCleanDisk (state S.Store result.conn)
+        → IsTrue (state S.Store result.conn).is_open
+        → KeepsRows (state S.Store conn).now (state S.Store result.conn).now }
     ensures told { IfOk result.outcome
         (TellsAll (R.remaining input.old) (W.contents out.old) (W.contents out.new)) }
     ensures until { IfErr result.outcome (λ f. AcknowledgesUntil f

@@ -1,9 +1,20 @@
 use Rattle.std.proofs.lemmas.Result.{IfErr-weaker, IfOk-weaker}
-use Rattle.database_commands.proofs.StreamLemmas.{all_begun, tells_none, until_begun}
+use Rattle.database_commands.proofs.StreamLemmas.{all_begun, tells_none, unread_or_stops, until_begun}
 use Rattle.database_commands.proofs.named.follow_named.Goals as goal
 
 pub returns-in-Ok-open_over-clause-did : goal.returns-in-Ok-open_over-clause-did
-returns-in-Ok-open_over-clause-did g c = record { first = c.in-Ok-open_over.conn; over = c.in-Ok-open_over.ensures.over; did = (_, c.in-Ok.ensures, c.follow.ensures.followed) }
+returns-in-Ok-open_over-clause-did g c = let it = c.follow.ensures in record {
+  first = c.in-Ok-open_over.conn;
+  over = c.in-Ok-open_over.ensures.over;
+  did = record {
+    left = _;
+    begun = c.in-Ok.ensures;
+    followed = it.followed;
+    settled = it.settled;
+    stops = IfErr-weaker c.follow.result.outcome _ _ (λ f stops. unread_or_stops _ _ _ _ _ _ f stops) it.stops;
+    beside = it.beside;
+  };
+}
 
 pub returns-in-Ok-open_over-clause-told : goal.returns-in-Ok-open_over-clause-told
 returns-in-Ok-open_over-clause-told g c =

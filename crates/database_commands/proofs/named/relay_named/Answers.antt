@@ -1,4 +1,13 @@
 use Rattle.database_commands.proofs.named.relay_named.Goals as goal
 
 pub returns-in-Ok-clause-did : goal.returns-in-Ok-clause-did
-returns-in-Ok-clause-did g c = record { first = c.in-Ok.conn; over = c.in-Ok.ensures.over; did = c.relay.ensures.shown }
+returns-in-Ok-clause-did g c = let it = c.relay.ensures in record {
+  first = c.in-Ok.conn;
+  over = c.in-Ok.ensures.over;
+  did = record {
+    shown = it.shown;
+    kept = it.kept;
+    beside = it.beside;
+    fault = it.fault;
+  };
+}

@@ -1,4 +1,4 @@
-use Rattle.std.proofs.Common.{◌≡◌, ◌∙◌, ◌≤◌, ◌-◌, ℕ, List, Some, None, arith, refl, rules, subst, sym, string_bytes}
+use Rattle.std.proofs.Common.{◌≡◌, ◌∙◌, ◌≤◌, ◌-◌, ℕ, Some, None, arith, refl, rules, subst, sym, string_bytes}
 use Rattle.std.specs.Prelude.{Option}
 use Rattle.sqlite.specs.Held.{state}
 use Rattle.database_commands.proofs.RowLemmas.{IsSent, sent_last, sent_next, sent_none}

@@ -1,6 +1,7 @@
 use Rattle.std.proofs.Common.{ap, inl}
 use Rattle.sqlite.specs.Held.{state}
-use Rattle.database_commands.proofs.StreamLemmas.{stays_unread, stream_followed, stream_settled, stream_stops, stream_told, stream_until, tells_none}
+use Rattle.database_commands.proofs.BesideLemmas.{service_same}
+use Rattle.database_commands.proofs.StreamLemmas.{stays_unread, stream_beside, stream_followed, stream_settled, stream_stops, stream_told, stream_until, tells_none}
 use Rattle.database_commands.proofs.stream.follow.Goals as goal
 
 pub returns-in-Ok-clause-followed : goal.returns-in-Ok-clause-followed
@@ -29,3 +30,11 @@ returns-in-Err-clause-stops g c = inl (stays_unread _ _ _ _ c.in-Err.refused.fau
 
 pub returns-in-Err-clause-until : goal.returns-in-Err-clause-until
 returns-in-Err-clause-until g c = tells_none _ _
+
+pub returns-in-Ok-clause-beside : goal.returns-in-Ok-clause-beside
+returns-in-Ok-clause-beside g c =
+    stream_beside (state g.S.Store c.args.conn).now (state g.S.Store c.in-Ok.table.conn) (state g.S.Store c.follow-ended.new.table.conn) _
+    (ap (state g.S.Store) c.into_connection-conn.ensures) c.in-Ok.ensures.beside c.follow-ended.ensures.clean c.follow-ended.ensures.beside
+
+pub returns-in-Err-clause-beside : goal.returns-in-Err-clause-beside
+returns-in-Err-clause-beside g c clean still = service_same _ _ (c.in-Err.ensures.back clean still)
