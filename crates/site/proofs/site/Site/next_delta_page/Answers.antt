@@ -25,4 +25,4 @@ invariant_of-self c =
     let moved = mark_moves A part.part.events peer mark.own mark.among c.args.from mark.place part.part.next c.args.limit c.len.result kept c.len.ensures part.ensures.events part.ensures.rest part.ensures.within in
     let own = subst (λ p. IsMark A p mark.own mark.among (c.args.from + c.len.result) part.part.next) (sym c.in-Some.ensures.peer) moved in
     let was = c.self.invariant in
-    (was.0, was.1, was.2, was.3, was.4, subst (λ B. IsMark B mark.peer mark.own mark.among (c.args.from + c.len.result) part.part.next) (sym c.self.view_is) own)
+    (was.0, was.1, was.2, was.3, was.4, was.5, subst (λ B. IsMark B mark.peer mark.own mark.among (c.args.from + c.len.result) part.part.next) (sym c.self.view_is) own)
