@@ -160,6 +160,19 @@ impl Kept {
                 || has_lines(alloc, answer(alloc, &self.inbox, query), wanted))
     }
 
+    /// Whether after each of these rows the days are the lines beside it.
+    fn follows(&mut self, alloc: Global, steps: &[(Row<'_>, &str)]) -> bool {
+        for step in steps {
+            if !self.take(alloc, step.0) {
+                return false;
+            }
+            if !self.answers(alloc, Query::Days, step.1) {
+                return false;
+            }
+        }
+        true
+    }
+
     /// Whether after these rows the types are these lines, and the latest are those of these texts.
     fn shows(&self, alloc: Global, kinds: &str, latest: &str) -> bool {
         self.answers(alloc, Query::Kinds, kinds) && self.answers(alloc, Query::Latest, latest)
@@ -286,28 +299,28 @@ const DAYS_LESS: &str =
 const DAYS_MORE: &str =
     "[\"t.a\",\"2024-03-01\",1]\n[\"t.b\",\"2024-02-28\",1]\n[\"t.b\",\"2024-03-01\",2]\n";
 
-/// Events come on days, hide others of another day, without a time or of the same day, and are hidden
-/// as they come.
-fn date(rt: &impl Abort, alloc: Global, kept: &mut Kept) {
-    assert!(rt; kept.take_all(alloc, &DATED));
-    assert!(rt; kept.answers(alloc, Query::Days, DAYS));
-    assert!(rt; kept.take(alloc, ("b4", 4, "t.b", "v", "2024-03-01T00:00:00Z")));
-    assert!(rt; kept.answers(alloc, Query::Days, DAYS_APART));
-    assert!(rt; kept.take(alloc, ("b1", 1, "t.b", "a", "")));
-    assert!(rt; kept.answers(alloc, Query::Days, DAYS_LESS));
-    assert!(rt; kept.take(alloc, ("b2", 2, "t.a", "z", "2024-02-29T00:00:00Z")));
-    assert!(rt; kept.take_all(alloc, &DATED));
-    assert!(rt; kept.answers(alloc, Query::Days, DAYS_LESS));
-    assert!(rt; kept.take(alloc, ("b5", 5, "t.b", "", "2024-03-01T01:00:00Z")));
-    assert!(rt; kept.answers(alloc, Query::Days, DAYS_MORE));
-    assert!(rt; kept.take(alloc, ("b5", 5, "t.b", "", "2024-03-01T00:59:00Z")));
-    assert!(rt; kept.answers(alloc, Query::Days, DAYS_MORE));
+/// Events, and the days after each: one of another day, one without a time, one that is hidden as it
+/// comes, one that is there, and two more of one day, of which the second hides the first.
+const HIDING: [(Row<'static>, &str); 6] = [
+    (("b4", 4, "t.b", "v", "2024-03-01T00:00:00Z"), DAYS_APART),
+    (("b1", 1, "t.b", "a", ""), DAYS_LESS),
+    (("b2", 2, "t.a", "z", "2024-02-29T00:00:00Z"), DAYS_LESS),
+    (("b1", 1, "t.b", "x", "2024-02-29T10:00:00Z"), DAYS_LESS),
+    (("b5", 5, "t.b", "", "2024-03-01T01:00:00Z"), DAYS_MORE),
+    (("b5", 5, "t.b", "", "2024-03-01T00:59:00Z"), DAYS_MORE),
+];
+
+/// Whether the days are right after events with times, and after each that hides one of them.
+fn dates(alloc: Global, kept: &mut Kept) -> bool {
+    kept.take_all(alloc, &DATED)
+        && kept.answers(alloc, Query::Days, DAYS)
+        && kept.follows(alloc, &HIDING)
 }
 
 #[test]
 fn days_are_of_what_is_shown(rt: HostRuntime) {
     let mut kept = known(rt.alloc());
-    date(&rt, rt.alloc(), &mut kept);
+    assert!(rt; dates(rt.alloc(), &mut kept));
 }
 
 #[test]
@@ -315,7 +328,7 @@ fn no_seed_changes_days(rt: HostRuntime) {
     let made = seeded(&rt);
     assert!(rt; made.is_some());
     if let Some(mut kept) = made {
-        date(&rt, rt.alloc(), &mut kept);
+        assert!(rt; dates(rt.alloc(), &mut kept));
     }
 }
 
