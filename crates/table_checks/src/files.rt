@@ -2,7 +2,7 @@
 
 use crate::disks::{Act, Tried, empty, ran};
 use crate::fixture::{E1, E2, E3};
-use crate::keepers::{before_a_step, turn_by_turn};
+use crate::keepers::{after_a_step, before_a_step, turn_by_turn};
 use crate::orders::{has_rows, placed};
 use crate::tables::{filled, is_loaded};
 use sqlite::{Alter, Connection};
@@ -16,6 +16,8 @@ pub(crate) enum Work {
     Fill,
     /// The site of a new table's keeper takes an event, and no step follows.
     NoStep,
+    /// The site of a new table's keeper takes an event, and the keeper makes one step.
+    Step,
     /// The flusher of a new table's keeper keeps two events.
     Turns,
     /// A new service places an order.
@@ -31,6 +33,7 @@ pub(crate) fn worked<R: AllocGlobal + Wait + Abort, S: Alter + Drop>(
     match work {
         Work::Fill => filled(rt, conn),
         Work::NoStep => before_a_step(rt, conn),
+        Work::Step => after_a_step(rt, conn),
         Work::Turns => turn_by_turn(rt, conn),
         Work::Place => placed(rt, conn),
     }
@@ -45,6 +48,7 @@ pub(crate) fn found<R: AllocGlobal + Wait + Abort, S: Alter + Drop>(
     match work {
         Work::Fill => is_loaded(rt, conn, &[E1, E2, E3]),
         Work::NoStep => is_loaded(rt, conn, &[]),
+        Work::Step => is_loaded(rt, conn, &[E1]),
         Work::Turns => is_loaded(rt, conn, &[E1, E2]),
         Work::Place => has_rows(rt, conn, 1),
     }
@@ -64,6 +68,11 @@ fn closed_files_hold_the_table(rt: HostRuntime) {
 #[test]
 fn nothing_is_kept_before_a_step(rt: HostRuntime) {
     assert!(rt; leaves(&rt, Work::NoStep));
+}
+
+#[test]
+fn a_step_keeps_one_event(rt: HostRuntime) {
+    assert!(rt; leaves(&rt, Work::Step));
 }
 
 #[test]

@@ -55,6 +55,19 @@ pub(crate) fn take<R: AllocGlobal + Wait + Abort>(
     }
 }
 
+/// A pass that is split off this one, and has seen as much.
+fn split_off<R: Abort>(rt: &R, shared: &SharedSite, pass: &mut Pass) -> Pass
+    requires { pass.old.table ≡ shared.now }
+    ensures own { result.table ≡ shared.now }
+    ensures seen { leaves result ≡ leaves pass.old }
+    ensures still { pass.new.table ≡ shared.now }
+{
+    match shared.split(pass) {
+        Ok(own) => own,
+        Err(_) => panic!(rt; "not split"),
+    }
+}
+
 /// A flusher with a pass that is split off this one.
 fn flusher<'a, R: Wait + Abort, S: Alter + Drop>(
     rt: &'a R,
@@ -66,10 +79,22 @@ fn flusher<'a, R: Wait + Abort, S: Alter + Drop>(
     requires first { KeepsUp (state S.Store keeper.conn) keeper.rows (leaves pass.old) }
     ensures { pass.new.table ≡ shared.now }
 {
-    match shared.split(pass) {
-        Ok(own) => Flusher::of(rt, shared, keeper, own),
-        Err(_) => panic!(rt; "not split"),
-    }
+    let own = split_off(rt, shared, pass);
+    Flusher::of(rt, shared, keeper, own)
+}
+
+/// Whether a step keeps the one event that came: the first arrival is acknowledged then, and no
+/// second one.
+fn keeps_one<R: Wait, S: Alter + Drop>(
+    rt: &R,
+    shared: &SharedSite,
+    keeper: &mut Keeper<S>,
+    pass: &mut Pass,
+) -> bool
+    requires own { pass.old.table ≡ shared.now }
+    requires first { KeepsUp (state S.Store keeper.old.conn) keeper.old.rows (leaves pass.old) }
+{
+    keeper.step(rt, shared, pass) == Ok(1) && keeper.acknowledged(1) && !keeper.acknowledged(2)
 }
 
 /// A database whose new table has a keeper, whose site took an event, before any step.
@@ -80,6 +105,19 @@ pub(crate) fn before_a_step<R: AllocGlobal + Wait + Abort, S: Alter + Drop>(
     let (keeper, begun) = begun(rt, created(rt, conn));
     let Begun { shared, mut pass } = begun;
     assert!(rt; take(rt, &shared, &mut pass, E1) == 1 && !keeper.acknowledged(1));
+    keeper.into_table().into_connection()
+}
+
+/// A database whose new table has a keeper, which kept the event that its site took in a step.
+pub(crate) fn after_a_step<R: AllocGlobal + Wait + Abort, S: Alter + Drop>(
+    rt: &R,
+    conn: Connection<S>,
+) -> Connection<S> {
+    let (mut keeper, begun) = begun(rt, created(rt, conn));
+    let Begun { shared, mut pass } = begun;
+    let mut own = split_off(rt, &shared, &mut pass);
+    assert!(rt; take(rt, &shared, &mut pass, E1) == 1 && !keeper.acknowledged(1));
+    assert!(rt; keeps_one(rt, &shared, &mut keeper, &mut own));
     keeper.into_table().into_connection()
 }
 
