@@ -1,5 +1,5 @@
 -- Places of key order among which what a peer lacks is found.
-use Rattle.std.proofs.Common.{◌≡◌, ◌<◌, ◌≤◌, ◌+◌, ◌-◌, ◌==◌, ◌&&◌, ◌||◌, ◌⊎◌, ℕ, zero, suc, List, [], ◌∷◌, ◌++◌, Bool, true, false, Option, Some, None, length, take, drop, map, slice_get, if◌then◌else◌, bytes_eq, refl, sym, ap, ap₂, ◌∙◌, subst, arith, inl, inr, length-append}
+use Rattle.std.proofs.Common.{◌≡◌, ◌<◌, ◌≤◌, ◌+◌, ◌-◌, ◌==◌, ◌||◌, ℕ, zero, suc, List, [], ◌∷◌, ◌++◌, Bool, true, false, Option, Some, None, length, take, drop, map, slice_get, if◌then◌else◌, bytes_eq, refl, sym, ap, ◌∙◌, subst, arith, inl, inr, length-append}
 use Rattle.std.specs.Prelude.{Contains, ◌≢◌}
 use Rattle.std.specs.BTreeSet.{BTreeSet, contains}
 use Rattle.std.specs.List.{AllByRecursion}
@@ -16,14 +16,13 @@ use mathlib.Core.Bool.{true≢false}
 use Rattle.attributes.specs.Event.{EventValue, source_of}
 use Rattle.attributes.specs.Sequence.{number_of}
 use Rattle.block_digests.specs.Block.{block_of, is_in_block}
-use Rattle.block_digests.specs.Kept.{IsKeptOf, Kept, KeptBlock, block_at, places_at, places_from, places_of, position_of}
+use Rattle.block_digests.specs.Kept.{IsKeptOf, Kept, KeptBlock, places_at, places_from, places_of, position_of}
 use Rattle.block_digests.specs.Number.{has_number, is_number, is_numbered}
 use Rattle.block_digests.proofs.ListLemmas.{and_both, and_left, and_right, item_is, passes}
 use Rattle.coverage.specs.Digests.{is_wanted}
 use Rattle.coverage.specs.Summary.{Sources, holds_at}
 use Rattle.inbox.specs.KeyOrder.{key_cmp}
 use Rattle.inbox.specs.Laws.{SetLaws}
-use Rattle.inbox.specs.Ordered.{has}
 use Rattle.inbox.specs.Sets.{AreEvents, set_of}
 use Rattle.site.specs.Delta.{AreAll, Tells, is_lacking, is_wanting, lacking_of}
 use Rattle.site.specs.steps.Among.{HasPlace, WantsNone}

@@ -33,10 +33,11 @@ pub struct Site {
     summary: Summary,
     // The blocks of what came, with the digests that were made.
     blocks: Blocks,
-    // The views of what came, where they are kept.
-    views: Option<Views>,
+    // The views of what came, where they are kept. In a box, as the mark is, since whoever owns a
+    // site proves how each of its parts is let go at each of its exits.
+    views: Option<Box<Views>>,
     // Where the pages of the peer that asked last go on, where nothing came since.
-    mark: Option<Mark>,
+    mark: Option<Box<Mark>>,
     alloc: Global,
 }
 
@@ -61,8 +62,9 @@ impl Model for Site {
     ghost invariant = { λ s. HasNumbers s.inbox.arrivals s.summary
         × AreNumbered s.inbox.arrivals × AreDistinct s.inbox.arrivals
         × (version_of s.summary ≡ 1) × IsKeptOf s.inbox.arrivals s.blocks
-        × IfSome s.views (StandsFor s.inbox.arrivals)
-        × IfSome s.mark (λ m. IsMark s.inbox.arrivals m.peer m.own m.among m.from m.place) };
+        × IfSome s.views (λ v. StandsFor s.inbox.arrivals v.value)
+        × IfSome s.mark (λ m. IsMark s.inbox.arrivals m.value.peer m.value.own m.value.among
+        m.value.from m.value.place) };
 }
 
 impl Site {

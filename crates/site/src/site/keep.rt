@@ -1,9 +1,8 @@
 //! Views that are kept as events come.
 
-ghost use Rattle.std.specs.Prelude.{◌≡◌, ◌≢◌, ◌∷◌, [], false, IfSome, OnErr};
+ghost use Rattle.std.specs.Prelude.{◌≡◌, ◌∷◌, [], IfSome};
 ghost use Rattle.inbox.specs.KeyOrder.{key_cmp};
 ghost use Rattle.inbox.specs.Ordered.{append_new};
-ghost use Rattle.inbox.specs.Sets.{set_of};
 ghost use Rattle.kept_views.specs.Tables.{StandsFor};
 
 use super::Site;
@@ -15,10 +14,10 @@ use std::hash::RandomState;
 
 /// An event comes to the views, where they are kept, before the inbox takes it. Where memory is
 /// refused to them they are let go: no event is refused for their sake.
-pub(super) fn bring(views: &mut Option<Views>, inbox: &Inbox, event: &Sequenced)
-    requires { IfSome views.old (StandsFor inbox.now.arrivals) }
+pub(super) fn bring(views: &mut Option<Box<Views>>, inbox: &Inbox, event: &Sequenced)
+    requires { IfSome views.old (λ v. StandsFor inbox.now.arrivals v.value) }
     ensures { IfSome views.new
-        (StandsFor (append_new key_cmp inbox.now.arrivals (event.now ∷ []))) }
+        (λ v. StandsFor (append_new key_cmp inbox.now.arrivals (event.now ∷ [])) v.value) }
 {
     let is_refused = match views {
         Some(kept) => kept.put(inbox, event).is_err(),
@@ -34,16 +33,15 @@ impl Site {
     /// latest events then costs what its answer costs, and each event that comes a little more. The
     /// answers are the same, and so is all else that the site says. Keys are hashed by the random
     /// state, which nobody else knows. Views that are kept already are made anew. Time and memory in
-    /// proportion to the events; without events no memory. After want of memory nothing has changed.
+    /// proportion to the events. After want of memory nothing has changed.
     ///
     /// Where memory for the views of an event is refused later, the site takes the event and lets
     /// the views go: it answers as one that keeps none, until it is asked to keep them again.
     pub fn keep_views(&mut self, state: RandomState) -> Result<(), AllocError>
-        ensures same { self.new ≡ self.old }
-        ensures err { OnErr result (set_of self.old ≢ []) }
+        ensures { self.new ≡ self.old }
     {
         let views = Views::of(self.alloc, state, &self.inbox)?;
-        self.views = Some(views);
+        self.views = Some(Box::new(self.alloc, views)?);
         Ok(())
     }
 

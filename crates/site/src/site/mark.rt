@@ -10,7 +10,7 @@ ghost use Rattle.site.specs.steps.Mark.{IsMark};
 use super::Site;
 use attributes::Batch;
 use coverage::Summary;
-use std::alloc::AllocError;
+use std::alloc::{AllocError, Global};
 use std::collections::BTreeSet;
 
 /// Where the pages of a peer go on: behind so many events that it lacks, which are those up to a
@@ -23,6 +23,13 @@ pub(super) struct Mark {
     pub(super) among: Option<BTreeSet<u64>>,
     pub(super) from: u64,
     pub(super) place: u64,
+}
+
+/// A mark in a box; none where memory is refused.
+fn boxed(alloc: Global, mark: Mark) -> Option<Box<Mark>>
+    ensures { IfSome result (λ m. m.value ≡ mark) }
+{
+    Box::new(alloc, mark).ok()
 }
 
 impl Site {
@@ -57,6 +64,7 @@ impl Site {
         ensures mark { IfSome result (λ m. IsMark self.new m.peer m.own m.among m.from m.place) }
     {
         if let Some(mark) = self.mark.take() {
+            let mark = Box::into_inner(mark);
             if mark.from == from && mark.peer.same(peer) {
                 return Some(mark);
             }
@@ -93,13 +101,14 @@ impl Site {
         // The count bounds the sum below.
         let _len = self.len();
         let part = self.delta_part(peer, &mark.own, &mark.among, mark.place, limit)?;
-        self.mark = Some(Mark {
+        let next = Mark {
             peer: mark.peer,
             own: mark.own,
             among: mark.among,
             from: from + part.events.len(),
             place: part.next,
-        });
+        };
+        self.mark = boxed(self.alloc, next);
         Ok(part.events)
     }
 }

@@ -26,14 +26,14 @@ pub(super) fn grow(
     inbox: &mut Inbox,
     summary: &mut Summary,
     blocks: &mut Blocks,
-    views: &mut Option<Views>,
+    views: &mut Option<Box<Views>>,
     event: &Sequenced,
 ) -> Result<(), AllocError>
     requires numbers { HasNumbers inbox.old.arrivals summary.old }
     requires numbered { AreNumbered inbox.old.arrivals }
     requires distinct { AreDistinct inbox.old.arrivals }
     requires kept { IsKeptOf inbox.old.arrivals blocks.old }
-    requires views { IfSome views.old (StandsFor inbox.old.arrivals) }
+    requires views { IfSome views.old (λ v. StandsFor inbox.old.arrivals v.value) }
     requires new { has key_cmp inbox.old.arrivals event.now ≡ false }
     ensures same { inbox.new.arrivals ≡ inbox.old.arrivals }
     ensures room { OnOk result (0 < inbox.new.spare) }
@@ -47,7 +47,7 @@ pub(super) fn grow(
     ensures kept { OnOk result (IsKeptOf
         (append_new key_cmp inbox.old.arrivals (event.now ∷ [])) blocks.new) }
     ensures views { OnOk result (IfSome views.new
-        (StandsFor (append_new key_cmp inbox.old.arrivals (event.now ∷ [])))) }
+        (λ v. StandsFor (append_new key_cmp inbox.old.arrivals (event.now ∷ [])) v.value)) }
     ensures err { OnErr result (summary.new ≡ summary.old) }
     ensures still_kept { OnErr result (IsKeptOf inbox.old.arrivals blocks.new) }
     ensures same_views { OnErr result (views.new ≡ views.old) }

@@ -1,4 +1,4 @@
-use Rattle.std.proofs.Common.{ap, sym, subst, take}
+use Rattle.std.proofs.Common.{subst, take}
 use Rattle.std.specs.Prelude.{Contains}
 use Rattle.inbox.specs.Sets.{set_of}
 use Rattle.site.proofs.SkipLemmas.{still_behind}

@@ -1,4 +1,4 @@
-use Rattle.std.proofs.Common.{◌≡◌, ◌+◌, ◌++◌, ◌≤◌, ◌<◌, [], length, take, drop, sym, ap, ◌∙◌, arith}
+use Rattle.std.proofs.Common.{◌++◌, drop, sym, ap, ◌∙◌, arith}
 use Rattle.std.proofs.lemmas.Result.{err_from_is_err_and}
 use Rattle.inbox.specs.Sets.{set_of}
 use Rattle.site.specs.Delta.{lacking_of}
