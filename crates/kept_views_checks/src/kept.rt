@@ -132,13 +132,9 @@ impl Kept {
         true
     }
 
-    /// Puts views that are made of the inbox in the place of those that were fed, hashed by a seed of
-    /// their own.
-    fn remake(&mut self, rt: &HostRuntime) -> bool {
-        let Ok(state) = RandomState::new(rt) else {
-            return false;
-        };
-        match views_of(rt.alloc(), state, &self.inbox) {
+    /// Puts views that are made of the inbox in the place of those that were fed.
+    fn remake(&mut self, alloc: Global, state: RandomState) -> bool {
+        match views_of(alloc, state, &self.inbox) {
             Some(views) => {
                 self.views = views;
                 true
@@ -311,25 +307,25 @@ const HIDING: [(Row<'static>, &str); 6] = [
 ];
 
 /// Whether the days are right after events with times, and after each that hides one of them.
-fn dates(alloc: Global, kept: &mut Kept) -> bool {
-    kept.take_all(alloc, &DATED)
-        && kept.answers(alloc, Query::Days, DAYS)
-        && kept.follows(alloc, &HIDING)
+fn dates(alloc: Global, made: Option<Kept>) -> bool {
+    match made {
+        Some(mut kept) => {
+            kept.take_all(alloc, &DATED)
+                && kept.answers(alloc, Query::Days, DAYS)
+                && kept.follows(alloc, &HIDING)
+        }
+        None => false,
+    }
 }
 
 #[test]
 fn days_are_of_what_is_shown(rt: HostRuntime) {
-    let mut kept = known(rt.alloc());
-    assert!(rt; dates(rt.alloc(), &mut kept));
+    assert!(rt; dates(rt.alloc(), Some(known(rt.alloc()))));
 }
 
 #[test]
 fn no_seed_changes_days(rt: HostRuntime) {
-    let made = seeded(&rt);
-    assert!(rt; made.is_some());
-    if let Some(mut kept) = made {
-        assert!(rt; dates(rt.alloc(), &mut kept));
-    }
+    assert!(rt; dates(rt.alloc(), seeded(&rt)));
 }
 
 /// An event that hides another as it comes, one that hides another day, and one without either.
@@ -348,17 +344,31 @@ fn tells_what_came(alloc: Global, kept: &Kept) -> bool {
         && kept.answers(alloc, Query::Days, "[\"t.b\",\"2024-02-28\",2]\n")
 }
 
-/// Views that are made of an inbox without events, and of one whose shown events came at other places
-/// than those of key order, answer as those that were fed, and are fed on.
+/// Whether views that are made of an inbox without events, and of one whose shown events came at
+/// other places than those of key order, answer as those that were fed, and are fed on.
+fn begins_anew(alloc: Global, state: RandomState, kept: &mut Kept) -> bool {
+    kept.remake(alloc, state)
+        && kept.shows(alloc, "", "")
+        && kept.take_all(alloc, &CAME)
+        && tells_what_came(alloc, kept)
+        && kept.remake(alloc, state)
+        && tells_what_came(alloc, kept)
+        && kept.take_all(alloc, &[F2, H])
+        && kept.shows(alloc, "[\"t.b\",2]\n[\"t.c\",2]\n", LINE_G)
+}
+
+/// The same from no events on, with a seed that is there.
+fn begins(alloc: Global, state: Option<RandomState>) -> bool {
+    match state {
+        Some(state) => {
+            let mut kept = known(alloc);
+            begins_anew(alloc, state, &mut kept)
+        }
+        None => false,
+    }
+}
+
 #[test]
 fn views_of_what_came_are_as_those_that_were_fed(rt: HostRuntime) {
-    let mut kept = known(rt.alloc());
-    assert!(rt; kept.remake(&rt));
-    assert!(rt; kept.shows(rt.alloc(), "", ""));
-    assert!(rt; kept.take_all(rt.alloc(), &CAME));
-    assert!(rt; tells_what_came(rt.alloc(), &kept));
-    assert!(rt; kept.remake(&rt));
-    assert!(rt; tells_what_came(rt.alloc(), &kept));
-    assert!(rt; kept.take_all(rt.alloc(), &[F2, H]));
-    assert!(rt; kept.shows(rt.alloc(), "[\"t.b\",2]\n[\"t.c\",2]\n", LINE_G));
+    assert!(rt; begins(rt.alloc(), RandomState::new(&rt).ok()));
 }
