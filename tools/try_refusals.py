@@ -126,8 +126,10 @@ TESTS = {
     ],
     "site_checks": [
         "refused::a_batch_is_taken_or_its_front",
+        "refused::a_keeping_site_takes_a_batch_or_its_front",
         "refused::a_peer_is_told_what_it_lacks_or_memory_is_wanted",
         "refused::a_site_is_merged_or_its_front",
+        "refused::a_site_keeps_views_or_is_as_it_was",
         "stops::a_run_has_its_sites",
         "stops::a_flushed_site_stands_where_it_stopped",
         "stops::a_schedule_stands_where_it_stopped",
