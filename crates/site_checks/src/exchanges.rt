@@ -70,7 +70,7 @@ fn gossip_finds_two_events_of_one_number(rt: HostRuntime) {
 }
 
 /// Scrubs two sites that have two events of one number.
-fn scrub_one_number(rt: &impl Abort, alloc: Global, p: &mut Site, q: &mut Site) {
+pub(crate) fn scrub_one_number(rt: &impl Abort, alloc: Global, p: &mut Site, q: &mut Site) {
     assert!(rt; take(alloc, p, &[P]).is_some());
     assert!(rt; take(alloc, q, &[Q]).is_some());
     assert!(rt; scrub(p, q) == Ok(counts(1, 0)));

@@ -2,6 +2,7 @@
 //! none, whatever seed their tables have.
 
 use crate::event::{A1, A2, A3, P, Q, Row, take, take_timed};
+use crate::exchanges::scrub_one_number;
 use crate::sites::answers;
 use site::Site;
 use std::alloc::Global;
@@ -146,4 +147,34 @@ fn a_keeping_site_tells_numbers_that_two_have_and_days(rt: HostRuntime) {
     assert!(rt; keep(&rt, &mut site));
     assert!(rt; tells_of_one_number(rt.alloc(), &mut site));
     assert!(rt; tells_days(rt.alloc(), &mut site));
+}
+
+#[test]
+fn keeping_sites_find_two_events_of_one_number(rt: HostRuntime) {
+    let mut p = Site::empty(rt.alloc());
+    let mut q = Site::empty(rt.alloc());
+    assert!(rt; keep(&rt, &mut p) && keep(&rt, &mut q));
+    scrub_one_number(&rt, rt.alloc(), &mut p, &mut q);
+}
+
+/// Whether a site covers these numbers, and lacks those.
+fn covers(alloc: Global, site: &Site, cover: &str, gaps: &str) -> bool {
+    answers(alloc, site, Query::Cover, cover) && answers(alloc, site, Query::Gaps, gaps)
+}
+
+/// Whether a site that takes the numbers 1, 2 and 5, and then 4 and 3, tells what is missing.
+fn closes_gaps(alloc: Global, site: &mut Site) -> bool {
+    let before = "{\"sources\":{\"/orders\":[[1,2],[5,5]]},\"version\":1}\n";
+    let after = "{\"sources\":{\"/orders\":[[1,5]]},\"version\":1}\n";
+    take(alloc, site, &[A1, A2, ("a5", 5, "t.a", "")]).is_some()
+        && covers(alloc, site, before, "[\"/orders\",[[3,4]]]\n")
+        && take(alloc, site, &[("a4", 4, "t.a", ""), A3]).is_some()
+        && covers(alloc, site, after, "")
+}
+
+#[test]
+fn a_keeping_site_tells_what_is_missing(rt: HostRuntime) {
+    let mut site = Site::empty(rt.alloc());
+    assert!(rt; keep(&rt, &mut site));
+    assert!(rt; closes_gaps(rt.alloc(), &mut site));
 }
