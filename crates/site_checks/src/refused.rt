@@ -84,13 +84,18 @@ fn tells_kinds(alloc: Global, site: &Site) -> bool {
     answers(alloc, site, Query::Kinds, wanted) || answers(alloc, site, Query::Kinds, wanted)
 }
 
+/// Asks a site to keep views. What is refused is asked once more.
+fn is_kept(rt: &HostRuntime, site: &mut Site) -> bool {
+    keep(rt, site) || keep(rt, site)
+}
+
 /// Whether a site that keeps views takes the same batch or its front and later the rest, and tells
 /// how many events have each type; true where there is no memory for the batch.
 fn takes_and_keeps(rt: &HostRuntime, alloc: Global) -> bool {
     let mut batch = Batch::empty(alloc);
     let mut site = Site::empty(alloc);
     !fill(alloc, &mut batch, &[A2, A1, A2, A3])
-        || keep(rt, &mut site) && takes(&mut site, &mut batch) && tells_kinds(alloc, &site)
+        || is_kept(rt, &mut site) && takes(&mut site, &mut batch) && tells_kinds(alloc, &site)
 }
 
 /// Whether a site that holds three events keeps views once it is asked to, or isn't changed and
