@@ -45,7 +45,7 @@ has_shape t = nat_le 20 (length t) && (has_date t && has_clock t)
 abbrev pub is_day : ℕ → ℕ → ℕ → Bool
 is_day y m d = nat_le 1 m && (nat_le m 12 && (nat_le 1 d && nat_le d (days_in_month (pos y) m)))
 
--- hours to 23, minutes to 59, seconds to 60
+-- hour, minute and second of a time are in range: to 23, to 59, and to 60 for a leap second
 abbrev pub is_clock : List ℕ → Bool
 is_clock t = nat_le (two_at t 11) 23 && (nat_le (two_at t 14) 59 && nat_le (two_at t 17) 60)
 

@@ -106,7 +106,7 @@ fn date_day(year: u32, month: u32, day: u32) -> Option<i32>
     }
 }
 
-/// Whether the clock is in range.
+/// Whether hour, minute and second of a time are in range.
 fn is_clock(bytes: &[u8]) -> bool
     requires { IsShaped bytes.now }
     ensures { result ≡ is_clock bytes.now }

@@ -49,7 +49,7 @@ places_from i (e ∷ A) source k =
     if is_in_block source k e then i ∷ places_from (i + 1) A source k
     else places_from (i + 1) A source k
 
--- the places of a block's events in a list, ascending, from 0 on
+-- where in a list the events of a block stand: ascending, the first place is 0
 abbrev pub places_of : List EventValue → List ℕ → ℕ → List ℕ
 places_of A source k = places_from 0 A source k
 

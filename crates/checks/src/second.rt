@@ -25,7 +25,7 @@ fn with_digits(alloc: Global, text: &str, digits: &str) -> Option<String> {
 }
 
 /// The text of version 2 with these blocks and sources.
-fn text_of(alloc: Global, row: (&str, &str), digits: &str) -> Option<String> {
+fn summary_text(alloc: Global, row: (&str, &str), digits: &str) -> Option<String> {
     let (blocks, sources) = row;
     match format!(in alloc; "{{\"blocks\":{blocks},\"sources\":{sources},\"version\":2}}") {
         Ok(text) => with_digits(alloc, text.as_str(), digits),
@@ -43,7 +43,7 @@ fn is_written_as(summary: &Summary, text: &str) -> bool {
 
 /// Whether a row's text is that of the summary that is read from it.
 fn is_read_back(alloc: Global, row: (&str, &str)) -> bool {
-    let Some(text) = text_of(alloc, row, DIGEST) else {
+    let Some(text) = summary_text(alloc, row, DIGEST) else {
         return false;
     };
     match Summary::of_text(alloc, text.as_str().as_bytes()) {
@@ -62,7 +62,7 @@ fn is_refused(alloc: Global, text: &str, wanted: SummaryFault) -> bool {
 
 /// Whether a row's text with the digits is no summary's.
 fn is_not_canonical(alloc: Global, row: (&str, &str), digits: &str) -> bool {
-    match text_of(alloc, row, digits) {
+    match summary_text(alloc, row, digits) {
         Some(text) => is_refused(alloc, text.as_str(), SummaryFault::NotCanonical),
         None => false,
     }
@@ -70,7 +70,7 @@ fn is_not_canonical(alloc: Global, row: (&str, &str), digits: &str) -> bool {
 
 /// Whether the summary of a row's text has a digest of the block of `/orders`.
 fn has_digest(alloc: Global, row: (&str, &str), k: u64) -> Option<bool> {
-    let text = text_of(alloc, row, DIGEST)?;
+    let text = summary_text(alloc, row, DIGEST)?;
     match Summary::of_text(alloc, text.as_str().as_bytes()) {
         Ok(summary) => Some(summary.digest_of("/orders", k).is_some()),
         Err(_) => None,

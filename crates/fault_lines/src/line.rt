@@ -123,7 +123,7 @@ fn attribute_members(alloc: Global, fault: Fault, tree: &Value) -> Result<String
     }
 }
 
-/// The member `value`, where there is a value that is plain and short.
+/// The member `value`, where there is a value, and it is plain and short; else nothing.
 fn value_member(alloc: Global, value: Option<&Value>) -> Result<String, AllocError>
     ensures { IfOk result (λ text. string_bytes text
         ≡ value_member (option_map (λ v. view v.now) value.entry)) }
@@ -134,7 +134,7 @@ fn value_member(alloc: Global, value: Option<&Value>) -> Result<String, AllocErr
     }
 }
 
-/// The member `value`, where the value is plain and short.
+/// The member `value` of a value that is there, where it is plain and short; else nothing.
 fn plain_member(alloc: Global, value: &Value) -> Result<String, AllocError>
     ensures { IfOk result (λ text. string_bytes text ≡ value_member (Some (view value.now))) }
 {

@@ -6,7 +6,7 @@ use Rattle.file_reports.specs.declared.refusal.ReportFault.{ReportFault}
 use Rattle.line_intake.specs.Words.{words_of}
 use Rattle.line_intake.specs.declared.answer.Told.{Told}
 
--- so many of a line's events were new, and so many there
+-- the answer to a line whose events are kept by now: so many were new, so many were there
 abbrev pub kept_line : ℕ → ℕ → ℕ → List ℕ
 kept_line line fresh repeated = codes "{\"line\":" ++ decimal line ++ codes ",\"new\":" ++ decimal fresh
     ++ codes ",\"repeated\":" ++ decimal repeated ++ codes "}" ++ 10 ∷ []

@@ -28,9 +28,9 @@ pub record IsKept (lists : List (List EventValue)) (each : List ℕ) (old : Data
 
 -- ---- one turn that stops
 
--- the table refused it: nothing was written, and the table is as it was, or, where memory for the
--- answers is wanted, has the events; or a write failed: the events are in, and a front of the answers
--- was written
+-- why a turn stops, and what it leaves. The table refused it: nothing was written, and the table is
+-- as it was, or, where memory for the answers is wanted, has the events. Or a write failed: the
+-- events are in, and a front of the answers was written
 abbrev pub StopsTurn : FollowFault → List Told → List (List EventValue) → Database → State
     → Option (List ℕ) → Option (List ℕ) → Type 0
 StopsTurn (fault.Input why) tells lists old new out out' = ⊥

@@ -12,7 +12,7 @@ ServiceLayout = (l : Layout) × HasService l
 abbrev pub schema_in : ServiceLayout → Schema
 schema_in l = whole_schema l.0
 
--- the tree of the first of its three tables; the others follow
+-- the number of the tree that holds the first of its three tables; those of the others follow it
 abbrev pub first_tree : ServiceLayout → ℕ
 first_tree l = service_tree l.0
 

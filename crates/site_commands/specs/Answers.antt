@@ -34,7 +34,7 @@ use Rattle.file_reports.specs.declared.refusal.Refused.{Refused}
 use Rattle.file_reports.specs.declared.refusal.ReportFault.TheVariants as report
 use Rattle.run_command.specs.Run.{SaysRun}
 use Rattle.views.specs.declared.query.Query.{Query}
-use Rattle.site_commands.specs.Names.{names_of}
+use Rattle.site_commands.specs.Names.{files_of_run}
 use Rattle.site_commands.specs.Streams.{AnswersFollow}
 use Rattle.site_commands.specs.Checks.{FindsNone, RefusesCheck}
 use Rattle.site_commands.specs.declared.line.Refusal.{Refusal}
@@ -193,14 +193,14 @@ RefusesJobs has_peer contents (refusal.Lines faults) = ⊥
 abbrev pub AnswersRun : (List ℕ → List ℕ → Type 0) → Option (List ℕ) → List (List ℕ) → List ℕ
     → Type 0
 AnswersRun C peer files text = (contents : List (List ℕ))
-    × AreContents C (names_of peer files) contents × AnswersJobs (is_some peer) contents text
+    × AreContents C (files_of_run peer files) contents × AnswersJobs (is_some peer) contents text
 
 -- the first file that wasn't read; or, where all were, what came of them
 abbrev pub RefusesRun : (List ℕ → List ℕ → Type 0) → (List ℕ → Unread → Type 0)
     → Option (List ℕ) → List (List ℕ) → Refusal → Type 0
-RefusesRun C U peer files (refusal.Unread at) = IsUnreadAt C U (names_of peer files) at
+RefusesRun C U peer files (refusal.Unread at) = IsUnreadAt C U (files_of_run peer files) at
 RefusesRun C U peer files refusal = (contents : List (List ℕ))
-    × AreContents C (names_of peer files) contents × RefusesJobs (is_some peer) contents refusal
+    × AreContents C (files_of_run peer files) contents × RefusesJobs (is_some peer) contents refusal
 
 -- the text is the answer to the plan, which has one
 abbrev pub AnswersOnce : (List ℕ → List ℕ → Type 0) → Once → List ℕ → Type 0

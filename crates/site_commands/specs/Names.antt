@@ -12,9 +12,9 @@ use Rattle.command_words.specs.declared.request.Run.{Run}
 use Rattle.site_commands.specs.declared.names.Names.{Names as Lent}
 
 -- the files of a run, its peer's first, where it has one
-abbrev pub names_of : Option (List ℕ) → List (List ℕ) → List (List ℕ)
-names_of None files = files
-names_of (Some peer) files = peer ∷ files
+abbrev pub files_of_run : Option (List ℕ) → List (List ℕ) → List (List ℕ)
+files_of_run None files = files
+files_of_run (Some peer) files = peer ∷ files
 
 -- a database, empty where there is none; an order, 0 where there is none; and files
 pub record Names : Type 0 where
@@ -43,7 +43,7 @@ of_check judged = record { db = []; order = 0; files = judged.files }
 
 -- what a run names, its peer's file first
 abbrev pub of_run : Run → Names
-of_run run = record { db = run.db; order = 0; files = names_of run.peer run.files }
+of_run run = record { db = run.db; order = 0; files = files_of_run run.peer run.files }
 
 -- what a plan names
 abbrev pub of_plan : Plan → Names

@@ -5,7 +5,7 @@ ghost use Rattle.attributes.specs.Event.{EventValue};
 ghost use Rattle.command_words.specs.Plans.{AreFew};
 ghost use Rattle.run_command.specs.Run.{SaysRun};
 ghost use Rattle.site_commands.specs.Answers.{AnswersJobs, AnswersRun, RefusesJobs, RefusesRun};
-ghost use Rattle.site_commands.specs.Names.{names_of};
+ghost use Rattle.site_commands.specs.Names.{files_of_run};
 ghost use Rattle.site_commands.specs.steps.Feeds.{RefusesFeeds};
 
 use crate::line::Refusal;
@@ -39,7 +39,7 @@ pub fn run<R: Threads + Wait + Sync, S: Shelf, D: Runs, W: Watch>(
     ensures err { IfErr result
         (RefusesRun (S.is_content shelf.now) (S.is_unread shelf.now) peer.now files.now) }
 {
-    let Ok(names) = names_of(alloc, peer, files) else {
+    let Ok(names) = files_of_run(alloc, peer, files) else {
         return Err(Refusal::Unread(UnreadAt {
             file: 0,
             why: Unread::OutOfMemory,
@@ -58,8 +58,8 @@ pub fn run<R: Threads + Wait + Sync, S: Shelf, D: Runs, W: Watch>(
 }
 
 /// The names of a run's files, its peer's first.
-fn names_of(alloc: Global, peer: &Option<Text>, files: &[Text]) -> Result<Texts, AllocError>
-    ensures { IfOk result (λ names. names ≡ names_of peer.now files.now) }
+fn files_of_run(alloc: Global, peer: &Option<Text>, files: &[Text]) -> Result<Texts, AllocError>
+    ensures { IfOk result (λ names. names ≡ files_of_run peer.now files.now) }
 {
     let copies = copies(alloc, files)?;
     match peer {

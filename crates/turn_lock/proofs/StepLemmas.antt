@@ -16,7 +16,7 @@ use Rattle.turn_lock.specs.declared.machine.View.{View}
 use Rattle.turn_lock.specs.History.{made_by, StartsWith, GoesOnBelow, entry, after, IsLegal}
 use Rattle.turn_lock.specs.View.{child, longer, shorter, newcomer, unmarked, noted, with_ticket, at_turn, ended_with, counted, born, note, spent, joined}
 use Rattle.turn_lock.specs.Rule.{Knows, Turns}
-use Rattle.turn_lock.specs.Step.{draws, comes, pends, ends, marks, counts, learns}
+use Rattle.turn_lock.specs.Step.{draws, comes, pends, ends, marks_split, sees_turns, learns}
 use Rattle.turn_lock.proofs.HistoryLemmas.{made_by-append, made_by-one, made_by-none, made_by-other, starts_same, starts_longer, starts_shorter, legal-append, legal_prefix, after-append, between, at_prefix, nil_not, snoc_split}
 use Rattle.turn_lock.proofs.RuleLemmas.{here_if, all_stay, only_place, only, changed, viewed, looked, stays_home, joins_in, no_loop}
 
@@ -33,7 +33,7 @@ module _ {O A C : Type 0} (state : O → A) (next : A → C → A) (fits : A →
   abbrev Rule : A → St → Type 0
   Rule = Turns state next fits
 
-  pub counts_turns : (a : A) (slots id : ℕ) (me : M) → Allows (Rule a) slots id me 0 (λ x. x) (counts state next fits (step slots 0 0 0 maybe.none) me)
+  pub counts_turns : (a : A) (slots id : ℕ) (me : M) → Allows (Rule a) slots id me 0 (λ x. x) (sees_turns state next fits (step slots 0 0 0 maybe.none) me)
   counts_turns a slots id me s r _ at _ = let k = r.each id me.0 at in (
     me.0,
     keeps,
@@ -243,8 +243,8 @@ module _ {O A C : Type 0} (state : O → A) (next : A → C → A) (fits : A →
       })
 
   -- a split is counted, and its number is marked
-  pub marks_split : (a : A) (slots id : ℕ) (me : M) → me.0.has_turn ≡ false → Allows (Rule a) slots id me 0 (λ x. x) (marks state next fits (step slots 0 0 0 maybe.none) me)
-  marks_split a slots id me none s r _ at _ = let v : V = me.0 in let k = r.each id v at in (
+  pub allows_split : (a : A) (slots id : ℕ) (me : M) → me.0.has_turn ≡ false → Allows (Rule a) slots id me 0 (λ x. x) (marks_split state next fits (step slots 0 0 0 maybe.none) me)
+  allows_split a slots id me none s r _ at _ = let v : V = me.0 in let k = r.each id v at in (
     counted v,
     keeps,
     tt,

@@ -43,12 +43,12 @@ module _ {O A C : Type 0} (state : O → A) (next : A → C → A) (fits : A →
       → m' ≡ (ended_with (entry n c) m.0, rest m.1)
 
   -- a split is counted and marked
-  abbrev pub marks : Tells
-  marks st m r m' = m' ≡ (counted m.0, m.1)
+  abbrev pub marks_split : Tells
+  marks_split st m r m' = m' ≡ (counted m.0, m.1)
 
   -- at least as many turns ended as the pass has seen
-  abbrev pub counts : Tells
-  counts st m r m' = (m' ≡ m) × (length m.0.seen ≤ r)
+  abbrev pub sees_turns : Tells
+  sees_turns st m r m' = (m' ≡ m) × (length m.0.seen ≤ r)
 
   -- the rule holds of what was seen, and of two histories that were joined the longer begins with
   -- the shorter

@@ -46,18 +46,18 @@ impl<A, C, O: Machine<A, C>> Play<Option<O>, View<A, C>> for End {
 pub(crate) struct Mark;
 
 impl<A, C, O: Machine<A, C>> Play<Option<O>, View<A, C>> for Mark {
-    ghost use Rattle.turn_lock.specs.Step.{marks};
+    ghost use Rattle.turn_lock.specs.Step.{marks_split};
 
-    ghost then = { marks O.state O.next O.fits };
+    ghost then = { marks_split O.state O.next O.fits };
 }
 
 /// Looks at word 0 for how many turns ended.
 pub(crate) struct Count;
 
 impl<A, C, O: Machine<A, C>> Play<Option<O>, View<A, C>> for Count {
-    ghost use Rattle.turn_lock.specs.Step.{counts};
+    ghost use Rattle.turn_lock.specs.Step.{sees_turns};
 
-    ghost then = { counts O.state O.next O.fits };
+    ghost then = { sees_turns O.state O.next O.fits };
 }
 
 /// Learns what the rule says of all that was seen, at a look at word 0.

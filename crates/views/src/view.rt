@@ -113,11 +113,11 @@ pub(crate) fn latest_events<'a>(
 {
     let shown = shown_events(alloc, inbox)?;
     let table = by_thread(alloc, &shown)?;
-    Ok(listed_events(alloc, &table)?)
+    Ok(latest_in_order(alloc, &table)?)
 }
 
-/// The events of a table.
-fn listed_events<'a>(
+/// The latest events that a table by source and subject has, in its order.
+fn latest_in_order<'a>(
     alloc: Global,
     table: &BTreeMap<(&'a str, &'a str), &'a Sequenced>,
 ) -> Result<Vec<&'a Sequenced>, AllocError>

@@ -1,7 +1,7 @@
 use Rattle.std.proofs.Common.{rules, ◌≡◌, ◌∙◌, true, subst}
 use Rattle.std.specs.Option.{is_some}
 use Rattle.file_reports.specs.Shelves.{AreContents}
-use Rattle.site_commands.specs.Names.{names_of}
+use Rattle.site_commands.specs.Names.{files_of_run}
 use Rattle.site_commands.proofs.WorkerLemmas.{few_contents, some_contents}
 use Rattle.site_commands.proofs.workers.run.Goals as goal
 
@@ -9,7 +9,7 @@ pub run_beside-requires-after_bounds : goal.run_beside-requires-after_bounds
 run_beside-requires-after_bounds g c κs within =
     let C = g.S.Shelf.is_content c.args.shelf.now in
     let contents = c.in-Ok-contents_of.contents.items in
-    let read : AreContents C (names_of c.args.peer.now c.args.files.now) contents = subst (λ names. AreContents C names contents) (c.as_slice.ensures ∙ c.in-Ok.ensures) c.in-Ok-contents_of.ensures.ok in
+    let read : AreContents C (files_of_run c.args.peer.now c.args.files.now) contents = subst (λ names. AreContents C names contents) (c.as_slice.ensures ∙ c.in-Ok.ensures) c.in-Ok-contents_of.ensures.ok in
     let with_peer : is_some c.args.peer.now ≡ true = search rules in
     (some_contents C c.args.peer.now c.args.files.now contents read with_peer, few_contents C c.args.peer.now c.args.files.now contents read c.requires)
 
@@ -17,5 +17,5 @@ pub run_feeds-requires-after_bounds : goal.run_feeds-requires-after_bounds
 run_feeds-requires-after_bounds g c κs within =
     let C = g.S.Shelf.is_content c.args.shelf.now in
     let contents = c.in-Ok-contents_of.contents.items in
-    let read : AreContents C (names_of c.args.peer.now c.args.files.now) contents = subst (λ names. AreContents C names contents) (c.as_slice.ensures ∙ c.in-Ok.ensures) c.in-Ok-contents_of.ensures.ok in
+    let read : AreContents C (files_of_run c.args.peer.now c.args.files.now) contents = subst (λ names. AreContents C names contents) (c.as_slice.ensures ∙ c.in-Ok.ensures) c.in-Ok-contents_of.ensures.ok in
     few_contents C c.args.peer.now c.args.files.now contents read c.requires

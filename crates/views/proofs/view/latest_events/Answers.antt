@@ -9,6 +9,6 @@ use Rattle.views.proofs.view.latest_events.Goals as goal
 pub returns : goal.returns
 returns c =
     let E = events c.args.inbox.now in
-    c.in_ok-listed_events.ensures
+    c.in_ok-latest_in_order.ensures
     ∙ values_of_rows (λ e. (e.0.0.now, e.0.1.now)) (λ e. e.1.now) (latest_of (shown E)) c.in_ok-table.table.entries (threads_of (shown E))
     (c.in_ok-table.ensures ∙ ap latest_rows (ap (map (λ e. e.now)) c.deref.ensures.value ∙ c.in_ok-shown.ensures))

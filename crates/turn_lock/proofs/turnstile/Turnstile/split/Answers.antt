@@ -1,10 +1,10 @@
 use Rattle.std.proofs.Common.{rules, ap, ◌∙◌}
-use Rattle.turn_lock.proofs.StepLemmas.{marks_split, splits_pass}
+use Rattle.turn_lock.proofs.StepLemmas.{allows_split, splits_pass}
 use Rattle.turn_lock.proofs.TurnLemmas.{split_in_two}
 use Rattle.turn_lock.proofs.turnstile.Turnstile.split.Goals as goal
 
 pub load-requires : goal.load-requires
-load-requires g c = (search rules, search rules, marks_split _ _ _ _ _ _ _ c.requires.idle.no_turn)
+load-requires g c = (search rules, search rules, allows_split _ _ _ _ _ _ _ c.requires.idle.no_turn)
 
 pub split_seat-requires : goal.split_seat-requires
 split_seat-requires g c = let i = c.requires.idle in let e = c.load.ensures.2 in (search rules, search rules, splits_pass _ _ _ _ _ _ i.number (ap (λ m. m.0.number) e ∙ i.named) (ap (λ m. m.0.marked) e))
