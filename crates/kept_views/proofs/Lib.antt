@@ -3,6 +3,7 @@ pub mod ListLemmas
 pub mod ShownLemmas
 pub mod TableLemmas
 pub mod MemberLemmas
+pub mod GapLemmas
 pub mod StandsLemmas
 pub mod AmongLemmas
 pub mod AnswerLemmas

@@ -60,7 +60,7 @@ keep true b f = ap not (f refl)
 keep false b f = refl
 
 -- a key as an event's and as its source and id
-has_key-is : (e f : EventValue) → has_key (source_of e) (id_of e) f ≡ same_key f e
+pub has_key-is : (e f : EventValue) → has_key (source_of e) (id_of e) f ≡ same_key f e
 has_key-is e f =
     sym (both (byte_cmp (source_of f) (source_of e)) (byte_cmp (id_of f) (id_of e)) ∙ (λ k. is_eq-slice_cmp (source_of f) (source_of e) k && is_eq-slice_cmp (id_of f) (id_of e) k))
   where

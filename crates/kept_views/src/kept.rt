@@ -3,8 +3,9 @@
 ghost use Rattle.std.specs.Prelude.{◌≡◌, ◌∷◌, ◌++◌, ◌<◌, ◌≤◌, [], IfOk, OnErr, OnOk, false, true};
 ghost use Rattle.std.specs.Option.{option_map};
 ghost use Rattle.attributes.specs.Event.{kind_of};
+ghost use Rattle.inbox.specs.Kept.{events};
 ghost use Rattle.inbox.specs.KeyOrder.{key_cmp};
-ghost use Rattle.inbox.specs.Ordered.{append_new, has};
+ghost use Rattle.inbox.specs.Ordered.{IsGapFor, append_new, has};
 ghost use Rattle.inbox.specs.Sets.{set_of};
 ghost use Rattle.inbox.specs.Shown.{is_shown};
 ghost use Rattle.views.specs.Tally.{kind_and_day};
@@ -13,6 +14,7 @@ ghost use Rattle.kept_views.specs.steps.Moves.{ComesIn, GoesOut, count_in, day_c
 ghost use Rattle.kept_views.specs.steps.Seen.{day_in, slot_in};
 
 use crate::days::{DayKey, DayTally, day_of, lower_day, raise_day};
+use crate::gap::has_key_of;
 use crate::seed::Seed;
 use crate::tally::{Tally, lower, raise};
 use crate::threads::{Slot, Threads, bring, clear, slot_of};
@@ -97,8 +99,7 @@ impl Views {
     /// Takes an event that comes to the inbox, before the inbox takes it: from then on the views
     /// stand for what came with the event, so `Inbox::put` of it has to follow. An event that is
     /// there, or that isn't shown, changes nothing and needs no memory. After a refusal nothing has
-    /// changed. Two searches of the inbox, and time logarithmic in the shown events of its source
-    /// and subject; a type, day, source or subject that is new is copied, and an id in any case.
+    /// changed. A search of the inbox, and the time of `put_at`.
     pub fn put(&mut self, inbox: &Inbox, event: &Sequenced) -> Result<(), AllocError>
         requires { StandsFor inbox.now.arrivals self.old }
         ensures stands { OnOk result
@@ -110,11 +111,45 @@ impl Views {
         ensures shown { OnErr result
             (is_shown (set_of (inbox.now.arrivals ++ event.now ∷ [])) event.now ≡ true) }
     {
+        match inbox.place_of(event) {
+            Ok(_) => Ok(()),
+            Err(gap) => self.put_at(inbox, event, gap),
+        }
+    }
+
+    /// `put` of an event that isn't there, by the place where it goes in, as `Inbox::place_of` tells
+    /// it: for whoever has searched already. Time logarithmic in the shown events of its source and
+    /// subject, and a search of the inbox where another event has its source and id; a type, day,
+    /// source or subject that is new is copied, and an id in any case.
+    pub fn put_at(&mut self, inbox: &Inbox, event: &Sequenced, gap: u64) -> Result<(), AllocError>
+        requires stands { StandsFor inbox.now.arrivals self.old }
+        requires new { has key_cmp inbox.now.arrivals event.now ≡ false }
+        requires gap { IsGapFor key_cmp (events inbox.now) event.now gap }
+        ensures stands { OnOk result
+            (StandsFor (append_new key_cmp inbox.now.arrivals (event.now ∷ [])) self.new) }
+        ensures same { OnErr result (self.new ≡ self.old) }
+        ensures shown { OnErr result
+            (is_shown (set_of (inbox.now.arrivals ++ event.now ∷ [])) event.now ≡ true) }
+    {
+        if has_key_of(inbox, event, gap) {
+            return self.put_beside(inbox, event);
+        }
+        let place = inbox.arrived();
+        self.admit(event, place, place)
+    }
+
+    /// `put` of an event that isn't there, where another may have its source and id.
+    fn put_beside(&mut self, inbox: &Inbox, event: &Sequenced) -> Result<(), AllocError>
+        requires stands { StandsFor inbox.now.arrivals self.old }
+        requires new { has key_cmp inbox.now.arrivals event.now ≡ false }
+        ensures stands { OnOk result
+            (StandsFor (append_new key_cmp inbox.now.arrivals (event.now ∷ [])) self.new) }
+        ensures same { OnErr result (self.new ≡ self.old) }
+        ensures shown { OnErr result
+            (is_shown (set_of (inbox.now.arrivals ++ event.now ∷ [])) event.now ≡ true) }
+    {
         // A law that the clauses rest on; the call does nothing.
         text_tells_events();
-        if inbox.place_of(event).is_ok() {
-            return Ok(());
-        }
         let place = inbox.arrived();
         let came = event.event();
         match inbox.shown_of(came.source(), came.id()) {

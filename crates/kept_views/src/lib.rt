@@ -4,6 +4,7 @@
 mod answer;
 mod days;
 mod from_inbox;
+mod gap;
 mod kept;
 mod latest;
 mod seed;

@@ -1,8 +1,9 @@
 //! Views that are kept as events come.
 
-ghost use Rattle.std.specs.Prelude.{◌≡◌, ◌∷◌, [], IfSome};
+ghost use Rattle.std.specs.Prelude.{◌≡◌, ◌∷◌, [], IfSome, false};
+ghost use Rattle.inbox.specs.Kept.{events};
 ghost use Rattle.inbox.specs.KeyOrder.{key_cmp};
-ghost use Rattle.inbox.specs.Ordered.{append_new};
+ghost use Rattle.inbox.specs.Ordered.{IsGapFor, append_new, has};
 ghost use Rattle.kept_views.specs.Tables.{StandsFor};
 
 use super::Site;
@@ -12,15 +13,18 @@ use kept_views::Views;
 use std::alloc::AllocError;
 use std::hash::RandomState;
 
-/// An event comes to the views, where they are kept, before the inbox takes it. Where memory is
-/// refused to them they are let go: no event is refused for their sake.
-pub(super) fn bring(views: &mut Option<Box<Views>>, inbox: &Inbox, event: &Sequenced)
-    requires { IfSome views.old (λ v. StandsFor inbox.now.arrivals v.value) }
+/// An event that isn't there comes to the views, where they are kept, before the inbox takes it at a
+/// gap of key order. Where memory is refused to them they are let go: no event is refused for their
+/// sake.
+pub(super) fn bring(views: &mut Option<Box<Views>>, inbox: &Inbox, event: &Sequenced, gap: u64)
+    requires views { IfSome views.old (λ v. StandsFor inbox.now.arrivals v.value) }
+    requires new { has key_cmp inbox.now.arrivals event.now ≡ false }
+    requires gap { IsGapFor key_cmp (events inbox.now) event.now gap }
     ensures { IfSome views.new
         (λ v. StandsFor (append_new key_cmp inbox.now.arrivals (event.now ∷ [])) v.value) }
 {
     let is_refused = match views {
-        Some(kept) => kept.put(inbox, event).is_err(),
+        Some(kept) => kept.put_at(inbox, event, gap).is_err(),
         None => false,
     };
     if is_refused {

@@ -21,10 +21,10 @@ impl Site {
         ensures same { OnErr result (self.new ≡ self.old) }
         ensures err_of_new { OnErr result (has key_cmp self.old event.now ≡ false) }
     {
-        if self.inbox.place_of(event).is_ok() {
+        let Err(gap) = self.inbox.place_of(event) else {
             sets_are_members();
             return Ok(());
-        }
+        };
         let copy = event.copy()?;
         grow(
             &mut self.inbox,
@@ -32,6 +32,7 @@ impl Site {
             &mut self.blocks,
             &mut self.views,
             event,
+            gap,
         )?;
         self.mark = None;
         let _taken = self.inbox.put(copy);

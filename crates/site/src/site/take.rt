@@ -1,8 +1,9 @@
 //! Events taken.
 
 ghost use Rattle.std.specs.Prelude.{◌≡◌, ◌+◌, ◌<◌, [], ◌∷◌, drop, false, length, take, IfErr, IfOk, IfSome, OnErr, OnOk};
+ghost use Rattle.inbox.specs.Kept.{events};
 ghost use Rattle.inbox.specs.KeyOrder.{key_cmp};
-ghost use Rattle.inbox.specs.Ordered.{append_new, has};
+ghost use Rattle.inbox.specs.Ordered.{IsGapFor, append_new, has};
 ghost use Rattle.inbox.specs.Sets.{set_of, union};
 ghost use Rattle.block_digests.specs.Kept.{IsKeptOf};
 ghost use Rattle.coverage.specs.Summary.{version_of};
@@ -20,14 +21,15 @@ use inbox::{Counts, Inbox, Short};
 use kept_views::Views;
 use std::alloc::AllocError;
 
-/// Makes all that a new event needs to grow: room for it, its place in its block, its number in the
-/// summary, and what the views have of it, where they are kept.
+/// Makes all that a new event, which goes in at a gap of key order, needs to grow: room for it, its
+/// place in its block, its number in the summary, and what the views have of it, where they are kept.
 pub(super) fn grow(
     inbox: &mut Inbox,
     summary: &mut Summary,
     blocks: &mut Blocks,
     views: &mut Option<Box<Views>>,
     event: &Sequenced,
+    gap: u64,
 ) -> Result<(), AllocError>
     requires numbers { HasNumbers inbox.old.arrivals summary.old }
     requires numbered { AreNumbered inbox.old.arrivals }
@@ -35,6 +37,7 @@ pub(super) fn grow(
     requires kept { IsKeptOf inbox.old.arrivals blocks.old }
     requires views { IfSome views.old (λ v. StandsFor inbox.old.arrivals v.value) }
     requires new { has key_cmp inbox.old.arrivals event.now ≡ false }
+    requires gap { IsGapFor key_cmp (events inbox.old) event.now gap }
     ensures same { inbox.new.arrivals ≡ inbox.old.arrivals }
     ensures room { OnOk result (0 < inbox.new.spare) }
     ensures numbers { OnOk result (HasNumbers
@@ -60,7 +63,7 @@ pub(super) fn grow(
     blocks.note(event, place)?;
     match summary.insert_str(event.event().source(), event.number()) {
         Ok(_) => {
-            bring(views, inbox, event);
+            bring(views, inbox, event, gap);
             Ok(())
         }
         Err(error) => {
@@ -83,17 +86,18 @@ impl Site {
         ensures whole { OnErr result (batch.new ≡ batch.old) }
         ensures err_of_new { OnErr result (LacksAt self.old batch.old 0) }
     {
-        if self.inbox.place_of(batch.at(0)).is_ok() {
+        let Err(gap) = self.inbox.place_of(batch.at(0)) else {
             sets_are_members();
             drop(batch.take_front());
             return Ok(());
-        }
+        };
         grow(
             &mut self.inbox,
             &mut self.summary,
             &mut self.blocks,
             &mut self.views,
             batch.at(0),
+            gap,
         )?;
         self.mark = None;
         if let Some(event) = batch.take_front() {
@@ -106,7 +110,7 @@ impl Site {
     /// no memory. After want of memory the batch holds what was not taken; those before it stay.
     /// The time is that of a search for each event; for each new one also that of `Inbox::put`, and
     /// of a look-up of its source and number in the summary and among the blocks; where views are
-    /// kept also that of `Views::put`. No digest is made.
+    /// kept also that of `Views::put_at`. No digest is made.
     pub fn take_batch(&mut self, batch: &mut Batch) -> Result<Counts, Short>
         ensures arrivals { OnOk result (self.new ≡ append_new key_cmp self.old batch.old) }
         ensures set { OnOk result (set_of self.new ≡ union (set_of self.old) batch.old) }
