@@ -105,7 +105,7 @@ def try_rust(tries, batch):
 
 
 def try_python(tries, batch):
-    where = f"{tries.folder}/library/libjumbetai.so"
+    where = f"{tries.folder}/shared/libjumbetai.so"
     words = [sys.executable, "-m", "unittest", "-v", "test_jumbetai"]
     status, out = tries.run(words, f"{TOP}/bindings/python", JUMBETAI_LIB=where, JUMBETAI_BATCH=batch)
     passed = len(re.findall(rb"\.\.\. ok$", out, re.M))
@@ -129,10 +129,15 @@ def main():
         for where, told in version.told().items():
             tries.judge(f"the version in {where}", told == version.version(), told)
         if given.library:
-            shutil.copytree(given.library, f"{folder}/library")
+            os.makedirs(f"{folder}/library")
+            for file in ("libjumbetai.a", "jumbetai.h"):
+                shutil.copy(f"{given.library}/{file}", f"{folder}/library/{file}")
         else:
             library.make(f"{folder}/library", library.proved_part(given.after_ci))
-        tries.passes("the shared object", [library.compiler(), "-o", "libjumbetai.so", *library.SHARED], folder=f"{folder}/library")
+        # Apart from the archive, or the programs in C would be linked with it.
+        os.makedirs(f"{folder}/shared")
+        words = [library.compiler(), "-o", "../shared/libjumbetai.so", *library.SHARED]
+        tries.passes("the shared object", words, folder=f"{folder}/library")
         try_c(tries)
         batch = made_batch(tries, "batch.json", given.events)
         try_rust(tries, batch)
