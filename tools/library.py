@@ -4,8 +4,9 @@
     tools/library.py [--after-ci] [--shared] [FOLDER]       by default out/library
 
 The proved part is crates/site_c, which is proved and built where a source is newer; with --after-ci over the libraries
-that `rt ci` has just left. The C of bindings/c is compiled by `cc` (or $CC), and all of it goes into one archive, with
-nothing of the machine or the hour in it. With --shared libjumbetai.so is made of that archive, as for Python.
+that `rt ci` has just left. The C of bindings/c is compiled by $CC, `cc`, `gcc` or `clang`, and all of it goes into one
+archive, with nothing of the machine or the hour in it. With --shared libjumbetai.so is made of that archive, as for
+Python.
 """
 import argparse
 import os
@@ -26,7 +27,8 @@ SHARED = ["-shared", "-Wl,--whole-archive", "libjumbetai.a", "-Wl,--no-whole-arc
 
 
 def compiler():
-    return os.environ.get("CC", "cc")
+    """The C compiler, or none."""
+    return next((it for it in (os.environ.get("CC"), "cc", "gcc", "clang") if it and shutil.which(it)), None)
 
 
 def compiled(source, to, *more):
@@ -73,6 +75,9 @@ def main():
     words.add_argument("--shared", action="store_true")
     words.add_argument("folder", nargs="?", default=f"{TOP}/out/library")
     given = words.parse_args()
+    if not compiler():
+        print("library: no C compiler is here", file=sys.stderr)
+        return 1
     print(make(given.folder, proved_part(given.after_ci), given.shared))
     return 0
 

@@ -11,6 +11,9 @@ struct jumbetai_site {
     _Alignas(16) unsigned char room[];
 };
 
+/* A text of more bytes isn't left in the site beside the caller's copy. */
+enum { LARGE = 65536 };
+
 static int is_range(const void *bytes, size_t length) {
     return (bytes || !length) && length <= PTRDIFF_MAX;
 }
@@ -33,6 +36,9 @@ static int copy_text(jumbetai_site *site, const struct jumbetai_reply *reply, ju
     }
     bytes[had] = 0;
     *text = (jumbetai_text){bytes, had, reply->listed};
+    /* The site keeps its last text: a page without events is in place of a large one. */
+    struct jumbetai_reply unread;
+    if (had > LARGE) jumbetai_site_page(site->room, UINT64_MAX, &unread);
     return JUMBETAI_DONE;
 }
 

@@ -172,7 +172,9 @@ class Site:
 
 
 def _bytes(given):
-    return given.encode() if isinstance(given, str) else bytes(given)
+    if isinstance(given, str):
+        return given.encode()
+    return given if isinstance(given, bytes) else bytes(memoryview(given))
 
 
 def _judge(status):
