@@ -32,6 +32,8 @@ void jumbetai_site_summary(void *at, struct jumbetai_reply *reply);
 void jumbetai_site_delta(void *at, const unsigned char *summary, size_t length, uint64_t from,
                          struct jumbetai_reply *reply);
 void jumbetai_site_page(void *at, uint64_t from, struct jumbetai_reply *reply);
+void jumbetai_site_keep_views(void *at, const unsigned char *seed, size_t length,
+                              struct jumbetai_reply *reply);
 void jumbetai_site_read(void *at, uint32_t piece, struct jumbetai_piece *out);
 void jumbetai_site_close(void *at);
 

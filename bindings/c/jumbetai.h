@@ -24,13 +24,15 @@ enum jumbetai_status {
     JUMBETAI_DONE = 0,
     JUMBETAI_OUT_OF_MEMORY = 1,
     JUMBETAI_NO_EVENTS = 2, /* the bytes spell no event and no batch: jumbetai_check says why */
-    JUMBETAI_NO_NUMBER = 3, /* an event has no sequence of twenty digits: jumbetai_check says which */
+    JUMBETAI_NO_NUMBER =
+        3, /* an event has no sequence of twenty digits: jumbetai_check says which */
     JUMBETAI_NO_SUCH_QUESTION = 4,
     JUMBETAI_SUMMARY_NOT_JSON = 5,
     JUMBETAI_SUMMARY_SHAPE = 6,         /* JSON, and no summary */
     JUMBETAI_SUMMARY_VERSION = 7,       /* of a version that isn't known */
     JUMBETAI_SUMMARY_NOT_CANONICAL = 8, /* not byte for byte as a summary is written */
-    JUMBETAI_BAD_ARGUMENT = 9           /* a null pointer, or a length above PTRDIFF_MAX */
+    JUMBETAI_BAD_ARGUMENT = 9,          /* a null pointer, or a length above PTRDIFF_MAX */
+    JUMBETAI_NO_RANDOM = 10             /* the system gave no random bytes */
 };
 
 /* The seven questions, as `site` has them. */
@@ -82,6 +84,12 @@ int jumbetai_take(jumbetai_site *site, const void *bytes, size_t length, jumbeta
 /* What is wrong with bytes that are refused: a line of JSON for each event at fault, as `site
  * check` prints of a file `-`; the empty text where nothing is. Takes nothing. */
 int jumbetai_check(jumbetai_site *site, const void *bytes, size_t length, jumbetai_text *text);
+
+/* Keeps views of the events from now on: what is asked of types, of types by day and of the latest
+ * events then takes the time that the answer takes, in place of a pass over all events, and each
+ * event that comes takes a little more. No answer changes. Time and memory in proportion to the
+ * events that are there. Where memory for the views is refused later, the site goes on without. */
+int jumbetai_keep_views(jumbetai_site *site);
 
 /* The answer to a question, in the lines that `site` prints. */
 int jumbetai_ask(jumbetai_site *site, int question, jumbetai_text *text);

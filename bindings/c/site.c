@@ -1,10 +1,12 @@
 /* The functions of jumbetai.h over the library's exports. Nothing of this file is proved: it tests
  * what C lets a caller get wrong, keeps the room that a site lies in, and puts a text together of
  * its pieces. */
+#define _DEFAULT_SOURCE /* getentropy */
 #include "exports.h"
 #include "jumbetai.h"
 #include <stdlib.h>
 #include <string.h>
+#include <unistd.h>
 
 struct jumbetai_site {
     uint64_t events;
@@ -76,6 +78,15 @@ int jumbetai_check(jumbetai_site *site, const void *bytes, size_t length, jumbet
     return copy_text(site, &reply, text);
 }
 
+int jumbetai_keep_views(jumbetai_site *site) {
+    unsigned char seed[16];
+    struct jumbetai_reply reply;
+    if (!site) return JUMBETAI_BAD_ARGUMENT;
+    if (getentropy(seed, sizeof seed)) return JUMBETAI_NO_RANDOM;
+    jumbetai_site_keep_views(site->room, seed, sizeof seed, &reply);
+    return (int)reply.status;
+}
+
 int jumbetai_ask(jumbetai_site *site, int question, jumbetai_text *text) {
     struct jumbetai_reply reply;
     if (text) *text = (jumbetai_text){0};
@@ -127,6 +138,7 @@ const char *jumbetai_words(int status) {
         [JUMBETAI_SUMMARY_VERSION] = "the summary is of a version that isn't known",
         [JUMBETAI_SUMMARY_NOT_CANONICAL] = "the summary isn't written as a summary is",
         [JUMBETAI_BAD_ARGUMENT] = "a null pointer, or a length that is too large",
+        [JUMBETAI_NO_RANDOM] = "the system gave no random bytes",
     };
     int count = (int)(sizeof words / sizeof *words);
     return status >= 0 && status < count ? words[status] : "no such status";

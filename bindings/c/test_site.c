@@ -121,14 +121,24 @@ static void try_arguments(jumbetai_site *site) {
          "take without a site");
     must(jumbetai_take(site, NULL, 1, NULL) == JUMBETAI_BAD_ARGUMENT, "take of null");
     must(jumbetai_take(site, "", large, NULL) == JUMBETAI_BAD_ARGUMENT, "take of too many bytes");
+    must(jumbetai_keep_views(NULL) == JUMBETAI_BAD_ARGUMENT, "views without a site");
     must(jumbetai_count(NULL) == 0, "count without a site");
     jumbetai_close(NULL), jumbetai_free(NULL);
     must(!strcmp(jumbetai_version(), JUMBETAI_VERSION), "version");
     must(!strcmp(jumbetai_words(JUMBETAI_NO_EVENTS), "the bytes spell no events"),
          "words of a status");
-    must(!strcmp(jumbetai_words(10), "no such status") &&
+    must(!strcmp(jumbetai_words(11), "no such status") &&
              !strcmp(jumbetai_words(-1), "no such status"),
          "words of no status");
+}
+
+static void try_views(jumbetai_site *site) {
+    jumbetai_counts counts;
+    jumbetai_text text;
+    must(jumbetai_keep_views(site) == JUMBETAI_DONE, "views of the events that are there");
+    must(is_text(jumbetai_ask(site, JUMBETAI_KINDS, &text), &text, "[\"sold\",2]\n"), "kept kinds");
+    must(take(site, EVENT("d", "00000000000000000004", ""), &counts) == 0, "take into views");
+    must(is_text(jumbetai_ask(site, JUMBETAI_KINDS, &text), &text, "[\"sold\",3]\n"), "more kinds");
 }
 
 int main(void) {
@@ -137,6 +147,7 @@ int main(void) {
     try_events(site);
     try_pages(site);
     try_arguments(site);
+    try_views(site);
     jumbetai_close(site);
     printf("%d passed, %d failed\n", passed, failed);
     return failed != 0;

@@ -71,13 +71,19 @@ static bool try_take(jumbetai_site *site, long requests) {
 }
 
 /* The calls that answer a text: the questions, then these. */
-enum { SUMMARY = JUMBETAI_GAPS + 1, DELTA, PAGE, CHECK, CALLS };
+enum { SUMMARY = JUMBETAI_GAPS + 1, DELTA, PAGE, CHECK, VIEWS, CALLS };
 
 static int call(jumbetai_site *site, int which, jumbetai_text *text) {
+    int status;
     switch (which) {
     case SUMMARY: return jumbetai_summary(site, text);
     case DELTA: return jumbetai_delta(site, nothing, sizeof nothing - 1, 0, text);
     case PAGE: return jumbetai_page(site, 0, text);
+    /* Views, and an answer that they give. */
+    case VIEWS:
+        *text = (jumbetai_text){0};
+        status = jumbetai_keep_views(site);
+        return status ? status : jumbetai_ask(site, JUMBETAI_KINDS, text);
     case CHECK: return jumbetai_check(site, unnumbered, sizeof unnumbered - 1, text);
     default: return jumbetai_ask(site, which, text);
     }

@@ -59,6 +59,7 @@ def _loaded():
         "count": (number, [site]),
         "take": (status, [site, given, size, counts]),
         "check": (status, [site, given, size, text]),
+        "keep_views": (status, [site]),
         "ask": (status, [site, status, text]),
         "summary": (status, [site, text]),
         "delta": (status, [site, given, size, number, text]),
@@ -129,6 +130,11 @@ class Site:
         """What is wrong with what `take` refuses: a line of JSON for each event at fault, as `site check -` prints it."""
         given = _bytes(given)
         return self._text(_library.jumbetai_check, given, len(given))[0]
+
+    def keep_views(self):
+        """Keeps views of the events from now on: kinds, days and latest then take the time that the answer takes, in
+        place of a pass over all events, and each event that comes takes a little more. No answer changes."""
+        _judge(_library.jumbetai_keep_views(self._open()))
 
     def ask(self, question):
         """The answer to one of QUESTIONS, in the lines that the program `site` prints."""

@@ -81,6 +81,15 @@ class Sites(unittest.TestCase):
             self.assertEqual(north.summary(), south.summary())
             self.assertEqual(len(north), 2)
 
+    def test_kept_views_change_no_answer(self):
+        with Site() as plain, Site() as keeping:
+            keeping.take(batch([event(number) for number in range(1, 11)]))
+            keeping.keep_views()
+            keeping.take(FEW)
+            plain.take(FEW)
+            for question in QUESTIONS:
+                self.assertEqual(plain.ask(question), keeping.ask(question), question)
+
     def test_refusals(self):
         with Site() as site:
             refused = {b"{}": 2, b"": 2, batch([event(1), {**event(2), "sequence": "2"}]): 3}

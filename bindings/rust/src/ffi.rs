@@ -38,6 +38,7 @@ extern "C" {
         length: usize,
         text: *mut Text,
     ) -> c_int;
+    pub fn jumbetai_keep_views(site: *mut Site) -> c_int;
     pub fn jumbetai_ask(site: *mut Site, question: c_int, text: *mut Text) -> c_int;
     pub fn jumbetai_summary(site: *mut Site, text: *mut Text) -> c_int;
     pub fn jumbetai_delta(

@@ -49,6 +49,8 @@ pub enum Error {
     SummaryVersion,
     /// They aren't byte for byte as a summary is written.
     SummaryNotCanonical,
+    /// The system gave no random bytes for [`Site::keep_views`].
+    NoRandom,
     /// A status that this crate doesn't know: the library that is linked is a later one.
     Other(i32),
 }
@@ -63,6 +65,7 @@ impl Error {
             6 => Error::SummaryShape,
             7 => Error::SummaryVersion,
             8 => Error::SummaryNotCanonical,
+            10 => Error::NoRandom,
             other => Error::Other(other),
         }
     }
@@ -77,6 +80,7 @@ impl Error {
             Error::SummaryShape => 6,
             Error::SummaryVersion => 7,
             Error::SummaryNotCanonical => 8,
+            Error::NoRandom => 10,
             Error::Other(status) => status,
         }
     }
@@ -203,6 +207,17 @@ impl Site {
             ffi::jumbetai_check(raw, bytes.as_ptr().cast(), bytes.len(), text)
         };
         Ok(self.text(call)?.0)
+    }
+
+    /// Keeps views of the events from now on: [`Question::Kinds`], [`Question::Days`] and
+    /// [`Question::Latest`] then take the time that the answer takes, in place of a pass over all
+    /// events, and each event that comes takes a little more. No answer changes.
+    pub fn keep_views(&mut self) -> Result<(), Error> {
+        // SAFETY: the site is open.
+        match unsafe { ffi::jumbetai_keep_views(self.raw.as_ptr()) } {
+            0 => Ok(()),
+            status => Err(Error::of(status)),
+        }
     }
 
     /// The answer to a question, in the lines that the program `site` prints.

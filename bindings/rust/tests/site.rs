@@ -155,6 +155,18 @@ fn threads_share_a_site_by_a_mutex() {
 }
 
 #[test]
+fn kept_views_change_no_answer() {
+    let (mut plain, mut keeping) = (Site::new().unwrap(), Site::new().unwrap());
+    keeping.take(&batch(1..=10)).unwrap();
+    keeping.keep_views().unwrap();
+    keeping.take(&batch(5..=20)).unwrap();
+    plain.take(&batch(1..=20)).unwrap();
+    for question in Question::ALL {
+        assert_eq!(plain.ask(question), keeping.ask(question), "{question:?}");
+    }
+}
+
+#[test]
 fn the_version_is_that_of_the_crate() {
     assert_eq!(jumbetai::version(), env!("CARGO_PKG_VERSION"));
 }

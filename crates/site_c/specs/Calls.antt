@@ -201,6 +201,17 @@ abbrev pub Checked : List ℕ → Held → Held → Reply → Type 0
 Checked bytes held kept reply = Answers
     (λ text listed. IsFaultText (codes "-") bytes text × (listed ≡ 0)) IsWant held kept reply
 
+-- ---- views kept
+
+-- the call was done, or memory ran out
+abbrev pub IsDoneOrWant : ℕ → Type 0
+IsDoneOrWant status = (status ≡ 0) ⊎ IsWant status
+
+-- what `jumbetai_site_keep_views` leaves and replies: the events and the text stay
+abbrev pub Viewed : Held → Held → Reply → Type 0
+Viewed held kept reply = IsDoneOrWant reply.status × (kept.text ≡ held.text)
+    × (reply.listed ≡ 0) × TakesNone held kept reply × TellsRoom kept reply
+
 -- ---- pieces read
 
 -- the piece of a text with this number, from 0; behind the text's end a piece has no bytes

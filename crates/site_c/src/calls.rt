@@ -4,7 +4,7 @@ ghost use Rattle.std.specs.Prelude.{◌≡◌, ◌≢◌, [], ◌∷◌, codes, 
 ghost use Rattle.fault_lines.specs.Lines.{IsFaultText};
 ghost use Rattle.file_reports.specs.Reports.{IsRefusal, SpellAll};
 ghost use Rattle.inbox.specs.Sets.{set_of};
-ghost use Rattle.site_c.specs.Calls.{AnswersAt, Asked, Checked, HasRead, IsPageLine, IsPeer, IsRefusedPeer, IsSummaryLine, IsUnanswered, KeepsText, Lacked, LacksAt, LeavesText, Paged, Summed, Took, TookBatch, TookNone, WithoutLineEnd, batch_line, piece_of, question_number, summary_status};
+ghost use Rattle.site_c.specs.Calls.{AnswersAt, Asked, Checked, HasRead, IsDoneOrWant, IsPageLine, IsPeer, IsRefusedPeer, IsSummaryLine, IsUnanswered, KeepsText, Lacked, LacksAt, LeavesText, Paged, Summed, Took, TookBatch, TookNone, Viewed, WithoutLineEnd, batch_line, piece_of, question_number, summary_status};
 
 use crate::held::Held;
 use attributes::{Batch, Octets, Text};
@@ -14,6 +14,9 @@ use fault_lines::fault_lines;
 use file_reports::{Refused, events_of};
 use site::Site;
 use std::alloc::{AllocError, Global};
+use std::hash::RandomState;
+use std::io;
+use std::random::RandomSource;
 use views::Query;
 
 /// What a call answers: a status, and counts.
@@ -310,6 +313,49 @@ pub(crate) fn checked(mut held: Held, bytes: &[u8], reply: &mut Reply) -> Held
 {
     let made = faults_in(held.alloc, bytes);
     keep(&mut held, made, reply);
+    held
+}
+
+/// The random bytes that a caller gives.
+#[derive(Clone, Copy)]
+struct Seed<'a> {
+    bytes: &'a [u8],
+}
+
+impl RandomSource for Seed<'_> {
+    /// Copies the bytes; where more are wanted, the rest stays.
+    fn fill_bytes(&self, buf: &mut [u8]) -> io::Result<()> {
+        for (to, byte) in buf.iter_mut().zip(self.bytes.iter()) {
+            *to = *byte;
+        }
+        Ok(())
+    }
+}
+
+/// Has a site keep views, by a seed, and answers the status.
+fn keep_views(site: &mut Site, seed: &[u8]) -> u32
+    ensures same { site.new ≡ site.old }
+    ensures status { IsDoneOrWant result }
+{
+    let Ok(state) = RandomState::new(&Seed { bytes: seed }) else {
+        return OUT_OF_MEMORY;
+    };
+    match site.keep_views(state) {
+        Ok(()) => DONE,
+        Err(_) => OUT_OF_MEMORY,
+    }
+}
+
+/// Has the site keep views, by a seed.
+pub(crate) fn viewed(mut held: Held, seed: &[u8], reply: &mut Reply) -> Held
+    ensures { Viewed held result reply.new }
+{
+    reply.status = keep_views(&mut held.site, seed);
+    reply.fresh = 0;
+    reply.repeated = 0;
+    reply.listed = 0;
+    reply.events = held.site.arrived();
+    reply.length = held.text.as_str().len() as u64;
     held
 }
 

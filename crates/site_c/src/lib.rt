@@ -5,7 +5,7 @@ ghost use Rattle.std.specs.Borrow.{full_share, sem};
 ghost use Rattle.std.specs.Mem.{type_size};
 ghost use Rattle.std.specs.Prelude.{◌≡◌};
 ghost use Rattle.std.specs.Ptr.{lies_at, room_at};
-ghost use Rattle.site_c.specs.Calls.{Asked, Checked, HasRead, IsEmpty, Lacked, Paged, Summed, Took};
+ghost use Rattle.site_c.specs.Calls.{Asked, Checked, HasRead, IsEmpty, Lacked, Paged, Summed, Took, Viewed};
 ghost use Rattle.site_c.specs.contracts.held.Held.{the_row};
 
 mod calls;
@@ -13,7 +13,7 @@ mod held;
 pub mod laws;
 
 pub use calls::{PIECE, Piece, Reply};
-use calls::{asked, checked, lacked, let_go, paged, read, summed, taken};
+use calls::{asked, checked, lacked, let_go, paged, read, summed, taken, viewed};
 pub use held::Held;
 use std::alloc::Global;
 
@@ -109,6 +109,19 @@ pub unsafe extern "C" fn jumbetai_site_check(at: *mut u8, bytes: &[u8], reply: &
 {
     let to = at as *mut Held;
     std::ptr::write(to, checked(std::ptr::read(to), bytes, reply));
+}
+
+/// Has the site keep views from now on, by 16 random bytes that nobody else knows: questions about
+/// types, days and latest events then cost what their answers cost. No answer changes.
+#[unsafe(no_mangle)]
+pub unsafe extern "C" fn jumbetai_site_keep_views(at: *mut u8, seed: &[u8], reply: &mut Reply)
+    ghost held: { Held }
+    requires* { sem 𝓛 (lies_at the_row full_share at held) }
+    ensures* { ∃ₛ λ kept. sem 𝓛 (lies_at the_row full_share at kept)
+        ∗ ⌜ Viewed held kept reply.new ⌝ }
+{
+    let to = at as *mut Held;
+    std::ptr::write(to, viewed(std::ptr::read(to), seed, reply));
 }
 
 /// Copies a piece of the answer's text, counted from 0.
