@@ -28,6 +28,14 @@ def batch(events):
 FEW = batch([event(number) for number in range(1, 251)])
 
 
+def given_batch():
+    """The batch that JUMBETAI_BATCH names, else a small one."""
+    if not os.environ.get("JUMBETAI_BATCH"):
+        return FEW
+    with open(os.environ["JUMBETAI_BATCH"], "rb") as file:
+        return file.read()
+
+
 def load_tests(_loader, tests, _pattern):
     tests.addTests(doctest.DocTestSuite(jumbetai))
     return tests
@@ -109,6 +117,16 @@ class Sites(unittest.TestCase):
             with self.assertRaises(ValueError):
                 site.ask("who")
 
+    def test_the_order_in_which_events_come_changes_no_answer(self):
+        with Site() as site, Site() as copy:
+            site.take(given_batch())
+            for page in reversed(list(site.pages())):
+                self.assertEqual(copy.take(page.json).fresh, page.events)
+            self.assertEqual(len(copy), len(site))
+            self.assertTrue(copy.summary() == site.summary(), "summary")
+            for question in QUESTIONS:
+                self.assertTrue(copy.ask(question) == site.ask(question), question)
+
     def test_a_closed_site(self):
         site = Site()
         site.close()
@@ -135,16 +153,14 @@ class Sites(unittest.TestCase):
 
 class BesideTheProgram(unittest.TestCase):
     def test_all_answers(self):
-        program, given = os.environ.get("JUMBETAI_SITE"), os.environ.get("JUMBETAI_BATCH")
+        program = os.environ.get("JUMBETAI_SITE")
         if not program:
             self.skipTest("JUMBETAI_SITE names no program")
         with tempfile.TemporaryDirectory() as folder, Site() as site:
-            file = given or os.path.join(folder, "batch.json")
-            if not given:
-                with open(file, "wb") as out:
-                    out.write(FEW)
-            with open(file, "rb") as events:
-                site.take(events.read())
+            file = "batch.json"
+            with open(os.path.join(folder, file), "wb") as out:
+                out.write(given_batch())
+            site.take(given_batch())
 
             def run(*words):
                 return subprocess.run([program, *words], cwd=folder, stdout=subprocess.PIPE, check=True).stdout

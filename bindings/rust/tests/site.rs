@@ -171,6 +171,30 @@ fn the_version_is_that_of_the_crate() {
     assert_eq!(jumbetai::version(), env!("CARGO_PKG_VERSION"));
 }
 
+/// The batch that JUMBETAI_BATCH names, else a small one.
+fn given_batch() -> Vec<u8> {
+    match std::env::var_os("JUMBETAI_BATCH") {
+        Some(file) => std::fs::read(file).unwrap(),
+        None => batch(1..=500),
+    }
+}
+
+#[test]
+fn the_order_in_which_events_come_changes_no_answer() {
+    let mut site = Site::new().unwrap();
+    site.take(&given_batch()).unwrap();
+    let pages: Vec<Page> = site.pages().collect::<Result<_, _>>().unwrap();
+    let mut copy = Site::new().unwrap();
+    for page in pages.iter().rev() {
+        assert_eq!(copy.take(page.json.as_bytes()).unwrap().fresh, page.events);
+    }
+    assert_eq!(copy.len(), site.len());
+    assert!(copy.summary() == site.summary());
+    for question in Question::ALL {
+        assert!(copy.ask(question) == site.ask(question), "{question:?}");
+    }
+}
+
 /// What the program prints for these words.
 fn printed(program: &Path, folder: &Path, words: &[&str]) -> String {
     let out = Command::new(program)
@@ -194,10 +218,7 @@ fn answers_are_those_of_the_program() {
     };
     let folder = std::env::temp_dir().join(format!("jumbetai-{}", std::process::id()));
     std::fs::create_dir_all(&folder).unwrap();
-    let bytes = match std::env::var_os("JUMBETAI_BATCH") {
-        Some(file) => std::fs::read(file).unwrap(),
-        None => batch(1..=500),
-    };
+    let bytes = given_batch();
     std::fs::write(folder.join("batch.json"), &bytes).unwrap();
     let mut site = Site::new().unwrap();
     site.take(&bytes).unwrap();
@@ -214,14 +235,8 @@ fn answers_are_those_of_the_program() {
     let nothing = Site::new().unwrap().summary().unwrap();
     std::fs::write(folder.join("nothing"), &nothing).unwrap();
     let second = site.delta_page(&nothing, 100).unwrap().unwrap();
-    assert_eq!(
-        second.json,
-        printed(
-            &program,
-            &folder,
-            &["delta", "--db", "site.db", "--from", "100", "nothing"]
-        )
-    );
+    let words = ["delta", "--db", "site.db", "--from", "100", "nothing"];
+    assert_eq!(second.json, printed(&program, &folder, &words));
     let first = site.page(0).unwrap().unwrap();
     assert_eq!(
         first.json,
