@@ -1,0 +1,48 @@
+-- A site over its table.
+use Rattle.std.specs.Prelude.{◌≡◌, ◌≢◌, ◌+◌, ℕ, List, [], length, Result, IfErr, IfOk, IsTrue, OnErr, OnOk}
+use Rattle.std.specs.declared.alloc.AllocError.{AllocError}
+use Rattle.sqlite.specs.State.{State, HasCleanDisk}
+use Rattle.attributes.specs.Event.{EventValue}
+use Rattle.inbox.specs.KeyOrder.{key_cmp}
+use Rattle.inbox.specs.Ordered.{append_new}
+use Rattle.inbox_table.specs.Calls.{IsSettled}
+use Rattle.inbox_table.specs.Fault.{IsOfStore}
+use Rattle.inbox_table.specs.Rows.{IsInbox}
+use Rattle.inbox_table.specs.declared.fault.TableFault.{TableFault}
+use Rattle.durable_site.specs.declared.durable.DurableSite.{DurableSite}
+
+-- all its events, in the order in which they came: those that the site has counted, and those that
+-- are kept and owed to it
+abbrev pub events_of : {S : Type 0} → DurableSite S → List EventValue
+events_of d = append_new key_cmp d.site d.owed
+
+-- the table has just these
+abbrev pub IsWhole : State → List EventValue → Type 0
+IsWhole s events = HasCleanDisk s → IsTrue s.is_open → IsInbox s.now events
+
+-- what counting does that was owed: nothing is owed then, or memory ran out and something is
+pub record CatchesUp {S : Type 0} (old new : DurableSite S) (result : Result (Unit {0}) AllocError)
+    : Type 0 where
+  pub all : events_of new ≡ events_of old
+  pub done : OnOk result (new.owed ≡ [])
+  pub short : OnErr result (new.owed ≢ [])
+
+-- ---- events taken
+
+-- the events came behind what there was, each in its turn and where it wasn't there by then, and so
+-- many of them were not; or they are refused, and there is what there was
+pub record Takes (batch old new : List EventValue) (result : Result ℕ TableFault) : Type 0 where
+  pub taken : OnOk result (new ≡ append_new key_cmp old batch)
+  pub refused : OnErr result (new ≡ old)
+  pub fault : IfErr result IsOfStore
+
+-- and what that does to the database, while the disk gives back what was written
+pub record TakeEffect (batch old new : List EventValue) (was is : State)
+    (result : Result ℕ TableFault) : Type 0 where
+  pub whole : IsWhole was old → IsWhole is new
+  pub fresh : IsWhole was old → IfOk result (λ fresh. length old + fresh ≡ length new)
+  -- a crash leaves what was taken
+  pub stays_open : OnOk result (IsTrue is.is_open)
+  pub settled : OnOk result (IsSettled is)
+  -- refused, the database is as it was
+  pub same : IsTrue is.is_open → OnErr result (is.now ≡ was.now)

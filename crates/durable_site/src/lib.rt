@@ -1,0 +1,13 @@
+//! A site that a service holds open over its database: what it takes is kept in the table and
+//! synced, and then counted.
+#![tactic(auto)]
+
+mod durable;
+mod fault;
+mod file;
+
+pub use durable::DurableSite;
+pub use fault::OpenFault;
+pub use file::{FileSite, open_file};
+pub use file_disk::Unknown;
+pub use inbox_table::{NotMade, TableFault};

@@ -1,0 +1,3 @@
+pub mod Note
+pub mod File
+pub mod Opened
