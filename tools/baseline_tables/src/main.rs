@@ -2,11 +2,12 @@
 //! It proves nothing, and doesn't test the rows that it finds.
 //!
 //! usage: site-baseline-tables take DB FILE.. | follow DB FILE | delta DB FROM SUMMARY | scrub DB FROM | place DB ORDER
-//!     | relay DB AFTER
+//!     | relay DB AFTER | hold DB LINES SUMMARY
 
 #[allow(dead_code)]
 #[path = "../../baseline/src/event.rs"]
 mod event;
+mod hold;
 
 use event::Event;
 use rusqlite::{params, Connection};
@@ -226,6 +227,7 @@ fn main() -> Result<(), Box<dyn Error>> {
         ("scrub", db) => scrub(db, words[2].parse()?)?,
         ("place", db) => place(db, words[2].parse()?)?,
         ("relay", db) => relay(db, words[2].parse()?)?,
+        ("hold", db) => hold::hold(db, &words[2], &words[3])?,
         _ => return Err("no such command".into()),
     };
     print!("{text}");
