@@ -134,13 +134,13 @@ class Sites(unittest.TestCase):
         with self.assertRaises(ValueError):
             site.summary()
 
-    def test_a_site_goes_from_thread_to_thread(self):
-        site, lock = Site(), threading.Lock()
+    def test_threads_share_a_site(self):
+        site = Site()
 
         def work(first):
             for number in range(first, first + 25):
-                with lock:
-                    site.take(batch([event(number)]))
+                site.take(batch([event(number)]))
+                self.assertGreater(len(site.summary()), 0)
 
         threads = [threading.Thread(target=work, args=(1 + 25 * it,)) for it in range(8)]
         for it in threads:
