@@ -5,7 +5,7 @@ use crate::fixture::{add, batch, database, octets};
 use attributes::{Batch, Text};
 use coverage::Summary;
 use database_commands::{
-    CommandFault, Contents, Ended, EventPages, Paged, delta_pages, held, scrub_pages, summary, take,
+    CommandFault, Contents, CommandEnd, EventPages, Paged, delta_pages, held, scrub_pages, summary, take,
 };
 use event_json::write_sequenced;
 use file_reports::events_of;
@@ -56,7 +56,7 @@ fn events<R: AllocGlobal + Abort>(rt: &R, other: u64) -> Batch {
 /// A database whose inbox has the 250 events, all of one type.
 fn stocked<R: AllocGlobal + Abort>(rt: &R) -> Connection<MemStore> {
     let conn = database(rt, "");
-    let Ended { conn, outcome } = take(rt.alloc(), conn, &events(rt, NONE), &Unwatched);
+    let CommandEnd { conn, outcome } = take(rt.alloc(), conn, &events(rt, NONE), &Unwatched);
     assert!(rt; prints(&outcome, "read 250 new 250 repeated 0"));
     conn
 }
@@ -183,7 +183,7 @@ fn prints_numbers(outcome: &Result<Text, CommandFault>) -> bool {
 
 #[test]
 fn a_summary_is_that_of_a_site_with_the_events(rt: HostRuntime) {
-    let Ended { conn: _, outcome } = summary(rt.alloc(), stocked(&rt));
+    let CommandEnd { conn: _, outcome } = summary(rt.alloc(), stocked(&rt));
     assert!(rt; prints_numbers(&outcome) && prints_summary(&rt, &outcome, NONE));
     assert!(rt; !prints_summary(&rt, &outcome, 1100));
 }
@@ -211,7 +211,7 @@ fn is_none(events: &Result<Batch, CommandFault>) -> bool {
 /// many names behind that.
 fn holds_nothing<R: AllocGlobal + Abort>(rt: &R, statements: &str, count: usize) -> bool {
     let Contents { conn, events } = held(rt.alloc(), database(rt, statements));
-    let Ended { mut conn, outcome } = summary(rt.alloc(), conn);
+    let CommandEnd { mut conn, outcome } = summary(rt.alloc(), conn);
     is_none(&events) && prints(&outcome, NOTHING.trim_end()) && names(&mut conn) == Some(count)
 }
 

@@ -8,7 +8,7 @@ use attributes::{List, Octets};
 use event_json::ReadFault;
 use feeds::Jobs;
 use inbox_table::{Table, Unwatched, Watch};
-use run_command::{RunEnded, RunFault, run};
+use run_command::{RunEnd, RunFault, run};
 use site::{Gate, GateShut, Wide};
 use sqlite::MemStore;
 use std::process::Abort;
@@ -42,10 +42,10 @@ fn two<R: AllocGlobal + Abort>(rt: &R, first: Octets, second: Octets) -> Jobs
 /// How many events the inbox has where a run ended so, with all kept.
 fn rows_after<R: AllocGlobal + Abort>(
     rt: &R,
-    ended: RunEnded<MemStore>,
+    ended: RunEnd<MemStore>,
     fault: Option<RunFault>,
 ) -> u64 {
-    let RunEnded {
+    let RunEnd {
         conn,
         outcome,
         stopped,

@@ -1,11 +1,8 @@
 -- Events printed as pages, a line each.
+pub use Rattle.site.specs.Page.{max_page}
 use Rattle.std.specs.Prelude.{ℕ, zero, suc, List, [], ◌∷◌, ◌++◌, Option, None, Some, drop, length, take}
 use Rattle.attributes.specs.Event.{EventValue}
 use Rattle.database_commands.specs.Print.{batch_line}
-
--- the most events that are printed at once
-abbrev pub max_page : ℕ
-max_page = 100
 
 -- the line of the first page of the events, none where there are none
 abbrev pub first_page : List EventValue → Option (List ℕ)

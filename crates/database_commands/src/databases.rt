@@ -9,7 +9,7 @@ ghost use Rattle.database_commands.specs.Print.{counts_line};
 ghost use Rattle.database_commands.specs.Service.{SaysService};
 ghost use Rattle.database_commands.specs.Streams.{AcknowledgesUntil};
 
-use crate::Ended;
+use crate::CommandEnd;
 use crate::fault::CommandFault;
 use crate::named::{
     delta_named, delta_pages_named, describe_named, follow_named, held_named, order_named,
@@ -275,16 +275,16 @@ impl Databases for HostRuntime {
 }
 
 /// Closes the database of a command, and answers what it came to.
-fn ended_text(ended: Ended<FileStore<File>>) -> Result<Text, CommandFault>
+fn ended_text(ended: CommandEnd<FileStore<File>>) -> Result<Text, CommandFault>
     ensures { result ≡ ended.outcome }
 {
-    let Ended { conn, outcome } = ended;
+    let CommandEnd { conn, outcome } = ended;
     let _closed = conn.close();
     outcome
 }
 
 /// Closes the database of a command where it was opened, and answers what came of it.
-fn closed(ended: Result<Ended<FileStore<File>>, CommandFault>) -> Result<Text, CommandFault>
+fn closed(ended: Result<CommandEnd<FileStore<File>>, CommandFault>) -> Result<Text, CommandFault>
     ensures { MatchResult ended (λ e. result ≡ e.outcome) (λ f. result ≡ Err f) }
 {
     match ended {

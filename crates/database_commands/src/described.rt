@@ -13,9 +13,9 @@ ghost use Rattle.database_commands.specs.Held.{IsUntold};
 ghost use Rattle.database_commands.specs.steps.Told.{TellsEvents};
 ghost use Rattle.database_commands.specs.declared.fault.CommandFault.TheVariants as command;
 
-use crate::Ended;
+use crate::CommandEnd;
 use crate::fault::{CommandFault, of_table};
-use crate::page::site_of;
+use crate::page::site_over;
 use crate::text::database_line;
 use crate::told::told;
 use attributes::{Batch, Text};
@@ -29,7 +29,7 @@ use std::alloc::{AllocError, Global};
 /// there is a service, the line that tells of it, as `service` prints it. Nothing is written: an inbox
 /// of version 1 stays what it is. `Foreign` where its tables aren't those that these commands leave.
 /// Time and memory in proportion to the events and rows.
-pub fn describe<S: Alter + Drop>(alloc: Global, conn: Connection<S>, name: &str) -> Ended<S>
+pub fn describe<S: Alter + Drop>(alloc: Global, conn: Connection<S>, name: &str) -> CommandEnd<S>
     ensures told { HasCleanDisk (state S.Store result.conn) → IfOk result.outcome
         (Describes name.now (state S.Store conn).now) }
     ensures left { Leaves (state S.Store conn) (state S.Store result.conn) }
@@ -44,26 +44,26 @@ pub fn describe<S: Alter + Drop>(alloc: Global, conn: Connection<S>, name: &str)
     let line = match inbox_line(alloc, &mut conn, name) {
         Ok(line) => line,
         Err(fault) => {
-            return Ended {
+            return CommandEnd {
                 conn,
                 outcome: Err(fault),
             };
         }
     };
     if !has_name(conn.schema()) {
-        return Ended {
+        return CommandEnd {
             conn,
             outcome: Ok(line),
         };
     }
     // No source is named here, so it doesn't matter which text stands for it.
-    let Ended { conn, outcome } = told(alloc, conn, &line, false, None);
+    let CommandEnd { conn, outcome } = told(alloc, conn, &line, false, None);
     match outcome {
         Ok(more) => {
             let outcome = joined(line, &more);
-            Ended { conn, outcome }
+            CommandEnd { conn, outcome }
         }
-        Err(fault) => Ended {
+        Err(fault) => CommandEnd {
             conn,
             outcome: Err(fault),
         },
@@ -136,7 +136,7 @@ fn events_line(alloc: Global, name: &str, version: u64, events: Batch) -> Result
 fn sources_of(alloc: Global, events: Batch) -> Result<u64, AllocError>
     ensures { IfOk result (CountsSources (append_new key_cmp [] events)) }
 {
-    let mut site = site_of(alloc, events)?;
+    let mut site = site_over(alloc, events)?;
     let summary = site.summary()?;
     Ok(summary.len())
 }

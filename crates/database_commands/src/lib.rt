@@ -38,7 +38,7 @@ pub use trouble::{Trouble, trouble_line};
 
 /// A command that came to its end: the connection, and the text to print or why there is none.
 #[derive(Drop)]
-pub struct Ended<S: Alter + Drop> {
+pub struct CommandEnd<S: Alter + Drop> {
     pub conn: Connection<S>,
     pub outcome: Result<Text, CommandFault>,
 }

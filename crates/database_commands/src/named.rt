@@ -15,7 +15,7 @@ ghost use Rattle.database_commands.specs.Print.{counts_line};
 ghost use Rattle.database_commands.specs.Service.{SaysService};
 ghost use Rattle.database_commands.specs.Streams.{AcknowledgesUntil, FollowsOver};
 
-use crate::Ended;
+use crate::CommandEnd;
 use crate::described::describe;
 use crate::fault::CommandFault;
 use crate::file::{found, open_over, open_there};
@@ -49,7 +49,7 @@ pub fn take_named<T: Start, W: Watch>(
     start: T,
     events: &Batch,
     watch: &W,
-) -> Result<Ended<FileStore<FileFrom<T>>>, CommandFault>
+) -> Result<CommandEnd<FileStore<FileFrom<T>>>, CommandFault>
     ensures did { IfOk result (λ e. DoesOver (image_at T.Start)
         (TakeEffect (W.told watch.now) events.now e.outcome) e.conn) }
     ensures line { IfOk result (λ e. IfOk e.outcome (λ text.
@@ -115,7 +115,7 @@ pub fn summary_named<T: Start>(
     alloc: Global,
     name: &str,
     start: T,
-) -> Result<Ended<FileStore<FileFrom<T>>>, CommandFault>
+) -> Result<CommandEnd<FileStore<FileFrom<T>>>, CommandFault>
     ensures did { IfOk result (λ e. DoesOver (image_at T.Start)
         (LookEffect ShowsSummary e.outcome) e.conn) }
     ensures line { IfOk result (λ e. IfOk e.outcome SaysSummary) }
@@ -169,7 +169,7 @@ pub fn delta_named<T: Start>(
     start: T,
     summary: &Summary,
     from: u64,
-) -> Result<Ended<FileStore<FileFrom<T>>>, CommandFault>
+) -> Result<CommandEnd<FileStore<FileFrom<T>>>, CommandFault>
     ensures did { IfOk result (λ e. DoesOver (image_at T.Start)
         (PageEffect (ShowsDelta summary.now from) e.outcome) e.conn) }
     ensures line { IfOk result (λ e. IfOk e.outcome (SaysDelta summary.now from)) }
@@ -187,7 +187,7 @@ pub fn scrub_named<T: Start>(
     name: &str,
     start: T,
     from: u64,
-) -> Result<Ended<FileStore<FileFrom<T>>>, CommandFault>
+) -> Result<CommandEnd<FileStore<FileFrom<T>>>, CommandFault>
     ensures did { IfOk result (λ e. DoesOver (image_at T.Start)
         (PageEffect (ShowsPage from) e.outcome) e.conn) }
     ensures line { IfOk result (λ e. IfOk e.outcome (SaysPage from)) }
@@ -209,7 +209,7 @@ pub fn order_named<T: Start>(
     status: Status,
     number: u64,
     at: &Moment,
-) -> Result<Ended<FileStore<FileFrom<T>>>, CommandFault>
+) -> Result<CommandEnd<FileStore<FileFrom<T>>>, CommandFault>
     requires source { (is_filled source.now ≡ true) × (length source.now ≤ 1024) }
     requires order { (1 ≤ number) × (number ≤ max_sequence) }
     requires short { length at.now ≤ 64 }
@@ -234,7 +234,7 @@ pub fn service_named<T: Start>(
     source: &Text,
     is_source_named: bool,
     base: Option<u64>,
-) -> Result<Ended<FileStore<FileFrom<T>>>, CommandFault>
+) -> Result<CommandEnd<FileStore<FileFrom<T>>>, CommandFault>
     requires source { (is_filled source.now ≡ true) × (length source.now ≤ 1024) }
     requires base { IfSome base (λ n. n ≤ max_sequence) }
     ensures did { IfOk result (λ e. DoesOver (image_at T.Start)
@@ -254,7 +254,7 @@ pub fn describe_named<T: Start>(
     alloc: Global,
     name: &str,
     start: T,
-) -> Result<Ended<FileStore<FileFrom<T>>>, Trouble>
+) -> Result<CommandEnd<FileStore<FileFrom<T>>>, Trouble>
     ensures did { IfOk result (λ e. DoesOver (image_at T.Start)
         (DescribeEffect name.now e.outcome) e.conn) }
     ensures line { IfOk result (λ e. IfOk e.outcome (SaysDatabase name.now)) }
@@ -273,7 +273,7 @@ pub fn relay_named<T: Start>(
     start: T,
     source: &Text,
     after: u64,
-) -> Result<Ended<FileStore<FileFrom<T>>>, CommandFault>
+) -> Result<CommandEnd<FileStore<FileFrom<T>>>, CommandFault>
     requires { (is_filled source.now ≡ true) × (length source.now ≤ 1024) }
     ensures did { IfOk result (λ e. DoesOver (image_at T.Start)
         (RelayEffect source.now after e.outcome) e.conn) }
@@ -292,7 +292,7 @@ pub fn relay_all_named<T: Start>(
     name: &str,
     start: T,
     after: u64,
-) -> Result<Ended<FileStore<FileFrom<T>>>, CommandFault>
+) -> Result<CommandEnd<FileStore<FileFrom<T>>>, CommandFault>
     ensures did { IfOk result (λ e. DoesOver (image_at T.Start)
         (RelayAllEffect after e.outcome) e.conn) }
     ensures line { IfOk result (λ e. IfOk e.outcome (SaysAllRows after)) }

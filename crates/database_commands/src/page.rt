@@ -6,22 +6,23 @@ ghost use Rattle.inbox.specs.KeyOrder.{key_cmp};
 ghost use Rattle.inbox.specs.Ordered.{append_new};
 ghost use Rattle.inbox.specs.Sets.{set_of};
 ghost use Rattle.site.specs.Delta.{delta};
-ghost use Rattle.site.specs.Page.{page};
+ghost use Rattle.site.specs.Page.{max_page, page};
 ghost use Rattle.database_layout.specs.Layout.{has_inbox};
 ghost use Rattle.outbox.specs.Call.{Leaves};
+ghost use Rattle.database_commands.specs.Effect.{LookEffect, PageEffect};
 ghost use Rattle.database_commands.specs.Held.{HasDelta, HasEvents, KeepsEvents, KeepsRows, SaysDelta, SaysPage, SaysSummary, SaysSummaryOf, ShowsDelta, ShowsEvents, ShowsLacking, ShowsPage, ShowsSet, ShowsSummary};
 ghost use Rattle.database_commands.specs.Print.{batch_line};
 
-use crate::Ended;
+use crate::CommandEnd;
 use crate::fault::{CommandFault, of_table};
 use crate::intake::loaded;
-use crate::pages::{EventPages, MAX_PAGE};
+use crate::pages::EventPages;
 use crate::text::batch_line;
 use attributes::{Batch, Text};
 use coverage::Summary;
 use database_layout::has_inbox;
 use inbox_table::{Inspected, Loaded, NotMade, inspect};
-use site::Site;
+use site::{MAX_PAGE, Site};
 use sqlite::{Alter, Connection};
 use std::alloc::{AllocError, Global};
 
@@ -40,7 +41,7 @@ pub struct Paged<S: Alter + Drop> {
 }
 
 /// What a database holds; the table is made where there is none.
-fn contents_of<S: Alter + Drop>(alloc: Global, conn: Connection<S>) -> Contents<S>
+fn own_contents<S: Alter + Drop>(alloc: Global, conn: Connection<S>) -> Contents<S>
     ensures events { HasCleanDisk (state S.Store result.conn) → IfOk result.events
         (ShowsEvents (state S.Store conn).now) }
     ensures list { HasCleanDisk (state S.Store result.conn)
@@ -103,21 +104,18 @@ pub fn held<S: Alter + Drop>(alloc: Global, conn: Connection<S>) -> Contents<S>
 
 /// Which events a database holds, as the line of its summary. Nothing is written, also where it is
 /// refused. Time in proportion to all events and their texts.
-pub fn summary<S: Alter + Drop>(alloc: Global, conn: Connection<S>) -> Ended<S>
-    ensures shown { HasCleanDisk (state S.Store result.conn) → IfOk result.outcome
-        (ShowsSummary (state S.Store conn).now) }
-    ensures left { Leaves (state S.Store conn) (state S.Store result.conn) }
+pub fn summary<S: Alter + Drop>(alloc: Global, conn: Connection<S>) -> CommandEnd<S>
+    ensures did { LookEffect ShowsSummary result.outcome (state S.Store conn)
+        (state S.Store result.conn) }
     ensures line { IfOk result.outcome SaysSummary }
-    ensures without { has_inbox (state S.Store conn).now.schema ≡ false
-        → (state S.Store result.conn).now ≡ (state S.Store conn).now }
 {
     let Contents { conn, events } = held(alloc, conn);
     match events {
         Ok(events) => {
             let outcome = summary_line(alloc, events);
-            Ended { conn, outcome }
+            CommandEnd { conn, outcome }
         }
-        Err(fault) => Ended {
+        Err(fault) => CommandEnd {
             conn,
             outcome: Err(fault),
         },
@@ -127,12 +125,9 @@ pub fn summary<S: Alter + Drop>(alloc: Global, conn: Connection<S>) -> Ended<S>
 /// All events of a database in key order, to be printed page after page. Nothing is written, also
 /// where it is refused. Time in proportion to all events.
 pub fn scrub_pages<S: Alter + Drop>(alloc: Global, conn: Connection<S>) -> Paged<S>
-    ensures pages { HasCleanDisk (state S.Store result.conn) → IfOk result.pages
-        (ShowsSet (state S.Store conn).now) }
-    ensures left { Leaves (state S.Store conn) (state S.Store result.conn) }
+    ensures did { LookEffect ShowsSet result.pages (state S.Store conn)
+        (state S.Store result.conn) }
     ensures some { IfOk result.pages HasEvents }
-    ensures without { has_inbox (state S.Store conn).now.schema ≡ false
-        → (state S.Store result.conn).now ≡ (state S.Store conn).now }
 {
     let Contents { conn, events } = held(alloc, conn);
     match events {
@@ -154,12 +149,9 @@ pub fn delta_pages<S: Alter + Drop>(
     conn: Connection<S>,
     summary: Summary,
 ) -> Paged<S>
-    ensures pages { HasCleanDisk (state S.Store result.conn) → IfOk result.pages
-        (ShowsLacking summary (state S.Store conn).now) }
-    ensures left { Leaves (state S.Store conn) (state S.Store result.conn) }
+    ensures did { LookEffect (ShowsLacking summary) result.pages (state S.Store conn)
+        (state S.Store result.conn) }
     ensures some { IfOk result.pages (HasDelta summary) }
-    ensures without { has_inbox (state S.Store conn).now.schema ≡ false
-        → (state S.Store result.conn).now ≡ (state S.Store conn).now }
 {
     let Contents { conn, events } = held(alloc, conn);
     match events {
@@ -182,24 +174,18 @@ pub fn delta<S: Alter + Drop>(
     conn: Connection<S>,
     summary: &Summary,
     from: u64,
-) -> Ended<S>
-    ensures shown { HasCleanDisk (state S.Store result.conn) → IfOk result.outcome
-        (ShowsDelta summary.now from (state S.Store conn).now) }
-    ensures list { HasCleanDisk (state S.Store result.conn)
-        → IsTrue (state S.Store result.conn).is_open
-        → KeepsEvents (state S.Store conn).now (state S.Store result.conn).now }
-    ensures beside { HasCleanDisk (state S.Store result.conn)
-        → IsTrue (state S.Store result.conn).is_open
-        → KeepsRows (state S.Store conn).now (state S.Store result.conn).now }
+) -> CommandEnd<S>
+    ensures did { PageEffect (ShowsDelta summary.now from) result.outcome (state S.Store conn)
+        (state S.Store result.conn) }
     ensures line { IfOk result.outcome (SaysDelta summary.now from) }
 {
-    let Contents { conn, events } = contents_of(alloc, conn);
+    let Contents { conn, events } = own_contents(alloc, conn);
     match events {
         Ok(events) => {
             let outcome = delta_line(alloc, events, summary, from);
-            Ended { conn, outcome }
+            CommandEnd { conn, outcome }
         }
-        Err(fault) => Ended {
+        Err(fault) => CommandEnd {
             conn,
             outcome: Err(fault),
         },
@@ -209,24 +195,18 @@ pub fn delta<S: Alter + Drop>(
 /// The page of all events of a database in key order, at most 100 from a place on. The table is
 /// made where there is none, and the events stay, also where it is refused, as does a service beside
 /// them. Time in proportion to all events.
-pub fn scrub<S: Alter + Drop>(alloc: Global, conn: Connection<S>, from: u64) -> Ended<S>
-    ensures shown { HasCleanDisk (state S.Store result.conn) → IfOk result.outcome
-        (ShowsPage from (state S.Store conn).now) }
-    ensures list { HasCleanDisk (state S.Store result.conn)
-        → IsTrue (state S.Store result.conn).is_open
-        → KeepsEvents (state S.Store conn).now (state S.Store result.conn).now }
-    ensures beside { HasCleanDisk (state S.Store result.conn)
-        → IsTrue (state S.Store result.conn).is_open
-        → KeepsRows (state S.Store conn).now (state S.Store result.conn).now }
+pub fn scrub<S: Alter + Drop>(alloc: Global, conn: Connection<S>, from: u64) -> CommandEnd<S>
+    ensures did { PageEffect (ShowsPage from) result.outcome (state S.Store conn)
+        (state S.Store result.conn) }
     ensures line { IfOk result.outcome (SaysPage from) }
 {
-    let Contents { conn, events } = contents_of(alloc, conn);
+    let Contents { conn, events } = own_contents(alloc, conn);
     match events {
         Ok(events) => {
             let outcome = page_line(alloc, events, from);
-            Ended { conn, outcome }
+            CommandEnd { conn, outcome }
         }
-        Err(fault) => Ended {
+        Err(fault) => CommandEnd {
             conn,
             outcome: Err(fault),
         },
@@ -234,7 +214,7 @@ pub fn scrub<S: Alter + Drop>(alloc: Global, conn: Connection<S>, from: u64) -> 
 }
 
 /// The site of some events.
-pub(crate) fn site_of(alloc: Global, mut events: Batch) -> Result<Site, AllocError>
+pub(crate) fn site_over(alloc: Global, mut events: Batch) -> Result<Site, AllocError>
     ensures { IfOk result (λ site. site ≡ append_new key_cmp [] events) }
 {
     let mut site = Site::empty(alloc);
@@ -248,7 +228,7 @@ pub(crate) fn site_of(alloc: Global, mut events: Batch) -> Result<Site, AllocErr
 fn summary_line(alloc: Global, events: Batch) -> Result<Text, CommandFault>
     ensures { IfOk result (SaysSummaryOf (set_of (append_new key_cmp [] events))) }
 {
-    let mut site = site_of(alloc, events)?;
+    let mut site = site_over(alloc, events)?;
     let summary = site.summary()?;
     let mut line = summary.to_text()?.into_string();
     line.push_str("\n")?;
@@ -259,7 +239,7 @@ fn summary_line(alloc: Global, events: Batch) -> Result<Text, CommandFault>
 fn all_pages(alloc: Global, events: Batch) -> Result<EventPages, CommandFault>
     ensures { IfOk result (λ pages. pages ≡ set_of (append_new key_cmp [] events)) }
 {
-    let site = site_of(alloc, events)?;
+    let site = site_over(alloc, events)?;
     Ok(EventPages::of_all(alloc, site))
 }
 
@@ -268,7 +248,7 @@ fn lacking_pages(alloc: Global, events: Batch, summary: Summary) -> Result<Event
     ensures { IfOk result (λ pages.
         pages ≡ delta (set_of (append_new key_cmp [] events)) summary) }
 {
-    let site = site_of(alloc, events)?;
+    let site = site_over(alloc, events)?;
     Ok(EventPages::of_delta(alloc, site, summary)?)
 }
 
@@ -280,9 +260,9 @@ fn delta_line(
     from: u64,
 ) -> Result<Text, CommandFault>
     ensures { IfOk result (λ text. text ≡ batch_line
-        (page (delta (set_of (append_new key_cmp [] events)) summary.now) from 100)) }
+        (page (delta (set_of (append_new key_cmp [] events)) summary.now) from max_page)) }
 {
-    let site = site_of(alloc, events)?;
+    let site = site_over(alloc, events)?;
     let page = site.delta_page(summary, from, MAX_PAGE)?;
     Ok(batch_line(alloc, &page)?)
 }
@@ -290,9 +270,9 @@ fn delta_line(
 /// The line of a page of the events.
 fn page_line(alloc: Global, events: Batch, from: u64) -> Result<Text, CommandFault>
     ensures { IfOk result (λ text.
-        text ≡ batch_line (page (set_of (append_new key_cmp [] events)) from 100)) }
+        text ≡ batch_line (page (set_of (append_new key_cmp [] events)) from max_page)) }
 {
-    let site = site_of(alloc, events)?;
+    let site = site_over(alloc, events)?;
     let page = site.page(from, MAX_PAGE)?;
     Ok(batch_line(alloc, &page)?)
 }

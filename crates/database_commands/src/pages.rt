@@ -8,12 +8,9 @@ ghost use Rattle.database_commands.specs.steps.Left.{AreCompared, left_of};
 use crate::text::batch_line;
 use attributes::Text;
 use coverage::Summary;
-use site::{DeltaPart, Site};
+use site::{DeltaPart, MAX_PAGE, Site};
 use std::alloc::{AllocError, Global};
 use std::marker::Model;
-
-/// The most events of a page.
-pub const MAX_PAGE: u64 = 100;
 
 /// What a peer lacks is found by two summaries: the peer's, and the site's own.
 #[derive(Drop)]

@@ -1,5 +1,5 @@
 //! The service of a database: commands on its orders, and the rows of its outbox.
-ghost use Rattle.std.specs.Prelude.{◌≡◌, ◌≢◌, ◌<◌, ◌≤◌, ◌↔◌, ◌⊎◌, ◌++◌, ◌-◌, ℕ, suc, List, [], length, false, string_bytes, true, IfErr, IfOk, IsTrue, Ok, OnErr, OnOk};
+ghost use Rattle.std.specs.Prelude.{◌≡◌, ◌≢◌, ◌<◌, ◌≤◌, ◌↔◌, ◌⊎◌, ◌++◌, ◌-◌, suc, List, [], length, false, string_bytes, true, IfErr, IfOk, IsTrue, Ok, OnErr, OnOk};
 ghost use Rattle.std.specs.List.{AllByRecursion};
 ghost use Rattle.sqlite.specs.Held.{state};
 ghost use Rattle.sqlite.specs.State.{HasCleanDisk};
@@ -16,19 +16,20 @@ ghost use Rattle.outbox.specs.declared.fault.OutboxFault.TheVariants.{OutOfMemor
 ghost use Rattle.relay.specs.Relay.{ForNextRows};
 ghost use Rattle.database_commands.specs.declared.fault.CommandFault.TheVariants as command;
 ghost use Rattle.database_commands.specs.Fault.{of_outbox};
-ghost use Rattle.database_commands.specs.Held.{ForAllRows, HasAnother, IsBehind, IsMeant, IsNoOrders, IsServed, KeepsEvents, KeepsRows, KeepsService, Orders, RefusesOrder, SaysAllRows, SaysOrder, SaysRows, ShowsAllRows, ShowsRows};
+ghost use Rattle.database_commands.specs.Effect.{OrderEffect};
+ghost use Rattle.database_commands.specs.Held.{ForAllRows, HasAnother, IsBehind, IsNoOrders, IsServed, KeepsEvents, KeepsRows, KeepsService, SaysAllRows, SaysOrder, SaysRows, ShowsAllRows, ShowsRows};
 ghost use Rattle.database_commands.specs.Pages.{max_page, pages_text};
 ghost use Rattle.database_commands.specs.Print.{batch_line, event_line};
 ghost use Rattle.database_commands.specs.steps.Left.{IsNextPage};
 
-use crate::Ended;
+use crate::CommandEnd;
 use crate::fault::{CommandFault, of_outbox, of_relay};
-use crate::pages::MAX_PAGE;
 use crate::text::{batch_line, event_line};
 use attributes::{Batch, Moment, Sequenced, Text};
 use database_layout::has_name;
 use outbox::{NotMade, OutboxFault, Service, Status};
 use relay::{MemoryRoute, Relay};
+use site::MAX_PAGE;
 use sqlite::{Alter, Connection};
 use std::alloc::{AllocError, Global};
 
@@ -140,30 +141,13 @@ pub fn order<S: Alter + Drop>(
     status: Status,
     order: u64,
     at: &Moment,
-) -> Ended<S>
+) -> CommandEnd<S>
     requires source { (is_filled source.now ≡ true) × (length source.now ≤ 1024) }
     requires order { (1 ≤ order) × (order ≤ max_sequence) }
     requires short { length at.now ≤ 64 }
-    ensures ordered { HasCleanDisk (state S.Store result.conn) → IfOk result.outcome
-        (Orders source.now (record { status = status; order = order; at = at.now })
-        (state S.Store conn).now (state S.Store result.conn).now) }
-    ensures refused { HasCleanDisk (state S.Store result.conn)
-        → IsTrue (state S.Store result.conn).is_open → IfErr result.outcome (λ f.
-        f ≢ command.OutOfMemory → f ≢ command.Store → f ≢ command.Foreign
-        → f ≢ command.AnotherSource → RefusesOrder source.now status order (state S.Store conn).now f) }
-    ensures kept { HasCleanDisk (state S.Store result.conn)
-        → IsTrue (state S.Store result.conn).is_open → OnErr result.outcome
-        (KeepsService source.now (state S.Store conn).now (state S.Store result.conn).now) }
-    ensures meant { IsTrue is_source_named → HasCleanDisk (state S.Store result.conn)
-        → OnOk result.outcome (IsMeant source.now (state S.Store conn).now) }
-    ensures another { IfErr result.outcome (λ f. f ≡ command.AnotherSource
-        → IsTrue is_source_named × (HasCleanDisk (state S.Store result.conn)
-        → HasAnother source.now (state S.Store conn).now)) }
-    ensures untouched { IfErr result.outcome (λ f. f ≡ command.AnotherSource
-        → IsAsItWas (state S.Store conn) (state S.Store result.conn)) }
-    ensures beside { HasCleanDisk (state S.Store result.conn)
-        → IsTrue (state S.Store result.conn).is_open
-        → KeepsEvents (state S.Store conn).now (state S.Store result.conn).now }
+    ensures did { OrderEffect is_source_named source.now
+        (record { status = status; order = order; at = at.now }) result.outcome
+        (state S.Store conn) (state S.Store result.conn) }
     ensures line { IfOk result.outcome (SaysOrder is_source_named source.now
         (record { status = status; order = order; at = at.now })) }
 {
@@ -171,11 +155,11 @@ pub fn order<S: Alter + Drop>(
         Ok(mut service) => {
             let outcome = command_line(alloc, &mut service, status, order, at);
             let conn = service.into_connection();
-            Ended { conn, outcome }
+            CommandEnd { conn, outcome }
         }
         Err(refused) => {
             let NotServed { conn, fault } = refused;
-            Ended {
+            CommandEnd {
                 conn,
                 outcome: Err(fault),
             }
@@ -261,7 +245,7 @@ pub fn relay<S: Alter + Drop>(
     conn: Connection<S>,
     source: &Text,
     after: u64,
-) -> Ended<S>
+) -> CommandEnd<S>
     requires { (is_filled source.now ≡ true) × (length source.now ≤ 1024) }
     ensures shown { HasCleanDisk (state S.Store result.conn) → IfOk result.outcome
         (ShowsRows source.now after (state S.Store conn).now) }
@@ -278,11 +262,11 @@ pub fn relay<S: Alter + Drop>(
         Ok(mut service) => {
             let outcome = rows_line(alloc, &mut service, after);
             let conn = service.into_connection();
-            Ended { conn, outcome }
+            CommandEnd { conn, outcome }
         }
         Err(refused) => {
             let NotServed { conn, fault } = refused;
-            Ended {
+            CommandEnd {
                 conn,
                 outcome: Err(fault),
             }
@@ -332,7 +316,7 @@ fn are_behind(events: &Batch, after: u64) -> bool
 /// All rows of a database's service with a greater number than `after`, in pages of 100, each as the
 /// line of a batch; nothing where there are none. Nothing is made: where there is no service, there
 /// are no rows. Time and memory in proportion to all rows, for the opening, and to the text.
-pub fn relay_all<S: Alter + Drop>(alloc: Global, conn: Connection<S>, after: u64) -> Ended<S>
+pub fn relay_all<S: Alter + Drop>(alloc: Global, conn: Connection<S>, after: u64) -> CommandEnd<S>
     ensures shown { HasCleanDisk (state S.Store result.conn) → IfOk result.outcome
         (ShowsAllRows after (state S.Store conn).now) }
     ensures kept { HasCleanDisk (state S.Store result.conn)
@@ -347,14 +331,14 @@ pub fn relay_all<S: Alter + Drop>(alloc: Global, conn: Connection<S>, after: u64
     if has_name(conn.schema()) {
         return found_rows(alloc, conn, after);
     }
-    Ended {
+    CommandEnd {
         conn,
         outcome: Ok(Text::from_string(String::new(alloc))),
     }
 }
 
 /// All rows with a greater number of the service that is there.
-fn found_rows<S: Alter + Drop>(alloc: Global, conn: Connection<S>, after: u64) -> Ended<S>
+fn found_rows<S: Alter + Drop>(alloc: Global, conn: Connection<S>, after: u64) -> CommandEnd<S>
     ensures shown { HasCleanDisk (state S.Store result.conn) → IfOk result.outcome
         (ShowsAllRows after (state S.Store conn).now) }
     ensures kept { HasCleanDisk (state S.Store result.conn)
@@ -367,12 +351,12 @@ fn found_rows<S: Alter + Drop>(alloc: Global, conn: Connection<S>, after: u64) -
         Ok(mut service) => {
             let outcome = row_lines(alloc, &mut service, after);
             let conn = service.into_connection();
-            Ended { conn, outcome }
+            CommandEnd { conn, outcome }
         }
         Err(refused) => {
             let NotMade { conn, fault } = refused;
             let outcome = Err(of_outbox(fault));
-            Ended { conn, outcome }
+            CommandEnd { conn, outcome }
         }
     }
 }

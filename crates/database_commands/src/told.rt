@@ -1,5 +1,5 @@
 //! The service of a database: made where there is none, and told.
-ghost use Rattle.std.specs.Prelude.{◌≡◌, ◌≢◌, ◌≤◌, ◌⊎◌, ℕ, length, false, true, unwrap_or, IfErr, IfOk, IfSome, IsFalse, IsTrue, OnErr, OnOk};
+ghost use Rattle.std.specs.Prelude.{◌≡◌, ◌≢◌, ◌≤◌, ◌⊎◌, length, false, true, unwrap_or, IfErr, IfOk, IfSome, IsFalse, IsTrue, OnErr, OnOk};
 ghost use Rattle.sqlite.specs.Held.{state};
 ghost use Rattle.sqlite.specs.State.{HasCleanDisk};
 ghost use Rattle.attributes.specs.Character.{is_filled};
@@ -8,12 +8,13 @@ ghost use Rattle.database_layout.specs.Layout.{has_name};
 ghost use Rattle.outbox.specs.Call.{IsAsItWas, IsFounded, IsSettled, Leaves};
 ghost use Rattle.outbox.specs.Shown.{IsNoService};
 ghost use Rattle.database_commands.specs.declared.fault.CommandFault.TheVariants as command;
+ghost use Rattle.database_commands.specs.Effect.{ServiceEffect};
 ghost use Rattle.database_commands.specs.Held.{HasAnother, IsNoOrders};
 ghost use Rattle.database_commands.specs.Print.{service_line};
-ghost use Rattle.database_commands.specs.Service.{HasOtherBase, IsOtherBase, IsTold, LeavesOrFounds, SaysService, TellsOrFounds};
+ghost use Rattle.database_commands.specs.Service.{HasOtherBase, IsOtherBase, IsTold, LeavesOrFounds, SaysService};
 ghost use Rattle.database_commands.specs.steps.Told.{IsLineOf, TellsEach};
 
-use crate::Ended;
+use crate::CommandEnd;
 use crate::fault::{CommandFault, of_outbox};
 use crate::service::{BASE, is_same};
 use crate::text::service_line;
@@ -37,36 +38,11 @@ pub fn tell_service<S: Alter + Drop>(
     source: &Text,
     is_source_named: bool,
     base: Option<u64>,
-) -> Ended<S>
+) -> CommandEnd<S>
     requires source { (is_filled source.now ≡ true) × (length source.now ≤ 1024) }
     requires base { IfSome base (λ n. n ≤ max_sequence) }
-    ensures told { HasCleanDisk (state S.Store result.conn) → IfOk result.outcome
-        (TellsOrFounds source.now (unwrap_or base 0)
-        (state S.Store conn).now (state S.Store result.conn).now) }
-    ensures stands { HasCleanDisk (state S.Store result.conn) → IfOk result.outcome
-        (IsTold (state S.Store result.conn).now) }
-    ensures made { has_name (state S.Store conn).now.schema ≡ false
-        → HasCleanDisk (state S.Store result.conn) → OnOk result.outcome
-        (IsFounded source.now (unwrap_or base 0)
-        (state S.Store conn).now (state S.Store result.conn).now) }
-    ensures settled { has_name (state S.Store conn).now.schema ≡ false
-        → HasCleanDisk (state S.Store result.conn)
-        → OnOk result.outcome (IsSettled (state S.Store result.conn)) }
-    ensures there { has_name (state S.Store conn).now.schema ≡ true
-        → IsAsItWas (state S.Store conn) (state S.Store result.conn) }
-    ensures back { OnErr result.outcome
-        (IsAsItWas (state S.Store conn) (state S.Store result.conn)) }
-    ensures open { HasCleanDisk (state S.Store result.conn)
-        → OnOk result.outcome (IsTrue (state S.Store result.conn).is_open) }
-    ensures crash { LeavesOrFounds source.now (unwrap_or base 0)
+    ensures did { ServiceEffect is_source_named source.now base result.outcome
         (state S.Store conn) (state S.Store result.conn) }
-    ensures another { IfErr result.outcome (λ f. f ≡ command.AnotherSource
-        → IsTrue is_source_named × (HasCleanDisk (state S.Store result.conn)
-        → HasAnother source.now (state S.Store conn).now)) }
-    ensures foreign { IfErr result.outcome (λ f. f ≡ command.Foreign
-        → HasCleanDisk (state S.Store result.conn) → IsNoService (state S.Store conn).now
-        ⊎ HasOtherBase is_source_named source.now base (state S.Store conn).now) }
-    ensures fault { IfErr result.outcome IsNoOrders }
     ensures line { IfOk result.outcome (SaysService is_source_named source.now base) }
 {
     if has_name(conn.schema()) {
@@ -76,7 +52,12 @@ pub fn tell_service<S: Alter + Drop>(
 }
 
 /// Makes a service with this source and base, and tells of it.
-fn made<S: Alter + Drop>(alloc: Global, conn: Connection<S>, source: &Text, base: u64) -> Ended<S>
+fn made<S: Alter + Drop>(
+    alloc: Global,
+    conn: Connection<S>,
+    source: &Text,
+    base: u64,
+) -> CommandEnd<S>
     requires source { (is_filled source.now ≡ true) × (length source.now ≤ 1024) }
     requires base { base ≤ max_sequence }
     requires none { has_name (state S.Store conn).now.schema ≡ false }
@@ -98,7 +79,7 @@ fn made<S: Alter + Drop>(alloc: Global, conn: Connection<S>, source: &Text, base
     let line = match service_line(alloc, source.as_str(), base, 0, 0) {
         Ok(line) => line,
         Err(_) => {
-            return Ended {
+            return CommandEnd {
                 conn,
                 outcome: Err(CommandFault::OutOfMemory),
             };
@@ -107,14 +88,14 @@ fn made<S: Alter + Drop>(alloc: Global, conn: Connection<S>, source: &Text, base
     match Service::create(alloc, conn, source, base) {
         Ok(service) => {
             let conn = service.into_connection();
-            Ended {
+            CommandEnd {
                 conn,
                 outcome: Ok(line),
             }
         }
         Err(refused) => {
             let NotMade { conn, fault } = refused;
-            Ended {
+            CommandEnd {
                 conn,
                 outcome: Err(of_outbox(fault)),
             }
@@ -129,7 +110,7 @@ pub(crate) fn told<S: Alter + Drop>(
     source: &Text,
     is_named: bool,
     base: Option<u64>,
-) -> Ended<S>
+) -> CommandEnd<S>
     ensures left { Leaves (state S.Store conn) (state S.Store result.conn) }
     ensures told { HasCleanDisk (state S.Store result.conn) → IfOk result.outcome
         (λ text. IsTrue (state S.Store result.conn).is_open
@@ -147,11 +128,11 @@ pub(crate) fn told<S: Alter + Drop>(
         Ok(service) => {
             let outcome = line_of(alloc, &service, source, is_named, base);
             let conn = service.into_connection();
-            Ended { conn, outcome }
+            CommandEnd { conn, outcome }
         }
         Err(refused) => {
             let NotMade { conn, fault } = refused;
-            Ended {
+            CommandEnd {
                 conn,
                 outcome: Err(of_outbox(fault)),
             }

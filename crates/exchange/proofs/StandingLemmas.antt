@@ -18,9 +18,9 @@ use Rattle.exchange.specs.declared.world.Hosted.{Hosted}
 use Rattle.exchange.specs.declared.step.Step.{Step}
 use Rattle.exchange.specs.Place.{Place, gains, nothing, place_at}
 use Rattle.site.specs.Arrival.{LacksAt}
-use Rattle.exchange.specs.Schedule.{FitsIn, IsShortOfNext, after, world_after}
+use Rattle.exchange.specs.Schedule.{FitsIn, IsShortOfNext, after, after_part, world_after}
 use Rattle.exchange.specs.Standing.{Stands, StandsFor}
-use Rattle.exchange.specs.steps.Given.{GivesTo, site_at}
+use Rattle.exchange.specs.steps.Given.{Gives, GivesTo, after_made, site_at}
 use Rattle.exchange.proofs.TransferLemmas.{add_all-append, length-append_new}
 
 module _ {A B : Type 0} (R : A → B → Type 0) where
@@ -102,6 +102,12 @@ gives_stands sets old new w i L g s =
       within = let more = length-append_new key_cmp g.host.site L in omega (arith, ap length g.arrivals, one.within, more.0);
       once = subst (λ l. length (set_of l) ≡ length l) (sym g.arrivals) (once-append_new sets g.host.site L one.once);
     }))
+
+-- a step by which a site takes events, or a part of them
+pub makes : SetLaws → (old new : List Hosted) (w : List Place) (step : Step) (i : ℕ) (L : List EventValue) → after step w ≡ gains w i L → ((n : ℕ) → after_part n step w ≡ gains w i (take n L))
+    → (r : Result (Unit {0}) ℕ) → Gives old new i L r → Stands old w → Stands new (after_made r step w)
+makes sets old new w step i L whole part (Ok _) g s = subst (Stands new) (sym whole) (gives_stands sets old new w i L g s)
+makes sets old new w step i L whole part (Err n) g s = subst (Stands new) (sym (part n)) (gives_stands sets old new w i (take n L) g s)
 
 -- a site that is taken out and put back with events
 pub given_twice : (hosts : List Hosted) (to : ℕ) (h again : Hosted) (empty site L : List EventValue) → to < length hosts → h ≡ get_or hosts to h → again ≡ get_or (set hosts to (record { site = empty; kept = h.kept })) to again

@@ -1,2 +1,3 @@
 -- Words of private clauses alone: whoever reads what is promised needs none of them.
 pub mod Given
+pub mod Moved

@@ -7,9 +7,9 @@ ghost use Rattle.inbox.specs.Ordered.{append_new};
 ghost use Rattle.inbox.specs.Sets.{set_of};
 ghost use Rattle.exchange.specs.Lacking.{lacking};
 ghost use Rattle.exchange.specs.Place.{Place, start};
-ghost use Rattle.exchange.specs.Schedule.{FitsIn, IsCutShort, IsShortOfNext, StopsAt, after, after_part, world_after};
+ghost use Rattle.exchange.specs.Schedule.{FitsIn, IsCutShort, IsShortOfNext, StopsAt, world_after};
 ghost use Rattle.exchange.specs.Standing.{Stands, StoppedAt, StoppedIn};
-ghost use Rattle.exchange.specs.steps.Given.{GivesTo, site_at};
+ghost use Rattle.exchange.specs.steps.Given.{Gives, after_made, site_at};
 
 use crate::step::{Step, Steps};
 use crate::transfer::{gossip, scrub};
@@ -53,9 +53,7 @@ fn copy_of(alloc: Global, batch: &Batch) -> Result<Batch, AllocError>
 fn deliver(hosts: &mut Vec<Hosted>, to: usize, mut batch: Batch) -> Result<(), u64>
     requires { to < vec_len hosts.old }
     ensures sites { vec_len hosts.new ≡ vec_len hosts.old }
-    ensures ok { OnOk result (GivesTo hosts.old.items hosts.new.items to batch) }
-    ensures err { IfErr result (λ part. GivesTo hosts.old.items hosts.new.items to
-        (take part batch)) }
+    ensures gives { Gives hosts.old.items hosts.new.items to batch result }
     ensures short { IfErr result (λ part.
         IsShortOfNext (set_of (site_at hosts.old.items to)) part batch) }
 {
@@ -75,11 +73,8 @@ fn gossip_between(alloc: Global, hosts: &mut Vec<Hosted>, from: usize, to: usize
     requires taker { to < vec_len hosts.old }
     requires others { from ≢ to }
     ensures sites { vec_len hosts.new ≡ vec_len hosts.old }
-    ensures ok { OnOk result (GivesTo hosts.old.items hosts.new.items to
-        (lacking (set_of (site_at hosts.old.items from)) (set_of (site_at hosts.old.items to)))) }
-    ensures err { IfErr result (λ part. GivesTo hosts.old.items hosts.new.items to
-        (take part
-        (lacking (set_of (site_at hosts.old.items from)) (set_of (site_at hosts.old.items to))))) }
+    ensures gives { Gives hosts.old.items hosts.new.items to (lacking
+        (set_of (site_at hosts.old.items from)) (set_of (site_at hosts.old.items to))) result }
     ensures short { IfErr result (λ part. IsCutShort part
         (lacking (set_of (site_at hosts.old.items from)) (set_of (site_at hosts.old.items to)))) }
     ensures giver { OnErr result (set_of (site_at hosts.old.items from) ≢ []) }
@@ -100,10 +95,8 @@ fn scrub_between(alloc: Global, hosts: &mut Vec<Hosted>, from: usize, to: usize)
     requires taker { to < vec_len hosts.old }
     requires others { from ≢ to }
     ensures sites { vec_len hosts.new ≡ vec_len hosts.old }
-    ensures ok { OnOk result (GivesTo hosts.old.items hosts.new.items to
-        (set_of (site_at hosts.old.items from))) }
-    ensures err { IfErr result (λ part. GivesTo hosts.old.items hosts.new.items to
-        (take part (set_of (site_at hosts.old.items from)))) }
+    ensures gives { Gives hosts.old.items hosts.new.items to
+        (set_of (site_at hosts.old.items from)) result }
     ensures short { IfErr result (λ part. IsShortOfNext (set_of (site_at hosts.old.items to)) part
         (set_of (site_at hosts.old.items from))) }
 {
@@ -141,10 +134,8 @@ fn restarted(alloc: Global, host: &Hosted) -> Result<Site, AllocError>
 fn make_step(alloc: Global, hosts: &mut Vec<Hosted>, step: &Step) -> Result<(), u64>
     requires { FitsIn (vec_len hosts.old) step.now }
     ensures sites { vec_len hosts.new ≡ vec_len hosts.old }
-    ensures ok { OnOk result ((w : List Place) → Stands hosts.old.items w
-        → Stands hosts.new.items (after step.now w)) }
-    ensures err { IfErr result (λ part. (w : List Place) → Stands hosts.old.items w
-        → Stands hosts.new.items (after_part part step.now w)) }
+    ensures made { (w : List Place) → Stands hosts.old.items w
+        → Stands hosts.new.items (after_made result step.now w) }
     ensures stops { IfErr result (λ part. (w : List Place) → Stands hosts.old.items w
         → StopsAt part step.now w) }
 {

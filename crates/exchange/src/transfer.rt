@@ -1,22 +1,20 @@
 //! Events that go from one site to another.
 
-ghost use Rattle.std.specs.Prelude.{◌≡◌, ◌≢◌, ◌+◌, ◌<◌, ◌≤◌, [], drop, length, take, IfErr, IfOk, IfSome, OnErr, OnOk};
+ghost use Rattle.std.specs.Prelude.{◌≡◌, ◌≢◌, ◌+◌, ◌<◌, ◌≤◌, [], drop, length, take, IfErr, IfOk, IfSome, OnErr};
 ghost use Rattle.inbox.specs.KeyOrder.{key_cmp};
 ghost use Rattle.inbox.specs.Ordered.{append_new};
 ghost use Rattle.inbox.specs.Sets.{set_of, union};
-ghost use Rattle.site.specs.Arrival.{LacksAt};
+ghost use Rattle.site.specs.Arrival.{Brings, LacksAt};
 ghost use Rattle.site.specs.Delta.{AreAll, Tells, delta, lacking_of};
 ghost use Rattle.exchange.specs.Lacking.{lacking};
 ghost use Rattle.exchange.specs.Schedule.{IsCutShort};
+ghost use Rattle.exchange.specs.steps.Moved.{Moves};
 
 use coverage::Summary;
 use coverage::laws::summaries_stand_for_sets;
 use inbox::{Counts, Short};
-use site::Site;
+use site::{MAX_PAGE, Site};
 use std::collections::BTreeSet;
-
-/// How many events go at a time.
-const PAGE: u64 = 100;
 
 /// How many events went, and the place of key order to go on from.
 #[derive(Clone, Copy)]
@@ -38,27 +36,11 @@ fn move_part(
     requires place { place ≤ length (set_of from.now) }
     requires tells { Tells (set_of from.now) peer.now own.now }
     requires all { IfSome among.now (AreAll (set_of from.now) peer.now) }
-    ensures arrivals { IfOk result (λ m. to.new ≡ append_new key_cmp to.old
-        (take m.count (lacking_of (set_of from.now) peer.now (drop place (set_of from.now))))) }
-    ensures set { IfOk result (λ m. set_of to.new ≡ union (set_of to.old)
-        (take m.count (lacking_of (set_of from.now) peer.now (drop place (set_of from.now))))) }
-    ensures all { IfOk result (λ m. m.count ≡ 0
-        → lacking_of (set_of from.now) peer.now (drop place (set_of from.now)) ≡ []) }
-    ensures rest { IfOk result (λ m.
-        lacking_of (set_of from.now) peer.now (drop m.next (set_of from.now))
-        ≡ drop m.count (lacking_of (set_of from.now) peer.now (drop place (set_of from.now)))) }
-    ensures within { IfOk result (λ m. m.next ≤ length (set_of from.now)) }
-    ensures behind { IfOk result (λ m. place + m.count ≤ m.next) }
-    ensures counted { IfOk result (λ m. m.count
-        ≤ length (lacking_of (set_of from.now) peer.now (drop place (set_of from.now)))) }
-    ensures short { IfErr result (λ part. to.new ≡ append_new key_cmp to.old
-        (take part (lacking_of (set_of from.now) peer.now (drop place (set_of from.now))))) }
-    ensures short_set { IfErr result (λ part. set_of to.new ≡ union (set_of to.old)
-        (take part (lacking_of (set_of from.now) peer.now (drop place (set_of from.now))))) }
-    ensures short_taken { IfErr result (λ part. part
-        < length (lacking_of (set_of from.now) peer.now (drop place (set_of from.now)))) }
+    ensures { Moves (set_of from.now) peer.now place
+        (lacking_of (set_of from.now) peer.now (drop place (set_of from.now)))
+        to.old to.new result }
 {
-    let Ok(mut part) = from.delta_part(peer, own, among, place, PAGE) else {
+    let Ok(mut part) = from.delta_part(peer, own, among, place, MAX_PAGE) else {
         return Err(0);
     };
     let count = part.events.len();
@@ -81,18 +63,7 @@ fn move_all(
 ) -> Result<Counts, Short>
     requires tells { Tells (set_of from.now) peer.now own.now }
     requires all { IfSome among.now (AreAll (set_of from.now) peer.now) }
-    ensures arrivals { OnOk result (to.new
-        ≡ append_new key_cmp to.old (delta (set_of from.now) peer.now)) }
-    ensures set { OnOk result (set_of to.new
-        ≡ union (set_of to.old) (delta (set_of from.now) peer.now)) }
-    ensures fresh { IfOk result (λ n. length to.old + n.fresh ≡ length to.new) }
-    ensures repeated { IfOk result (λ n. n.fresh + n.repeated
-        ≡ length (delta (set_of from.now) peer.now)) }
-    ensures short { IfErr result (λ s. to.new
-        ≡ append_new key_cmp to.old (take s.taken (delta (set_of from.now) peer.now))) }
-    ensures short_set { IfErr result (λ s. set_of to.new
-        ≡ union (set_of to.old) (take s.taken (delta (set_of from.now) peer.now))) }
-    ensures short_fresh { IfErr result (λ s. length to.old + s.fresh ≡ length to.new) }
+    ensures brings { Brings to.old to.new (delta (set_of from.now) peer.now) result }
     ensures short_taken { IfErr result (λ s. s.taken
         < length (delta (set_of from.now) peer.now)) }
 {
@@ -127,18 +98,7 @@ fn move_all(
 /// blocks, a look-up in both for each event of the first that stands in a block in which they
 /// differ, and for those that go a copy and a take.
 pub fn gossip(from: &Site, to: &mut Site) -> Result<Counts, Short>
-    ensures arrivals { OnOk result (to.new
-        ≡ append_new key_cmp to.old (lacking (set_of from.now) (set_of to.old))) }
-    ensures set { OnOk result (set_of to.new
-        ≡ union (set_of to.old) (lacking (set_of from.now) (set_of to.old))) }
-    ensures fresh { IfOk result (λ n. length to.old + n.fresh ≡ length to.new) }
-    ensures repeated { IfOk result (λ n. n.fresh + n.repeated
-        ≡ length (lacking (set_of from.now) (set_of to.old))) }
-    ensures short { IfErr result (λ s. to.new
-        ≡ append_new key_cmp to.old (take s.taken (lacking (set_of from.now) (set_of to.old)))) }
-    ensures short_set { IfErr result (λ s. set_of to.new
-        ≡ union (set_of to.old) (take s.taken (lacking (set_of from.now) (set_of to.old)))) }
-    ensures short_fresh { IfErr result (λ s. length to.old + s.fresh ≡ length to.new) }
+    ensures brings { Brings to.old to.new (lacking (set_of from.now) (set_of to.old)) result }
     ensures short_taken { IfErr result (λ s.
         IsCutShort s.taken (lacking (set_of from.now) (set_of to.old))) }
 
@@ -167,15 +127,7 @@ pub fn gossip(from: &Site, to: &mut Site) -> Result<Counts, Short>
 /// copied, and need no memory. After want of memory those that went before stay, and the refusal
 /// says how many. Costs what `Site::merge` does.
 pub fn scrub(from: &Site, to: &mut Site) -> Result<Counts, Short>
-    ensures arrivals { OnOk result (to.new ≡ append_new key_cmp to.old (set_of from.now)) }
-    ensures set { OnOk result (set_of to.new ≡ union (set_of to.old) (set_of from.now)) }
-    ensures fresh { IfOk result (λ n. length to.old + n.fresh ≡ length to.new) }
-    ensures repeated { IfOk result (λ n. n.fresh + n.repeated ≡ length (set_of from.now)) }
-    ensures short { IfErr result (λ s. to.new
-        ≡ append_new key_cmp to.old (take s.taken (set_of from.now))) }
-    ensures short_set { IfErr result (λ s. set_of to.new
-        ≡ union (set_of to.old) (take s.taken (set_of from.now))) }
-    ensures short_fresh { IfErr result (λ s. length to.old + s.fresh ≡ length to.new) }
+    ensures brings { Brings to.old to.new (set_of from.now) result }
     ensures short_taken { IfErr result (λ s. s.taken < length (set_of from.now)) }
 
     // Memory was wanted for a new event.

@@ -27,7 +27,7 @@ pub fn member_at_fault<'a>(fault: Fault, tree: &'a Value) -> Option<&'a str>
     }
 }
 
-/// The first name that no attribute has.
+/// The name of the first member of an object that no attribute may have as its name.
 fn first_misnamed(tree: &Value) -> Option<&str>
     ensures { option_copied result ≡ first_where is_misnamed (members_in (view tree.now)) }
 {
@@ -37,7 +37,7 @@ fn first_misnamed(tree: &Value) -> Option<&str>
     }
 }
 
-/// The name of the first value that no attribute has.
+/// The name of the first member of an object whose value no attribute may have.
 fn first_unfit(tree: &Value) -> Option<&str>
     ensures { option_copied result ≡ first_where is_unfit (members_in (view tree.now)) }
 {

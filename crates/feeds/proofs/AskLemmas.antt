@@ -12,8 +12,8 @@ use Rattle.views.specs.declared.query.Query.{Query}
 use Rattle.feeds.specs.Ask.{Asks, KeepsAnswers, answers_by, answers_of, commands_of}
 use Rattle.feeds.specs.Report.{AreAnswered, EndsEarly, HasCause}
 use Rattle.feeds.specs.declared.asking.Asked.{Asked}
-use Rattle.feeds.specs.declared.report.Ended.{Ended}
-use Rattle.feeds.specs.declared.report.Ended.TheVariants.{Done, GateShut, OutOfMemory}
+use Rattle.feeds.specs.declared.report.WorkerEnd.{WorkerEnd}
+use Rattle.feeds.specs.declared.report.WorkerEnd.TheVariants.{Done, GateShut, OutOfMemory}
 use Rattle.feeds.specs.steps.Ask.{AsksOne, StopsAt}
 use Rattle.feeds.proofs.CauseLemmas.{answered-append, cause_behind, one_cause}
 
@@ -34,7 +34,7 @@ asks_more : (L : List Query) (m n : List Call) (query : Query) (reply : Reply) �
     → commands_of (m ++ n) ≡ map command.Query (L ++ query ∷ [])
 asks_more L m n query reply so_far one = commands-append m n ∙ ap (λ z. commands_of m ++ commands_of z) one ∙ ap (λ z. z ++ command.Query query ∷ []) so_far ∙ sym (asked-append L (query ∷ []))
 
-pub answered_more : (L : List Query) (m n : List Call) (query : Query) (old new : List Answer) (o : Option Ended) → o ≡ None → commands_of m ≡ map command.Query L → old ≡ answers_of m
+pub answered_more : (L : List Query) (m n : List Call) (query : Query) (old new : List Answer) (o : Option WorkerEnd) → o ≡ None → commands_of m ≡ map command.Query L → old ≡ answers_of m
     → AsksOne query n old new o → (commands_of (m ++ n) ≡ map command.Query (L ++ query ∷ [])) × (new ≡ answers_of (m ++ n)) × (length new ≡ length old + 1)
 answered_more L m n query old new o is so_far kept a = let g = a.goes_on is in (
   asks_more L m n query (Answered g.0) so_far g.1,
@@ -43,7 +43,7 @@ answered_more L m n query old new o is so_far kept a = let g = a.goes_on is in (
 )
 
 -- the call of a question that was answered was not refused
-pub answered_on : (m n : List Call) (query : Query) (old new : List Answer) (o : Option Ended) → o ≡ None → AreAnswered m → AsksOne query n old new o → AreAnswered (m ++ n)
+pub answered_on : (m n : List Call) (query : Query) (old new : List Answer) (o : Option WorkerEnd) → o ≡ None → AreAnswered m → AsksOne query n old new o → AreAnswered (m ++ n)
 answered_on m n query old new o is so_far a = let g = a.goes_on is in answered-append m n so_far (subst (λ (z : List Call). AreAnswered z) (sym g.1) ((λ r. r), tt))
 
 keeps_last : (m : List Call) (query : Query) (reply : Reply) (answers : List Answer) → answers ≡ answers_of m → KeepsAnswers (m ++ call (command.Query query) reply ∷ []) answers OutOfMemory
@@ -53,7 +53,7 @@ keeps_last m query (Summed s) answers is = inl (is ∙ sym (answers-append m (ca
 keeps_last m query (Paged b) answers is = inl (is ∙ sym (answers-append m (call (command.Query query) (Paged b) ∷ []) ∙ append-nil (answers_of m)))
 keeps_last m query (Refused p f) answers is = inl (is ∙ sym (answers-append m (call (command.Query query) (Refused p f) ∷ []) ∙ append-nil (answers_of m)))
 
-stops_asking : (queries L rest : List Query) (query : Query) (m n : List Call) (old new : List Answer) (ended : Ended) (r : Asked) → L ++ query ∷ rest ≡ queries → commands_of m ≡ map command.Query L → old ≡ answers_of m → AreAnswered m
+stops_asking : (queries L rest : List Query) (query : Query) (m n : List Call) (old new : List Answer) (ended : WorkerEnd) (r : Asked) → L ++ query ∷ rest ≡ queries → commands_of m ≡ map command.Query L → old ≡ answers_of m → AreAnswered m
     → StopsAt query n old new ended → r.answers ≡ new → r.ended ≡ ended → Asks queries (m ++ n) r
 stops_asking queries L rest query m n old new ended r split so_far kept well (same, inl (shut, none)) answers ends = record {
   asked = L;
@@ -72,11 +72,11 @@ stops_asking queries L rest query m n old new ended r split so_far kept well (sa
   calls = asks_more L m n query one.0 so_far one.1;
   answers = subst (λ z. KeepsAnswers (m ++ z) r.answers r.ended) (sym one.1) (subst (λ z. KeepsAnswers (m ++ call (command.Query query) one.0 ∷ []) r.answers z) (sym (ends ∙ short)) (keeps_last m query one.0 r.answers (answers ∙ same ∙ kept)));
   ended = inr (subst EndsEarly (sym (ends ∙ short)) tt);
-  cause = subst (λ (z : Ended). HasCause (m ++ n) z) (sym (ends ∙ short)) (cause_behind m n OutOfMemory well (subst (λ (z : List Call). HasCause z OutOfMemory) (sym one.1) (one_cause (command.Query query) one.0)));
+  cause = subst (λ (z : WorkerEnd). HasCause (m ++ n) z) (sym (ends ∙ short)) (cause_behind m n OutOfMemory well (subst (λ (z : List Call). HasCause z OutOfMemory) (sym one.1) (one_cause (command.Query query) one.0)));
   done = λ d. let wrong : OutOfMemory ≡ Done = sym short ∙ sym ends ∙ d in absurd (cc);
 }
 
-pub stops_at : (queries : List Query) (place : ℕ) (query : Query) (m n : List Call) (old new : List Answer) (o : Option Ended) (ended : Ended) (r : Asked) → take (place + 1) queries ≡ take place queries ++ query ∷ []
+pub stops_at : (queries : List Query) (place : ℕ) (query : Query) (m n : List Call) (old new : List Answer) (o : Option WorkerEnd) (ended : WorkerEnd) (r : Asked) → take (place + 1) queries ≡ take place queries ++ query ∷ []
     → commands_of m ≡ map command.Query (take place queries) → old ≡ answers_of m → AreAnswered m → AsksOne query n old new o → o ≡ Some ended → r.answers ≡ new → r.ended ≡ ended → Asks queries (m ++ n) r
 stops_at queries place query m n old new o ended r next so_far kept well a is answers ends =
     stops_asking queries (take place queries) (drop (place + 1) queries) query m n old new ended r

@@ -10,8 +10,8 @@ use Rattle.site.specs.declared.call.Reply.TheVariants.{Answered, Paged, Refused,
 use Rattle.site.specs.declared.desk.DeskFault.{DeskFault}
 use Rattle.site.specs.declared.desk.DeskFault.TheVariants as desk
 use Rattle.feeds.specs.Report.{AreAnswered, EndsEarly, EndsRefused, HasCause, HasCauseIf, IsRefused}
-use Rattle.feeds.specs.declared.report.Ended.{Ended}
-use Rattle.feeds.specs.declared.report.Ended.TheVariants.{BadInput, Done, GateShut, OutOfMemory}
+use Rattle.feeds.specs.declared.report.WorkerEnd.{WorkerEnd}
+use Rattle.feeds.specs.declared.report.WorkerEnd.TheVariants.{BadInput, Done, GateShut, OutOfMemory}
 use Rattle.feeds.specs.steps.Tally.{StopsBy}
 
 pub answered-append : (m n : List Call) → AreAnswered m → AreAnswered n → AreAnswered (m ++ n)
@@ -34,31 +34,31 @@ last_refused c r = record { before = []; last = c; calls = refl; answered = tt; 
 pub refused_fault : (fault : DeskFault) → IsRefused (refused fault)
 refused_fault (desk.OutOfMemory taken fresh) = tt
 
-pub early_by : (m : List Call) (e : Ended) → StopsBy m (Some e) → EndsEarly e
+pub early_by : (m : List Call) (e : WorkerEnd) → StopsBy m (Some e) → EndsEarly e
 early_by m OutOfMemory h = tt
 early_by m GateShut h = tt
 early_by m Done h = h
 early_by m (BadInput f) h = absurd h
 
-pub early_if : (m : List Call) (o : Option Ended) (e : Ended) → o ≡ Some e → StopsBy m o → EndsEarly e
-early_if m o e is h = early_by m e (subst (λ (z : Option Ended). StopsBy m z) is h)
+pub early_if : (m : List Call) (o : Option WorkerEnd) (e : WorkerEnd) → o ≡ Some e → StopsBy m o → EndsEarly e
+early_if m o e is h = early_by m e (subst (λ (z : Option WorkerEnd). StopsBy m z) is h)
 
 -- a worker whose calls were answered so far, and then stopped so
-pub stop_behind : (m n : List Call) (e : Ended) → AreAnswered m → StopsBy n (Some e) → HasCause (m ++ n) e
+pub stop_behind : (m n : List Call) (e : WorkerEnd) → AreAnswered m → StopsBy n (Some e) → HasCause (m ++ n) e
 stop_behind m n OutOfMemory h k = inr (refused_behind m n h k, refl)
 stop_behind m n GateShut h k = inl (answered-append m n h k)
 stop_behind m n Done h k = absurd k
 stop_behind m n (BadInput f) h k = absurd k
 
-pub cause_behind : (m n : List Call) (e : Ended) → AreAnswered m → HasCause n e → HasCause (m ++ n) e
+pub cause_behind : (m n : List Call) (e : WorkerEnd) → AreAnswered m → HasCause n e → HasCause (m ++ n) e
 cause_behind m n e h (inl k) = inl (answered-append m n h k)
 cause_behind m n e h (inr k) = inr (refused_behind m n h k.0, k.1)
 
-pub cause_if : (n : List Call) (o : Option Ended) → StopsBy n o → HasCauseIf n o
+pub cause_if : (n : List Call) (o : Option WorkerEnd) → StopsBy n o → HasCauseIf n o
 cause_if n None h = h
 cause_if n (Some e) h = stop_behind [] n e tt h
 
-pub answered_if : (n : List Call) (o : Option Ended) → AreAnswered n → HasCauseIf n o
+pub answered_if : (n : List Call) (o : Option WorkerEnd) → AreAnswered n → HasCauseIf n o
 answered_if n None h = h
 answered_if n (Some e) h = inl h
 

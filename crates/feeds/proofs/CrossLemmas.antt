@@ -27,7 +27,7 @@ use Rattle.views.specs.contracts.query.Answer as answer
 use Rattle.feeds.specs.contracts.asking.Asked as asked
 use Rattle.feeds.specs.contracts.serving.worker.Finished as finished
 use Rattle.feeds.specs.contracts.serving.worker.Job as job
-use Rattle.feeds.specs.contracts.serving.worker.Outcome as outcome
+use Rattle.feeds.specs.contracts.serving.worker.JobEnd as outcome
 
 -- the answers to questions: no single search finds them
 batch_is_send : IsSend batch.the_row

@@ -20,8 +20,8 @@ use Rattle.site.specs.declared.desk.DeskFault.{DeskFault}
 use Rattle.site.specs.declared.desk.DeskFault.TheVariants as desk
 use Rattle.feeds.specs.Pull.{ArePages, Brings, EndsEmpty, Holds, IsUnbegun, Pulled, Pulls, events_in, replied}
 use Rattle.feeds.specs.Report.{AreAnswered, EndsEarly, Handles, HasCause, HasCauseIf, IsRefused, handled, reported}
-use Rattle.feeds.specs.declared.report.Ended.{Ended}
-use Rattle.feeds.specs.declared.report.Ended.TheVariants.{BadInput, Done, GateShut, OutOfMemory}
+use Rattle.feeds.specs.declared.report.WorkerEnd.{WorkerEnd}
+use Rattle.feeds.specs.declared.report.WorkerEnd.TheVariants.{BadInput, Done, GateShut, OutOfMemory}
 use Rattle.feeds.specs.declared.report.Report.{Report}
 use Rattle.feeds.specs.declared.report.Tally.{Tally}
 use Rattle.feeds.specs.steps.Pull.{HasSameCounts, Moves, Pages, Pulling, Sums}
@@ -104,7 +104,7 @@ ends-append [] n h = h
 ends-append (c ∷ cs) n h = ends-cons c (cs ++ n) (ends-append cs n h)
 
 -- no page was got
-moved_nothing : (peer : Sources) (m : List Call) (t u : Tally) (ended : Ended) → EndsEarly ended → HasCause m ended → ArePages peer (t.fresh + t.repeated) m → replied m ≡ [] → HasSameCounts t u → Moves peer m [] t u (Some ended)
+moved_nothing : (peer : Sources) (m : List Call) (t u : Tally) (ended : WorkerEnd) → EndsEarly ended → HasCause m ended → ArePages peer (t.fresh + t.repeated) m → replied m ≡ [] → HasSameCounts t u → Moves peer m [] t u (Some ended)
 moved_nothing peer m t u ended early cause pages none same = record {
   pages = pages;
   handles = record { takes = tt; rest = []; order = sym none };
@@ -119,7 +119,7 @@ moved_nothing peer m t u ended early cause pages none same = record {
 no_events : (fault : DeskFault) → events_in (refused fault) ≡ []
 no_events (desk.OutOfMemory taken fresh) = refl
 
-pub moved_not : (peer : Sources) (m : List Call) (t u : Tally) (ended : Ended) → Pages peer (t.fresh + t.repeated) m (Err ended) → HasSameCounts t u → Moves peer m [] t u (Some ended)
+pub moved_not : (peer : Sources) (m : List Call) (t u : Tally) (ended : WorkerEnd) → Pages peer (t.fresh + t.repeated) m (Err ended) → HasSameCounts t u → Moves peer m [] t u (Some ended)
 moved_not peer m t u GateShut none same = subst (λ z. Moves peer z [] t u (Some GateShut)) (sym none) (moved_nothing peer [] t u GateShut tt (inl tt) tt refl same)
 moved_not peer m t u OutOfMemory (fault, one) same = let c : Call = call (command.DeltaPage peer (t.fresh + t.repeated) 100) (refused fault) in subst (λ z. Moves peer z [] t u (Some OutOfMemory)) (sym one)
     (moved_nothing peer (c ∷ []) t u OutOfMemory tt (inr (last_refused c (refused_fault fault), refl)) (refl, tt) (append-nil (events_in (refused fault)) ∙ no_events fault) same)
@@ -147,7 +147,7 @@ answered_page : (peer : Sources) (place : ℕ) (m : List Call) (L : List EventVa
 answered_page peer place m L page = subst (λ (z : List Call). AreAnswered z) (sym page.0) ((λ r. r), tt)
 
 -- the page was handed over
-pub moved : (peer : Sources) (m n : List Call) (t s u : Tally) (L left : List EventValue) (o : Option Ended) → Pages peer (t.fresh + t.repeated) m (Ok L) → HasSameCounts t s → Flushed n L left s u o → Moves peer m n t u o
+pub moved : (peer : Sources) (m n : List Call) (t s u : Tally) (L left : List EventValue) (o : Option WorkerEnd) → Pages peer (t.fresh + t.repeated) m (Ok L) → HasSameCounts t s → Flushed n L left s u o → Moves peer m n t u o
 moved peer m n t s u L left o page same f = let is = replied_page peer (t.fresh + t.repeated) m L page in let k = f.counted in record {
   pages = subst (λ z. ArePages peer (t.fresh + t.repeated) z) (sym page.0) (refl, tt);
   handles = subst (λ z. Handles n z) (sym is) f.handles;
@@ -166,10 +166,10 @@ pulling_start peer t is = record { pages = tt; takes = tt; order = refl; fresh =
 place_is : (peer : Sources) (m n : List Call) (t : Tally) → Pulling peer m n t → t.fresh + t.repeated ≡ length (replied m)
 place_is peer m n t p = omega (arith, p.fresh, p.repeated, p.all, ap length p.order)
 
-more_pages : (peer : Sources) (m n k l : List Call) (t u : Tally) (o : Option Ended) → Pulling peer m n t → Moves peer k l t u o → ArePages peer 0 (m ++ k)
+more_pages : (peer : Sources) (m n k l : List Call) (t u : Tally) (o : Option WorkerEnd) → Pulling peer m n t → Moves peer k l t u o → ArePages peer 0 (m ++ k)
 more_pages peer m n k l t u o p moves = pages-append peer 0 m k p.pages (subst (λ z. ArePages peer z k) (place_is peer m n t p ∙ omega arith) moves.pages)
 
-pub pulls_on : (peer : Sources) (m n k l : List Call) (t u : Tally) (o : Option Ended) → o ≡ None → Pulling peer m n t → Moves peer k l t u o → Pulling peer (m ++ k) (n ++ l) u
+pub pulls_on : (peer : Sources) (m n k l : List Call) (t u : Tally) (o : Option WorkerEnd) → o ≡ None → Pulling peer m n t → Moves peer k l t u o → Pulling peer (m ++ k) (n ++ l) u
 pulls_on peer m n k l t u o none p moves = let c = moves.counted in record {
   pages = more_pages peer m n k l t u o p moves;
   takes = takes-append n l p.takes moves.handles.takes;
@@ -179,17 +179,17 @@ pulls_on peer m n k l t u o none p moves = let c = moves.counted in record {
   all = omega (arith, fresh-append n l, repeated-append n l, ap length (handled-append n l), length-append (handled n) (handled l), p.all, c.all);
   refused = c.refused ∙ p.refused;
   answered = (
-    answered-append m k p.answered.0 (subst (λ (z : Option Ended). HasCauseIf k z) none moves.cause.0),
-    answered-append n l p.answered.1 (subst (λ (z : Option Ended). HasCauseIf l z) none moves.cause.1),
+    answered-append m k p.answered.0 (subst (λ (z : Option WorkerEnd). HasCauseIf k z) none moves.cause.0),
+    answered-append n l p.answered.1 (subst (λ (z : Option WorkerEnd). HasCauseIf l z) none moves.cause.1),
   );
 }
 
 -- a page adds at most 100 to the counts
-pub counts_few : (peer : Sources) (k l : List Call) (t u : Tally) (o : Option Ended) → Moves peer k l t u o → u.fresh + u.repeated ≤ t.fresh + t.repeated + 100
+pub counts_few : (peer : Sources) (k l : List Call) (t u : Tally) (o : Option WorkerEnd) → Moves peer k l t u o → u.fresh + u.repeated ≤ t.fresh + t.repeated + 100
 counts_few peer k l t u o moves = let c = moves.counted in
     omega (arith, c.fresh, c.repeated, c.all, moves.most, ap length moves.handles.order, length-append (handled l) moves.handles.rest)
 
-pub pull_stops : (peer : Sources) (m n k l : List Call) (t u : Tally) (o : Option Ended) (ended : Ended) → o ≡ Some ended → Pulling peer m n t → Moves peer k l t u o → Pulled peer (m ++ k) (n ++ l) (reported u ended)
+pub pull_stops : (peer : Sources) (m n k l : List Call) (t u : Tally) (o : Option WorkerEnd) (ended : WorkerEnd) → o ≡ Some ended → Pulling peer m n t → Moves peer k l t u o → Pulled peer (m ++ k) (n ++ l) (reported u ended)
 pull_stops peer m n k l t u o ended is p moves = let c = moves.counted in let hs = moves.handles in record {
   pages = more_pages peer m n k l t u o p moves;
   handles = record {
@@ -206,8 +206,8 @@ pull_stops peer m n k l t u o ended is p moves = let c = moves.counted in let hs
   refused = c.refused ∙ p.refused;
   ended = moves.ended ended is;
   cause = (
-    cause_behind m k ended p.answered.0 (subst (λ (z : Option Ended). HasCauseIf k z) is moves.cause.0),
-    cause_behind n l ended p.answered.1 (subst (λ (z : Option Ended). HasCauseIf l z) is moves.cause.1),
+    cause_behind m k ended p.answered.0 (subst (λ (z : Option WorkerEnd). HasCauseIf k z) is moves.cause.0),
+    cause_behind n l ended p.answered.1 (subst (λ (z : Option WorkerEnd). HasCauseIf l z) is moves.cause.1),
   );
   done = λ d. let e = moves.done (is ∙ ap Some d) in
       (handled-append n l ∙ ap (λ z. z ++ handled l) p.order ∙ ap (λ z. replied m ++ z) e.0 ∙ sym (replied-append m k), ends-append m k e.2);
@@ -224,25 +224,25 @@ pull_short peer m n t p = record {
   done = λ d. absurd (cc);
 }
 
-pub early_sum : (n : List Call) (ended : Ended) → Sums n (Err ended) → EndsEarly ended
+pub early_sum : (n : List Call) (ended : WorkerEnd) → Sums n (Err ended) → EndsEarly ended
 early_sum n OutOfMemory h = tt
 early_sum n GateShut h = tt
 early_sum n Done h = h
 early_sum n (BadInput f) h = absurd h
 
-asked_once : (n : List Call) (ended : Ended) → Sums n (Err ended) → ((ended ≡ GateShut) × (n ≡ [])) ⊎ ((ended ≡ OutOfMemory) × ((reply : Reply) × IsRefused reply × (n ≡ call command.Summary reply ∷ [])))
+asked_once : (n : List Call) (ended : WorkerEnd) → Sums n (Err ended) → ((ended ≡ GateShut) × (n ≡ [])) ⊎ ((ended ≡ OutOfMemory) × ((reply : Reply) × IsRefused reply × (n ≡ call command.Summary reply ∷ [])))
 asked_once n OutOfMemory h = inr (refl, (refused h.0, refused_fault h.0, h.1))
 asked_once n GateShut h = inl (refl, h)
 asked_once n Done h = absurd h
 asked_once n (BadInput f) h = absurd h
 
-pub unbegun : (n : List Call) (t : Tally) (ended : Ended) (r : Report) → Sums n (Err ended)
+pub unbegun : (n : List Call) (t : Tally) (ended : WorkerEnd) (r : Report) → Sums n (Err ended)
     → t ≡ record { calls = 0; fresh = 0; repeated = 0; refused = 0 } → r ≡ reported t ended → IsUnbegun [] n r
 unbegun n t ended r sums start is =
     let same : r ≡ reported (record { calls = 0; fresh = 0; repeated = 0; refused = 0 }) ended = is ∙ ap (λ z. reported z ended) start in
     let ends : ended ≡ r.ended = sym (ap (λ (z : Report). z.ended) is) in record {
       no_pages = refl;
-      asked = subst (λ (z : Ended). ((z ≡ GateShut) × (n ≡ [])) ⊎ ((z ≡ OutOfMemory) × ((reply : Reply) × IsRefused reply × (n ≡ call command.Summary reply ∷ [])))) ends (asked_once n ended sums);
+      asked = subst (λ (z : WorkerEnd). ((z ≡ GateShut) × (n ≡ [])) ⊎ ((z ≡ OutOfMemory) × ((reply : Reply) × IsRefused reply × (n ≡ call command.Summary reply ∷ [])))) ends (asked_once n ended sums);
       early = subst EndsEarly ends (early_sum n ended sums);
       counts = same ∙ ap (λ z. reported (record { calls = 0; fresh = 0; repeated = 0; refused = 0 }) z) (sym (ap (λ z. z.ended) is));
     }

@@ -20,8 +20,8 @@ use Rattle.feeds.specs.declared.report.Report.{Report}
 use Rattle.feeds.specs.declared.serving.Served.{Served}
 use Rattle.feeds.specs.declared.serving.worker.Finished.{Finished}
 use Rattle.feeds.specs.declared.serving.worker.Job.{Job}
-use Rattle.feeds.specs.declared.serving.worker.Outcome.{Outcome}
-use Rattle.feeds.specs.declared.serving.worker.Outcome.TheVariants.{Answered, Reported}
+use Rattle.feeds.specs.declared.serving.worker.JobEnd.{JobEnd}
+use Rattle.feeds.specs.declared.serving.worker.JobEnd.TheVariants.{Answered, Reported}
 use Rattle.feeds.specs.declared.serving.worker.Work.{Work}
 use Rattle.feeds.specs.declared.serving.worker.Work.TheVariants as work
 use Rattle.feeds.specs.steps.Serve.{AllAt, AllTold, AreAt, Each, Ends, IsGatedFor, IsJobAt, Performs, WorkerTells, ended_by, answers_by, answers_in, outcomes, reports_by, reports_in, works_of}
@@ -127,11 +127,11 @@ told_more : (seen : List (Entry Call)) (fs : List Finished) (f : Finished) → A
 told_more seen [] f h k l = (k, l, tt)
 told_more seen (x ∷ xs) f h k l = (h.0, h.1, told_more seen xs f h.2 k l)
 
-reports-append : (xs ys : List Outcome) → reports_in (xs ++ ys) ≡ reports_in xs ++ reports_in ys
+reports-append : (xs ys : List JobEnd) → reports_in (xs ++ ys) ≡ reports_in xs ++ reports_in ys
 reports-append [] ys = refl
 reports-append (x ∷ xs) ys = ap (λ l. reports_by x ++ l) (reports-append xs ys) ∙ sym (append_assoc (reports_by x) (reports_in xs) (reports_in ys))
 
-answers-append : (xs ys : List Outcome) → answers_in (xs ++ ys) ≡ answers_in xs ++ answers_in ys
+answers-append : (xs ys : List JobEnd) → answers_in (xs ++ ys) ≡ answers_in xs ++ answers_in ys
 answers-append [] ys = refl
 answers-append (x ∷ xs) ys = ap (λ l. answers_by x ++ l) (answers-append xs ys) ∙ sym (append_assoc (answers_by x) (answers_in xs) (answers_in ys))
 
@@ -143,11 +143,11 @@ pub answers_more : (fs : List Finished) (f : Finished) (all : List Finished) (ol
 answers_more fs f all old new more was put = put ∙ ap (λ l. l ++ answers_in (f.outcome ∷ [])) was ∙ sym (answers-append (outcomes fs) (f.outcome ∷ []))
     ∙ ap answers_in (sym (map-append (λ z. z.outcome) fs (f ∷ []))) ∙ ap (λ l. answers_in (outcomes l)) (sym more)
 
-one_report : (o : Outcome) → length (reports_by o) ≤ 1
+one_report : (o : JobEnd) → length (reports_by o) ≤ 1
 one_report (Reported r) = omega arith
 one_report (Answered r) = omega arith
 
-one_answer : (o : Outcome) → length (answers_by o) ≤ 1
+one_answer : (o : JobEnd) → length (answers_by o) ≤ 1
 one_answer (Reported r) = omega arith
 one_answer (Answered r) = omega arith
 
@@ -179,7 +179,7 @@ seen_still p q e on same h = subst (λ z. has key_cmp z e ≡ true)
     (sym (ap (λ z. leave z q.seen) same ∙ ap (leave p.opening) on.1 ∙ leave-append p.opening p.seen on.0))
     (still_there (leaves p) on.0 e h)
 
-performs_still : (w : Work) (m : List Call) (A B : List EventValue) (o : Outcome) → ((e : EventValue) → has key_cmp A e ≡ true → has key_cmp B e ≡ true) → Performs w m A o → Performs w m B o
+performs_still : (w : Work) (m : List Call) (A B : List EventValue) (o : JobEnd) → ((e : EventValue) → has key_cmp A e ≡ true → has key_cmp B e ≡ true) → Performs w m A o → Performs w m B o
 performs_still (work.Feed b) m A B (Reported r) more h = h
 performs_still (work.Pull C) m A B (Reported r) more h = (
   h.0,
@@ -241,34 +241,34 @@ all_gated lets shuts heard p q at (w ∷ ws) (j ∷ js) [] a b c = absurd b
 all_gated lets shuts heard p q at (w ∷ ws) (j ∷ js) (f ∷ fs) a b c = (worker_gated lets shuts heard p q at w j f a.0 b.0 c.1, all_gated lets shuts heard p q (at + 1) ws js fs a.1 b.1 c.2)
 
 -- reports of feeds come first, then those of peers, then answers
-feeds_tell : (p q : Shown) (at : ℕ) (bs : List (List ℕ)) (rest : List Work) (os : List Outcome) → EachAt (WorkerTells p q) at (map work.Feed bs ++ rest) os
-    → (rs : List Report) × (more : List Outcome) × (os ≡ map Reported rs ++ more) × EachAt (WorkerFeeds p q) at bs rs × EachAt (WorkerTells p q) (at + length bs) rest more
+feeds_tell : (p q : Shown) (at : ℕ) (bs : List (List ℕ)) (rest : List Work) (os : List JobEnd) → EachAt (WorkerTells p q) at (map work.Feed bs ++ rest) os
+    → (rs : List Report) × (more : List JobEnd) × (os ≡ map Reported rs ++ more) × EachAt (WorkerFeeds p q) at bs rs × EachAt (WorkerTells p q) (at + length bs) rest more
 feeds_tell p q at [] rest os h = ([], os, refl, tt, subst (λ n. EachAt (WorkerTells p q) n rest os) (omega arith) h)
 feeds_tell p q at (b ∷ bs) rest [] h = absurd h
 feeds_tell p q at (b ∷ bs) rest (Reported r ∷ os) h = let k = feeds_tell p q (at + 1) bs rest os h.1 in
     (r ∷ k.0, k.1, ap (λ z. Reported r ∷ z) k.2, (h.0, k.3), subst (λ n. EachAt (WorkerTells p q) n rest k.1) (omega arith) k.4)
 feeds_tell p q at (b ∷ bs) rest (Answered r ∷ os) h = absurd h.0.2
 
-peers_tell : (p q : Shown) (at : ℕ) (As : List (List EventValue)) (rest : List Work) (os : List Outcome) → EachAt (WorkerTells p q) at (map work.Pull As ++ rest) os
-    → (rs : List Report) × (more : List Outcome) × (os ≡ map Reported rs ++ more) × EachAt (WorkerPulls p q) at As rs × EachAt (WorkerTells p q) (at + length As) rest more
+peers_tell : (p q : Shown) (at : ℕ) (As : List (List EventValue)) (rest : List Work) (os : List JobEnd) → EachAt (WorkerTells p q) at (map work.Pull As ++ rest) os
+    → (rs : List Report) × (more : List JobEnd) × (os ≡ map Reported rs ++ more) × EachAt (WorkerPulls p q) at As rs × EachAt (WorkerTells p q) (at + length As) rest more
 peers_tell p q at [] rest os h = ([], os, refl, tt, subst (λ n. EachAt (WorkerTells p q) n rest os) (omega arith) h)
 peers_tell p q at (A ∷ As) rest [] h = absurd h
 peers_tell p q at (A ∷ As) rest (Reported r ∷ os) h = let k = peers_tell p q (at + 1) As rest os h.1 in
     (r ∷ k.0, k.1, ap (λ z. Reported r ∷ z) k.2, (h.0, k.3), subst (λ n. EachAt (WorkerTells p q) n rest k.1) (omega arith) k.4)
 peers_tell p q at (A ∷ As) rest (Answered r ∷ os) h = absurd h.0.2
 
-asks_tell : (p q : Shown) (at : ℕ) (qs : List (List Query)) (os : List Outcome) → EachAt (WorkerTells p q) at (map work.Ask qs) os → (rs : List Asked) × (os ≡ map Answered rs) × EachAt (WorkerAsks p q) at qs rs
+asks_tell : (p q : Shown) (at : ℕ) (qs : List (List Query)) (os : List JobEnd) → EachAt (WorkerTells p q) at (map work.Ask qs) os → (rs : List Asked) × (os ≡ map Answered rs) × EachAt (WorkerAsks p q) at qs rs
 asks_tell p q at [] [] h = ([], refl, tt)
 asks_tell p q at [] (o ∷ os) h = absurd h
 asks_tell p q at (x ∷ xs) [] h = absurd h
 asks_tell p q at (x ∷ xs) (Answered r ∷ os) h = let k = asks_tell p q (at + 1) xs os h.1 in (r ∷ k.0, ap (λ z. Answered r ∷ z) k.1, (h.0, k.2))
 asks_tell p q at (x ∷ xs) (Reported r ∷ os) h = absurd h.0.2
 
-reports_first : (rs : List Report) (os : List Outcome) → reports_in (map Reported rs ++ os) ≡ rs ++ reports_in os
+reports_first : (rs : List Report) (os : List JobEnd) → reports_in (map Reported rs ++ os) ≡ rs ++ reports_in os
 reports_first [] os = refl
 reports_first (r ∷ rs) os = ap (λ l. r ∷ l) (reports_first rs os)
 
-answers_behind : (rs : List Report) (os : List Outcome) → answers_in (map Reported rs ++ os) ≡ answers_in os
+answers_behind : (rs : List Report) (os : List JobEnd) → answers_in (map Reported rs ++ os) ≡ answers_in os
 answers_behind [] os = refl
 answers_behind (r ∷ rs) os = answers_behind rs os
 
@@ -280,7 +280,7 @@ all_answers : (rs : List Asked) → answers_in (map Answered rs) ≡ rs
 all_answers [] = refl
 all_answers (r ∷ rs) = ap (λ l. r ∷ l) (all_answers rs)
 
-pub serves : (p q : Shown) (feeds : List (List ℕ)) (peers : List (List EventValue)) (asks : List (List Query)) (s : Served) (os : List Outcome) → EachAt (WorkerTells p q) 0 (works_of feeds peers asks) os
+pub serves : (p q : Shown) (feeds : List (List ℕ)) (peers : List (List EventValue)) (asks : List (List Query)) (s : Served) (os : List JobEnd) → EachAt (WorkerTells p q) 0 (works_of feeds peers asks) os
     → s.reports.items ≡ reports_in os → s.asked.items ≡ answers_in os → Serves p q feeds peers asks s
 serves p q feeds peers asks s os h reports answers =
     let a = feeds_tell p q 0 feeds (map work.Pull peers ++ map work.Ask asks) os h in
@@ -296,7 +296,7 @@ serves p q feeds peers asks s os h reports answers =
           (sym (answers ∙ ap answers_in a.2 ∙ answers_behind a.0 a.1 ∙ ap answers_in b.2 ∙ answers_behind b.0 b.1 ∙ ap answers_in c.1 ∙ all_answers c.0)) c.2;
     }
 
-ends_reported : (rs : List Report) (os : List Outcome) → map ended_by (map Reported rs ++ os) ≡ map (λ (r : Report). r.ended) rs ++ map ended_by os
+ends_reported : (rs : List Report) (os : List JobEnd) → map ended_by (map Reported rs ++ os) ≡ map (λ (r : Report). r.ended) rs ++ map ended_by os
 ends_reported [] os = refl
 ends_reported (r ∷ rs) os = ap (λ l. r.ended ∷ l) (ends_reported rs os)
 
@@ -311,7 +311,7 @@ ends_apart fed pulled asked = ends_reported fed (map Reported pulled ++ map Answ
     ∙ ap (λ l. l ++ map (λ (r : Asked). r.ended) asked) (sym (map-append (λ (r : Report). r.ended) fed pulled))
 
 -- the ends of outcomes are those of the reports, then those of the answers
-pub ends_are : (p q : Shown) (feeds : List (List ℕ)) (peers : List (List EventValue)) (asks : List (List Query)) (s : Served) (os : List Outcome) → EachAt (WorkerTells p q) 0 (works_of feeds peers asks) os
+pub ends_are : (p q : Shown) (feeds : List (List ℕ)) (peers : List (List EventValue)) (asks : List (List Query)) (s : Served) (os : List JobEnd) → EachAt (WorkerTells p q) 0 (works_of feeds peers asks) os
     → s.reports.items ≡ reports_in os → s.asked.items ≡ answers_in os → map ended_by os ≡ ends_of s
 ends_are p q feeds peers asks s os h reports answers =
     let a = feeds_tell p q 0 feeds (map work.Pull peers ++ map work.Ask asks) os h in

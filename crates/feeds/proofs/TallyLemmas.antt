@@ -16,8 +16,8 @@ use Rattle.site.specs.declared.call.Command.TheVariants as command
 use Rattle.site.specs.declared.desk.DeskFault.{DeskFault}
 use Rattle.site.specs.declared.desk.DeskFault.TheVariants as desk
 use Rattle.feeds.specs.Report.{AreTakes, EndsEarly, HasCause, Tells, fresh_of, handled, has_number, repeated_of, reported, sequenced, unsequenced}
-use Rattle.feeds.specs.declared.report.Ended.{Ended}
-use Rattle.feeds.specs.declared.report.Ended.TheVariants.{Done, GateShut, OutOfMemory}
+use Rattle.feeds.specs.declared.report.WorkerEnd.{WorkerEnd}
+use Rattle.feeds.specs.declared.report.WorkerEnd.TheVariants.{Done, GateShut, OutOfMemory}
 use Rattle.feeds.specs.declared.report.Report.{Report}
 use Rattle.feeds.specs.declared.report.Tally.{Tally}
 use Rattle.feeds.specs.steps.Tally.{Flushed, FlushedIfFull, Going, Passes, StopsBy, short_of}
@@ -37,7 +37,7 @@ pub refused_within : (A B L : List EventValue) (fault : DeskFault) → Follows A
 refused_within A B L (desk.OutOfMemory taken fresh) h = let D : List EventValue = A ++ h.0 in
     (omega (arith, length-append_new key_cmp D (take taken L), length-take taken L, h.1.0, h.1.1), h.1.1)
 
-pub flushed_ok : (A B L left : List EventValue) (counts : inbox.Counts) (t u : Tally) (o : Option Ended) → length L ≤ 100 → Follows A (call (command.Take L) (took (Ok counts))) B
+pub flushed_ok : (A B L left : List EventValue) (counts : inbox.Counts) (t u : Tally) (o : Option WorkerEnd) → length L ≤ 100 → Follows A (call (command.Take L) (took (Ok counts))) B
     → left ≡ [] → u.fresh ≡ t.fresh + counts.fresh → u.repeated ≡ t.repeated + counts.repeated → u.refused ≡ t.refused → o ≡ None
     → Flushed (call (command.Take L) (took (Ok counts)) ∷ []) L left t u o
 flushed_ok A B L left counts t u o few h e fresh repeated refused nothing = record {
@@ -49,10 +49,10 @@ flushed_ok A B L left counts t u o few h e fresh repeated refused nothing = reco
     all = omega (arith, h.1.1, ap length (append-nil L));
   };
   whole = λ _. (append-nil L, e);
-  stop = subst (λ (z : Option Ended). StopsBy (call (command.Take L) (took (Ok counts)) ∷ []) z) (sym nothing) ((λ r. r), tt);
+  stop = subst (λ (z : Option WorkerEnd). StopsBy (call (command.Take L) (took (Ok counts)) ∷ []) z) (sym nothing) ((λ r. r), tt);
 }
 
-pub flushed_short : (A B L left : List EventValue) (fault : DeskFault) (short : Short) (t u : Tally) (o : Option Ended) → length L ≤ 100 → Follows A (call (command.Take L) (took (Err fault))) B
+pub flushed_short : (A B L left : List EventValue) (fault : DeskFault) (short : Short) (t u : Tally) (o : Option WorkerEnd) → length L ≤ 100 → Follows A (call (command.Take L) (took (Err fault))) B
     → short ≡ short_of fault → u.fresh ≡ t.fresh + short.fresh → u.repeated ≡ t.repeated + (short.taken - short.fresh) → u.refused ≡ t.refused → o ≡ Some OutOfMemory
     → Flushed (call (command.Take L) (took (Err fault)) ∷ []) L left t u o
 flushed_short A B L left (desk.OutOfMemory taken fresh) short t u o few h is grew again refused some = record {
@@ -64,16 +64,16 @@ flushed_short A B L left (desk.OutOfMemory taken fresh) short t u o few h is gre
     all = let within = refused_within A B L (desk.OutOfMemory taken fresh) h in omega (arith, within.0, within.1, ap length (append-nil (take taken L)), length-take taken L);
   };
   whole = λ k. absurd (cc);
-  stop = let c : Call = call (command.Take L) (took (Err (desk.OutOfMemory taken fresh))) in subst (λ (z : Option Ended). StopsBy (c ∷ []) z) (sym some) (last_refused c tt);
+  stop = let c : Call = call (command.Take L) (took (Err (desk.OutOfMemory taken fresh))) in subst (λ (z : Option WorkerEnd). StopsBy (c ∷ []) z) (sym some) (last_refused c tt);
 }
 
-pub flushed_not : (L left : List EventValue) (t u : Tally) (o : Option Ended) → u.fresh ≡ t.fresh → u.repeated ≡ t.repeated → u.refused ≡ t.refused → o ≡ Some GateShut
+pub flushed_not : (L left : List EventValue) (t u : Tally) (o : Option WorkerEnd) → u.fresh ≡ t.fresh → u.repeated ≡ t.repeated → u.refused ≡ t.refused → o ≡ Some GateShut
     → Flushed [] L left t u o
 flushed_not L left t u o fresh repeated refused shut = record {
   handles = record { takes = tt; rest = L; order = refl };
   counted = record { fresh = omega (arith, fresh); repeated = omega (arith, repeated); refused = refused; all = refl };
   whole = λ k. absurd (cc);
-  stop = subst (λ (z : Option Ended). StopsBy [] z) (sym shut) tt;
+  stop = subst (λ (z : Option WorkerEnd). StopsBy [] z) (sym shut) tt;
 }
 
 pub handled-append : (m n : List Call) → handled (m ++ n) ≡ handled m ++ handled n
@@ -165,7 +165,7 @@ flushes L m n b left t u g f = let w = f.whole refl in let k = f.counted in reco
   answered = answered-append m n g.answered f.stop;
 }
 
-pub stops : (all L rest : List EventValue) (m n : List Call) (b left : List EventValue) (t u : Tally) (e : Ended) (r : Report) → L ++ rest ≡ all → Going L m b t → Flushed n b left t u (Some e) → r ≡ reported u e
+pub stops : (all L rest : List EventValue) (m n : List Call) (b left : List EventValue) (t u : Tally) (e : WorkerEnd) (r : Report) → L ++ rest ≡ all → Going L m b t → Flushed n b left t u (Some e) → r ≡ reported u e
     → Tells all (m ++ n) r
 stops all L rest m n b left t u e r split g f is = let k = f.counted in let hs = f.handles in record {
   passed = L;
@@ -189,7 +189,7 @@ stops all L rest m n b left t u e r split g f is = let k = f.counted in let hs =
   done = λ d. absurd (subst EndsEarly (sym (ap (λ z. z.ended) is) ∙ d) (early_by n e f.stop));
 }
 
-pub stops_here : (all L rest : List EventValue) (m : List Call) (b : List EventValue) (t : Tally) (e : Ended) (r : Report) → L ++ rest ≡ all → Going L m b t → EndsEarly e → r ≡ reported t e → Tells all m r
+pub stops_here : (all L rest : List EventValue) (m : List Call) (b : List EventValue) (t : Tally) (e : WorkerEnd) (r : Report) → L ++ rest ≡ all → Going L m b t → EndsEarly e → r ≡ reported t e → Tells all m r
 stops_here all L rest m b t e r split g early is = record {
   passed = L;
   behind = rest;
@@ -242,7 +242,7 @@ room_behind L rest left all e next split = omega (arith, ap length split, length
 pub room : (all L rest : List EventValue) (m : List Call) (b : List EventValue) (t : Tally) → Going L m b t → L ++ rest ≡ all → (t.fresh + t.repeated + length b + t.refused ≤ length all) × (t.refused ≤ length L)
 room all L rest m b t g split = (omega (arith, bounded L m b t g, ap length split, length-append L rest), omega (arith, bounded L m b t g))
 
-pub full : (L : List EventValue) (m n : List Call) (b left : List EventValue) (t u : Tally) (o : Option Ended) → o ≡ None → Going L m b t → FlushedIfFull n b left t u o
+pub full : (L : List EventValue) (m n : List Call) (b left : List EventValue) (t u : Tally) (o : Option WorkerEnd) → o ≡ None → Going L m b t → FlushedIfFull n b left t u o
     → Going L (m ++ n) left u × (length left < 100)
 full L m n b left t u o is g (inl f) =
     let k : Flushed n b left t u None = subst (λ z. Flushed n b left t u z) is f in (flushes L m n b left t u g k, omega (arith, ap length (k.whole refl).1))
@@ -251,6 +251,6 @@ full L m n b left t u o is g (inr f) = (
   omega (arith, ap length f.1, f.4),
 )
 
-pub full_stops : (n : List Call) (b left : List EventValue) (t u : Tally) (o : Option Ended) (e : Ended) → o ≡ Some e → FlushedIfFull n b left t u o → Flushed n b left t u (Some e)
+pub full_stops : (n : List Call) (b left : List EventValue) (t u : Tally) (o : Option WorkerEnd) (e : WorkerEnd) → o ≡ Some e → FlushedIfFull n b left t u o → Flushed n b left t u (Some e)
 full_stops n b left t u o e is (inl f) = subst (λ z. Flushed n b left t u z) is f
 full_stops n b left t u o e is (inr f) = let a : None ≡ Some e = sym f.3 ∙ is in absurd (cc)

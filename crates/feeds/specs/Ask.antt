@@ -9,8 +9,8 @@ use Rattle.views.specs.declared.query.Answer.{Answer}
 use Rattle.views.specs.declared.query.Query.{Query}
 use Rattle.feeds.specs.Report.{EndsEarly, HasCause}
 use Rattle.feeds.specs.declared.asking.Asked.{Asked}
-use Rattle.feeds.specs.declared.report.Ended.{Ended}
-use Rattle.feeds.specs.declared.report.Ended.TheVariants.{Done, OutOfMemory}
+use Rattle.feeds.specs.declared.report.WorkerEnd.{WorkerEnd}
+use Rattle.feeds.specs.declared.report.WorkerEnd.TheVariants.{Done, OutOfMemory}
 
 -- the commands of calls
 abbrev pub commands_of : List Call → List Command
@@ -29,7 +29,7 @@ answers_of (c ∷ cs) = answers_by c.reply ++ answers_of cs
 
 -- these are the answers that the calls got, but for the last one where no memory was left to keep
 -- it
-abbrev pub KeepsAnswers : List Call → List Answer → Ended → Type 0
+abbrev pub KeepsAnswers : List Call → List Answer → WorkerEnd → Type 0
 KeepsAnswers m answers ended = (answers ≡ answers_of m)
     ⊎ ((ended ≡ OutOfMemory) × ((lost : Answer) × (answers ++ lost ∷ [] ≡ answers_of m)))
 

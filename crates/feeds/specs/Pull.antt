@@ -8,12 +8,13 @@ use Rattle.inbox.specs.Ordered.{has}
 use Rattle.inbox.specs.Sets.{set_of}
 use Rattle.site.specs.Delta.{delta}
 use Rattle.site.specs.Machine.{Runs, call}
+use Rattle.site.specs.Page.{max_page}
 use Rattle.site.specs.declared.call.Call.{Call}
 use Rattle.site.specs.declared.call.Command.TheVariants as command
 use Rattle.site.specs.declared.call.Reply.{Reply}
 use Rattle.site.specs.declared.call.Reply.TheVariants.{Paged, Summed}
 use Rattle.feeds.specs.Report.{Counts, EndsEarly, Handles, HasCause, IsRefused, handled}
-use Rattle.feeds.specs.declared.report.Ended.TheVariants.{Done, GateShut, OutOfMemory}
+use Rattle.feeds.specs.declared.report.WorkerEnd.TheVariants.{Done, GateShut, OutOfMemory}
 use Rattle.feeds.specs.declared.report.Report.{Report}
 
 -- the events of a page; any other reply has none
@@ -30,7 +31,7 @@ replied (c ∷ cs) = events_in c.reply ++ replied cs
 -- which the replies before it came
 abbrev pub ArePages : Sources → ℕ → List Call → Type 0
 ArePages peer place [] = Unit {0}
-ArePages peer place (c ∷ cs) = (c.command ≡ command.DeltaPage peer place 100)
+ArePages peer place (c ∷ cs) = (c.command ≡ command.DeltaPage peer place max_page)
     × ArePages peer (place + length (events_in c.reply)) cs
 
 -- the last call got an empty page

@@ -8,13 +8,14 @@ use Rattle.event_json.specs.Reading.{Reads, Refuses}
 use Rattle.event_json.specs.declared.fault.ReadFault.{ReadFault}
 use Rattle.event_json.specs.declared.fault.ReadFault.TheVariants as read
 use Rattle.site.specs.Machine.{handled_by}
+use Rattle.site.specs.Page.{max_page}
 use Rattle.site.specs.declared.call.Call.{Call}
 use Rattle.site.specs.declared.call.Command.{Command}
 use Rattle.site.specs.declared.call.Command.TheVariants as command
 use Rattle.site.specs.declared.call.Reply.{Reply}
 use Rattle.site.specs.declared.call.Reply.TheVariants.{Refused, Took}
-use Rattle.feeds.specs.declared.report.Ended.{Ended}
-use Rattle.feeds.specs.declared.report.Ended.TheVariants.{BadInput, Done, GateShut, OutOfMemory}
+use Rattle.feeds.specs.declared.report.WorkerEnd.{WorkerEnd}
+use Rattle.feeds.specs.declared.report.WorkerEnd.TheVariants.{BadInput, Done, GateShut, OutOfMemory}
 use Rattle.feeds.specs.declared.report.Report.{Report}
 use Rattle.feeds.specs.declared.report.Tally.{Tally}
 
@@ -22,10 +23,11 @@ use Rattle.feeds.specs.declared.report.Tally.{Tally}
 abbrev pub has_number : EventValue → Bool
 has_number e = is_some (number_of e)
 
--- the events that have a number, and those that have none
+-- the events that have a number
 abbrev pub sequenced : List EventValue → List EventValue
 sequenced L = filter has_number L
 
+-- and those that have none
 abbrev pub unsequenced : List EventValue → List EventValue
 unsequenced L = filter (λ e. not (has_number e)) L
 
@@ -54,13 +56,9 @@ abbrev pub repeated_of : List Call → ℕ
 repeated_of [] = 0
 repeated_of (c ∷ cs) = repeated_by c.reply + repeated_of cs
 
--- the most events that are handed over, or asked for, in one call
-abbrev pub max_batch : ℕ
-max_batch = 100
-
--- the command hands a batch over, of at most so many events
+-- the command hands a batch over, of at most a page of events
 abbrev pub IsTake : Command → Type 0
-IsTake (command.Take L) = length L ≤ max_batch
+IsTake (command.Take L) = length L ≤ max_page
 IsTake _ = ⊥
 
 abbrev pub AreTakes : List Call → Type 0
@@ -81,7 +79,7 @@ pub record Counts (m : List Call) (r : Report) : Type 0 where
   pub read : r.read ≡ r.fresh + r.repeated + r.refused
 
 -- a worker ends so before it is done: memory was wanted, or the gate was shut
-abbrev pub EndsEarly : Ended → Type 0
+abbrev pub EndsEarly : WorkerEnd → Type 0
 EndsEarly OutOfMemory = Unit {0}
 EndsEarly GateShut = Unit {0}
 EndsEarly Done = ⊥
@@ -105,11 +103,11 @@ pub record EndsRefused (m : List Call) : Type 0 where
   pub refused : IsRefused last.reply
 
 -- no call of a worker that ended so was refused, or the last alone, and that is why it ended
-abbrev pub HasCause : List Call → Ended → Type 0
+abbrev pub HasCause : List Call → WorkerEnd → Type 0
 HasCause m ended = AreAnswered m ⊎ (EndsRefused m × (ended ≡ OutOfMemory))
 
 -- so it is of one that ended, if it did
-abbrev pub HasCauseIf : List Call → Option Ended → Type 0
+abbrev pub HasCauseIf : List Call → Option WorkerEnd → Type 0
 HasCauseIf m None = AreAnswered m
 HasCauseIf m (Some ended) = HasCause m ended
 
@@ -129,7 +127,7 @@ pub record Tells (events : List EventValue) (m : List Call) (r : Report) : Type 
   pub done : r.ended ≡ Done → (handled m ≡ sequenced events) × (r.read ≡ length events)
 
 -- the report with these counts
-abbrev pub reported : Tally → Ended → Report
+abbrev pub reported : Tally → WorkerEnd → Report
 reported t ended = record {
   read = t.fresh + t.repeated + t.refused;
   fresh = t.fresh;
@@ -139,7 +137,7 @@ reported t ended = record {
 }
 
 -- how a worker ends whose input was not read
-abbrev pub end_of : ReadFault → Ended
+abbrev pub end_of : ReadFault → WorkerEnd
 end_of read.OutOfMemory = OutOfMemory
 end_of fault = BadInput fault
 

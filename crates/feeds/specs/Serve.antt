@@ -11,7 +11,7 @@ use Rattle.feeds.specs.Gate.{IsGated}
 use Rattle.feeds.specs.Pull.{PullsFrom}
 use Rattle.feeds.specs.Report.{Feeds}
 use Rattle.feeds.specs.declared.asking.Asked.{Asked}
-use Rattle.feeds.specs.declared.report.Ended.{Ended}
+use Rattle.feeds.specs.declared.report.WorkerEnd.{WorkerEnd}
 use Rattle.feeds.specs.declared.report.Report.{Report}
 use Rattle.feeds.specs.declared.serving.ServeFault.{ServeFault}
 use Rattle.feeds.specs.declared.serving.ServeFault.TheVariants.{NoThread, OutOfMemory}
@@ -73,19 +73,19 @@ pub record Serves (p q : Shown) (feeds : List (List ℕ)) (peers : List (List Ev
 -- was told of each: all that q has seen of it, and those of its peer besides, if it pulled. It ended
 -- so
 abbrev pub WorkerIsGated : (ℕ → ℕ → Type 0) → (ℕ → ℕ → Type 0) → (ℕ → ℕ → Type 0) → Shown → Shown
-    → ℕ → Ended → Type 0
+    → ℕ → WorkerEnd → Type 0
 WorkerIsGated lets shuts heard p q place ended =
     (m : List Call) × HasCalls q.seen (worker_of p place) m × ((calls : ℕ) × (length m ≤ calls)
     × IsGated lets shuts heard place calls ended)
 
 -- so it is of each worker from this place on, by how it ended
 abbrev pub AreGated : (ℕ → ℕ → Type 0) → (ℕ → ℕ → Type 0) → (ℕ → ℕ → Type 0) → Shown → Shown → ℕ
-    → List Ended → Type 0
+    → List WorkerEnd → Type 0
 AreGated lets shuts heard p q place [] = Unit {0}
 AreGated lets shuts heard p q place (e ∷ es) = WorkerIsGated lets shuts heard p q place e
     × AreGated lets shuts heard p q (place + 1) es
 
 -- how the workers ended, in their order
-abbrev pub ends_of : Served → List Ended
+abbrev pub ends_of : Served → List WorkerEnd
 ends_of s = map (λ (r : Report). r.ended) s.reports.items
     ++ map (λ (r : Asked). r.ended) s.asked.items

@@ -7,7 +7,7 @@ ghost use Rattle.feeds.specs.Gate.{IsGated};
 ghost use Rattle.feeds.specs.steps.Ask.{AsksOne};
 ghost use Rattle.feeds.specs.steps.Gate.{GoesThrough};
 
-use crate::report::Ended;
+use crate::report::WorkerEnd;
 use attributes::List;
 use site::{Desk, Gate};
 use std::alloc::Global;
@@ -20,7 +20,7 @@ pub type Answers = List<Answer>;
 #[derive(Drop)]
 pub struct Asked {
     pub answers: Answers,
-    pub ended: Ended,
+    pub ended: WorkerEnd,
 }
 
 /// Asks a question in the call behind the first `call`, where the gate lets it, and keeps the
@@ -32,7 +32,7 @@ fn ask_one<D: Desk, G: Gate>(
     call: u64,
     query: Query,
     answers: &mut Answers,
-) -> Option<Ended>
+) -> Option<WorkerEnd>
     requires { call + 1 < 2 ^ 64 }
     ensures { (m : List Call) × D.went desk.old desk.new m
         × AsksOne query m answers.old answers.new result
@@ -42,16 +42,16 @@ fn ask_one<D: Desk, G: Gate>(
     let call = call + 1;
     match gate.before(worker, call) {
         Ok(()) => (),
-        Err(_) => return Some(Ended::GateShut),
+        Err(_) => return Some(WorkerEnd::GateShut),
     }
     let answer = desk.query(query);
     gate.after(worker, call);
     match answer {
         Ok(answer) => match answers.push(answer) {
             Ok(()) => None,
-            Err(_) => Some(Ended::OutOfMemory),
+            Err(_) => Some(WorkerEnd::OutOfMemory),
         },
-        Err(_) => Some(Ended::OutOfMemory),
+        Err(_) => Some(WorkerEnd::OutOfMemory),
     }
 }
 
@@ -80,6 +80,6 @@ pub fn ask<D: Desk, G: Gate>(
     }
     Asked {
         answers,
-        ended: Ended::Done,
+        ended: WorkerEnd::Done,
     }
 }

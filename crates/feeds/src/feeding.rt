@@ -8,7 +8,7 @@ ghost use Rattle.feeds.specs.Report.{Feeds, Tells, reported, unread};
 ghost use Rattle.feeds.specs.steps.Tally.{Passes};
 
 use crate::flush::{flush, flush_full};
-use crate::report::{Ended, Report, Tally};
+use crate::report::{Report, Tally, WorkerEnd};
 use attributes::{Batch, Event, Events, Sequenced};
 use event_json::{ReadFault, read_events};
 use site::{Desk, Gate};
@@ -41,7 +41,7 @@ fn hand_over<D: Desk, G: Gate>(
     worker: u64,
     events: Events,
     tally: &mut Tally,
-) -> Ended
+) -> WorkerEnd
     requires start { tally.old ≡ record { calls = 0; fresh = 0; repeated = 0; refused = 0 } }
     ensures { (m : List Call) × D.went desk.old desk.new m
         × Tells events m (reported tally.new result)
@@ -53,7 +53,7 @@ fn hand_over<D: Desk, G: Gate>(
     for event in events.into_vec() {
         match pass_on(&mut batch, tally, event) {
             Ok(()) => (),
-            Err(_) => return Ended::OutOfMemory,
+            Err(_) => return WorkerEnd::OutOfMemory,
         }
         match flush_full(desk, gate, worker, &mut batch, tally) {
             None => (),
@@ -61,10 +61,10 @@ fn hand_over<D: Desk, G: Gate>(
         }
     }
     if batch.is_empty() {
-        return Ended::Done;
+        return WorkerEnd::Done;
     }
     match flush(desk, gate, worker, &mut batch, tally) {
-        None => Ended::Done,
+        None => WorkerEnd::Done,
         Some(ended) => ended,
     }
 }
@@ -93,8 +93,8 @@ fn unread(fault: ReadFault) -> Report
     ensures { result ≡ unread fault }
 {
     let ended = match fault {
-        ReadFault::OutOfMemory => Ended::OutOfMemory,
-        _ => Ended::BadInput(fault),
+        ReadFault::OutOfMemory => WorkerEnd::OutOfMemory,
+        _ => WorkerEnd::BadInput(fault),
     };
     Tally::start().report(ended)
 }

@@ -1,17 +1,15 @@
 //! A batch that is handed to a desk.
 
 ghost use Rattle.std.specs.Prelude.{◌≡◌, ◌+◌, ◌<◌, ◌≤◌, ◌^◌, List, None, length};
+ghost use Rattle.site.specs.Page.{max_page};
 ghost use Rattle.site.specs.declared.call.Call.{Call};
 ghost use Rattle.feeds.specs.steps.Gate.{GoesThrough};
 ghost use Rattle.feeds.specs.steps.Tally.{Flushed, FlushedIfFull, Gains, short_of};
 
-use crate::report::{Ended, Tally};
+use crate::report::{Tally, WorkerEnd};
 use attributes::Batch;
 use inbox::Short;
-use site::{Desk, DeskFault, Gate};
-
-/// The most events that are handed over, or asked for, at a time.
-pub(crate) const PAGE: u64 = 100;
+use site::{Desk, DeskFault, Gate, MAX_PAGE};
 
 /// How far a refused call came.
 fn short_of(fault: DeskFault) -> Short
@@ -30,9 +28,9 @@ pub(crate) fn flush<D: Desk, G: Gate>(
     worker: u64,
     batch: &mut Batch,
     tally: &mut Tally,
-) -> Option<Ended>
+) -> Option<WorkerEnd>
     requires room { tally.old.fresh + tally.old.repeated + length batch.old < 2 ^ 64 }
-    requires most { length batch.old ≤ 100 }
+    requires most { length batch.old ≤ max_page }
     requires few { tally.old.calls + 1 < 2 ^ 64 }
     ensures flushed { (m : List Call) × D.went desk.old desk.new m
         × Flushed m batch.old batch.new tally.old tally.new result
@@ -45,7 +43,7 @@ pub(crate) fn flush<D: Desk, G: Gate>(
     tally.calls += 1;
     match gate.before(worker, tally.calls) {
         Ok(()) => (),
-        Err(_) => return Some(Ended::GateShut),
+        Err(_) => return Some(WorkerEnd::GateShut),
     }
     let ended = match desk.take(batch) {
         Ok(counts) => {
@@ -57,7 +55,7 @@ pub(crate) fn flush<D: Desk, G: Gate>(
             let short = short_of(fault);
             tally.fresh += short.fresh;
             tally.repeated += short.taken - short.fresh;
-            Some(Ended::OutOfMemory)
+            Some(WorkerEnd::OutOfMemory)
         }
     };
     gate.after(worker, tally.calls);
@@ -71,9 +69,9 @@ pub(crate) fn flush_full<D: Desk, G: Gate>(
     worker: u64,
     batch: &mut Batch,
     tally: &mut Tally,
-) -> Option<Ended>
+) -> Option<WorkerEnd>
     requires room { tally.old.fresh + tally.old.repeated + length batch.old < 2 ^ 64 }
-    requires most { length batch.old ≤ 100 }
+    requires most { length batch.old ≤ max_page }
     requires few { tally.old.calls + 1 < 2 ^ 64 }
     ensures calls { result ≡ None
         → tally.new.calls + length batch.new ≤ tally.old.calls + length batch.old }
@@ -82,7 +80,7 @@ pub(crate) fn flush_full<D: Desk, G: Gate>(
         × GoesThrough (G.lets gate.now) (G.shuts gate.now) (G.heard gate.now) worker
         tally.old.calls (length m) tally.new.calls result }
 {
-    if batch.len() != PAGE {
+    if batch.len() != MAX_PAGE {
         return None;
     }
     flush(desk, gate, worker, batch, tally)

@@ -13,5 +13,5 @@ pub use aside::{Aside, Idle};
 pub use asking::{Answers, Asked, ask};
 pub use feeding::feed;
 pub use pulling::{pull, pull_from};
-pub use report::{Ended, Report};
+pub use report::{Report, WorkerEnd};
 pub use serving::{Jobs, Questions, ServeFault, Served, serve};

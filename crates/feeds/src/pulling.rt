@@ -1,23 +1,22 @@
 //! One worker that brings one desk what it lacks of another's events.
 
 ghost use Rattle.std.specs.Prelude.{◌≡◌, ◌+◌, ◌<◌, ◌≤◌, ◌^◌, ℕ, List, None, Some, length};
-ghost use Rattle.inbox.specs.Sets.{set_of};
-ghost use Rattle.site.specs.Delta.{delta};
+ghost use Rattle.site.specs.Page.{max_page};
 ghost use Rattle.site.specs.declared.call.Call.{Call};
 ghost use Rattle.feeds.specs.Gate.{IsGated};
 ghost use Rattle.feeds.specs.Pull.{Holds, Pulled, Pulls, PullsFrom, replied};
 ghost use Rattle.feeds.specs.Report.{reported};
-ghost use Rattle.feeds.specs.declared.report.Ended.TheVariants.{Done};
+ghost use Rattle.feeds.specs.declared.report.WorkerEnd.TheVariants.{Done};
 ghost use Rattle.feeds.specs.steps.Gate.{GoesThrough, end_if};
 ghost use Rattle.feeds.specs.steps.Pull.{HasSameCounts, Moves, Pages, Sums};
 ghost use Rattle.feeds.specs.steps.Tally.{Gains};
 
-use crate::flush::{PAGE, flush};
-use crate::report::{Ended, Report, Tally};
+use crate::flush::flush;
+use crate::report::{Report, Tally, WorkerEnd};
 use attributes::Batch;
 use coverage::Summary;
 use inbox::laws::sets_are_members;
-use site::{Desk, Gate, Site};
+use site::{Desk, Gate, MAX_PAGE, Site};
 
 /// The most pages of one pull, 2^56: more than any memory holds. It bounds the sums of their
 /// lengths.
@@ -25,20 +24,20 @@ const PAGES: u64 = 72_057_594_037_927_936;
 
 /// The summary of a desk, in the worker's first call, where the gate lets it; else why the worker
 /// ends.
-fn summary_of<E: Desk, G: Gate>(to: &mut E, gate: &G, worker: u64) -> Result<Summary, Ended>
+fn summary_of<E: Desk, G: Gate>(to: &mut E, gate: &G, worker: u64) -> Result<Summary, WorkerEnd>
     ensures { (n : List Call) × E.went to.old to.new n × Sums n result
         × GoesThrough (G.lets gate.now) (G.shuts gate.now) (G.heard gate.now) worker
         0 (length n) 1 (end_if result) }
 {
     match gate.before(worker, 1) {
         Ok(()) => (),
-        Err(_) => return Err(Ended::GateShut),
+        Err(_) => return Err(WorkerEnd::GateShut),
     }
     let summary = to.summary();
     gate.after(worker, 1);
     match summary {
         Ok(summary) => Ok(summary),
-        Err(_) => Err(Ended::OutOfMemory),
+        Err(_) => Err(WorkerEnd::OutOfMemory),
     }
 }
 
@@ -50,7 +49,7 @@ fn next_page<D: Desk, G: Gate>(
     worker: u64,
     peer: &Summary,
     tally: &mut Tally,
-) -> Result<Batch, Ended>
+) -> Result<Batch, WorkerEnd>
     requires room { tally.old.fresh + tally.old.repeated < 2 ^ 64 }
     requires few { tally.old.calls + 1 < 2 ^ 64 }
     ensures page { (m : List Call) × D.went from.old from.new m
@@ -64,13 +63,13 @@ fn next_page<D: Desk, G: Gate>(
     tally.calls += 1;
     match gate.before(worker, tally.calls) {
         Ok(()) => (),
-        Err(_) => return Err(Ended::GateShut),
+        Err(_) => return Err(WorkerEnd::GateShut),
     }
-    let page = from.delta_page(peer, place, PAGE);
+    let page = from.delta_page(peer, place, MAX_PAGE);
     gate.after(worker, tally.calls);
     match page {
         Ok(events) => Ok(events),
-        Err(_) => Err(Ended::OutOfMemory),
+        Err(_) => Err(WorkerEnd::OutOfMemory),
     }
 }
 
@@ -83,8 +82,8 @@ fn move_page<D: Desk, E: Desk, G: Gate>(
     worker: u64,
     peer: &Summary,
     tally: &mut Tally,
-) -> Option<Ended>
-    requires room { tally.old.fresh + tally.old.repeated + 100 < 2 ^ 64 }
+) -> Option<WorkerEnd>
+    requires room { tally.old.fresh + tally.old.repeated + max_page < 2 ^ 64 }
     requires few { tally.old.calls + 2 < 2 ^ 64 }
     ensures calls { tally.new.calls ≤ tally.old.calls + 2 }
     ensures moves { (m n : List Call) × D.went from.old from.new m × E.went to.old to.new n
@@ -99,7 +98,7 @@ fn move_page<D: Desk, E: Desk, G: Gate>(
         Err(ended) => return Some(ended),
     };
     if batch.is_empty() {
-        return Some(Ended::Done);
+        return Some(WorkerEnd::Done);
     }
     flush(to, gate, worker, &mut batch, tally)
 }
@@ -112,7 +111,7 @@ fn pull_pages<D: Desk, E: Desk, G: Gate>(
     worker: u64,
     peer: &Summary,
     tally: &mut Tally,
-) -> Ended
+) -> WorkerEnd
     requires start { tally.old ≡ record { calls = 1; fresh = 0; repeated = 0; refused = 0 } }
     ensures pulled { (m n : List Call) × D.went from.old from.new m × E.went to.old to.new n
         × Pulled peer.now m n (reported tally.new result)
@@ -129,7 +128,7 @@ fn pull_pages<D: Desk, E: Desk, G: Gate>(
             Some(ended) => return ended,
         }
     }
-    Ended::OutOfMemory
+    WorkerEnd::OutOfMemory
 }
 
 /// Brings the one desk what it lacks of the other's events: takes its summary once, and then, in

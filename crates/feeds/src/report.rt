@@ -7,7 +7,7 @@ use event_json::ReadFault;
 
 /// Why a worker ended.
 #[derive(Clone, Copy, PartialEq, Eq, Debug)]
-pub enum Ended {
+pub enum WorkerEnd {
     /// All was done.
     Done,
     /// Memory was wanted. What was taken by then stays taken.
@@ -26,7 +26,7 @@ pub struct Report {
     pub fresh: u64,
     pub repeated: u64,
     pub refused: u64,
-    pub ended: Ended,
+    pub ended: WorkerEnd,
 }
 
 /// What a worker counts as it goes: its calls, and the events that it brought or passed over.
@@ -52,7 +52,7 @@ impl Tally {
     }
 
     /// The report of a worker that ends so.
-    pub(crate) fn report(&self, ended: Ended) -> Report
+    pub(crate) fn report(&self, ended: WorkerEnd) -> Report
         requires { self.now.fresh + self.now.repeated + self.now.refused < 2 ^ 64 }
         ensures { result ≡ reported self.now ended }
     {

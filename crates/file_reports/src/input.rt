@@ -5,12 +5,10 @@ ghost use Rattle.event_json.specs.Reading.{max_input};
 ghost use Rattle.file_reports.specs.declared.input.Unread.TheVariants.{OutOfMemory};
 
 use attributes::Octets;
+use event_json::MAX_INPUT;
 use std::alloc::{AllocError, Global};
 use std::io::Read;
 use thiserror::Error;
-
-/// The most bytes of an input: as many as the reader of events takes.
-const LIMIT: usize = 33_554_432;
 
 /// The most reads of one input: one for each byte, one for a byte too many, and one for the end.
 const READS: u64 = 33_554_434;
@@ -69,7 +67,7 @@ pub fn read_all<R: Read>(alloc: Global, reader: &mut R) -> Result<Octets, Unread
         match reader.read(&mut piece) {
             Ok(0) => return Ok(Octets::from_vec(bytes)),
             Ok(n) => {
-                if n > LIMIT - bytes.len() {
+                if n > MAX_INPUT as usize - bytes.len() {
                     return Err(Unread::TooLarge);
                 }
                 bytes.extend_from_slice(&piece[..n])?;

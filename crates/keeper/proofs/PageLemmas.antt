@@ -1,22 +1,28 @@
 -- What a page adds to the first arrivals.
-use Rattle.std.proofs.Common.{◌≡◌, ◌⊎◌, ◌+◌, ◌-◌, ◌≤◌, ℕ, List, [], ◌++◌, length, take, drop, refl, sym, ap, ◌∙◌, subst, append_assoc, append-nil, arith, inl, inr, IsTrue, Result, Ok, Err, IfOk}
+use Rattle.std.proofs.Common.{◌≡◌, ◌≢◌, ◌⊎◌, ◌+◌, ◌-◌, ◌≤◌, ℕ, List, [], ◌++◌, length, take, drop, refl, sym, ap, ◌∙◌, subst, append_assoc, append-nil, arith, inl, inr, IsTrue, Result, Ok, Err, IfOk}
 use Rattle.std.specs.Prelude.{min}
 use Rattle.std.proofs.lemmas.List.{length-append, length-drop, length-take, length-take-le, take-append-drop, take-append-le}
 use Rattle.std.proofs.Math.Seq.{take-append_seam, take-length}
 use Rattle.sqlite_trees.specs.Tree.{Trees}
 use Rattle.sqlite.specs.Effect.{Database}
+use Rattle.sqlite.specs.Held.{Held}
 use Rattle.sqlite.specs.State.{State, HasCleanDisk, Survives}
 use Rattle.attributes.specs.Event.{EventValue}
 use Rattle.inbox.specs.KeyOrder.{key_cmp}
 use Rattle.inbox.specs.Ordered.{append_new}
 use Rattle.inbox_table.specs.Beside.{KeepsService}
-use Rattle.inbox_table.specs.Calls.{AreFresh, MayTake, Takes}
+use Rattle.inbox_table.specs.Calls.{AreFresh, KeepCall, KeepEffect, Kept, MayTake, Takes}
+use Rattle.inbox_table.specs.Fault.{IsOfStore}
 use Rattle.inbox_table.specs.Rows.{IsInbox}
+use Rattle.inbox_table.specs.declared.fault.TableFault.{TableFault}
 use Rattle.site.specs.Arrival.{AreDistinct}
 use Rattle.site.specs.Page.{page}
 use Rattle.keeper.proofs.NewLemmas.{all_new, grows}
-use Rattle.keeper.specs.Keep.{Grows, HasAll, HasFirst, KeepsUp, MayGrow, MayKeep, MayKeepAll}
-use Rattle.keeper.specs.steps.Flushes.{keeps_none}
+use Rattle.keeper.specs.Fault.{of_table}
+use Rattle.keeper.specs.Keep.{Grows, HasAll, HasFirst, Keeps, KeepsPages, KeepsUp, MayGrow, MayKeep, MayKeepAll}
+use Rattle.keeper.specs.declared.fault.KeepFault.{KeepFault}
+use Rattle.keeper.specs.declared.fault.KeepFault.TheVariants as keep
+use Rattle.keeper.specs.steps.Flushes.{grows_none, keeps_none, survives_none}
 
 -- the page behind the first arrivals is new to them, and they are the first ones with it
 record IsNext (A : List EventValue) (rows most : ℕ) (b : List EventValue) : Type 0 where
@@ -134,36 +140,6 @@ caught_up old new rows rows' fresh A b is once first was_clean was_open stays ta
       count = omega (arith, grew, e, k, m);
     }
 
-module _ (old new : State) (rows rows' fresh most : ℕ) (A B b others : List EventValue) (added : B ≡ A ++ others) (is_page : b ≡ page B rows most) (once : AreDistinct B) (first : KeepsUp old rows A)
-    (was_clean : HasCleanDisk new → HasCleanDisk old) (was_open : HasCleanDisk new → IsTrue new.is_open → IsTrue old.is_open) (stays : HasCleanDisk new → IsTrue new.is_open)
-    (takes : HasCleanDisk new → Takes b old.now new.now) (came : HasCleanDisk new → AreFresh b old.now fresh) (grew : rows' ≡ rows + fresh) where
-  was : HasCleanDisk new → HasFirst old.now rows B
-  was clean = first_in old.now rows A B others added (first (was_clean clean) (was_open clean (stays clean)))
-
-  next : HasCleanDisk new → IsNext B rows most b
-  next clean = is_next B rows most b (was clean).some is_page once
-
-  fresh_is : HasCleanDisk new → fresh ≡ length b
-  fresh_is clean =
-      let w = was clean in let n = next clean in
-      let e = came clean (take rows B) w.table in let k = length-take-le rows B w.some in let m = length-take-le (rows + length b) B n.some in
-      let s = ap (λ (z : List EventValue). length z) n.added in omega (arith, e, k, m, s)
-
-  pub page_first : KeepsUp new rows' B
-  page_first clean is_open =
-      let w = was clean in let n = next clean in
-      let to : rows + length b ≡ rows' = ap (λ k. rows + k) (sym (fresh_is clean)) ∙ sym grew in
-      subst (λ k. HasFirst new.now k B) to record { some = n.some; table = subst (IsInbox new.now) n.added (takes clean (take rows B) w.table) }
-
-  pub page_count : HasCleanDisk new → fresh ≡ min most (length B - rows)
-  page_count clean = fresh_is clean ∙ (next clean).count
-
-  pub page_grows : (HasCleanDisk new → KeepsService old.now new.now) → Survives old new (λ trees. IsTrue old.is_open → MayTake b old.now trees) → Grows old new
-  page_grows beside crash = taken_grows old new b was_clean was_open takes beside crash
-
-pub survives_same : (s : State) (P : Trees → Type 0) → Survives s s P
-survives_same s P = record { clean = omega arith; shield = λ h. h; counts = omega arith; limit = refl; closes = λ clean h. inl h; crash = λ clean db h. inl h }
-
 -- what a crash may leave of pages that are being kept
 pub page_crash : (old new : State) (rows most : ℕ) (A B b others : List EventValue) → B ≡ A ++ others → b ≡ page B rows most → AreDistinct B → KeepsUp old rows A
     → Survives old new (λ trees. IsTrue old.is_open → MayTake b old.now trees) → Survives old new (λ trees. IsTrue old.is_open → MayKeep most rows B old.now trees)
@@ -191,3 +167,87 @@ rest_crash old new rows A b is once first s = survives_as old new _ _ s (λ clea
       table = subst (IsInbox m.db) (rest_added A rows b is once) (m.takes (take rows A) (first clean is_open).table);
       beside = m.beside;
     })
+
+-- what a table took came to be kept, and what it refused didn't
+module _ {S : Type 0} (state : Held S → State) (k l : Kept S) (b : List EventValue)
+    (crash : Survives (state k.conn) (state l.conn) (λ trees. IsTrue (state k.conn).is_open → MayTake b (state k.conn).now trees)) where
+  was_clean : HasCleanDisk (state l.conn) → HasCleanDisk (state k.conn)
+  was_clean clean = omega (arith, crash.clean, clean)
+
+  pub keeps_taken : {T : Type 0} (t : T) (fresh : ℕ) → (HasCleanDisk (state l.conn) → KeepEffect b (state k.conn) (state l.conn) (Ok fresh)) → Keeps state k l (Ok t)
+  keeps_taken t fresh effect = record {
+    list = taken_grows (state k.conn) (state l.conn) b was_clean (λ clean. (effect clean).was_open) (λ clean. (effect clean).takes) (λ clean. (effect clean).beside) crash;
+    beside = λ clean. (effect clean).beside;
+    settled = λ clean. (effect clean).settled;
+    mark_same = tt;
+    same = λ clean is_open. tt;
+    known = tt;
+  }
+
+  pub keeps_refused : {T : Type 0} (fault : TableFault) (why : KeepFault) → why ≡ of_table fault → KeepCall k.rows l.rows (Err fault)
+      → (HasCleanDisk (state l.conn) → KeepEffect b (state k.conn) (state l.conn) (Err fault)) → Keeps state {T = T} k l (Err why)
+  keeps_refused fault why is call effect = record {
+    list = still_grows (state k.conn) (state l.conn) was_clean (λ clean. (effect clean).was_open) (λ clean. (effect clean).same) b crash;
+    beside = λ clean. tt;
+    settled = λ clean. tt;
+    mark_same = call.back;
+    same = λ clean. (effect clean).same;
+    known = known call.fault;
+  }
+    where
+      known : IsOfStore fault → why ≢ keep.Foreign
+      known (inl e) f = (let bad : keep.OutOfMemory ≡ keep.Foreign = sym (is ∙ ap of_table e) ∙ f in cc)
+      known (inr e) f = (let bad : keep.Store ≡ keep.Foreign = sym (is ∙ ap of_table e) ∙ f in cc)
+
+  -- pages of the arrivals of a site
+  module _ (most : ℕ) (A B others : List EventValue) (added : B ≡ A ++ others) (is_page : b ≡ page B k.rows most) (once : AreDistinct B) (first : KeepsUp (state k.conn) k.rows A) where
+    may_keep : Survives (state k.conn) (state l.conn) (λ trees. IsTrue (state k.conn).is_open → MayKeep most k.rows B (state k.conn).now trees)
+    may_keep = page_crash (state k.conn) (state l.conn) k.rows most A B b others added is_page once first crash
+
+    pub pages_taken : (fresh : ℕ) → KeepCall k.rows l.rows (Ok fresh) → (HasCleanDisk (state l.conn) → KeepEffect b (state k.conn) (state l.conn) (Ok fresh)) → KeepsPages state most k l B (Ok fresh)
+    pages_taken fresh call effect = record {
+      keeps = keeps_taken fresh fresh effect;
+      first = λ clean is_open.
+          let w = was clean in let n = next clean in
+          let to : k.rows + length b ≡ l.rows = ap (λ z. k.rows + z) (sym (fresh_is clean)) ∙ sym call.counted in
+          subst (λ z. HasFirst (state l.conn).now z B) to record { some = n.some; table = subst (IsInbox (state l.conn).now) n.added ((effect clean).takes (take k.rows B) w.table) };
+      grew = call.counted;
+      page = λ clean. fresh_is clean ∙ (next clean).count;
+      stays_open = λ clean. (effect clean).stays_open;
+      crash = may_keep;
+    }
+      where
+        was : HasCleanDisk (state l.conn) → HasFirst (state k.conn).now k.rows B
+        was clean = first_in (state k.conn).now k.rows A B others added (first (was_clean clean) ((effect clean).was_open (effect clean).stays_open))
+
+        next : HasCleanDisk (state l.conn) → IsNext B k.rows most b
+        next clean = is_next B k.rows most b (was clean).some is_page once
+
+        fresh_is : HasCleanDisk (state l.conn) → fresh ≡ length b
+        fresh_is clean =
+            let w = was clean in let n = next clean in
+            let e = (effect clean).fresh (take k.rows B) w.table in let h = length-take-le k.rows B w.some in let m = length-take-le (k.rows + length b) B n.some in
+            let s = ap (λ (z : List EventValue). length z) n.added in omega (arith, e, h, m, s)
+
+    pub pages_refused : (fault : TableFault) (why : KeepFault) → why ≡ of_table fault → KeepCall k.rows l.rows (Err fault)
+        → (HasCleanDisk (state l.conn) → KeepEffect b (state k.conn) (state l.conn) (Err fault)) → KeepsPages state most k l B (Err why)
+    pages_refused fault why is call effect = record {
+      keeps = keeps_refused fault why is call effect;
+      first = still_first (state k.conn) (state l.conn) k.rows l.rows A B others added first was_clean (λ clean. (effect clean).was_open) (λ clean. (effect clean).same) call.back;
+      grew = tt;
+      page = λ clean. tt;
+      stays_open = λ clean. tt;
+      crash = may_keep;
+    }
+
+-- nothing was asked of the table
+pub pages_unasked : {S : Type 0} (state : Held S → State) (k : Kept S) (most : ℕ) (A B others : List EventValue) (why : KeepFault) → B ≡ A ++ others → KeepsUp (state k.conn) k.rows A
+    → why ≡ keep.OutOfMemory → KeepsPages state most k k B (Err why)
+pages_unasked state k most A B others why added first is = record {
+  keeps = record { list = grows_none (state k.conn); beside = λ clean. tt; settled = λ clean. tt; mark_same = refl; same = λ clean is_open. refl; known = λ f. (let bad : keep.OutOfMemory ≡ keep.Foreign = sym is ∙ f in cc) };
+  first = still_first (state k.conn) (state k.conn) k.rows k.rows A B others added first (λ clean. clean) (λ clean is_open. is_open) (λ clean is_open. refl) refl;
+  grew = tt;
+  page = λ clean. tt;
+  stays_open = λ clean. tt;
+  crash = survives_none (state k.conn) _;
+}

@@ -1,19 +1,20 @@
 -- What a table has of the arrivals of a site.
-use Rattle.std.specs.Prelude.{◌≡◌, ◌+◌, ◌-◌, ◌*◌, ◌≤◌, ℕ, zero, suc, List, ◌++◌, length, min, take, IsTrue}
+pub use Rattle.site.specs.Page.{max_page}
+use Rattle.std.specs.Prelude.{◌≡◌, ◌≢◌, ◌+◌, ◌-◌, ◌*◌, ◌≤◌, ℕ, zero, suc, List, ◌++◌, length, min, take, Result, IfErr, IfOk, IsTrue, OnErr, OnOk}
 use Rattle.sqlite_trees.specs.Tree.{Trees}
 use Rattle.sqlite.specs.Effect.{Database, IsDatabase}
+use Rattle.sqlite.specs.Held.{Held}
 use Rattle.sqlite.specs.State.{State, HasCleanDisk, Survives}
 use Rattle.attributes.specs.Event.{EventValue}
 use Rattle.inbox_table.specs.Beside.{KeepsService}
+use Rattle.inbox_table.specs.Calls.{IsSettled, Kept}
 use Rattle.inbox_table.specs.Rows.{IsInbox}
 use Rattle.site.specs.Machine.{call}
 use Rattle.site.specs.declared.call.Command.TheVariants as command
 use Rattle.site.specs.declared.call.Reply.{Reply}
 use Rattle.site_lock.specs.Pass.{Made, Shown}
-
--- the most events that one step keeps
-abbrev pub max_page : ℕ
-max_page = 100
+use Rattle.keeper.specs.declared.fault.KeepFault.{KeepFault}
+use Rattle.keeper.specs.declared.fault.KeepFault.TheVariants.{Foreign}
 
 -- the table of the database has the first so many of these arrivals, in their order, and no others
 pub record HasFirst (db : Database) (rows : ℕ) (arrivals : List EventValue) : Type 0 where
@@ -85,3 +86,31 @@ pub record MayKeepAll (arrivals : List EventValue) (old : Database) (trees : Tre
   pub sound : IsDatabase db
   pub table : IsInbox db arrivals
   pub beside : KeepsService old db
+
+module _ {S : Type 0} (state : Held S → State) where
+  -- a keeper k came to be l in keeping, or was refused
+  pub record Keeps {T : Type 0} (k l : Kept S) (result : Result T KeepFault) : Type 0 where
+    -- whatever it comes to, the list only grows, and a crash leaves no less
+    pub list : Grows (state k.conn) (state l.conn)
+    -- kept, what lies beside the table is as it was, and a crash leaves just that
+    pub beside : HasCleanDisk (state l.conn)
+        → OnOk result (KeepsService (state k.conn).now (state l.conn).now)
+    pub settled : HasCleanDisk (state l.conn) → OnOk result (IsSettled (state l.conn))
+    -- refused, the mark stays, and the database is as it was
+    pub mark_same : OnErr result (l.rows ≡ k.rows)
+    pub same : HasCleanDisk (state l.conn) → IsTrue (state l.conn).is_open
+        → OnErr result ((state l.conn).now ≡ (state k.conn).now)
+    pub known : IfErr result (λ fault. fault ≢ Foreign)
+
+  -- it did so with the arrivals behind its mark, with `most` of them at most, and the answer is how
+  -- many they were; the table has the first of them, and a crash leaves it with these or without
+  pub record KeepsPages (most : ℕ) (k l : Kept S) (arrivals : List EventValue)
+      (result : Result ℕ KeepFault) : Type 0 where
+    pub keeps : Keeps k l result
+    pub first : KeepsUp (state l.conn) l.rows arrivals
+    pub grew : IfOk result (λ n. l.rows ≡ k.rows + n)
+    pub page : HasCleanDisk (state l.conn)
+        → IfOk result (λ n. n ≡ min most (length arrivals - k.rows))
+    pub stays_open : HasCleanDisk (state l.conn) → OnOk result (IsTrue (state l.conn).is_open)
+    pub crash : Survives (state k.conn) (state l.conn) (λ trees. IsTrue (state k.conn).is_open
+        → MayKeep most k.rows arrivals (state k.conn).now trees)

@@ -8,14 +8,11 @@ ghost use Rattle.site_lock.specs.Pass.{leaves};
 ghost use Rattle.keeper.specs.Keep.{AsksPages, max_page};
 
 use attributes::Batch;
-use site::DeskFault;
+use site::{DeskFault, MAX_PAGE};
 use site_lock::laws::calls_follow;
 use site_lock::{Pass, SharedSite};
 use std::alloc::AllocError;
 use std::sync::Wait;
-
-/// The most events that a page has.
-const MAX_PAGE: u64 = 100;
 
 /// Moves events behind others.
 fn append(events: &mut Batch, page: Batch) -> Result<(), AllocError>

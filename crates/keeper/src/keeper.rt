@@ -1,17 +1,16 @@
 //! A table that keeps up with a shared site.
 
-ghost use Rattle.std.specs.Prelude.{◌≡◌, ◌≢◌, ◌+◌, ◌-◌, ◌*◌, ◌^◌, ◌≤◌, [], true, drop, length, min, List, IsTrue, IfErr, IfOk, OnErr, OnOk};
+ghost use Rattle.std.specs.Prelude.{◌≡◌, ◌≢◌, ◌+◌, ◌-◌, ◌*◌, ◌^◌, ◌≤◌, [], true, drop, length, min, List, IsTrue, IfErr, IfOk, OnOk};
 ghost use Rattle.sqlite.specs.Held.{state};
 ghost use Rattle.sqlite.specs.State.{HasCleanDisk, Survives};
 ghost use Rattle.attributes.specs.Event.{EventValue};
 ghost use Rattle.inbox.specs.KeyOrder.{key_cmp};
 ghost use Rattle.inbox.specs.Ordered.{append_new};
 ghost use Rattle.site.specs.Arrival.{AreDistinct};
-ghost use Rattle.inbox_table.specs.Beside.{KeepsService};
 ghost use Rattle.inbox_table.specs.Calls.{IsSettled, IsTold, StandsFor};
 ghost use Rattle.inbox_table.specs.Rows.{IsInbox};
 ghost use Rattle.site_lock.specs.Pass.{leaves};
-ghost use Rattle.keeper.specs.Keep.{Asks, AsksPages, Grows, HasAll, KeepsUp, MayKeep, MayKeepAll, max_page};
+ghost use Rattle.keeper.specs.Keep.{Asks, AsksPages, HasAll, Keeps, KeepsPages, KeepsUp, MayKeepAll, max_page};
 ghost use Rattle.keeper.specs.declared.fault.KeepFault.TheVariants.{Foreign, OutOfMemory};
 
 use crate::fault::KeepFault;
@@ -65,12 +64,12 @@ fn rest_of<'a>(site: &'a Site, n: u64) -> Rest<'a>
 
 /// Counts what is kept behind so many events.
 #[derive(Drop)]
-struct Behind<'a, W> {
+struct OffsetWatch<'a, W> {
     watch: &'a W,
     before: u64,
 }
 
-impl<'a, W: Watch> Watch for Behind<'a, W> {
+impl<'a, W: Watch> Watch for OffsetWatch<'a, W> {
     // What it is told, the other is told of so many more, up to 2^64 - 1.
     ghost told = { λ behind count all. W.told behind.watch.now
         (min (behind.before + count) (2 ^ 64 - 1)) (min (behind.before + all) (2 ^ 64 - 1)) };
@@ -189,26 +188,8 @@ impl<S: Alter + Drop> Keeper<S> {
         requires own { pass.old.table ≡ shared.now }
         requires first { KeepsUp (state S.Store self.old.conn) self.old.rows (leaves pass.old) }
         ensures asked { Asks self.old.rows pass.old pass.new }
-        ensures first { KeepsUp (state S.Store self.new.conn) self.new.rows (leaves pass.new) }
-        ensures grew { IfOk result (λ n. self.new.rows ≡ self.old.rows + n) }
-        ensures page { HasCleanDisk (state S.Store self.new.conn)
-            → IfOk result (λ n. n ≡ min max_page (length (leaves pass.new) - self.old.rows)) }
-        ensures stays_open { HasCleanDisk (state S.Store self.new.conn)
-            → OnOk result (IsTrue (state S.Store self.new.conn).is_open) }
-        ensures settled { HasCleanDisk (state S.Store self.new.conn)
-            → OnOk result (IsSettled (state S.Store self.new.conn)) }
-        ensures mark_same { OnErr result (self.new.rows ≡ self.old.rows) }
-        ensures same { HasCleanDisk (state S.Store self.new.conn)
-            → IsTrue (state S.Store self.new.conn).is_open
-            → OnErr result ((state S.Store self.new.conn).now
-            ≡ (state S.Store self.old.conn).now) }
-        ensures known { IfErr result (λ fault. fault ≢ Foreign) }
-        ensures list { Grows (state S.Store self.old.conn) (state S.Store self.new.conn) }
-        ensures beside { HasCleanDisk (state S.Store self.new.conn) → OnOk result
-            (KeepsService (state S.Store self.old.conn).now (state S.Store self.new.conn).now) }
-        ensures crash { Survives (state S.Store self.old.conn) (state S.Store self.new.conn)
-            (λ trees. IsTrue (state S.Store self.old.conn).is_open → MayKeep max_page self.old.rows
-            (leaves pass.new) (state S.Store self.old.conn).now trees) }
+        ensures keeps { KeepsPages (λ conn. state S.Store conn) max_page self.old self.new
+            (leaves pass.new) result }
     {
         self.steps(rt, shared, pass, 1)
     }
@@ -230,27 +211,8 @@ impl<S: Alter + Drop> Keeper<S> {
         requires first { KeepsUp (state S.Store self.old.conn) self.old.rows (leaves pass.old) }
         requires some { 1 ≤ pages }
         ensures asked { AsksPages pages self.old.rows pass.old pass.new }
-        ensures first { KeepsUp (state S.Store self.new.conn) self.new.rows (leaves pass.new) }
-        ensures grew { IfOk result (λ n. self.new.rows ≡ self.old.rows + n) }
-        ensures page { HasCleanDisk (state S.Store self.new.conn)
-            → IfOk result (λ n. n ≡ min (max_page * pages)
-            (length (leaves pass.new) - self.old.rows)) }
-        ensures stays_open { HasCleanDisk (state S.Store self.new.conn)
-            → OnOk result (IsTrue (state S.Store self.new.conn).is_open) }
-        ensures settled { HasCleanDisk (state S.Store self.new.conn)
-            → OnOk result (IsSettled (state S.Store self.new.conn)) }
-        ensures mark_same { OnErr result (self.new.rows ≡ self.old.rows) }
-        ensures same { HasCleanDisk (state S.Store self.new.conn)
-            → IsTrue (state S.Store self.new.conn).is_open
-            → OnErr result ((state S.Store self.new.conn).now
-            ≡ (state S.Store self.old.conn).now) }
-        ensures known { IfErr result (λ fault. fault ≢ Foreign) }
-        ensures list { Grows (state S.Store self.old.conn) (state S.Store self.new.conn) }
-        ensures beside { HasCleanDisk (state S.Store self.new.conn) → OnOk result
-            (KeepsService (state S.Store self.old.conn).now (state S.Store self.new.conn).now) }
-        ensures crash { Survives (state S.Store self.old.conn) (state S.Store self.new.conn)
-            (λ trees. IsTrue (state S.Store self.old.conn).is_open
-            → MayKeep (max_page * pages) self.old.rows (leaves pass.new) (state S.Store self.old.conn).now trees) }
+        ensures keeps { KeepsPages (λ conn. state S.Store conn) (max_page * pages) self.old self.new
+            (leaves pass.new) result }
     {
         let mark = self.table.rows();
         match gathered(rt, shared, pass, mark, pages) {
@@ -272,17 +234,7 @@ impl<S: Alter + Drop> Keeper<S> {
         requires { KeepsUp (state S.Store self.old.conn) self.old.rows site.now }
         ensures all { HasCleanDisk (state S.Store self.new.conn)
             → OnOk result (HasAll (state S.Store self.new.conn) self.new.rows site.now) }
-        ensures settled { HasCleanDisk (state S.Store self.new.conn)
-            → OnOk result (IsSettled (state S.Store self.new.conn)) }
-        ensures mark_same { OnErr result (self.new.rows ≡ self.old.rows) }
-        ensures same { HasCleanDisk (state S.Store self.new.conn)
-            → IsTrue (state S.Store self.new.conn).is_open
-            → OnErr result ((state S.Store self.new.conn).now
-            ≡ (state S.Store self.old.conn).now) }
-        ensures known { IfErr result (λ fault. fault ≢ Foreign) }
-        ensures list { Grows (state S.Store self.old.conn) (state S.Store self.new.conn) }
-        ensures beside { HasCleanDisk (state S.Store self.new.conn) → OnOk result
-            (KeepsService (state S.Store self.old.conn).now (state S.Store self.new.conn).now) }
+        ensures keeps { Keeps (λ conn. state S.Store conn) self.old self.new result }
         ensures crash { Survives (state S.Store self.old.conn) (state S.Store self.new.conn)
             (λ trees. IsTrue (state S.Store self.old.conn).is_open
             → MayKeepAll site.now (state S.Store self.old.conn).now trees) }
@@ -292,7 +244,10 @@ impl<S: Alter + Drop> Keeper<S> {
     {
         let before = self.table.rows();
         let rest = rest_of(site, before);
-        let _fresh = match self.table.keep_watched(&rest, &Behind { watch, before }) {
+        let _fresh = match self
+            .table
+            .keep_watched(&rest, &OffsetWatch { watch, before })
+        {
             Ok(fresh) => fresh,
             Err(fault) => return Err(KeepFault::from(fault)),
         };

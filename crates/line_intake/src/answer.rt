@@ -1,6 +1,6 @@
 //! The lines by which lines are acknowledged.
 
-ghost use Rattle.std.specs.Prelude.{◌≡◌, ◌≤◌, ◌++◌, ◌-◌, length, IfOk, OnOk, string_bytes};
+ghost use Rattle.std.specs.Prelude.{◌≡◌, ◌-◌, length, IfOk, string_bytes};
 ghost use Rattle.line_intake.specs.Answers.{answer_line, answers, fault_line, kept_line};
 
 use crate::words::words_of;

@@ -6,13 +6,11 @@ ghost use Rattle.line_intake.specs.Lines.{EndsWith, IsNext, IsPartOf, ended_of, 
 ghost use Rattle.line_intake.specs.declared.line.LineFault.TheVariants.{OutOfMemory};
 
 use attributes::Octets;
+use event_json::MAX_INPUT;
 use std::alloc::{AllocError, Global};
 use std::io::Read;
 use std::marker::Model;
 use thiserror::Error;
-
-/// The most bytes of a line: as many as the reader of events takes.
-const LIMIT: usize = 33_554_432;
 
 /// The most reads of one line, which no input reaches.
 const READS: u64 = 18_446_744_073_709_551_615;
@@ -138,7 +136,7 @@ fn gain(line: &mut Vec<u8>, is_long: bool, part: &[u8]) -> Result<bool, AllocErr
     if is_long {
         return Ok(true);
     }
-    if line.len().saturating_add(part.len()) > LIMIT {
+    if line.len().saturating_add(part.len()) > MAX_INPUT as usize {
         line.clear();
         return Ok(true);
     }

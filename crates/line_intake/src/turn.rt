@@ -108,7 +108,7 @@ impl Gathered {
             .count() as u64
     }
 
-    /// Whether this is enough for one transaction.
+    /// Whether the lines so far are enough for one transaction.
     fn is_full(&self) -> bool {
         self.events >= ENOUGH_EVENTS || self.text >= ENOUGH_TEXT
     }

@@ -1,6 +1,6 @@
 //! The words of faults.
 
-ghost use Rattle.std.specs.Prelude.{◌≡◌, ◌++◌, IfOk, OnOk, string_bytes};
+ghost use Rattle.std.specs.Prelude.{◌≡◌, IfOk, string_bytes};
 ghost use Rattle.line_intake.specs.Words.{event_words, fault_name, words_of};
 
 use attributes::Fault;

@@ -13,7 +13,7 @@ use Rattle.outbox.specs.Row.{rows_of}
 use Rattle.outbox.specs.Service.{IsService}
 use Rattle.relay.specs.Relay.{Marked}
 use Rattle.relay.specs.Fan.{IsAtEnd, HasCause, Closes, Hands, Leaves, Delivers, AtEach, calls_of}
-use Rattle.relay.specs.steps.Lane.{Moves, Carries, Rests, Each, Whatever, AreBetween, ArePlaced, calls_to, end_after, end_of}
+use Rattle.relay.specs.steps.Lane.{Moves, Carries, Rests, Each, AreAny, AreBetween, ArePlaced, calls_to, end_after, end_of}
 use Rattle.relay.specs.steps.Slot.{IsEnded}
 use Rattle.relay.specs.declared.fault.RelayFault.{RelayFault}
 use Rattle.relay.specs.declared.fault.RelayFault.TheVariants.{GateShut}
@@ -162,7 +162,7 @@ module _ {R : Type 0} (accepted : R → List EventValue) (takes : R → List Eve
 
   leaves : (o n : Lane R) → IsFresh o × Moves accepted takes has_failed lets shuts heard o n → Leaves accepted takes has_failed lets shuts heard o.place o.relay n.relay o.route n.route (end_of n)
   leaves o n h =
-      let pages : (pages : List (List EventValue)) × (Rattle.relay.specs.steps.Lane.Hands takes has_failed lets shuts heard o n pages × Whatever pages) = h.1.handed h.0.0 in
+      let pages : (pages : List (List EventValue)) × (Rattle.relay.specs.steps.Lane.Hands takes has_failed lets shuts heard o n pages × AreAny pages) = h.1.handed h.0.0 in
       record { site = h.1.site; forward = h.1.forward; kept = h.1.kept; handed = (pages.0, ended o n pages.0 h.0.1 pages.1.0) }
 
   delivers : (base : ℕ) (rows : List EventValue) (o n : Lane R) → IsFresh o × (Carries accepted takes has_failed lets shuts heard base rows o n × (n.fault ≡ None → IsAtEnd base rows n.relay.mark)) → Delivers accepted takes has_failed lets shuts heard base rows o.place o.relay n.relay o.route n.route (end_of n)

@@ -9,7 +9,7 @@ use Rattle.attributes.specs.Event.{EventValue}
 use Rattle.site.specs.Gate.{LetsThrough}
 use Rattle.relay.specs.Route.{Has, AreIn, AreOf}
 use Rattle.relay.specs.Fan.{AreSent, HasCause, IsPage, TakesAll, calls_of, joined, rows_between}
-use Rattle.relay.specs.steps.Lane.{Moves, Carries, Each, Hands, HandsOver, IsClosed, IsQuiet, StopsAt, Whatever, AreBetween, calls_to}
+use Rattle.relay.specs.steps.Lane.{Moves, Carries, Each, Hands, HandsOver, IsClosed, IsQuiet, StopsAt, AreAny, AreBetween, calls_to}
 use Rattle.relay.specs.declared.fan.End.TheVariants.{Failed}
 use Rattle.relay.specs.declared.fan.lane.Lane.{Lane}
 use Rattle.relay.specs.declared.fault.RelayFault.{RelayFault}
@@ -221,7 +221,7 @@ moves_then accepted takes has_failed lets shuts heard a b c h k = record {
   site = k.site ∙ h.site;
   forward = omega (arith, h.forward, k.forward);
   kept = λ e x. k.kept e (h.kept e x);
-  handed = over_then takes has_failed lets shuts heard Whatever Whatever Whatever a b c h.place k.idle (λ ps same x. tt) (λ ps qs x y. tt) h.handed k.handed;
+  handed = over_then takes has_failed lets shuts heard AreAny AreAny AreAny a b c h.place k.idle (λ ps same x. tt) (λ ps qs x y. tt) h.handed k.handed;
   idle = λ some. let one = h.idle some in k.idle (subst (λ l. IsSome l.fault) (sym one) some) ∙ one;
 }
 

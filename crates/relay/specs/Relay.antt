@@ -1,4 +1,5 @@
 -- What relays send.
+pub use Rattle.site.specs.Page.{max_page}
 use Rattle.std.specs.Prelude.{◌≡◌, ◌≢◌, ◌⊎◌, ℕ, List, [], ◌∷◌, length, Some, Option, MatchOption, refl}
 use Rattle.std.specs.Coded.{Coded, code_by, coded×, coded_ℕ, coded_list}
 use Rattle.sqlite.specs.Effect.{Database}
@@ -10,10 +11,6 @@ use Rattle.outbox.specs.Row.{rows_after}
 use Rattle.outbox.specs.Service.{IsService}
 use Rattle.relay.specs.Route.{AreIn, Kept}
 use Rattle.relay.specs.declared.relay.Job.{Job}
-
--- the most rows that are sent at once
-abbrev pub max_page : ℕ
-max_page = 100
 
 -- the number of the last event, or this one where there is none
 abbrev pub IsLast : ℕ → List EventValue → ℕ → Type 0

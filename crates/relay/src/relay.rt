@@ -12,11 +12,9 @@ use crate::fault::{RelayFault, fault_of};
 use crate::route::Route;
 use attributes::Batch;
 use outbox::Service;
+use site::MAX_PAGE;
 use sqlite::Alter;
 use std::marker::Model;
-
-/// The most rows that are sent at once.
-pub(crate) const MAX_PAGE: u64 = 100;
 
 /// Sends the rows of a service to a route. The mark is the number of the last row that the route
 /// has accepted; the rows after it are still to be sent.

@@ -10,8 +10,8 @@ use Rattle.sqlite.specs.State.{State, HasCleanDisk, Survives}
 use Rattle.sqlite.proofs.StateLemmas.{survives_weaker}
 use Rattle.attributes.specs.Event.{EventValue}
 use Rattle.database_commands.specs.declared.fault.CommandFault.TheVariants as command
-use Rattle.feeds.specs.declared.report.Ended.{Ended}
-use Rattle.feeds.specs.declared.report.Ended.TheVariants.{BadInput, Done, GateShut, OutOfMemory}
+use Rattle.feeds.specs.declared.report.WorkerEnd.{WorkerEnd}
+use Rattle.feeds.specs.declared.report.WorkerEnd.TheVariants.{BadInput, Done, GateShut, OutOfMemory}
 use Rattle.feeds.specs.declared.report.Report.{Report}
 use Rattle.feeds.specs.declared.serving.ServeFault.{ServeFault}
 use Rattle.feeds.specs.declared.serving.ServeFault.TheVariants as serve
@@ -68,7 +68,7 @@ feed_blames A bs rs (run.Feed i f) fed is =
     (b.b, subst (λ k. slice_get bs k ≡ Some b.b) (sym at) b.there, b.refuses)
 
 -- a worker's fault is one of a run
-end_fault : (place n : ℕ) (e : Ended) (why : RunFault) → of_end place n e ≡ Some why → IsRunFault why
+end_fault : (place n : ℕ) (e : WorkerEnd) (why : RunFault) → of_end place n e ≡ Some why → IsRunFault why
 end_fault place n Done why is = absurd (cc)
 end_fault place n OutOfMemory why is = let e : run.Database command.OutOfMemory ≡ why = cc in subst IsRunFault e tt
 end_fault place n GateShut why is = let e : run.Database command.OutOfMemory ≡ why = cc in subst IsRunFault e tt

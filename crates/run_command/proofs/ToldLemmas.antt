@@ -8,8 +8,8 @@ use Rattle.event_json.specs.declared.fault.ReadFault.{ReadFault}
 use Rattle.event_json.specs.declared.fault.ReadFault.TheVariants as read
 use Rattle.feeds.specs.Pull.{Holds}
 use Rattle.feeds.specs.Report.{EndsEarly, Tells, end_of, has_number, sequenced}
-use Rattle.feeds.specs.declared.report.Ended.{Ended}
-use Rattle.feeds.specs.declared.report.Ended.TheVariants.{BadInput, Done, GateShut, OutOfMemory}
+use Rattle.feeds.specs.declared.report.WorkerEnd.{WorkerEnd}
+use Rattle.feeds.specs.declared.report.WorkerEnd.TheVariants.{BadInput, Done, GateShut, OutOfMemory}
 use Rattle.feeds.specs.declared.report.Report.{Report}
 use Rattle.run_command.specs.Fault.{of_end}
 use Rattle.run_command.specs.Outcome.{AreReports}
@@ -33,7 +33,7 @@ are_fed held more (b ∷ bs) ps (r ∷ rs) told = (told.0, are_fed held more bs 
 
 -- the feeds were read, all their events that have numbers are among the arrivals, and these are the
 -- counts
-pub record Told (arrivals : List EventValue) (bs : List (List ℕ)) (rs : List Report) : Type 0 where
+pub record WatchedFlusher (arrivals : List EventValue) (bs : List (List ℕ)) (rs : List Report) : Type 0 where
   pub lists : List (List EventValue)
   pub read : EachSpells bs lists
   pub fed : Holds arrivals (sequenced (joined lists))
@@ -41,7 +41,7 @@ pub record Told (arrivals : List EventValue) (bs : List (List ℕ)) (rs : List R
   pub none : refused_in (take (length bs) rs) + length (sequenced (joined lists)) ≡ length (joined lists)
 
 -- a report without a fault is one of a worker that was done
-done_by : (place feeds : ℕ) (e : Ended) → of_end place feeds e ≡ None → e ≡ Done
+done_by : (place feeds : ℕ) (e : WorkerEnd) → of_end place feeds e ≡ None → e ≡ Done
 done_by place feeds Done h = refl
 done_by place feeds OutOfMemory h = absurd (cc)
 done_by place feeds GateShut h = absurd (cc)
@@ -83,7 +83,7 @@ whole arrivals b r fed done = elim fed.1 [
 at_first : (place n : ℕ) (r : Report) (rs : List Report) → first_fault place (suc n) (r ∷ rs) ≡ option_or (of_end place (suc n) r.ended) (first_fault (place + 1) n rs)
 at_first place n r rs = let less : suc n - 1 ≡ n = omega arith in ap (λ k. option_or (of_end place (suc n) r.ended) (first_fault (place + 1) k rs)) less
 
-pub told : (arrivals : List EventValue) (bs : List (List ℕ)) (rs : List Report) (place : ℕ) → AreFed arrivals bs rs → first_fault place (length bs) rs ≡ None → Told arrivals bs rs
+pub told : (arrivals : List EventValue) (bs : List (List ℕ)) (rs : List Report) (place : ℕ) → AreFed arrivals bs rs → first_fault place (length bs) rs ≡ None → WatchedFlusher arrivals bs rs
 told arrivals [] rs place fed none = record { lists = []; read = tt; fed = tt; all = refl; none = refl }
 told arrivals (b ∷ bs) [] place fed none = absurd fed
 told arrivals (b ∷ bs) (r ∷ rs) place fed none =
@@ -120,14 +120,14 @@ not_memory place (suc n) (read.BadEvent j x) i g h = (cc, cc, λ e. absurd (cc))
 not_memory place zero read.InputTooLarge i g h = absurd (cc)
 not_memory place (suc n) read.InputTooLarge i g h = (cc, cc, λ e. absurd (cc))
 
-is_bad : (place n : ℕ) (e : Ended) (i : ℕ) (f : ReadFault) → of_end place (suc n) e ≡ Some (run.Feed i f) → e ≡ BadInput f
+is_bad : (place n : ℕ) (e : WorkerEnd) (i : ℕ) (f : ReadFault) → of_end place (suc n) e ≡ Some (run.Feed i f) → e ≡ BadInput f
 is_bad place n Done i f h = absurd (cc)
 is_bad place n OutOfMemory i f h = absurd (cc)
 is_bad place n GateShut i f h = absurd (cc)
 is_bad place n (BadInput g) i f h = cc
 
 -- no feed is blamed where there is none
-no_end : (place i : ℕ) (f : ReadFault) (rest : Option RunFault) (e : Ended) → (rest ≡ Some (run.Feed i f) → ⊥) → option_or (of_end place 0 e) rest ≡ Some (run.Feed i f) → ⊥
+no_end : (place i : ℕ) (f : ReadFault) (rest : Option RunFault) (e : WorkerEnd) → (rest ≡ Some (run.Feed i f) → ⊥) → option_or (of_end place 0 e) rest ≡ Some (run.Feed i f) → ⊥
 no_end place i f rest Done never h = never h
 no_end place i f rest OutOfMemory never h = absurd (cc)
 no_end place i f rest GateShut never h = absurd (cc)

@@ -2,8 +2,8 @@
 use Rattle.std.specs.Prelude.{ℕ, zero, suc, Option, None, Some}
 use Rattle.database_commands.specs.declared.fault.CommandFault.{CommandFault}
 use Rattle.database_commands.specs.declared.fault.CommandFault.TheVariants as command
-use Rattle.feeds.specs.declared.report.Ended.{Ended}
-use Rattle.feeds.specs.declared.report.Ended.TheVariants.{BadInput, Done, GateShut, OutOfMemory}
+use Rattle.feeds.specs.declared.report.WorkerEnd.{WorkerEnd}
+use Rattle.feeds.specs.declared.report.WorkerEnd.TheVariants.{BadInput, Done, GateShut, OutOfMemory}
 use Rattle.feeds.specs.declared.serving.ServeFault.{ServeFault}
 use Rattle.feeds.specs.declared.serving.ServeFault.TheVariants as serve
 use Rattle.keeper.specs.declared.fault.KeepFault.{KeepFault}
@@ -24,7 +24,7 @@ of_serve serve.NoThread = run.NoThread
 
 -- the fault of the worker at this place, where it has one; so many of those from it on are feeds.
 -- Nothing shuts the gate of a run, and a peer has no input
-abbrev pub of_end : ℕ → ℕ → Ended → Option RunFault
+abbrev pub of_end : ℕ → ℕ → WorkerEnd → Option RunFault
 of_end place feeds Done = None
 of_end place feeds OutOfMemory = Some (run.Database command.OutOfMemory)
 of_end place feeds GateShut = Some (run.Database command.OutOfMemory)

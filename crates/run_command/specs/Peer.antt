@@ -9,7 +9,7 @@ use Rattle.site.specs.Delta.{delta}
 use Rattle.site.specs.declared.call.Call.{Call}
 use Rattle.feeds.specs.Pull.{Holds, PullsFrom}
 use Rattle.feeds.specs.Report.{handled}
-use Rattle.feeds.specs.declared.report.Ended.TheVariants.{Done}
+use Rattle.feeds.specs.declared.report.WorkerEnd.TheVariants.{Done}
 use Rattle.feeds.specs.declared.report.Report.{Report}
 
 module _ (held more : List EventValue) where

@@ -32,7 +32,7 @@ use std::thread::Threads;
 
 /// A run that came to its end.
 #[derive(Drop)]
-pub struct RunEnded<S: Alter + Drop> {
+pub struct RunEnd<S: Alter + Drop> {
     /// The connection to the database.
     pub conn: Connection<S>,
     /// The text to print, or why there is none.
@@ -64,7 +64,7 @@ pub fn run<R: Threads + Wait + Sync, S: Alter + Drop, G: Gate + Sync, W: Watch>(
     jobs: Jobs,
     gate: &G,
     watch: &W,
-) -> RunEnded<S>
+) -> RunEnd<S>
     requires { length jobs.feeds + length jobs.peers + length jobs.asks ≤ 16 }
     ensures left { RunsTo jobs.feeds jobs.peers (state S.Store conn) (state S.Store result.conn)
         result.stopped result.outcome }
@@ -100,7 +100,7 @@ fn run_table<R: Threads + Wait + Sync, S: Alter + Drop, G: Gate + Sync, W: Watch
     jobs: Jobs,
     gate: &G,
     watch: &W,
-) -> RunEnded<S>
+) -> RunEnd<S>
     requires first { KeepsUp (state S.Store table.conn) table.rows (append_new key_cmp [] events) }
     requires count { HasCleanDisk (state S.Store table.conn)
         → table.rows ≡ length (append_new key_cmp [] events) }
@@ -141,10 +141,10 @@ fn run_table<R: Threads + Wait + Sync, S: Alter + Drop, G: Gate + Sync, W: Watch
 }
 
 /// A run that wasn't begun.
-fn unbegun<S: Alter + Drop>(conn: Connection<S>, why: CommandFault) -> RunEnded<S>
+fn unbegun<S: Alter + Drop>(conn: Connection<S>, why: CommandFault) -> RunEnd<S>
     ensures { result ≡ record { conn = conn; outcome = Err (Database why); stopped = None } }
 {
-    RunEnded {
+    RunEnd {
         conn,
         outcome: Err(RunFault::Database(why)),
         stopped: None,
@@ -157,7 +157,7 @@ fn ended<S: Alter + Drop, W: Watch>(
     closed: Closed<S>,
     feeds: u64,
     watch: &W,
-) -> RunEnded<S>
+) -> RunEnd<S>
     requires { KeepsUp (state S.Store closed.keeper.conn) closed.keeper.rows closed.site }
     ensures kept { (rows : ℕ) × KeepsRest (λ conn. state S.Store conn) closed.keeper
         record { conn = result.conn; rows = rows } closed.site closed.served closed.stopped
@@ -173,7 +173,7 @@ fn ended<S: Alter + Drop, W: Watch>(
     } = closed;
     let stopped = keep_rest(&mut keeper, &site, &served, stopped, watch);
     let outcome = outcome_of(alloc, &site, &served, stopped, feeds);
-    RunEnded {
+    RunEnd {
         conn: keeper.into_table().into_connection(),
         outcome,
         stopped,

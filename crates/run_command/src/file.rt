@@ -4,7 +4,7 @@ ghost use Rattle.std.specs.Thread.{IsSync};
 ghost use Rattle.attributes.specs.Event.{EventValue};
 ghost use Rattle.run_command.specs.Run.{IsFeedFault, SaysRun};
 
-use crate::ending::{RunEnded, run};
+use crate::ending::{RunEnd, run};
 use crate::fault::RunFault;
 use attributes::Text;
 use database_commands::open;
@@ -55,10 +55,10 @@ impl Runs for HostRuntime {
 }
 
 /// Closes the database of a run, and answers what it came to.
-fn closed(ended: RunEnded<FileStore<File>>) -> Result<Text, RunFault>
+fn closed(ended: RunEnd<FileStore<File>>) -> Result<Text, RunFault>
     ensures { result ≡ ended.outcome }
 {
-    let RunEnded {
+    let RunEnd {
         conn,
         outcome,
         stopped: _,

@@ -9,7 +9,7 @@ mod shared;
 mod tally;
 mod text;
 
-pub use ending::{RunEnded, run};
+pub use ending::{RunEnd, run};
 pub use fault::RunFault;
 pub use feeds::Jobs;
 pub use file::Runs;

@@ -3,13 +3,10 @@
 use feeds::Aside;
 use inbox_table::Watch;
 use keeper::Flusher;
-use site::{Gate, GateShut};
+use site::{Gate, GateShut, MAX_PAGE};
 use sqlite::Alter;
 use std::sync::Wait;
 use std::sync::atomic::{AtomicU64, Ordering};
-
-/// The most events that a worker hands over at once.
-const MAX_PAGE: u64 = 100;
 
 /// A gate before which the calls of workers are counted.
 #[derive(Drop)]
@@ -44,14 +41,14 @@ fn handed_over(calls: &AtomicU64) -> u64 {
 /// A flusher that tells after each turn how many events its table has, of about how many that were
 /// there before or were handed over since.
 #[derive(Drop)]
-pub struct Told<'a, 'b, R: Wait, S: Alter, W> {
+pub struct WatchedFlusher<'a, 'b, R: Wait, S: Alter, W> {
     pub flusher: Flusher<'a, R, S>,
     pub calls: &'a AtomicU64,
     pub watch: &'b W,
     pub before: u64,
 }
 
-impl<'a, 'b, R: Wait, S: Alter + Drop, W: Watch> Aside for Told<'a, 'b, R, S, W> {
+impl<'a, 'b, R: Wait, S: Alter + Drop, W: Watch> Aside for WatchedFlusher<'a, 'b, R, S, W> {
     ghost use Rattle.std.specs.Prelude.{◌≡◌, ℕ};
     ghost use Rattle.sqlite.specs.Held.{state};
     ghost use Rattle.keeper.specs.Flush.{Flushes, Turns};

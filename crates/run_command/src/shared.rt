@@ -4,7 +4,7 @@ ghost use Rattle.sqlite.specs.Held.{state};
 ghost use Rattle.keeper.specs.Keep.{KeepsUp};
 ghost use Rattle.run_command.specs.Shared.{IsClosed};
 
-use crate::progress::{Counting, Told};
+use crate::progress::{Counting, WatchedFlusher};
 use feeds::{Jobs, ServeFault, Served, serve};
 use inbox::laws::sets_are_members;
 use inbox_table::Watch;
@@ -63,14 +63,14 @@ pub fn share<R: Threads + Wait + Sync, S: Alter + Drop, G: Gate + Sync, W: Watch
         gate,
         calls: &calls,
     };
-    let mut told = Told {
+    let mut told = WatchedFlusher {
         flusher,
         calls: &calls,
         watch,
         before,
     };
     let served = serve(rt, alloc, &shared, &mut pass, jobs, &counting, &mut told);
-    let Told {
+    let WatchedFlusher {
         flusher,
         calls: _,
         watch: _,

@@ -1,22 +1,22 @@
 //! What reports come to together.
-ghost use Rattle.std.specs.Prelude.{◌≡◌, ◌≤◌, length};
+ghost use Rattle.std.specs.Prelude.{◌≡◌};
 ghost use Rattle.run_command.specs.Fault.{of_end};
 ghost use Rattle.run_command.specs.Tally.{first_fault, read_in, refused_in};
 
 use crate::fault::RunFault;
 use database_commands::CommandFault;
-use feeds::{Ended, Report};
+use feeds::{Report, WorkerEnd};
 
 /// The fault of a worker, by its place and why it ended; so many of those from its place on are
 /// feeds. Nothing shuts the gate of a run, and a peer has no input.
-fn of_end(place: u64, feeds: u64, ended: Ended) -> Option<RunFault>
+fn of_end(place: u64, feeds: u64, ended: WorkerEnd) -> Option<RunFault>
     ensures { result ≡ of_end place feeds ended }
 {
     match ended {
-        Ended::Done => None,
-        Ended::OutOfMemory => Some(RunFault::Database(CommandFault::OutOfMemory)),
-        Ended::GateShut => Some(RunFault::Database(CommandFault::OutOfMemory)),
-        Ended::BadInput(fault) => {
+        WorkerEnd::Done => None,
+        WorkerEnd::OutOfMemory => Some(RunFault::Database(CommandFault::OutOfMemory)),
+        WorkerEnd::GateShut => Some(RunFault::Database(CommandFault::OutOfMemory)),
+        WorkerEnd::BadInput(fault) => {
             if feeds == 0 {
                 return Some(RunFault::Database(CommandFault::OutOfMemory));
             }

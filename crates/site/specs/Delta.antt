@@ -2,7 +2,7 @@
 -- source and number it doesn't hold, and those of the blocks of which it has another digest. One of
 -- version 1 has no digests: where two events of a source have one number, it can't tell them apart.
 pub use Rattle.coverage.specs.Digests.{delta, is_lacking, lacking_of}
-use Rattle.std.specs.Prelude.{◌≡◌, ℕ, List, Bool, true, false, Some, slice_get}
+use Rattle.std.specs.Prelude.{◌≡◌, ◌+◌, ◌≤◌, ℕ, List, Bool, true, false, Some, drop, length, slice_get, take}
 use Rattle.std.specs.BTreeSet.{BTreeSet, contains}
 use Rattle.std.specs.Option.{option_map_or}
 use Rattle.std.specs.Ordering.{nat_cmp}
@@ -10,6 +10,7 @@ use Rattle.attributes.specs.Event.{EventValue, source_of}
 use Rattle.attributes.specs.Sequence.{number_of}
 use Rattle.coverage.specs.Digests.{is_wanted}
 use Rattle.coverage.specs.Summary.{Sources}
+use Rattle.site.specs.declared.site.delta.DeltaPart.{DeltaPart}
 
 -- whether the event has a number for which the first summary wants what the second tells of
 abbrev pub is_wanting : Sources → Sources → EventValue → Bool
@@ -23,3 +24,13 @@ Tells E peer own = (e : EventValue) → is_lacking E peer e ≡ is_wanting peer 
 abbrev pub AreAll : List EventValue → Sources → BTreeSet ℕ → Type 0
 AreAll E peer places = (i : ℕ) (e : EventValue) → slice_get E i ≡ Some e
     → is_lacking E peer e ≡ true → contains nat_cmp places i ≡ true
+
+-- of the events of E from a place on, those that the peer lacks, `limit` of them at most, and the
+-- place to go on from
+pub record IsPart (E : List EventValue) (peer : Sources) (place limit : ℕ) (part : DeltaPart)
+    : Type 0 where
+  pub events : part.events ≡ take limit (lacking_of E peer (drop place E))
+  pub rest : lacking_of E peer (drop part.next E)
+      ≡ drop limit (lacking_of E peer (drop place E))
+  pub within : part.next ≤ length E
+  pub behind : place + length part.events ≤ part.next

@@ -3,6 +3,7 @@
 ghost use Rattle.std.specs.Prelude.{◌≡◌, ◌≤◌, ◌∷◌, [], drop, IfErr, OnOk};
 ghost use Rattle.site.specs.Desk.{answered, fault_number, paged, summed, taken_of, took};
 ghost use Rattle.site.specs.Machine.{Follows, call};
+ghost use Rattle.site.specs.Page.{max_page};
 ghost use Rattle.site.specs.declared.call.Command.TheVariants as command;
 
 use crate::site::Site;
@@ -48,6 +49,7 @@ impl From<AllocError> for DeskFault {
 pub trait Desk {
     ghost use Rattle.std.specs.Prelude.{List, [], ◌++◌};
     ghost use Rattle.attributes.specs.Event.{EventValue};
+    ghost use Rattle.site.specs.Page.{max_page};
     ghost use Rattle.site.specs.declared.call.Call.{Call};
 
     // The events that came, each once, in the order in which they came.
@@ -76,7 +78,7 @@ pub trait Desk {
     /// them at most: 1 to 100.
     fn delta_page(&mut self, peer: &Summary, from: u64, limit: u64) -> Result<Batch, DeskFault>
         requires low { 1 ≤ limit }
-        requires high { limit ≤ 100 }
+        requires high { limit ≤ max_page }
         ensures went { went self.old self.new
             (call (command.DeltaPage peer.now from limit) (paged result) ∷ []) }
         ensures step { Follows (arrivals self.old)
@@ -85,7 +87,7 @@ pub trait Desk {
     /// The events at the places from `from` on in key order, `limit` of them at most: 1 to 100.
     fn page(&mut self, from: u64, limit: u64) -> Result<Batch, DeskFault>
         requires low { 1 ≤ limit }
-        requires high { limit ≤ 100 }
+        requires high { limit ≤ max_page }
         ensures went { went self.old self.new
             (call (command.Page from limit) (paged result) ∷ []) }
         ensures step { Follows (arrivals self.old)

@@ -20,6 +20,7 @@ pub use delta::DeltaPart;
 use inbox::Inbox;
 use kept_views::Views;
 use mark::Mark;
+pub use page::MAX_PAGE;
 use std::alloc::Global;
 use std::marker::Model;
 

@@ -100,7 +100,8 @@ fn summary_line(alloc: Global, name: &str, why: SummaryFault) -> Result<Text, Al
     }
 }
 
-/// The line of a command over a database, about an order.
+/// The error line of a command over a database: it names the order where its state is at fault, and
+/// the database where that is.
 fn database_line(
     alloc: Global,
     db: &str,

@@ -48,7 +48,7 @@ pub fn run<R: Threads + Wait + Sync, S: Shelf, D: Runs, W: Watch>(
     match contents_of(alloc, shelf, names.as_slice()) {
         Ok(contents) => {
             if peer.is_some() {
-                run_beside(rt, alloc, databases, db, contents, watch)
+                run_with_peer(rt, alloc, databases, db, contents, watch)
             } else {
                 run_feeds(rt, alloc, databases, db, contents, watch)
             }
@@ -95,7 +95,7 @@ fn append(texts: &mut Texts, more: Vec<Text>) -> Result<(), AllocError>
 }
 
 /// Runs with a peer, whose content is the first.
-fn run_beside<R: Threads + Wait + Sync, D: Runs, W: Watch>(
+fn run_with_peer<R: Threads + Wait + Sync, D: Runs, W: Watch>(
     rt: &R,
     alloc: Global,
     databases: &D,
@@ -121,7 +121,7 @@ fn run_beside<R: Threads + Wait + Sync, D: Runs, W: Watch>(
         return Err(Refusal::Database(CommandFault::OutOfMemory));
     }
     let _peer = contents.remove(0);
-    run_jobs(rt, alloc, databases, db, contents, peers, 1, watch)
+    run_workers(rt, alloc, databases, db, contents, peers, 1, watch)
 }
 
 /// Runs without a peer.
@@ -137,7 +137,7 @@ fn run_feeds<R: Threads + Wait + Sync, D: Runs, W: Watch>(
     ensures ok { IfOk result (AnswersJobs false contents.items) }
     ensures err { IfErr result (RefusesJobs false contents.items) }
 {
-    run_jobs(
+    run_workers(
         rt,
         alloc,
         databases,
@@ -150,7 +150,7 @@ fn run_feeds<R: Threads + Wait + Sync, D: Runs, W: Watch>(
 }
 
 /// Runs; the feeds' files stand from the place `first` on.
-fn run_jobs<R: Threads + Wait + Sync, D: Runs, W: Watch>(
+fn run_workers<R: Threads + Wait + Sync, D: Runs, W: Watch>(
     rt: &R,
     alloc: Global,
     databases: &D,

@@ -5,7 +5,7 @@ ghost use Rattle.std.specs.Prelude.{◌≡◌, ◌+◌, length, IfSome};
 use crate::event::{is_text, json_batch};
 use crate::worker::{fill, report};
 use attributes::{List, Octets};
-use feeds::{Aside, Ended, Idle, Jobs, Questions, ServeFault, Served, serve};
+use feeds::{Aside, WorkerEnd, Idle, Jobs, Questions, ServeFault, Served, serve};
 use site::{Gate, GateShut, Site, Wide};
 use site_lock::{Begun, Pass, SharedSite};
 use std::alloc::Global;
@@ -231,11 +231,11 @@ fn begun(alloc: Global) -> Option<Begun>
 /// Whether each worker did what it was to do.
 fn is_done(served: &Served) -> bool {
     served.reports.len() == 3
-        && served.reports[0] == report(50, 0, 0, Ended::Done)
-        && served.reports[1] == report(150, 0, 0, Ended::Done)
-        && served.reports[2] == report(3, 0, 0, Ended::Done)
+        && served.reports[0] == report(50, 0, 0, WorkerEnd::Done)
+        && served.reports[1] == report(150, 0, 0, WorkerEnd::Done)
+        && served.reports[2] == report(3, 0, 0, WorkerEnd::Done)
         && served.asked.len() == 1
-        && served.asked[0].ended == Ended::Done
+        && served.asked[0].ended == WorkerEnd::Done
         && served.asked[0].answers.len() == 1
 }
 

@@ -4,7 +4,7 @@ ghost use Rattle.std.specs.Prelude.{◌+◌, ◌<◌, ◌^◌};
 
 use crate::event::{is_text, json_batch};
 use event_json::ReadFault;
-use feeds::{Answers, Ended, Report, ask, feed, pull, pull_from};
+use feeds::{Answers, WorkerEnd, Report, ask, feed, pull, pull_from};
 use site::{Gate, GateShut, Site, Wide};
 use std::alloc::Global;
 use std::process::Abort;
@@ -62,11 +62,11 @@ fn fed<G: Gate>(
 
 /// A site takes so many events, with the numbers from `first` on; answers whether it did.
 pub fn fill(alloc: Global, site: &mut Site, first: u64, count: u64) -> bool {
-    fed(alloc, site, &Wide, 0, first, count) == Some(report(count, 0, 0, Ended::Done))
+    fed(alloc, site, &Wide, 0, first, count) == Some(report(count, 0, 0, WorkerEnd::Done))
 }
 
 /// The report with these counts of new events, events that were there, and refused ones.
-pub fn report(fresh: u64, repeated: u64, refused: u64, ended: Ended) -> Report
+pub fn report(fresh: u64, repeated: u64, refused: u64, ended: WorkerEnd) -> Report
     requires { fresh + repeated + refused < 2 ^ 64 }
 {
     Report {
@@ -83,12 +83,12 @@ fn a_shut_gate_ends_a_feed(rt: HostRuntime) {
     let alloc = rt.alloc();
     let mut site = Site::empty(alloc);
     let first = fed(alloc, &mut site, &First(1), 7, 1, 150);
-    assert!(rt; first == Some(report(100, 0, 0, Ended::GateShut)));
+    assert!(rt; first == Some(report(100, 0, 0, WorkerEnd::GateShut)));
     assert!(rt; site.arrived() == 100);
     let other = fed(alloc, &mut site, &First(9), 8, 1, 150);
-    assert!(rt; other == Some(report(0, 0, 0, Ended::GateShut)));
+    assert!(rt; other == Some(report(0, 0, 0, WorkerEnd::GateShut)));
     let again = fed(alloc, &mut site, &First(2), 7, 1, 150);
-    assert!(rt; again == Some(report(50, 100, 0, Ended::Done)));
+    assert!(rt; again == Some(report(50, 100, 0, WorkerEnd::Done)));
 }
 
 #[test]
@@ -98,7 +98,7 @@ fn an_event_without_a_number_is_refused(rt: HostRuntime) {
         {\"specversion\":\"1.0\",\"id\":\"e1\",\"source\":\"/orders\",\"type\":\"t.a\",
         \"sequence\":\"00000000000000000001\"}]";
     let done = fed_bytes(rt.alloc(), &mut site, &Wide, 0, text.as_bytes());
-    assert!(rt; done == report(1, 0, 1, Ended::Done) && done.read == 2);
+    assert!(rt; done == report(1, 0, 1, WorkerEnd::Done) && done.read == 2);
     assert!(rt; site.arrived() == 1);
 }
 
@@ -106,7 +106,7 @@ fn an_event_without_a_number_is_refused(rt: HostRuntime) {
 fn an_input_that_spells_no_events_is_named(rt: HostRuntime) {
     let mut site = Site::empty(rt.alloc());
     let bad = fed_bytes(rt.alloc(), &mut site, &Wide, 0, "[1".as_bytes());
-    assert!(rt; bad == report(0, 0, 0, Ended::BadInput(ReadFault::NotJson)));
+    assert!(rt; bad == report(0, 0, 0, WorkerEnd::BadInput(ReadFault::NotJson)));
     assert!(rt; site.arrived() == 0);
 }
 
@@ -123,7 +123,7 @@ fn pulled_from(from: &mut Site, to: &mut Site) -> Report {
 /// Pulls 250 events.
 fn pull_all(rt: &impl Abort, alloc: Global, from: &mut Site, to: &mut Site) {
     assert!(rt; fill(alloc, from, 1, 250));
-    assert!(rt; pulled(from, to, 8) == report(250, 0, 0, Ended::Done));
+    assert!(rt; pulled(from, to, 8) == report(250, 0, 0, WorkerEnd::Done));
     assert!(rt; to.arrived() == 250);
 }
 
@@ -137,10 +137,10 @@ fn a_pull_brings_what_is_lacking(rt: HostRuntime) {
 /// Pulls 150 events past a gate that shuts after three calls.
 fn pull_again(rt: &impl Abort, alloc: Global, from: &mut Site, to: &mut Site) {
     assert!(rt; fill(alloc, from, 1, 150));
-    assert!(rt; pulled(from, to, 3) == report(100, 0, 0, Ended::GateShut));
+    assert!(rt; pulled(from, to, 3) == report(100, 0, 0, WorkerEnd::GateShut));
     // All 150 stand in one block, which goes whole.
-    assert!(rt; pulled_from(from, to) == report(50, 100, 0, Ended::Done));
-    assert!(rt; pulled(from, to, 2) == report(0, 0, 0, Ended::Done));
+    assert!(rt; pulled_from(from, to) == report(50, 100, 0, WorkerEnd::Done));
+    assert!(rt; pulled(from, to, 2) == report(0, 0, 0, WorkerEnd::Done));
     assert!(rt; to.arrived() == 150);
 }
 
@@ -171,7 +171,7 @@ fn asks<G: Gate>(
     site: &mut Site,
     gate: &G,
     worker: u64,
-    ended: Ended,
+    ended: WorkerEnd,
     wanted: &[&str],
 ) -> bool {
     let asked = ask(alloc, site, gate, worker, &[Query::Kinds, Query::Cover]);
@@ -185,6 +185,6 @@ fn questions_are_answered_in_their_order(rt: HostRuntime) {
     let cover = "{\"sources\":{\"/orders\":[[1,2]]},\"version\":1}\n";
     let mut site = Site::empty(alloc);
     assert!(rt; fill(alloc, &mut site, 1, 2));
-    assert!(rt; asks(alloc, &mut site, &Wide, 0, Ended::Done, &[kinds, cover]));
-    assert!(rt; asks(alloc, &mut site, &First(1), 7, Ended::GateShut, &[kinds]));
+    assert!(rt; asks(alloc, &mut site, &Wide, 0, WorkerEnd::Done, &[kinds, cover]));
+    assert!(rt; asks(alloc, &mut site, &First(1), 7, WorkerEnd::GateShut, &[kinds]));
 }

@@ -1,9 +1,12 @@
 -- A running site that is given events.
-use Rattle.std.specs.Prelude.{◌≡◌, ℕ, List, [], Some, slice_get, slice_index_or, slice_set}
+use Rattle.std.specs.Prelude.{◌≡◌, ℕ, List, [], Result, Ok, Err, Some, slice_get, slice_index_or, slice_set, take}
 use Rattle.attributes.specs.Event.{EventValue}
 use Rattle.inbox.specs.KeyOrder.{key_cmp}
 use Rattle.inbox.specs.Ordered.{append_new}
 use Rattle.inbox.specs.Sets.{set_of, union}
+use Rattle.exchange.specs.Place.{Place}
+use Rattle.exchange.specs.Schedule.{after, after_part}
+use Rattle.exchange.specs.declared.step.Step.{Step}
 use Rattle.exchange.specs.declared.world.Hosted.{Hosted}
 
 -- the arrivals of site i
@@ -18,3 +21,13 @@ pub record GivesTo (old new : List Hosted) (i : ℕ) (L : List EventValue) : Typ
   pub changed : new ≡ slice_set old i (record { site = site; kept = host.kept })
   pub arrivals : site ≡ append_new key_cmp host.site L
   pub set : set_of site ≡ union (set_of host.site) L
+
+-- it has taken them; refused, the first so many alone
+abbrev pub Gives : List Hosted → List Hosted → ℕ → List EventValue → Result (Unit {0}) ℕ → Type 0
+Gives old new i L (Ok _) = GivesTo old new i L
+Gives old new i L (Err n) = GivesTo old new i (take n L)
+
+-- the world after a step that was made; refused, after the first so many of its events
+abbrev pub after_made : Result (Unit {0}) ℕ → Step → List Place → List Place
+after_made (Ok _) step w = after step w
+after_made (Err n) step w = after_part n step w

@@ -7,18 +7,18 @@ use Rattle.site.specs.declared.call.Reply.{Reply}
 use Rattle.site.specs.declared.call.Reply.TheVariants.{Answered}
 use Rattle.views.specs.declared.query.Answer.{Answer}
 use Rattle.views.specs.declared.query.Query.{Query}
-use Rattle.feeds.specs.declared.report.Ended.{Ended}
-use Rattle.feeds.specs.declared.report.Ended.TheVariants.{GateShut, OutOfMemory}
+use Rattle.feeds.specs.declared.report.WorkerEnd.{WorkerEnd}
+use Rattle.feeds.specs.declared.report.WorkerEnd.TheVariants.{GateShut, OutOfMemory}
 
 -- it stopped at this question: before its call, or after it, which was refused or whose answer there
 -- was no memory to keep
-abbrev pub StopsAt : Query → List Call → List Answer → List Answer → Ended → Type 0
+abbrev pub StopsAt : Query → List Call → List Answer → List Answer → WorkerEnd → Type 0
 StopsAt query m old new ended = (new ≡ old) × (((ended ≡ GateShut) × (m ≡ []))
     ⊎ ((ended ≡ OutOfMemory) × ((reply : Reply) × (m ≡ call (command.Query query) reply ∷ []))))
 
 -- one question was asked and its answer kept, if nothing ended it
-pub record AsksOne (query : Query) (m : List Call) (old new : List Answer) (o : Option Ended)
+pub record AsksOne (query : Query) (m : List Call) (old new : List Answer) (o : Option WorkerEnd)
     : Type 0 where
   pub goes_on : o ≡ None → (answer : Answer)
       × (m ≡ call (command.Query query) (Answered answer) ∷ []) × (new ≡ old ++ answer ∷ [])
-  pub stops : (ended : Ended) → o ≡ Some ended → StopsAt query m old new ended
+  pub stops : (ended : WorkerEnd) → o ≡ Some ended → StopsAt query m old new ended

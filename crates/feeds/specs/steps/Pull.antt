@@ -5,6 +5,7 @@ use Rattle.attributes.specs.Event.{EventValue}
 use Rattle.coverage.specs.Summary.{Sources}
 use Rattle.site.specs.Desk.{refused}
 use Rattle.site.specs.Machine.{call}
+use Rattle.site.specs.Page.{max_page}
 use Rattle.site.specs.declared.call.Call.{Call}
 use Rattle.site.specs.declared.call.Command.TheVariants as command
 use Rattle.site.specs.declared.call.Reply.{Reply}
@@ -13,24 +14,24 @@ use Rattle.site.specs.declared.desk.DeskFault.{DeskFault}
 use Rattle.feeds.specs.Pull.{ArePages, EndsEmpty, replied}
 use Rattle.feeds.specs.Report.{AreAnswered, AreTakes, EndsEarly, Handles, HasCauseIf, fresh_of}
 use Rattle.feeds.specs.Report.{handled, repeated_of}
-use Rattle.feeds.specs.declared.report.Ended.{Ended}
-use Rattle.feeds.specs.declared.report.Ended.TheVariants.{Done, GateShut, OutOfMemory}
+use Rattle.feeds.specs.declared.report.WorkerEnd.{WorkerEnd}
+use Rattle.feeds.specs.declared.report.WorkerEnd.TheVariants.{Done, GateShut, OutOfMemory}
 use Rattle.feeds.specs.declared.report.Tally.{Tally}
 use Rattle.feeds.specs.steps.Tally.{Counted}
 
 -- the call for the summary: it is told, or the gate was shut before the call, or this was refused
-abbrev pub Sums : List Call → Result Sources Ended → Type 0
+abbrev pub Sums : List Call → Result Sources WorkerEnd → Type 0
 Sums n (Ok peer) = n ≡ call command.Summary (Summed peer) ∷ []
 Sums n (Err OutOfMemory) = (fault : DeskFault) × (n ≡ call command.Summary (refused fault) ∷ [])
 Sums n (Err GateShut) = n ≡ []
 Sums n (Err _) = ⊥
 
 -- the call for a page, in the same way
-abbrev pub Pages : Sources → ℕ → List Call → Result (List EventValue) Ended → Type 0
+abbrev pub Pages : Sources → ℕ → List Call → Result (List EventValue) WorkerEnd → Type 0
 Pages peer place m (Ok events) =
-    (m ≡ call (command.DeltaPage peer place 100) (Paged events) ∷ []) × (length events ≤ 100)
+    (m ≡ call (command.DeltaPage peer place max_page) (Paged events) ∷ []) × (length events ≤ max_page)
 Pages peer place m (Err OutOfMemory) = (fault : DeskFault)
-    × (m ≡ call (command.DeltaPage peer place 100) (refused fault) ∷ [])
+    × (m ≡ call (command.DeltaPage peer place max_page) (refused fault) ∷ [])
 Pages peer place m (Err GateShut) = m ≡ []
 Pages peer place m (Err _) = ⊥
 
@@ -39,13 +40,13 @@ abbrev pub HasSameCounts : Tally → Tally → Type 0
 HasSameCounts t u = (u.fresh ≡ t.fresh) × (u.repeated ≡ t.repeated) × (u.refused ≡ t.refused)
 
 -- a page was moved, whole if nothing ended it
-pub record Moves (peer : Sources) (m n : List Call) (t u : Tally) (o : Option Ended) : Type 0 where
+pub record Moves (peer : Sources) (m n : List Call) (t u : Tally) (o : Option WorkerEnd) : Type 0 where
   pub pages : ArePages peer (t.fresh + t.repeated) m
   pub handles : Handles n (replied m)
   pub counted : Counted n t u
-  pub most : length (replied m) ≤ 100
+  pub most : length (replied m) ≤ max_page
   pub whole : o ≡ None → handled n ≡ replied m
-  pub ended : (e : Ended) → o ≡ Some e → (e ≡ Done) ⊎ EndsEarly e
+  pub ended : (e : WorkerEnd) → o ≡ Some e → (e ≡ Done) ⊎ EndsEarly e
   pub cause : HasCauseIf m o × HasCauseIf n o
   pub done : o ≡ Some Done → (handled n ≡ replied m) × (replied m ≡ []) × EndsEmpty m
 

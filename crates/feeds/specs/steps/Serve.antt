@@ -13,12 +13,12 @@ use Rattle.feeds.specs.Pull.{PullsFrom}
 use Rattle.feeds.specs.Report.{Feeds}
 use Rattle.feeds.specs.Serve.{HasCalls, worker_of}
 use Rattle.feeds.specs.declared.asking.Asked.{Asked}
-use Rattle.feeds.specs.declared.report.Ended.{Ended}
+use Rattle.feeds.specs.declared.report.WorkerEnd.{WorkerEnd}
 use Rattle.feeds.specs.declared.report.Report.{Report}
 use Rattle.feeds.specs.declared.serving.worker.Finished.{Finished}
 use Rattle.feeds.specs.declared.serving.worker.Job.{Job}
-use Rattle.feeds.specs.declared.serving.worker.Outcome.{Outcome}
-use Rattle.feeds.specs.declared.serving.worker.Outcome.TheVariants.{Answered, Reported}
+use Rattle.feeds.specs.declared.serving.worker.JobEnd.{JobEnd}
+use Rattle.feeds.specs.declared.serving.worker.JobEnd.TheVariants.{Answered, Reported}
 use Rattle.feeds.specs.declared.serving.worker.Pending.{Pending}
 use Rattle.feeds.specs.declared.serving.worker.Work.{Work}
 use Rattle.feeds.specs.declared.serving.worker.Work.TheVariants as work
@@ -31,7 +31,7 @@ abbrev pub pending_works : Pending → List Work
 pending_works p = works_of p.feeds.items p.peers.items p.asks.items
 
 -- by these calls of a desk, which then has these arrivals, this came of the work
-abbrev pub Performs : Work → List Call → List EventValue → Outcome → Type 0
+abbrev pub Performs : Work → List Call → List EventValue → JobEnd → Type 0
 Performs (work.Feed b) m B (Reported r) = Feeds b m r
 Performs (work.Pull A) m B (Reported r) = PullsFrom A m B r
 Performs (work.Ask queries) m B (Answered r) = Asks queries m r
@@ -49,12 +49,12 @@ pub record IsJobAt (p : Shown) (place : ℕ) (w : Work) (j : Job) : Type 0 where
   pub unused : j.pass.mine ≡ []
 
 -- how the worker ended
-abbrev pub ended_by : Outcome → Ended
+abbrev pub ended_by : JobEnd → WorkerEnd
 ended_by (Reported r) = r.ended
 ended_by (Answered r) = r.ended
 
 -- the gate let the worker make at least so many calls, and it ended so
-abbrev pub IsGatedFor : (ℕ → ℕ → Type 0) → (ℕ → ℕ → Type 0) → (ℕ → ℕ → Type 0) → ℕ → ℕ → Ended
+abbrev pub IsGatedFor : (ℕ → ℕ → Type 0) → (ℕ → ℕ → Type 0) → (ℕ → ℕ → Type 0) → ℕ → ℕ → WorkerEnd
     → Type 0
 IsGatedFor lets shuts heard worker count ended =
     (calls : ℕ) × (count ≤ calls) × IsGated lets shuts heard worker calls ended
@@ -87,27 +87,27 @@ AllTold seen [] = Unit {0}
 AllTold seen (f ∷ fs) = StartsWith seen f.pass.seen × (made_by f.pass.number seen ≡ f.pass.mine)
     × AllTold seen fs
 
-abbrev pub outcomes : List Finished → List Outcome
+abbrev pub outcomes : List Finished → List JobEnd
 outcomes fs = map (λ f. f.outcome) fs
 
 -- the reports and the answers among what came of jobs
-abbrev pub reports_by : Outcome → List Report
+abbrev pub reports_by : JobEnd → List Report
 reports_by (Reported r) = r ∷ []
 reports_by (Answered r) = []
 
-abbrev pub answers_by : Outcome → List Asked
+abbrev pub answers_by : JobEnd → List Asked
 answers_by (Reported r) = []
 answers_by (Answered r) = r ∷ []
 
-abbrev pub reports_in : List Outcome → List Report
+abbrev pub reports_in : List JobEnd → List Report
 reports_in [] = []
 reports_in (o ∷ os) = reports_by o ++ reports_in os
 
-abbrev pub answers_in : List Outcome → List Asked
+abbrev pub answers_in : List JobEnd → List Asked
 answers_in [] = []
 answers_in (o ∷ os) = answers_by o ++ answers_in os
 
 -- what came of the work by the calls that q has seen of the worker at this place
-abbrev pub WorkerTells : Shown → Shown → ℕ → Work → Outcome → Type 0
+abbrev pub WorkerTells : Shown → Shown → ℕ → Work → JobEnd → Type 0
 WorkerTells p q place w o =
     (m : List Call) × HasCalls q.seen (worker_of p place) m × Performs w m (leaves q) o

@@ -5,13 +5,14 @@ use Rattle.attributes.specs.Event.{EventValue}
 use Rattle.inbox.specs.KeyOrder.{key_cmp}
 use Rattle.inbox.specs.Ordered.{append_new}
 use Rattle.inbox.specs.declared.inbox.Short.{Short}
+use Rattle.site.specs.Page.{max_page}
 use Rattle.site.specs.declared.call.Call.{Call}
 use Rattle.site.specs.declared.desk.DeskFault.{DeskFault}
 use Rattle.site.specs.declared.desk.DeskFault.TheVariants.{OutOfMemory}
 use Rattle.feeds.specs.Report.{AreAnswered, AreTakes, EndsRefused, Handles, fresh_of, handled}
 use Rattle.feeds.specs.Report.{has_number, repeated_of, sequenced, unsequenced}
-use Rattle.feeds.specs.declared.report.Ended.{Ended}
-use Rattle.feeds.specs.declared.report.Ended.TheVariants as ended
+use Rattle.feeds.specs.declared.report.WorkerEnd.{WorkerEnd}
+use Rattle.feeds.specs.declared.report.WorkerEnd.TheVariants as ended
 use Rattle.feeds.specs.declared.report.Tally.{Tally}
 
 -- the tally grew by just these calls
@@ -23,14 +24,14 @@ pub record Counted (m : List Call) (t u : Tally) : Type 0 where
 
 -- what ended a worker at these calls, if anything did: the last of them was refused, or the gate was
 -- shut before the next
-abbrev pub StopsBy : List Call → Option Ended → Type 0
+abbrev pub StopsBy : List Call → Option WorkerEnd → Type 0
 StopsBy m None = AreAnswered m
 StopsBy m (Some ended.OutOfMemory) = EndsRefused m
 StopsBy m (Some ended.GateShut) = AreAnswered m
 StopsBy m (Some _) = ⊥
 
 -- one batch was handed over, whole if nothing ended it
-pub record Flushed (m : List Call) (batch left : List EventValue) (t u : Tally) (o : Option Ended)
+pub record Flushed (m : List Call) (batch left : List EventValue) (t u : Tally) (o : Option WorkerEnd)
     : Type 0 where
   pub handles : Handles m batch
   pub counted : Counted m t u
@@ -39,9 +40,9 @@ pub record Flushed (m : List Call) (batch left : List EventValue) (t u : Tally) 
 
 -- so, or the batch was not full and nothing was done
 abbrev pub FlushedIfFull : List Call → List EventValue → List EventValue → Tally → Tally
-    → Option Ended → Type 0
+    → Option WorkerEnd → Type 0
 FlushedIfFull m batch left t u o = Flushed m batch left t u o
-    ⊎ ((m ≡ []) × (left ≡ batch) × (u ≡ t) × (o ≡ None) × (length batch < 100))
+    ⊎ ((m ≡ []) × (left ≡ batch) × (u ≡ t) × (o ≡ None) × (length batch < max_page))
 
 -- an event came into the batch, or was passed over
 abbrev pub Passes : EventValue → List EventValue → List EventValue → Tally → Tally → Type 0

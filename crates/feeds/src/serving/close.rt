@@ -7,7 +7,7 @@ ghost use Rattle.site_lock.specs.Pass.{IsSame};
 ghost use Rattle.feeds.specs.steps.Serve.{AllAt, AllTold, answers_in, outcomes, reports_in};
 
 use super::Served;
-use crate::serving::worker::{Finished, Outcome, put};
+use crate::serving::worker::{Finished, JobEnd, put};
 use site_lock::{Pass, SharedSite};
 
 /// The worker learns all that the pass has seen, so that its own calls are those that the pass has
@@ -26,7 +26,7 @@ fn settle(shared: &SharedSite, pass: &mut Pass, finished: &mut Finished)
 }
 
 /// Puts what came of a job behind what came of those before.
-fn add(served: &mut Served, outcome: Outcome)
+fn add(served: &mut Served, outcome: JobEnd)
     requires { (vec_len served.old.reports < vec_capacity served.old.reports)
         × (vec_len served.old.asked < vec_capacity served.old.asked) }
     ensures reports { served.new.reports.items
@@ -37,8 +37,8 @@ fn add(served: &mut Served, outcome: Outcome)
         × (vec_capacity served.old.asked ≤ vec_capacity served.new.asked) }
 {
     match outcome {
-        Outcome::Reported(report) => put(&mut served.reports, report),
-        Outcome::Answered(asked) => put(&mut served.asked, asked),
+        JobEnd::Reported(report) => put(&mut served.reports, report),
+        JobEnd::Answered(asked) => put(&mut served.asked, asked),
     }
 }
 

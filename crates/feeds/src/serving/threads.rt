@@ -10,7 +10,7 @@ use crate::aside::Aside;
 use crate::asking::ask;
 use crate::feeding::feed;
 use crate::pulling::pull_from;
-use crate::serving::worker::{Finished, Job, Outcome, Work, put};
+use crate::serving::worker::{Finished, Job, JobEnd, Work, put};
 use site::{Desk, Gate};
 use site_lock::laws::threads_share_a_site;
 use site_lock::{Caller, SharedSite};
@@ -36,25 +36,23 @@ impl<G: Gate> Promise<Finished> for Done<G> {
 }
 
 /// Does a worker's work over a desk.
-fn perform<D: Desk, G: Gate>(
+fn work_off<D: Desk, G: Gate>(
     alloc: Global,
     desk: &mut D,
     gate: &G,
     worker: u64,
     work: Work,
-) -> Outcome
+) -> JobEnd
     ensures { (m : List Call) × D.went desk.old desk.new m
         × Performs work m (D.arrivals desk.new) result
         × IsGatedFor (G.lets gate.now) (G.shuts gate.now) (G.heard gate.now) worker (length m)
         (ended_by result) }
 {
     match work {
-        Work::Feed(bytes) => {
-            Outcome::Reported(feed(alloc, desk, gate, worker, bytes.as_bytes()))
-        }
-        Work::Pull(mut peer) => Outcome::Reported(pull_from(&mut peer, desk, gate, worker)),
+        Work::Feed(bytes) => { JobEnd::Reported(feed(alloc, desk, gate, worker, bytes.as_bytes())) }
+        Work::Pull(mut peer) => JobEnd::Reported(pull_from(&mut peer, desk, gate, worker)),
         Work::Ask(queries) => {
-            Outcome::Answered(ask(alloc, desk, gate, worker, queries.as_slice()))
+            JobEnd::Answered(ask(alloc, desk, gate, worker, queries.as_slice()))
         }
     }
 }
@@ -73,7 +71,7 @@ fn work<R: Wait, G: Gate>(
 {
     let Job { worker, work, pass } = job;
     let mut caller = Caller::of(rt, shared, pass);
-    let outcome = perform(alloc, &mut caller, gate, worker, work);
+    let outcome = work_off(alloc, &mut caller, gate, worker, work);
     let pass = caller.into_pass();
     left.fetch_sub(1, Ordering::SeqCst);
     Finished { outcome, pass }

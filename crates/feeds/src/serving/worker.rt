@@ -23,7 +23,7 @@ pub(crate) enum Work {
 
 /// What came of it.
 #[derive(Drop)]
-pub(crate) enum Outcome {
+pub(crate) enum JobEnd {
     Reported(Report),
     Answered(Asked),
 }
@@ -40,7 +40,7 @@ pub(crate) struct Job {
 /// What came of a job, and the pass as it then stands.
 #[derive(Drop)]
 pub(crate) struct Finished {
-    pub outcome: Outcome,
+    pub outcome: JobEnd,
     pub pass: Pass,
 }
 

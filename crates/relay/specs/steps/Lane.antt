@@ -49,9 +49,9 @@ HandsOver takes has_failed lets shuts heard Fits old new = old.fault ≡ None
     → (pages : List (List EventValue))
     × (Hands takes has_failed lets shuts heard old new pages × Fits pages)
 
--- any pages
-abbrev pub Whatever : List (List EventValue) → Type 0
-Whatever pages = ⊤
+-- any pages, where nothing is said of the rows
+abbrev pub AreAny : List (List EventValue) → Type 0
+AreAny pages = ⊤
 
 -- the pages are the rows between the marks
 abbrev pub AreBetween : ℕ → List EventValue → ℕ → ℕ → List (List EventValue) → Type 0
@@ -65,7 +65,7 @@ pub record Moves {R : Type 0} (accepted : R → List EventValue)
   pub site : new.relay.site ≡ old.relay.site
   pub forward : old.relay.mark ≤ new.relay.mark
   pub kept : AreIn (accepted old.route) (accepted new.route)
-  pub handed : HandsOver takes has_failed lets shuts heard Whatever old new
+  pub handed : HandsOver takes has_failed lets shuts heard AreAny old new
   pub idle : IsSome old.fault → new ≡ old
 
 -- a lane before and after rows, a window of them or all, whose numbers are those after `start`

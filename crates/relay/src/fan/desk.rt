@@ -1,6 +1,6 @@
 //! The caller's thread: it reads a window for each lane that comes back, whichever it is.
 
-ghost use Rattle.std.specs.Prelude.{◌≡◌, ◌<◌, ◌≤◌, ℕ, List, length, IfErr, IfOk, IfSome, All, None};
+ghost use Rattle.std.specs.Prelude.{◌≡◌, ◌<◌, List, length, IfErr, IfOk, IfSome, All, None};
 ghost use Rattle.std.specs.Thread.{IsSync, IsSend};
 ghost use Rattle.sqlite.specs.Effect.{Database};
 ghost use Rattle.sqlite.specs.Held.{state};

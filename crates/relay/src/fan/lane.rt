@@ -8,10 +8,10 @@ ghost use Rattle.relay.specs.steps.Lane.{Carries, IsQuiet, StopsAt, left};
 ghost use Rattle.relay.specs.declared.fault.RelayFault.TheVariants.{OutOfMemory, Store};
 
 use crate::fault::RelayFault;
-use crate::relay::{MAX_PAGE, Relay};
+use crate::relay::Relay;
 use crate::route::Route;
 use attributes::Batch;
-use site::Gate;
+use site::{Gate, MAX_PAGE};
 use std::alloc::{AllocError, Global};
 
 /// A relay, its route, and how far they are.

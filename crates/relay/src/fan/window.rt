@@ -8,9 +8,9 @@ ghost use Rattle.relay.specs.steps.Lane.{ShowsWindow};
 ghost use Rattle.relay.specs.declared.fault.RelayFault.TheVariants.{OutOfMemory, Store};
 
 use crate::fault::{RelayFault, fault_of};
-use crate::relay::MAX_PAGE;
 use attributes::Batch;
 use outbox::Service;
+use site::MAX_PAGE;
 use sqlite::Alter;
 
 /// The most pages of a window: 1,000 rows.

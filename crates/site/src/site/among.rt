@@ -5,7 +5,7 @@ ghost use Rattle.std.specs.BTreeSet.{contains};
 ghost use Rattle.std.specs.Ordering.{nat_cmp};
 ghost use Rattle.inbox.specs.Sets.{set_of};
 ghost use Rattle.block_digests.specs.Kept.{places_of};
-ghost use Rattle.site.specs.Delta.{AreAll, Tells, lacking_of};
+ghost use Rattle.site.specs.Delta.{AreAll, IsPart, Tells, lacking_of};
 ghost use Rattle.site.specs.steps.Among.{AllIn, HasEach, HasPlace, IsNextFrom, NoneFrom, WantsNone};
 
 use super::Site;
@@ -151,13 +151,7 @@ impl Site {
         requires place { place ≤ length (set_of self.now) }
         requires tells { Tells (set_of self.now) peer.now own.now }
         requires all { AreAll (set_of self.now) peer.now among.now }
-        ensures events { IfOk result (λ part. part.events ≡ take limit
-            (lacking_of (set_of self.now) peer.now (drop place (set_of self.now)))) }
-        ensures rest { IfOk result (λ part.
-            lacking_of (set_of self.now) peer.now (drop part.next (set_of self.now))
-            ≡ drop limit (lacking_of (set_of self.now) peer.now (drop place (set_of self.now)))) }
-        ensures within { IfOk result (λ part. part.next ≤ length (set_of self.now)) }
-        ensures behind { IfOk result (λ part. place + length part.events ≤ part.next) }
+        ensures part { IfOk result (IsPart (set_of self.now) peer.now place limit) }
 
         // Memory is wanted for events alone.
         ensures err { OnErr result (take limit
@@ -191,13 +185,7 @@ impl Site {
         requires place { place ≤ length (set_of self.now) }
         requires tells { Tells (set_of self.now) peer.now own.now }
         requires all { IfSome among.now (AreAll (set_of self.now) peer.now) }
-        ensures events { IfOk result (λ part. part.events ≡ take limit
-            (lacking_of (set_of self.now) peer.now (drop place (set_of self.now)))) }
-        ensures rest { IfOk result (λ part.
-            lacking_of (set_of self.now) peer.now (drop part.next (set_of self.now))
-            ≡ drop limit (lacking_of (set_of self.now) peer.now (drop place (set_of self.now)))) }
-        ensures within { IfOk result (λ part. part.next ≤ length (set_of self.now)) }
-        ensures behind { IfOk result (λ part. place + length part.events ≤ part.next) }
+        ensures part { IfOk result (IsPart (set_of self.now) peer.now place limit) }
 
         // Memory is wanted for events alone.
         ensures err { OnErr result (take limit

@@ -1,10 +1,10 @@
 //! What a peer lacks.
 
-ghost use Rattle.std.specs.Prelude.{◌≡◌, ◌≢◌, ◌+◌, ◌≤◌, [], drop, length, take, IfOk, OnErr};
+ghost use Rattle.std.specs.Prelude.{◌≡◌, ◌≢◌, ◌≤◌, [], drop, length, take, IfOk, OnErr};
 ghost use Rattle.inbox.specs.Sets.{set_of};
 ghost use Rattle.coverage.specs.Summary.{version_of};
-ghost use Rattle.site.specs.Delta.{Tells, delta, is_wanting, lacking_of};
-ghost use Rattle.site.specs.Page.{page};
+ghost use Rattle.site.specs.Delta.{IsPart, Tells, delta, is_wanting, lacking_of};
+ghost use Rattle.site.specs.Page.{max_page, page};
 
 use super::Site;
 use attributes::{Batch, Sequenced};
@@ -83,13 +83,7 @@ impl Site {
     ) -> Result<DeltaPart, AllocError>
         requires place { place ≤ length (set_of self.now) }
         requires tells { Tells (set_of self.now) peer.now own.now }
-        ensures events { IfOk result (λ part. part.events ≡ take limit
-            (lacking_of (set_of self.now) peer.now (drop place (set_of self.now)))) }
-        ensures rest { IfOk result (λ part.
-            lacking_of (set_of self.now) peer.now (drop part.next (set_of self.now))
-            ≡ drop limit (lacking_of (set_of self.now) peer.now (drop place (set_of self.now)))) }
-        ensures within { IfOk result (λ part. part.next ≤ length (set_of self.now)) }
-        ensures behind { IfOk result (λ part. place + length part.events ≤ part.next) }
+        ensures part { IfOk result (IsPart (set_of self.now) peer.now place limit) }
 
         // Memory is wanted for events alone.
         ensures err { OnErr result (take limit
@@ -137,7 +131,7 @@ impl Site {
     /// for each; nothing else is copied. For a peer of version 2 it makes the own summary first.
     pub fn delta_page(&self, peer: &Summary, from: u64, limit: u64) -> Result<Batch, AllocError>
         requires low { 1 ≤ limit }
-        requires high { limit ≤ 100 }
+        requires high { limit ≤ max_page }
         ensures page { IfOk result (λ batch. batch
             ≡ page (delta (set_of self.now) peer.now) from limit) }
 

@@ -4,7 +4,7 @@ ghost use Rattle.std.specs.Prelude.{◌≡◌, ◌≢◌, ◌≤◌, [], IfOk, I
 ghost use Rattle.coverage.specs.Summary.{version_of};
 ghost use Rattle.inbox.specs.Sets.{set_of};
 ghost use Rattle.site.specs.Delta.{delta};
-ghost use Rattle.site.specs.Page.{page};
+ghost use Rattle.site.specs.Page.{max_page, page};
 ghost use Rattle.site.specs.steps.Mark.{IsMark};
 
 use super::Site;
@@ -83,7 +83,7 @@ impl Site {
         limit: u64,
     ) -> Result<Batch, AllocError>
         requires low { 1 ≤ limit }
-        requires high { limit ≤ 100 }
+        requires high { limit ≤ max_page }
         ensures same { self.new ≡ self.old }
         ensures page { IfOk result (λ batch. batch
             ≡ page (delta (set_of self.old) peer.now) from limit) }

@@ -1,10 +1,10 @@
 //! Another site's events taken.
 
-ghost use Rattle.std.specs.Prelude.{◌≡◌, ◌+◌, ◌<◌, [], ◌∷◌, false, length, take, IfErr, IfOk, OnErr, OnOk};
+ghost use Rattle.std.specs.Prelude.{◌≡◌, ◌<◌, [], ◌∷◌, false, length, IfErr, OnErr, OnOk};
 ghost use Rattle.inbox.specs.KeyOrder.{key_cmp};
 ghost use Rattle.inbox.specs.Ordered.{append_new, has};
 ghost use Rattle.inbox.specs.Sets.{set_of, union};
-ghost use Rattle.site.specs.Arrival.{LacksAt};
+ghost use Rattle.site.specs.Arrival.{Brings, LacksAt};
 
 use super::Site;
 use super::take::grow;
@@ -43,17 +43,7 @@ impl Site {
     /// and need no memory. After want of memory those before it stay. The time is that of
     /// `take_batch`, and one search more for each new event.
     pub fn merge(&mut self, other: &Site) -> Result<Counts, Short>
-        ensures arrivals { OnOk result
-            (self.new ≡ append_new key_cmp self.old (set_of other.now)) }
-        ensures set { OnOk result
-            (set_of self.new ≡ union (set_of self.old) (set_of other.now)) }
-        ensures fresh { IfOk result (λ n. length self.old + n.fresh ≡ length self.new) }
-        ensures repeated { IfOk result (λ n. n.fresh + n.repeated ≡ length (set_of other.now)) }
-        ensures short { IfErr result (λ s. self.new
-            ≡ append_new key_cmp self.old (take s.taken (set_of other.now))) }
-        ensures short_set { IfErr result (λ s. set_of self.new
-            ≡ union (set_of self.old) (take s.taken (set_of other.now))) }
-        ensures short_fresh { IfErr result (λ s. length self.old + s.fresh ≡ length self.new) }
+        ensures brings { Brings self.old self.new (set_of other.now) result }
         ensures short_taken { IfErr result (λ s. s.taken < length (set_of other.now)) }
 
         // Memory was wanted for a new event.

@@ -2,11 +2,14 @@
 
 ghost use Rattle.std.specs.Prelude.{◌≡◌, ◌≢◌, ◌≤◌, [], IfOk, OnErr};
 ghost use Rattle.inbox.specs.Sets.{set_of};
-ghost use Rattle.site.specs.Page.{page};
+ghost use Rattle.site.specs.Page.{max_page, page};
 
 use super::Site;
 use attributes::Batch;
 use std::alloc::AllocError;
+
+/// The most events of a page.
+pub const MAX_PAGE: u64 = 100;
 
 impl Site {
     /// The events at the places from `from` on in key order, `limit` of them at most: 1 to 100.
@@ -14,11 +17,12 @@ impl Site {
     /// was there before. Time and memory in proportion to what is answered.
     pub fn page(&self, from: u64, limit: u64) -> Result<Batch, AllocError>
         requires low { 1 ≤ limit }
-        requires high { limit ≤ 100 }
+        requires high { limit ≤ max_page }
         ensures page { IfOk result (λ batch. batch ≡ page (set_of self.now) from limit) }
 
         // Memory is wanted for events alone.
         ensures err { OnErr result (page (set_of self.now) from limit ≢ []) }
+        ensures limit { MAX_PAGE ≡ max_page }
     {
         let mut batch = Batch::empty(self.alloc);
         let count = limit.min(self.len().saturating_sub(from));
@@ -32,7 +36,7 @@ impl Site {
     /// most: 1 to 100. Time and memory in proportion to what is answered.
     pub fn arrivals_after(&self, n: u64, limit: u64) -> Result<Batch, AllocError>
         requires low { 1 ≤ limit }
-        requires high { limit ≤ 100 }
+        requires high { limit ≤ max_page }
         ensures page { IfOk result (λ batch. batch ≡ page self.now n limit) }
 
         // Memory is wanted for events alone.

@@ -6,7 +6,7 @@ ghost use Rattle.inbox.specs.Sets.{set_of};
 ghost use Rattle.site.specs.Delta.{delta};
 ghost use Rattle.site.specs.Desk.{answered, paged, summed};
 ghost use Rattle.site.specs.Machine.{Answers, call};
-ghost use Rattle.site.specs.Page.{page};
+ghost use Rattle.site.specs.Page.{max_page, page};
 ghost use Rattle.site.specs.declared.call.Command.TheVariants as command;
 ghost use Rattle.site_lock.specs.Pass.{Made, leaves};
 
@@ -23,7 +23,7 @@ use views::{Answer, Query};
 /// What a peer lacks, as a desk answers.
 fn delta_page(site: &mut Site, peer: &Summary, from: u64, limit: u64) -> Result<Batch, DeskFault>
     requires low { 1 ≤ limit }
-    requires high { limit ≤ 100 }
+    requires high { limit ≤ max_page }
     ensures same { site.new ≡ site.old }
     ensures answers { Answers site.old
         (call (command.DeltaPage peer.now from limit) (paged result)) }
@@ -37,7 +37,7 @@ fn delta_page(site: &mut Site, peer: &Summary, from: u64, limit: u64) -> Result<
 /// A page in key order, as a desk answers.
 fn key_page(site: &Site, from: u64, limit: u64) -> Result<Batch, DeskFault>
     requires low { 1 ≤ limit }
-    requires high { limit ≤ 100 }
+    requires high { limit ≤ max_page }
     ensures answers { Answers site.now (call (command.Page from limit) (paged result)) }
     ensures err { OnErr result (page (set_of site.now) from limit ≢ []) }
 {
@@ -47,7 +47,7 @@ fn key_page(site: &Site, from: u64, limit: u64) -> Result<Batch, DeskFault>
 /// The events that came after the first n, as a desk answers.
 fn arrivals_after(site: &Site, n: u64, limit: u64) -> Result<Batch, DeskFault>
     requires low { 1 ≤ limit }
-    requires high { limit ≤ 100 }
+    requires high { limit ≤ max_page }
     ensures answers { Answers site.now (call (command.Fresh n limit) (paged result)) }
     ensures err { OnErr result (page site.now n limit ≢ []) }
 {
@@ -90,7 +90,7 @@ impl SharedSite {
     ) -> Result<Batch, DeskFault>
         requires own { pass.old.table ≡ self.now }
         requires low { 1 ≤ limit }
-        requires high { limit ≤ 100 }
+        requires high { limit ≤ max_page }
         ensures made { Made pass.old pass.new
             (call (command.DeltaPage peer.now from limit) (paged result)) }
 
@@ -118,7 +118,7 @@ impl SharedSite {
     ) -> Result<Batch, DeskFault>
         requires own { pass.old.table ≡ self.now }
         requires low { 1 ≤ limit }
-        requires high { limit ≤ 100 }
+        requires high { limit ≤ max_page }
         ensures made { Made pass.old pass.new (call (command.Page from limit) (paged result)) }
 
         // Memory is wanted for events alone.
@@ -142,7 +142,7 @@ impl SharedSite {
     ) -> Result<Batch, DeskFault>
         requires own { pass.old.table ≡ self.now }
         requires low { 1 ≤ limit }
-        requires high { limit ≤ 100 }
+        requires high { limit ≤ max_page }
         ensures made { Made pass.old pass.new (call (command.Fresh n limit) (paged result)) }
 
         // Memory is wanted for events alone.

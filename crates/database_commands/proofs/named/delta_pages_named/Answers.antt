@@ -1,12 +1,4 @@
 use Rattle.database_commands.proofs.named.delta_pages_named.Goals as goal
 
 pub returns-in-Ok-clause-did : goal.returns-in-Ok-clause-did
-returns-in-Ok-clause-did g c = let it = c.delta_pages.ensures in record {
-  first = c.in-Ok.conn;
-  over = c.in-Ok.ensures.over;
-  did = record {
-    shown = it.pages;
-    left = it.left;
-    without = it.without;
-  };
-}
+returns-in-Ok-clause-did g c = record { first = c.in-Ok.conn; over = c.in-Ok.ensures.over; did = c.delta_pages.ensures.did }

@@ -10,13 +10,17 @@ use Rattle.database_commands.specs.Print.{batch_line}
 use Rattle.database_commands.proofs.HeldLemmas.{held_once}
 use Rattle.database_commands.proofs.page.scrub.Goals as goal
 
-pub returns-in-Ok-clause-shown : goal.returns-in-Ok-clause-shown
-returns-in-Ok-clause-shown g c clean =
-    IfOk-weaker c.page_line-outcome.result _ _
-    (λ text line held holds.
-    let same : c.in-Ok.events ≡ held = IfOk-at_ok _ c.in-Ok.is (c.contents_of-conn.ensures.events clean) held holds in
-    line ∙ ap (λ (l : List EventValue). batch_line (page (set_of l) c.args.from 100)) (ap (append_new key_cmp []) same ∙ held_once (state g.S.Store c.args.conn).now held holds))
-    c.page_line-outcome.ensures
+pub returns-in-Ok-clause-did : goal.returns-in-Ok-clause-did
+returns-in-Ok-clause-did g c = record {
+  shown = λ clean.
+      IfOk-weaker c.page_line-outcome.result _ _
+      (λ text line held holds.
+      let same : c.in-Ok.events ≡ held = IfOk-at_ok _ c.in-Ok.is (c.own_contents-conn.ensures.events clean) held holds in
+      line ∙ ap (λ (l : List EventValue). batch_line (page (set_of l) c.args.from 100)) (ap (append_new key_cmp []) same ∙ held_once (state g.S.Store c.args.conn).now held holds))
+      c.page_line-outcome.ensures;
+  list = c.own_contents-conn.ensures.list;
+  beside = c.own_contents-conn.ensures.beside;
+}
 
 pub returns-in-Ok-clause-line : goal.returns-in-Ok-clause-line
 returns-in-Ok-clause-line g c = IfOk-weaker c.page_line-outcome.result _ _ (λ text line. (append_new key_cmp [] c.in-Ok.events, line)) c.page_line-outcome.ensures

@@ -4,37 +4,26 @@ use Rattle.database_commands.proofs.BesideLemmas.{service_same}
 use Rattle.database_commands.proofs.StreamLemmas.{stays_unread, stream_beside, stream_followed, stream_settled, stream_stops, stream_told, stream_until, tells_none}
 use Rattle.database_commands.proofs.stream.follow.Goals as goal
 
-pub returns-in-Ok-clause-followed : goal.returns-in-Ok-clause-followed
-returns-in-Ok-clause-followed g c =
-    stream_followed c.follow-ended.result c.outcome_of-outcome.result _ _ (state g.S.Store c.args.conn).now (state g.S.Store c.in-Ok.table.conn) (state g.S.Store c.follow-ended.new.table.conn) _
-    (ap (state g.S.Store) c.into_connection-conn.ensures) c.outcome_of-outcome.ensures c.in-Ok.ensures.held c.follow-ended.ensures.clean c.follow-ended.ensures.followed
-
-pub returns-in-Ok-clause-settled : goal.returns-in-Ok-clause-settled
-returns-in-Ok-clause-settled g c =
-    stream_settled c.follow-ended.result c.outcome_of-outcome.result (state g.S.Store c.follow-ended.new.table.conn) _
-    (ap (state g.S.Store) c.into_connection-conn.ensures) c.outcome_of-outcome.ensures c.follow-ended.ensures.settled
-
-pub returns-in-Ok-clause-stops : goal.returns-in-Ok-clause-stops
-returns-in-Ok-clause-stops g c =
-    stream_stops c.follow-ended.result c.outcome_of-outcome.result _ _ _ _ (state g.S.Store c.args.conn) (state g.S.Store c.in-Ok.table.conn) (state g.S.Store c.follow-ended.new.table.conn) _
-    (ap (state g.S.Store) c.into_connection-conn.ensures) c.outcome_of-outcome.ensures c.in-Ok.ensures.held c.follow-ended.ensures.clean c.follow-ended.ensures.stops
-
-pub returns-in-Ok-clause-told : goal.returns-in-Ok-clause-told
-returns-in-Ok-clause-told g c = stream_told c.follow-ended.result c.outcome_of-outcome.result _ _ _ c.outcome_of-outcome.ensures c.follow-ended.ensures.told
-
-pub returns-in-Ok-clause-until : goal.returns-in-Ok-clause-until
-returns-in-Ok-clause-until g c = stream_until c.follow-ended.result c.outcome_of-outcome.result _ _ _ c.outcome_of-outcome.ensures c.follow-ended.ensures.until
+pub returns-in-Ok : goal.returns-in-Ok
+returns-in-Ok g c =
+    record {
+      followed = stream_followed c.follow-ended.result c.outcome_of-outcome.result _ _ (state g.S.Store c.args.conn).now (state g.S.Store c.in-Ok.table.conn) (state g.S.Store c.follow-ended.new.table.conn) _
+          (ap (state g.S.Store) c.into_connection-conn.ensures) c.outcome_of-outcome.ensures c.in-Ok.ensures.held c.follow-ended.ensures.clean c.follow-ended.ensures.followed;
+      settled = stream_settled c.follow-ended.result c.outcome_of-outcome.result (state g.S.Store c.follow-ended.new.table.conn) _
+          (ap (state g.S.Store) c.into_connection-conn.ensures) c.outcome_of-outcome.ensures c.follow-ended.ensures.settled;
+      stops = stream_stops c.follow-ended.result c.outcome_of-outcome.result _ _ _ _ (state g.S.Store c.args.conn) (state g.S.Store c.in-Ok.table.conn) (state g.S.Store c.follow-ended.new.table.conn) _
+          (ap (state g.S.Store) c.into_connection-conn.ensures) c.outcome_of-outcome.ensures c.in-Ok.ensures.held c.follow-ended.ensures.clean c.follow-ended.ensures.stops;
+      told = stream_told c.follow-ended.result c.outcome_of-outcome.result _ _ _ c.outcome_of-outcome.ensures c.follow-ended.ensures.told;
+      until = stream_until c.follow-ended.result c.outcome_of-outcome.result _ _ _ c.outcome_of-outcome.ensures c.follow-ended.ensures.until;
+      beside = stream_beside (state g.S.Store c.args.conn).now (state g.S.Store c.in-Ok.table.conn) (state g.S.Store c.follow-ended.new.table.conn) _
+          (ap (state g.S.Store) c.into_connection-conn.ensures) c.in-Ok.ensures.beside c.follow-ended.ensures.clean c.follow-ended.ensures.beside;
+    }
 
 pub returns-in-Err-clause-stops : goal.returns-in-Err-clause-stops
 returns-in-Err-clause-stops g c = inl (stays_unread _ _ _ _ c.in-Err.refused.fault c.of_table.result c.of_table.ensures c.in-Err.ensures.back)
 
 pub returns-in-Err-clause-until : goal.returns-in-Err-clause-until
 returns-in-Err-clause-until g c = tells_none _ _
-
-pub returns-in-Ok-clause-beside : goal.returns-in-Ok-clause-beside
-returns-in-Ok-clause-beside g c =
-    stream_beside (state g.S.Store c.args.conn).now (state g.S.Store c.in-Ok.table.conn) (state g.S.Store c.follow-ended.new.table.conn) _
-    (ap (state g.S.Store) c.into_connection-conn.ensures) c.in-Ok.ensures.beside c.follow-ended.ensures.clean c.follow-ended.ensures.beside
 
 pub returns-in-Err-clause-beside : goal.returns-in-Err-clause-beside
 returns-in-Err-clause-beside g c clean still = service_same _ _ (c.in-Err.ensures.back clean still)

@@ -1,40 +1,52 @@
-use Rattle.std.proofs.Common.{◌≡◌, ◌≤◌, OnOk, false, inl, refl, rules, subst, sym, true}
+use Rattle.std.proofs.Common.{◌≡◌, ◌∙◌, ◌≤◌, ◌⊎◌, Bool, OnOk, false, inl, inr, refl, rules, subst, sym, true}
 use Rattle.std.specs.Prelude.{unwrap_or}
-use Rattle.std.proofs.lemmas.Result.{IfOk-weaker}
+use Rattle.std.proofs.lemmas.Result.{IfErr-weaker, IfOk-weaker}
 use Rattle.sqlite.specs.Held.{state}
 use Rattle.attributes.specs.Sequence.{max_sequence}
 use Rattle.database_layout.specs.Layout.{has_name}
 use Rattle.outbox.specs.Call.{IsFounded}
+use Rattle.database_commands.specs.declared.fault.CommandFault.{CommandFault}
+use Rattle.database_commands.specs.declared.fault.CommandFault.TheVariants as command
+use Rattle.database_commands.specs.Held.{IsNoOrders}
 use Rattle.database_commands.specs.Service.{LeavesOrFounds, TellsOrFounds}
 use Rattle.database_commands.proofs.ToldLemmas.{base_high, base_is, each_err, made_tells, made_told, there_tells, there_told, with_ok}
 use Rattle.database_commands.proofs.told.tell_service.Goals as goal
 
-pub returns-then-has_name-clause-told : goal.returns-then-has_name-clause-told
-returns-then-has_name-clause-told g c clean =
+-- what making a service comes to of a fault
+no_other : (f : CommandFault) → (f ≡ command.OutOfMemory) ⊎ (f ≡ command.Store) → f ≡ command.AnotherSource → ⊥
+no_other f (inl e) is = let bad : command.OutOfMemory ≡ command.AnotherSource = sym e ∙ is in cc
+no_other f (inr e) is = let bad : command.Store ≡ command.AnotherSource = sym e ∙ is in cc
+
+no_foreign : (f : CommandFault) → (f ≡ command.OutOfMemory) ⊎ (f ≡ command.Store) → f ≡ command.Foreign → ⊥
+no_foreign f (inl e) is = let bad : command.OutOfMemory ≡ command.Foreign = sym e ∙ is in cc
+no_foreign f (inr e) is = let bad : command.Store ≡ command.Foreign = sym e ∙ is in cc
+
+no_orders : (f : CommandFault) → (f ≡ command.OutOfMemory) ⊎ (f ≡ command.Store) → IsNoOrders f
+no_orders f (inl e) = inl e
+no_orders f (inr e) = inr (inl e)
+
+both : (b : Bool) → b ≡ true → b ≡ false → ⊥
+both b is isnt = let bad : ◌≡◌ {A = Bool} true false = sym is ∙ isnt in cc
+
+pub returns-then-has_name-clause-did : goal.returns-then-has_name-clause-did
+returns-then-has_name-clause-did g c =
     let there : has_name c.args.conn.schema ≡ true = search rules in
     let of = c.told.ensures in
-    IfOk-weaker c.told.result.outcome _ _
-    (λ text it. there_tells c.args.source.now (unwrap_or c.args.base 0) (state g.S.Store c.args.conn).now (state g.S.Store c.told.result.conn).now text there (of.left.same clean it.0) it.1)
-    (of.told clean)
-
-pub returns-then-has_name-clause-stands : goal.returns-then-has_name-clause-stands
-returns-then-has_name-clause-stands g c clean =
-    let of = c.told.ensures in
-    IfOk-weaker c.told.result.outcome _ _
-    (λ text it. there_told (state g.S.Store c.args.conn).now (state g.S.Store c.told.result.conn).now text (of.left.same clean it.0) it.2)
-    (of.told clean)
-
-pub returns-then-has_name-clause-there : goal.returns-then-has_name-clause-there
-returns-then-has_name-clause-there g c there = c.told.ensures.left.same
-
-pub returns-then-has_name-clause-back : goal.returns-then-has_name-clause-back
-returns-then-has_name-clause-back g c = each_err c.told.result.outcome _ c.told.ensures.left.same
-
-pub returns-then-has_name-clause-open : goal.returns-then-has_name-clause-open
-returns-then-has_name-clause-open g c clean = IfOk-weaker c.told.result.outcome _ _ (λ text it. it.0) (c.told.ensures.told clean)
-
-pub returns-then-has_name-clause-crash : goal.returns-then-has_name-clause-crash
-returns-then-has_name-clause-crash g c clean db may = inl (c.told.ensures.left.crash clean db may)
+    let old = (state g.S.Store c.args.conn).now in
+    let new = (state g.S.Store c.told.result.conn).now in
+    record {
+      told = λ clean. IfOk-weaker c.told.result.outcome _ _ (λ text it. there_tells c.args.source.now (unwrap_or c.args.base 0) old new text there (of.left.same clean it.0) it.1) (of.told clean);
+      stands = λ clean. IfOk-weaker c.told.result.outcome _ _ (λ text it. there_told old new text (of.left.same clean it.0) it.2) (of.told clean);
+      stays_open = λ clean. IfOk-weaker c.told.result.outcome _ _ (λ text it. it.0) (of.told clean);
+      made = λ none clean. absurd (both _ there none);
+      settled = λ none clean. absurd (both _ there none);
+      there = λ there. of.left.same;
+      back = each_err c.told.result.outcome _ of.left.same;
+      crash = λ clean db may. inl (of.left.crash clean db may);
+      another = of.another;
+      foreign = of.foreign;
+      fault = of.fault;
+    }
 
 pub made-requires : goal.made-requires
 made-requires g c =
@@ -45,28 +57,27 @@ made-requires g c =
       none = none;
     }
 
-pub returns-clause-told : goal.returns-clause-told
-returns-clause-told g c clean =
+pub returns-clause-did : goal.returns-clause-did
+returns-clause-did g c =
     let none : has_name c.args.conn.schema ≡ false = search rules in
+    let of = c.made.ensures in
+    let base = c.unwrap_or.ensures in
     let old = (state g.S.Store c.args.conn).now in
     let new = (state g.S.Store c.made.result.conn).now in
-    IfOk-weaker c.made.result.outcome _ _
-    (λ text it. subst (λ n. TellsOrFounds c.args.source.now n old new text) c.unwrap_or.ensures (made_tells c.args.source.now c.unwrap_or.result old new text none it.0.service it.1))
-    (with_ok c.made.result.outcome _ _ (c.made.ensures.made clean) c.made.ensures.line)
-
-pub returns-clause-stands : goal.returns-clause-stands
-returns-clause-stands g c clean =
-    IfOk-weaker c.made.result.outcome _ _
-    (λ text it. made_told c.args.source.now c.unwrap_or.result (state g.S.Store c.made.result.conn).now text it.0.service it.1)
-    (with_ok c.made.result.outcome _ _ (c.made.ensures.made clean) c.made.ensures.line)
-
-pub returns-clause-made : goal.returns-clause-made
-returns-clause-made g c none clean =
-    subst (λ n. OnOk c.made.result.outcome (IsFounded c.args.source.now n (state g.S.Store c.args.conn).now (state g.S.Store c.made.result.conn).now)) c.unwrap_or.ensures (c.made.ensures.made clean)
-
-pub returns-clause-crash : goal.returns-clause-crash
-returns-clause-crash g c =
-    subst (λ n. LeavesOrFounds c.args.source.now n (state g.S.Store c.args.conn) (state g.S.Store c.made.result.conn)) c.unwrap_or.ensures c.made.ensures.crash
+    record {
+      told = λ clean. IfOk-weaker c.made.result.outcome _ _ (λ text it. subst (λ n. TellsOrFounds c.args.source.now n old new text) base (made_tells c.args.source.now c.unwrap_or.result old new text none it.0.service it.1))
+          (with_ok c.made.result.outcome _ _ (of.made clean) of.line);
+      stands = λ clean. IfOk-weaker c.made.result.outcome _ _ (λ text it. made_told c.args.source.now c.unwrap_or.result new text it.0.service it.1) (with_ok c.made.result.outcome _ _ (of.made clean) of.line);
+      stays_open = of.open;
+      made = λ none clean. subst (λ n. OnOk c.made.result.outcome (IsFounded c.args.source.now n old new)) base (of.made clean);
+      settled = λ none clean. of.settled clean;
+      there = λ there. absurd (both _ there none);
+      back = of.back;
+      crash = subst (λ n. LeavesOrFounds c.args.source.now n (state g.S.Store c.args.conn) (state g.S.Store c.made.result.conn)) base of.crash;
+      another = IfErr-weaker c.made.result.outcome _ _ (λ f either is. absurd (no_other f either is)) of.fault;
+      foreign = IfErr-weaker c.made.result.outcome _ _ (λ f either is. absurd (no_foreign f either is)) of.fault;
+      fault = IfErr-weaker c.made.result.outcome _ _ no_orders of.fault;
+    }
 
 pub returns-clause-line : goal.returns-clause-line
 returns-clause-line g c =

@@ -1,44 +1,35 @@
 use Rattle.std.proofs.Common.{◌≡◌, ◌≢◌, ◌<◌, List, [], length, set, take, vec_len, refl, sym, ap, ap₂, ◌∙◌, subst, arith, inr}
-use Rattle.std.proofs.lemmas.Result.{IfErr-weaker, on_ok_weaker}
+use Rattle.std.proofs.lemmas.Result.{IfErr-weaker}
 use Rattle.inbox.specs.Sets.{set_of, union}
 use Rattle.exchange.specs.Lacking.{lacking}
 use Rattle.exchange.specs.Place.{Place, place_at}
-use Rattle.exchange.specs.Schedule.{FitsIn, IsCutShort, IsShortOfNext, StopsAt, after, after_part}
+use Rattle.exchange.specs.Schedule.{FitsIn, IsCutShort, IsShortOfNext, StopsAt, after}
 use Rattle.exchange.specs.Standing.{Stands}
-use Rattle.exchange.specs.steps.Given.{GivesTo, site_at}
+use Rattle.exchange.specs.declared.step.Step.TheVariants.{Deliver, Gossip, Scrub}
+use Rattle.exchange.specs.steps.Given.{Gives, after_made, site_at}
 use Rattle.exchange.proofs.SelfLemmas.{lacking-self, union-self}
-use Rattle.exchange.proofs.StandingLemmas.{flush_at, gives_stands, restart_at, same_stands, site_taken, stands_at, stops_both}
+use Rattle.exchange.proofs.StandingLemmas.{flush_at, makes, restart_at, same_stands, site_taken, stands_at, stops_both}
 use Rattle.exchange.proofs.machine.make_step.Goals as goal
 
-pub returns-in-Ok-clause-ok : goal.returns-in-Ok-clause-ok
-returns-in-Ok-clause-ok c =
+pub returns-in-Ok-clause-made : goal.returns-in-Ok-clause-made
+returns-in-Ok-clause-made c w s =
     let old = c.args.hosts.now.items in
     let new = c.deliver.new.hosts.items in
     let to = c.in-Deliver.site in
-    on_ok_weaker c.deliver.result (λ g w s. subst (λ st. Stands new (after st w)) (sym c.in-Deliver.is)
-    (gives_stands c.sets_are_members.ensures old new w to c.in-Deliver.batch (subst (GivesTo old new to) c.in-Ok.ensures.ok g) s))
-    c.deliver.ensures.ok
+    subst (λ st. Stands new (after_made c.deliver.result st w)) (sym c.in-Deliver.is)
+    (makes c.sets_are_members.ensures old new w (Deliver to c.in-Deliver.batch) to c.in-Deliver.batch refl (λ n. refl) c.deliver.result
+    (subst (λ L. Gives old new to L c.deliver.result) c.in-Ok.ensures.ok c.deliver.ensures.gives) s)
 
-pub returns-in-Ok-clause-err : goal.returns-in-Ok-clause-err
-returns-in-Ok-clause-err c =
-    let old = c.args.hosts.now.items in
-    let new = c.deliver.new.hosts.items in
-    let to = c.in-Deliver.site in
-    IfErr-weaker c.deliver.result (λ part. GivesTo old new to (take part c.in-Ok.copy)) (λ part. (w : List Place) → Stands old w → Stands new (after_part part c.args.step.now w))
-    (λ part g w s. subst (λ st. Stands new (after_part part st w)) (sym c.in-Deliver.is)
-    (gives_stands c.sets_are_members.ensures old new w to (take part c.in-Deliver.batch) (subst (λ b. GivesTo old new to (take part b)) c.in-Ok.ensures.ok g) s))
-    c.deliver.ensures.err
-
-pub returns-then-from-to-clause-ok : goal.returns-then-from-to-clause-ok
-returns-then-from-to-clause-ok c w s =
+pub returns-then-from-to-clause-made : goal.returns-then-from-to-clause-made
+returns-then-from-to-clause-made c w s =
     let old = c.args.hosts.now.items in
     let from = c.in-Gossip.from in
     let to = c.in-Gossip.to in
     subst (λ st. Stands old (after st w)) (sym c.in-Gossip.is) (same_stands old w to (lacking (place_at w from).taken (place_at w to).taken)
     (λ l. ap (union (place_at w to).taken) (ap (λ k. lacking (place_at w k).taken (place_at w to).taken) c.if-from-to.true ∙ lacking-self (place_at w to).taken)) s)
 
-pub returns-else-from-to-clause-ok : goal.returns-else-from-to-clause-ok
-returns-else-from-to-clause-ok c =
+pub returns-else-from-to-clause-made : goal.returns-else-from-to-clause-made
+returns-else-from-to-clause-made c w s =
     let old = c.args.hosts.now.items in
     let new = c.gossip_between.new.hosts.items in
     let from = c.in-Gossip.from in
@@ -46,67 +37,40 @@ returns-else-from-to-clause-ok c =
     let fits = subst (FitsIn (vec_len c.args.hosts.now)) c.in-Gossip.is c.requires in
     let from_in : from < length old = subst (λ n. from < n) c.args.hosts.now.ok.0 fits.0 in
     let to_in : to < length old = subst (λ n. to < n) c.args.hosts.now.ok.0 fits.1 in
-    on_ok_weaker c.gossip_between.result (λ g w s. subst (λ st. Stands new (after st w)) (sym c.in-Gossip.is)
-    (gives_stands c.sets_are_members.ensures old new w to (lacking (place_at w from).taken (place_at w to).taken) (subst (GivesTo old new to) (ap₂ lacking (site_taken old w from s from_in) (site_taken old w to s to_in)) g) s))
-    c.gossip_between.ensures.ok
+    subst (λ st. Stands new (after_made c.gossip_between.result st w)) (sym c.in-Gossip.is)
+    (makes c.sets_are_members.ensures old new w (Gossip from to) to (lacking (place_at w from).taken (place_at w to).taken) refl (λ n. refl) c.gossip_between.result
+    (subst (λ L. Gives old new to L c.gossip_between.result) (ap₂ lacking (site_taken old w from s from_in) (site_taken old w to s to_in)) c.gossip_between.ensures.gives) s)
 
-pub returns-else-from-to-clause-err : goal.returns-else-from-to-clause-err
-returns-else-from-to-clause-err c =
-    let old = c.args.hosts.now.items in
-    let new = c.gossip_between.new.hosts.items in
-    let from = c.in-Gossip.from in
-    let to = c.in-Gossip.to in
-    let fits = subst (FitsIn (vec_len c.args.hosts.now)) c.in-Gossip.is c.requires in
-    let from_in : from < length old = subst (λ n. from < n) c.args.hosts.now.ok.0 fits.0 in
-    let to_in : to < length old = subst (λ n. to < n) c.args.hosts.now.ok.0 fits.1 in
-    IfErr-weaker c.gossip_between.result (λ part. GivesTo old new to (take part (lacking (set_of (site_at old from)) (set_of (site_at old to))))) (λ part. (w : List Place) → Stands old w → Stands new (after_part part c.args.step.now w))
-    (λ part g w s. subst (λ st. Stands new (after_part part st w)) (sym c.in-Gossip.is)
-    (gives_stands c.sets_are_members.ensures old new w to (take part (lacking (place_at w from).taken (place_at w to).taken)) (subst (λ L. GivesTo old new to (take part L)) (ap₂ lacking (site_taken old w from s from_in) (site_taken old w to s to_in)) g) s))
-    c.gossip_between.ensures.err
-
-pub returns-then-from-to-2-clause-ok : goal.returns-then-from-to-2-clause-ok
-returns-then-from-to-2-clause-ok c w s =
+pub returns-then-from-to-2-clause-made : goal.returns-then-from-to-2-clause-made
+returns-then-from-to-2-clause-made c w s =
     let old = c.args.hosts.now.items in
     let from = c.in-Scrub.from in
     let to = c.in-Scrub.to in
     subst (λ st. Stands old (after st w)) (sym c.in-Scrub.is) (same_stands old w to (place_at w from).taken
     (λ l. ap (λ k. union (place_at w to).taken (place_at w k).taken) c.if-from-to-2.true ∙ subst (λ E. union E E ≡ E) (site_taken old w to s l) (union-self c.sets_are_members.ensures (site_at old to))) s)
 
-pub returns-else-from-to-2-clause-ok : goal.returns-else-from-to-2-clause-ok
-returns-else-from-to-2-clause-ok c =
+pub returns-else-from-to-2-clause-made : goal.returns-else-from-to-2-clause-made
+returns-else-from-to-2-clause-made c w s =
     let old = c.args.hosts.now.items in
     let new = c.scrub_between.new.hosts.items in
     let from = c.in-Scrub.from in
     let to = c.in-Scrub.to in
     let fits = subst (FitsIn (vec_len c.args.hosts.now)) c.in-Scrub.is c.requires in
     let from_in : from < length old = subst (λ n. from < n) c.args.hosts.now.ok.0 fits.0 in
-    on_ok_weaker c.scrub_between.result (λ g w s. subst (λ st. Stands new (after st w)) (sym c.in-Scrub.is)
-    (gives_stands c.sets_are_members.ensures old new w to (place_at w from).taken (subst (GivesTo old new to) (site_taken old w from s from_in) g) s))
-    c.scrub_between.ensures.ok
+    subst (λ st. Stands new (after_made c.scrub_between.result st w)) (sym c.in-Scrub.is)
+    (makes c.sets_are_members.ensures old new w (Scrub from to) to (place_at w from).taken refl (λ n. refl) c.scrub_between.result
+    (subst (λ L. Gives old new to L c.scrub_between.result) (site_taken old w from s from_in) c.scrub_between.ensures.gives) s)
 
-pub returns-else-from-to-2-clause-err : goal.returns-else-from-to-2-clause-err
-returns-else-from-to-2-clause-err c =
-    let old = c.args.hosts.now.items in
-    let new = c.scrub_between.new.hosts.items in
-    let from = c.in-Scrub.from in
-    let to = c.in-Scrub.to in
-    let fits = subst (FitsIn (vec_len c.args.hosts.now)) c.in-Scrub.is c.requires in
-    let from_in : from < length old = subst (λ n. from < n) c.args.hosts.now.ok.0 fits.0 in
-    IfErr-weaker c.scrub_between.result (λ part. GivesTo old new to (take part (set_of (site_at old from)))) (λ part. (w : List Place) → Stands old w → Stands new (after_part part c.args.step.now w))
-    (λ part g w s. subst (λ st. Stands new (after_part part st w)) (sym c.in-Scrub.is)
-    (gives_stands c.sets_are_members.ensures old new w to (take part (place_at w from).taken) (subst (λ L. GivesTo old new to (take part L)) (site_taken old w from s from_in) g) s))
-    c.scrub_between.ensures.err
-
-pub returns-in-Flush-clause-ok : goal.returns-in-Flush-clause-ok
-returns-in-Flush-clause-ok c w s =
+pub returns-in-Flush-clause-made : goal.returns-in-Flush-clause-made
+returns-in-Flush-clause-made c w s =
     let old = c.args.hosts.now.items in
     let i = c.in-Flush.site in
     let i_in : i < length old = subst (λ n. i < n) c.args.hosts.now.ok.0 (subst (FitsIn (vec_len c.args.hosts.now)) c.in-Flush.is c.requires) in
     subst (λ st. Stands (set old i (record { site = c.index_mut-host.result.now.site; kept = c.arrived-host.result })) (after st w)) (sym c.in-Flush.is)
     (flush_at old w i c.index_mut-host.result.now c.arrived-host.result i_in c.index_mut-host.ensures.value c.arrived-host.ensures.count s)
 
-pub returns-in-Ok-restarted-clause-ok : goal.returns-in-Ok-restarted-clause-ok
-returns-in-Ok-restarted-clause-ok c w s =
+pub returns-in-Ok-restarted-clause-made : goal.returns-in-Ok-restarted-clause-made
+returns-in-Ok-restarted-clause-made c w s =
     let old = c.args.hosts.now.items in
     let i = c.in-Restart.site in
     let h = c.index_mut-host-in-Restart.result.now in

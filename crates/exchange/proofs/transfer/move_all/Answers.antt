@@ -50,69 +50,34 @@ overflow_add-taken-in-Err c =
     let rest = c.loop-place.invariant.rest in
     omega (arith, c.in-Err.ensures.short_taken, ap length rest, length-drop c.loop-place.taken all, c.loop-place.invariant.counted, length-filter (is_lacking E peer) E, c.len-len.ensures, c.len-len.type_inv)
 
-pub returns-in-Err-clause-short : goal.returns-in-Err-clause-short
-returns-in-Err-clause-short c =
-    let E = set_of c.args.from.now in
-    let peer = c.args.peer.now in
-    let all = delta E peer in
-    let M = lacking_of E peer (drop c.loop-place.place E) in
-    let A = c.args.to.now in
-    let rest = c.loop-place.invariant.rest in
-    arrivals_on key_cmp A c.loop-place.to all M c.loop-place.taken c.in-Err.part c.move_part.new.to c.loop-place.invariant.arrivals rest c.in-Err.ensures.short
-
-pub returns-in-Err-clause-short_set : goal.returns-in-Err-clause-short_set
-returns-in-Err-clause-short_set c =
-    let E = set_of c.args.from.now in
-    let peer = c.args.peer.now in
-    let all = delta E peer in
-    let M = lacking_of E peer (drop c.loop-place.place E) in
-    let A = c.args.to.now in
-    let rest = c.loop-place.invariant.rest in
-    set_on key_cmp (set_of A) (set_of c.loop-place.to) all M c.loop-place.taken c.in-Err.part (set_of c.move_part.new.to) c.loop-place.invariant.set rest c.in-Err.ensures.short_set
-
-pub returns-in-Err-clause-short_fresh : goal.returns-in-Err-clause-short_fresh
-returns-in-Err-clause-short_fresh c =
-    let E = set_of c.args.from.now in
-    let peer = c.args.peer.now in
-    let all = delta E peer in
-    let M = lacking_of E peer (drop c.loop-place.place E) in
-    let A = c.args.to.now in
+pub returns-in-Err-clause-brings : goal.returns-in-Err-clause-brings
+returns-in-Err-clause-brings c =
+    let all = delta (set_of c.args.from.now) c.args.peer.now in
+    let M = lacking_of (set_of c.args.from.now) c.args.peer.now (drop c.loop-place.place (set_of c.args.from.now)) in
     let rest = c.loop-place.invariant.rest in
     let bounds = length-append_new key_cmp c.loop-place.to (take c.in-Err.part M) in
-    omega (arith, ap length c.in-Err.ensures.short, bounds.0, c.loop-place.invariant.no_fewer, c.arrived-before.ensures.count, c.arrived.ensures.count)
+    record {
+      arrivals = tt;
+      set = tt;
+      fresh = tt;
+      repeated = tt;
+      short = arrivals_on key_cmp c.args.to.now c.loop-place.to all M c.loop-place.taken c.in-Err.part c.move_part.new.to c.loop-place.invariant.arrivals rest c.in-Err.ensures.short;
+      short_set = set_on key_cmp (set_of c.args.to.now) (set_of c.loop-place.to) all M c.loop-place.taken c.in-Err.part (set_of c.move_part.new.to) c.loop-place.invariant.set rest c.in-Err.ensures.short_set;
+      short_fresh = omega (arith, ap length c.in-Err.ensures.short, bounds.0, c.loop-place.invariant.no_fewer, c.arrived-before.ensures.count, c.arrived.ensures.count);
+    }
 
-pub returns-clause-arrivals : goal.returns-clause-arrivals
-returns-clause-arrivals c =
+pub returns-clause-brings : goal.returns-clause-brings
+returns-clause-brings c =
     let E = set_of c.args.from.now in
-    let peer = c.args.peer.now in
-    let all = delta E peer in
-    let M = lacking_of E peer (drop c.loop-place.place E) in
-    let A = c.args.to.now in
-    let rest = c.loop-place.invariant.rest in
-    let none : M ≡ [] = ap (lacking_of E peer) (drop_all c.loop-place.place E (omega (arith, c.loop-place-test.false, c.len-len.ensures))) in
-    let done : length all ≤ c.loop-place.taken = omega (arith, ap length (sym rest ∙ none), length-drop c.loop-place.taken all) in
-    c.loop-place.invariant.arrivals ∙ ap (append_new key_cmp A) (take_all c.loop-place.taken all done)
-
-pub returns-clause-set : goal.returns-clause-set
-returns-clause-set c =
-    let E = set_of c.args.from.now in
-    let peer = c.args.peer.now in
-    let all = delta E peer in
-    let M = lacking_of E peer (drop c.loop-place.place E) in
-    let A = c.args.to.now in
-    let rest = c.loop-place.invariant.rest in
-    let none : M ≡ [] = ap (lacking_of E peer) (drop_all c.loop-place.place E (omega (arith, c.loop-place-test.false, c.len-len.ensures))) in
-    let done : length all ≤ c.loop-place.taken = omega (arith, ap length (sym rest ∙ none), length-drop c.loop-place.taken all) in
-    c.loop-place.invariant.set ∙ ap (union (set_of A)) (take_all c.loop-place.taken all done)
-
-pub returns-clause-repeated : goal.returns-clause-repeated
-returns-clause-repeated c =
-    let E = set_of c.args.from.now in
-    let peer = c.args.peer.now in
-    let all = delta E peer in
-    let M = lacking_of E peer (drop c.loop-place.place E) in
-    let A = c.args.to.now in
-    let rest = c.loop-place.invariant.rest in
-    let none : M ≡ [] = ap (lacking_of E peer) (drop_all c.loop-place.place E (omega (arith, c.loop-place-test.false, c.len-len.ensures))) in
-    let done : length all ≤ c.loop-place.taken = omega (arith, ap length (sym rest ∙ none), length-drop c.loop-place.taken all) in
-    omega (arith, done, c.loop-place.invariant.counted, c.loop-place.invariant.no_fewer, c.loop-place.invariant.no_more, c.arrived-before.ensures.count)
+    let all = delta E c.args.peer.now in
+    let none : lacking_of E c.args.peer.now (drop c.loop-place.place E) ≡ [] = ap (lacking_of E c.args.peer.now) (drop_all c.loop-place.place E (omega (arith, c.loop-place-test.false, c.len-len.ensures))) in
+    let done : length all ≤ c.loop-place.taken = omega (arith, ap length (sym c.loop-place.invariant.rest ∙ none), length-drop c.loop-place.taken all) in
+    record {
+      arrivals = c.loop-place.invariant.arrivals ∙ ap (append_new key_cmp c.args.to.now) (take_all c.loop-place.taken all done);
+      set = c.loop-place.invariant.set ∙ ap (union (set_of c.args.to.now)) (take_all c.loop-place.taken all done);
+      fresh = omega (arith, c.loop-place.invariant.no_fewer, c.arrived-before.ensures.count, c.arrived-2.ensures.count);
+      repeated = omega (arith, done, c.loop-place.invariant.counted, c.loop-place.invariant.no_fewer, c.loop-place.invariant.no_more, c.arrived-before.ensures.count, c.arrived-2.ensures.count);
+      short = tt;
+      short_set = tt;
+      short_fresh = tt;
+    }

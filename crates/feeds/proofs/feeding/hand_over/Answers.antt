@@ -1,5 +1,5 @@
 use Rattle.std.proofs.Common.{rules, length, [], ◌∷◌, ◌++◌, arith, refl, ap, sym, ◌∙◌, length-append}
-use Rattle.feeds.specs.declared.report.Ended.TheVariants.{OutOfMemory}
+use Rattle.feeds.specs.declared.report.WorkerEnd.TheVariants.{OutOfMemory}
 use Rattle.feeds.proofs.GateLemmas.{gated_all, gated_end, gated_from, gated_more, gated_none, some_left, same_calls}
 use Rattle.feeds.proofs.TallyLemmas.{empty_is, ends, flushes, full, full_stops, goes, goes_length, moves, room, room_behind, still, stops, stops_here}
 use Rattle.feeds.proofs.feeding.hand_over.Goals as goal

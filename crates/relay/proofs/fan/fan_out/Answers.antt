@@ -36,56 +36,48 @@ lanes_back-lanes-requires-clause-room g c =
     let many = fan_many g.R.Route.accepted g.R.Route.takes g.R.Route.has_failed g.G.Gate.lets g.G.Gate.shuts g.G.Gate.heard c.args.gate.now c.args.service.now.source c.args.service.now.base _ _ _ c.lanes_of-lanes.result.items c.slots_of-slots.result.items c.run_slots-slots.result.items c.slots_of-slots.ensures (c.run_slots-slots.ensures.goes c.lanes_of-lanes.result.items) in
     omega (arith, count, many, c.len.ensures, c.in-Some.ensures.room.2)
 
-pub returns-clause-each : goal.returns-clause-each
-returns-clause-each g c =
+pub returns : goal.returns
+returns g c =
     let gate = c.args.gate.now in
     let olds = c.lanes_of-lanes.result.items in
     let news = c.lanes_back-lanes.result.items in
     let before = state g.S.Store c.args.service.now.conn in
     let after = state g.S.Store c.run_slots-slots.new.service.conn in
-    fan_leaves g.R.Route.accepted g.R.Route.takes g.R.Route.has_failed (g.G.Gate.lets gate) (g.G.Gate.shuts gate) (g.G.Gate.heard gate) c.args.service.now.source c.args.service.now.base before.now after olds news c.args.relays.now.items c.settle.new.relays.items c.args.routes.items c.settle.result.routes.items c.settle.result.ends.items
-    c.lanes_of-lanes.ensures.fresh c.lanes_of-lanes.ensures.placed
-    (fan_rests g.R.Route.accepted g.R.Route.takes g.R.Route.has_failed g.G.Gate.lets g.G.Gate.shuts g.G.Gate.heard gate c.args.service.now.source c.args.service.now.base before.now before after olds news c.slots_of-slots.result.items c.run_slots-slots.result.items c.slots_of-slots.ensures c.lanes_back-lanes.ensures (c.run_slots-slots.ensures.goes olds))
-    c.lanes_of-lanes.ensures.relays c.settle.ensures.relays c.lanes_of-lanes.ensures.routes c.settle.ensures.routes c.settle.ensures.ends
+    let lanes = c.lanes_back-lanes.result.items in
+    let count = back_again c.lanes_of-lanes.result.items c.lanes_back-lanes.result.items c.args.routes.items c.run_slots-slots.result.items c.lanes_of-lanes.ensures.routes c.lanes_back-lanes.ensures
+    (fan_many g.R.Route.accepted g.R.Route.takes g.R.Route.has_failed g.G.Gate.lets g.G.Gate.shuts g.G.Gate.heard c.args.gate.now c.args.service.now.source c.args.service.now.base _ _ _ c.lanes_of-lanes.result.items c.slots_of-slots.result.items c.run_slots-slots.result.items c.slots_of-slots.ensures (c.run_slots-slots.ensures.goes c.lanes_of-lanes.result.items)) in
+    let ends : length c.settle.result.ends.items ≡ length c.args.routes.items = ap length c.settle.ensures.ends ∙ (length-map lanes end_of ∙ count) in
+    record {
+      each = fan_leaves g.R.Route.accepted g.R.Route.takes g.R.Route.has_failed (g.G.Gate.lets gate) (g.G.Gate.shuts gate) (g.G.Gate.heard gate) c.args.service.now.source c.args.service.now.base before.now after olds news c.args.relays.now.items c.settle.new.relays.items c.args.routes.items c.settle.result.routes.items c.settle.result.ends.items
+          c.lanes_of-lanes.ensures.fresh c.lanes_of-lanes.ensures.placed
+          (fan_rests g.R.Route.accepted g.R.Route.takes g.R.Route.has_failed g.G.Gate.lets g.G.Gate.shuts g.G.Gate.heard gate c.args.service.now.source c.args.service.now.base before.now before after olds news c.slots_of-slots.result.items c.run_slots-slots.result.items c.slots_of-slots.ensures c.lanes_back-lanes.ensures (c.run_slots-slots.ensures.goes olds))
+          c.lanes_of-lanes.ensures.relays c.settle.ensures.relays c.lanes_of-lanes.ensures.routes c.settle.ensures.routes c.settle.ensures.ends;
+      sent = λ clean commands is. fan_delivers g.R.Route.accepted g.R.Route.takes g.R.Route.has_failed (g.G.Gate.lets gate) (g.G.Gate.shuts gate) (g.G.Gate.heard gate) c.args.service.now.source c.args.service.now.base before.now after commands olds news c.args.relays.now.items c.settle.new.relays.items c.args.routes.items c.settle.result.routes.items c.settle.result.ends.items
+          clean is c.lanes_of-lanes.ensures.fresh c.lanes_of-lanes.ensures.placed
+          (fan_rests g.R.Route.accepted g.R.Route.takes g.R.Route.has_failed g.G.Gate.lets g.G.Gate.shuts g.G.Gate.heard gate c.args.service.now.source c.args.service.now.base before.now before after olds news c.slots_of-slots.result.items c.run_slots-slots.result.items c.slots_of-slots.ensures c.lanes_back-lanes.ensures (c.run_slots-slots.ensures.goes olds))
+          c.lanes_of-lanes.ensures.relays c.settle.ensures.relays c.lanes_of-lanes.ensures.routes c.settle.ensures.routes c.settle.ensures.ends;
+      kept_service = grind (arith, common_steps);
+      service = grind (arith, common_steps);
+      back = let count = back_again c.lanes_of-lanes.result.items c.lanes_back-lanes.result.items c.args.routes.items c.run_slots-slots.result.items c.lanes_of-lanes.ensures.routes c.lanes_back-lanes.ensures
+          (fan_many g.R.Route.accepted g.R.Route.takes g.R.Route.has_failed g.G.Gate.lets g.G.Gate.shuts g.G.Gate.heard c.args.gate.now c.args.service.now.source c.args.service.now.base _ _ _ c.lanes_of-lanes.result.items c.slots_of-slots.result.items c.run_slots-slots.result.items c.slots_of-slots.ensures (c.run_slots-slots.ensures.goes c.lanes_of-lanes.result.items)) in (
+            ap length c.settle.ensures.relays ∙ (length-map lanes (λ l. l.relay) ∙ (count ∙ sym c.requires.paired)),
+            ap length c.settle.ensures.routes ∙ (length-map lanes (λ l. l.route) ∙ count),
+          );
+      ends = inr (ap length c.settle.ensures.ends ∙ (length-map lanes end_of ∙ count));
+      not_begun = λ none. absurd (omega (arith, sym ends ∙ ap length none, c.requires.few.0));
+    }
 
-pub returns-clause-sent : goal.returns-clause-sent
-returns-clause-sent g c clean commands is =
-    let gate = c.args.gate.now in
-    let olds = c.lanes_of-lanes.result.items in
-    let news = c.lanes_back-lanes.result.items in
-    let before = state g.S.Store c.args.service.now.conn in
-    let after = state g.S.Store c.run_slots-slots.new.service.conn in
-    fan_delivers g.R.Route.accepted g.R.Route.takes g.R.Route.has_failed (g.G.Gate.lets gate) (g.G.Gate.shuts gate) (g.G.Gate.heard gate) c.args.service.now.source c.args.service.now.base before.now after commands olds news c.args.relays.now.items c.settle.new.relays.items c.args.routes.items c.settle.result.routes.items c.settle.result.ends.items
-    clean is c.lanes_of-lanes.ensures.fresh c.lanes_of-lanes.ensures.placed
-    (fan_rests g.R.Route.accepted g.R.Route.takes g.R.Route.has_failed g.G.Gate.lets g.G.Gate.shuts g.G.Gate.heard gate c.args.service.now.source c.args.service.now.base before.now before after olds news c.slots_of-slots.result.items c.run_slots-slots.result.items c.slots_of-slots.ensures c.lanes_back-lanes.ensures (c.run_slots-slots.ensures.goes olds))
-    c.lanes_of-lanes.ensures.relays c.settle.ensures.relays c.lanes_of-lanes.ensures.routes c.settle.ensures.routes c.settle.ensures.ends
-
-pub returns-in_default-clause-kept_service : goal.returns-in_default-clause-kept_service
-returns-in_default-clause-kept_service g c = grind (arith, common_steps)
-
-pub returns-in_default-clause-service : goal.returns-in_default-clause-service
-returns-in_default-clause-service g c = grind (arith, common_steps)
-
-pub returns-in_default-clause-back : goal.returns-in_default-clause-back
-returns-in_default-clause-back g c = grind (arith, common_steps)
-
-pub returns-in_default-clause-ends : goal.returns-in_default-clause-ends
-returns-in_default-clause-ends g c = grind (arith, common_steps)
-
-pub returns-in_default-clause-not_begun : goal.returns-in_default-clause-not_begun
-returns-in_default-clause-not_begun g c = grind (arith, common_steps)
-
-pub returns-in_default-clause-each : goal.returns-in_default-clause-each
-returns-in_default-clause-each g c = grind (arith, common_steps)
-
-pub returns-in_default-clause-sent : goal.returns-in_default-clause-sent
-returns-in_default-clause-sent g c = grind (arith, common_steps)
-
-pub returns-clause-kept_service : goal.returns-clause-kept_service
-returns-clause-kept_service g c = grind (arith, common_steps)
-
-pub returns-clause-service : goal.returns-clause-service
-returns-clause-service g c = grind (arith, common_steps)
+pub returns-in_default : goal.returns-in_default
+returns-in_default g c =
+    record {
+      kept_service = grind (arith, common_steps);
+      service = grind (arith, common_steps);
+      back = grind (arith, common_steps);
+      ends = grind (arith, common_steps);
+      not_begun = grind (arith, common_steps);
+      each = grind (arith, common_steps);
+      sent = grind (arith, common_steps);
+    }
 
 pub settle-requires-clause-room : goal.settle-requires-clause-room
 settle-requires-clause-room g c =
@@ -95,27 +87,3 @@ settle-requires-clause-room g c =
       omega (arith, count, c.len.ensures, c.in-Some.ensures.room.3),
       omega (arith, count, c.len.ensures, c.in-Some.ensures.room.4),
     )
-
-pub returns-clause-back : goal.returns-clause-back
-returns-clause-back g c =
-    let lanes = c.lanes_back-lanes.result.items in
-    let count = back_again c.lanes_of-lanes.result.items c.lanes_back-lanes.result.items c.args.routes.items c.run_slots-slots.result.items c.lanes_of-lanes.ensures.routes c.lanes_back-lanes.ensures
-    (fan_many g.R.Route.accepted g.R.Route.takes g.R.Route.has_failed g.G.Gate.lets g.G.Gate.shuts g.G.Gate.heard c.args.gate.now c.args.service.now.source c.args.service.now.base _ _ _ c.lanes_of-lanes.result.items c.slots_of-slots.result.items c.run_slots-slots.result.items c.slots_of-slots.ensures (c.run_slots-slots.ensures.goes c.lanes_of-lanes.result.items)) in (
-      ap length c.settle.ensures.relays ∙ (length-map lanes (λ l. l.relay) ∙ (count ∙ sym c.requires.paired)),
-      ap length c.settle.ensures.routes ∙ (length-map lanes (λ l. l.route) ∙ count),
-    )
-
-pub returns-clause-ends : goal.returns-clause-ends
-returns-clause-ends g c =
-    let lanes = c.lanes_back-lanes.result.items in
-    let count = back_again c.lanes_of-lanes.result.items c.lanes_back-lanes.result.items c.args.routes.items c.run_slots-slots.result.items c.lanes_of-lanes.ensures.routes c.lanes_back-lanes.ensures
-    (fan_many g.R.Route.accepted g.R.Route.takes g.R.Route.has_failed g.G.Gate.lets g.G.Gate.shuts g.G.Gate.heard c.args.gate.now c.args.service.now.source c.args.service.now.base _ _ _ c.lanes_of-lanes.result.items c.slots_of-slots.result.items c.run_slots-slots.result.items c.slots_of-slots.ensures (c.run_slots-slots.ensures.goes c.lanes_of-lanes.result.items)) in
-    inr (ap length c.settle.ensures.ends ∙ (length-map lanes end_of ∙ count))
-
-pub returns-clause-not_begun : goal.returns-clause-not_begun
-returns-clause-not_begun g c none =
-    let lanes = c.lanes_back-lanes.result.items in
-    let count = back_again c.lanes_of-lanes.result.items c.lanes_back-lanes.result.items c.args.routes.items c.run_slots-slots.result.items c.lanes_of-lanes.ensures.routes c.lanes_back-lanes.ensures
-    (fan_many g.R.Route.accepted g.R.Route.takes g.R.Route.has_failed g.G.Gate.lets g.G.Gate.shuts g.G.Gate.heard c.args.gate.now c.args.service.now.source c.args.service.now.base _ _ _ c.lanes_of-lanes.result.items c.slots_of-slots.result.items c.run_slots-slots.result.items c.slots_of-slots.ensures (c.run_slots-slots.ensures.goes c.lanes_of-lanes.result.items)) in
-    let ends : length c.settle.result.ends.items ≡ length c.args.routes.items = ap length c.settle.ensures.ends ∙ (length-map lanes end_of ∙ count) in
-    absurd (omega (arith, sym ends ∙ ap length none, c.requires.few.0))

@@ -12,8 +12,8 @@ use Rattle.run_command.specs.Shared.{IsClosed}
 use Rattle.run_command.proofs.EndLemmas.{blame, grown, has_run, ran, says, settles}
 use Rattle.run_command.proofs.ending.run_table.Goals as goal
 
-pub returns-in-Ok-share-clause-left : goal.returns-in-Ok-share-clause-left
-returns-in-Ok-share-clause-left g c =
+pub returns-in-Ok-share : goal.returns-in-Ok-share
+returns-in-Ok-share g c =
     let closed = c.in-Ok-share.closed in
     let held : List EventValue = append_new key_cmp [] c.args.events in
     let at : Held _ → State = λ conn. state g.S.Store conn in
@@ -22,79 +22,15 @@ returns-in-Ok-share-clause-left g c =
     let count : (HasCleanDisk (at c.in-Ok.kept.keeper.conn) → c.in-Ok.kept.keeper.rows ≡ length held) = λ clean.
     ap (λ (k : Kept _). k.rows) c.in-Ok.ensures.keeper ∙ c.requires.count (subst (λ (k : Kept _). HasCleanDisk (at k.conn)) c.in-Ok.ensures.keeper clean) in
     let last : Kept _ = record { conn = c.ended.result.conn; rows = c.ended.ensures.kept.0 } in
-    inr (has_run at c.args.jobs.feeds c.args.jobs.peers held closed.site c.in-Ok.kept.keeper closed.keeper last closed.served closed.stopped c.ended.result.stopped c.len-feeds.result c.ended.result.outcome is c.ended.ensures.kept.1 count c.len-feeds.ensures c.ended.ensures.told)
-
-pub returns-in-Ok-share-clause-ran : goal.returns-in-Ok-share-clause-ran
-returns-in-Ok-share-clause-ran g c clean =
-    let closed = c.in-Ok-share.closed in
-    let held : List EventValue = append_new key_cmp [] c.args.events in
-    let at : Held _ → State = λ conn. state g.S.Store conn in
-    let is : IsClosed at c.in-Ok.kept.keeper held c.args.jobs.feeds c.args.jobs.peers closed.keeper closed.site closed.served closed.stopped =
-    subst (λ (z : List EventValue). IsClosed at c.in-Ok.kept.keeper z c.args.jobs.feeds c.args.jobs.peers closed.keeper closed.site closed.served closed.stopped) c.in-Ok.ensures.site c.in-Ok-share.ensures.ok in
-    let count : (HasCleanDisk (at c.in-Ok.kept.keeper.conn) → c.in-Ok.kept.keeper.rows ≡ length held) = λ clean.
-    ap (λ (k : Kept _). k.rows) c.in-Ok.ensures.keeper ∙ c.requires.count (subst (λ (k : Kept _). HasCleanDisk (at k.conn)) c.in-Ok.ensures.keeper clean) in
-    let last : Kept _ = record { conn = c.ended.result.conn; rows = c.ended.ensures.kept.0 } in
-    ran at c.args.jobs.feeds c.args.jobs.peers held closed.site c.in-Ok.kept.keeper closed.keeper last closed.served closed.stopped c.ended.result.stopped c.len-feeds.result c.ended.result.outcome is c.ended.ensures.kept.1 count c.len-feeds.ensures c.ended.ensures.told clean
-
-pub returns-in-Ok-share-clause-settled : goal.returns-in-Ok-share-clause-settled
-returns-in-Ok-share-clause-settled g c clean =
-    let closed = c.in-Ok-share.closed in
-    let held : List EventValue = append_new key_cmp [] c.args.events in
-    let at : Held _ → State = λ conn. state g.S.Store conn in
-    let is : IsClosed at c.in-Ok.kept.keeper held c.args.jobs.feeds c.args.jobs.peers closed.keeper closed.site closed.served closed.stopped =
-    subst (λ (z : List EventValue). IsClosed at c.in-Ok.kept.keeper z c.args.jobs.feeds c.args.jobs.peers closed.keeper closed.site closed.served closed.stopped) c.in-Ok.ensures.site c.in-Ok-share.ensures.ok in
-    let count : (HasCleanDisk (at c.in-Ok.kept.keeper.conn) → c.in-Ok.kept.keeper.rows ≡ length held) = λ clean.
-    ap (λ (k : Kept _). k.rows) c.in-Ok.ensures.keeper ∙ c.requires.count (subst (λ (k : Kept _). HasCleanDisk (at k.conn)) c.in-Ok.ensures.keeper clean) in
-    let last : Kept _ = record { conn = c.ended.result.conn; rows = c.ended.ensures.kept.0 } in
-    settles at c.args.jobs.feeds c.args.jobs.peers held closed.site c.in-Ok.kept.keeper closed.keeper last closed.served closed.stopped c.ended.result.stopped c.len-feeds.result c.ended.result.outcome is c.ended.ensures.kept.1 count c.len-feeds.ensures c.ended.ensures.told clean
-
-pub returns-in-Ok-share-clause-said : goal.returns-in-Ok-share-clause-said
-returns-in-Ok-share-clause-said g c =
-    let closed = c.in-Ok-share.closed in
-    let held : List EventValue = append_new key_cmp [] c.args.events in
-    let at : Held _ → State = λ conn. state g.S.Store conn in
-    let is : IsClosed at c.in-Ok.kept.keeper held c.args.jobs.feeds c.args.jobs.peers closed.keeper closed.site closed.served closed.stopped =
-    subst (λ (z : List EventValue). IsClosed at c.in-Ok.kept.keeper z c.args.jobs.feeds c.args.jobs.peers closed.keeper closed.site closed.served closed.stopped) c.in-Ok.ensures.site c.in-Ok-share.ensures.ok in
-    let count : (HasCleanDisk (at c.in-Ok.kept.keeper.conn) → c.in-Ok.kept.keeper.rows ≡ length held) = λ clean.
-    ap (λ (k : Kept _). k.rows) c.in-Ok.ensures.keeper ∙ c.requires.count (subst (λ (k : Kept _). HasCleanDisk (at k.conn)) c.in-Ok.ensures.keeper clean) in
-    let last : Kept _ = record { conn = c.ended.result.conn; rows = c.ended.ensures.kept.0 } in
-    says at c.args.jobs.feeds c.args.jobs.peers held closed.site c.in-Ok.kept.keeper closed.keeper last closed.served closed.stopped c.ended.result.stopped c.len-feeds.result c.ended.result.outcome is c.ended.ensures.kept.1 count c.len-feeds.ensures c.ended.ensures.told
-
-pub returns-in-Ok-share-clause-feed : goal.returns-in-Ok-share-clause-feed
-returns-in-Ok-share-clause-feed g c =
-    let closed = c.in-Ok-share.closed in
-    let held : List EventValue = append_new key_cmp [] c.args.events in
-    let at : Held _ → State = λ conn. state g.S.Store conn in
-    let is : IsClosed at c.in-Ok.kept.keeper held c.args.jobs.feeds c.args.jobs.peers closed.keeper closed.site closed.served closed.stopped =
-    subst (λ (z : List EventValue). IsClosed at c.in-Ok.kept.keeper z c.args.jobs.feeds c.args.jobs.peers closed.keeper closed.site closed.served closed.stopped) c.in-Ok.ensures.site c.in-Ok-share.ensures.ok in
-    let count : (HasCleanDisk (at c.in-Ok.kept.keeper.conn) → c.in-Ok.kept.keeper.rows ≡ length held) = λ clean.
-    ap (λ (k : Kept _). k.rows) c.in-Ok.ensures.keeper ∙ c.requires.count (subst (λ (k : Kept _). HasCleanDisk (at k.conn)) c.in-Ok.ensures.keeper clean) in
-    let last : Kept _ = record { conn = c.ended.result.conn; rows = c.ended.ensures.kept.0 } in
-    IfErr-weaker c.ended.result.outcome _ _ (λ why h. h.0) (blame at c.args.jobs.feeds c.args.jobs.peers held closed.site c.in-Ok.kept.keeper closed.keeper last closed.served closed.stopped c.ended.result.stopped c.len-feeds.result c.ended.result.outcome is c.ended.ensures.kept.1 count c.len-feeds.ensures c.ended.ensures.told)
-
-pub returns-in-Ok-share-clause-database : goal.returns-in-Ok-share-clause-database
-returns-in-Ok-share-clause-database g c =
-    let closed = c.in-Ok-share.closed in
-    let held : List EventValue = append_new key_cmp [] c.args.events in
-    let at : Held _ → State = λ conn. state g.S.Store conn in
-    let is : IsClosed at c.in-Ok.kept.keeper held c.args.jobs.feeds c.args.jobs.peers closed.keeper closed.site closed.served closed.stopped =
-    subst (λ (z : List EventValue). IsClosed at c.in-Ok.kept.keeper z c.args.jobs.feeds c.args.jobs.peers closed.keeper closed.site closed.served closed.stopped) c.in-Ok.ensures.site c.in-Ok-share.ensures.ok in
-    let count : (HasCleanDisk (at c.in-Ok.kept.keeper.conn) → c.in-Ok.kept.keeper.rows ≡ length held) = λ clean.
-    ap (λ (k : Kept _). k.rows) c.in-Ok.ensures.keeper ∙ c.requires.count (subst (λ (k : Kept _). HasCleanDisk (at k.conn)) c.in-Ok.ensures.keeper clean) in
-    let last : Kept _ = record { conn = c.ended.result.conn; rows = c.ended.ensures.kept.0 } in
-    IfErr-weaker c.ended.result.outcome _ _ (λ why h. h.1) (blame at c.args.jobs.feeds c.args.jobs.peers held closed.site c.in-Ok.kept.keeper closed.keeper last closed.served closed.stopped c.ended.result.stopped c.len-feeds.result c.ended.result.outcome is c.ended.ensures.kept.1 count c.len-feeds.ensures c.ended.ensures.told)
-
-pub returns-in-Ok-share-clause-grows : goal.returns-in-Ok-share-clause-grows
-returns-in-Ok-share-clause-grows g c =
-    let closed = c.in-Ok-share.closed in
-    let held : List EventValue = append_new key_cmp [] c.args.events in
-    let at : Held _ → State = λ conn. state g.S.Store conn in
-    let is : IsClosed at c.in-Ok.kept.keeper held c.args.jobs.feeds c.args.jobs.peers closed.keeper closed.site closed.served closed.stopped =
-    subst (λ (z : List EventValue). IsClosed at c.in-Ok.kept.keeper z c.args.jobs.feeds c.args.jobs.peers closed.keeper closed.site closed.served closed.stopped) c.in-Ok.ensures.site c.in-Ok-share.ensures.ok in
-    let count : (HasCleanDisk (at c.in-Ok.kept.keeper.conn) → c.in-Ok.kept.keeper.rows ≡ length held) = λ clean.
-    ap (λ (k : Kept _). k.rows) c.in-Ok.ensures.keeper ∙ c.requires.count (subst (λ (k : Kept _). HasCleanDisk (at k.conn)) c.in-Ok.ensures.keeper clean) in
-    let last : Kept _ = record { conn = c.ended.result.conn; rows = c.ended.ensures.kept.0 } in
-    subst (λ (k : Kept _). Grows (at k.conn) (at c.ended.result.conn)) c.in-Ok.ensures.keeper (grown at c.args.jobs.feeds c.args.jobs.peers held closed.site c.in-Ok.kept.keeper closed.keeper last closed.served closed.stopped c.ended.result.stopped c.len-feeds.result c.ended.result.outcome is c.ended.ensures.kept.1 count c.len-feeds.ensures c.ended.ensures.told)
+    record {
+      left = inr (has_run at c.args.jobs.feeds c.args.jobs.peers held closed.site c.in-Ok.kept.keeper closed.keeper last closed.served closed.stopped c.ended.result.stopped c.len-feeds.result c.ended.result.outcome is c.ended.ensures.kept.1 count c.len-feeds.ensures c.ended.ensures.told);
+      ran = λ clean. ran at c.args.jobs.feeds c.args.jobs.peers held closed.site c.in-Ok.kept.keeper closed.keeper last closed.served closed.stopped c.ended.result.stopped c.len-feeds.result c.ended.result.outcome is c.ended.ensures.kept.1 count c.len-feeds.ensures c.ended.ensures.told clean;
+      settled = λ clean. settles at c.args.jobs.feeds c.args.jobs.peers held closed.site c.in-Ok.kept.keeper closed.keeper last closed.served closed.stopped c.ended.result.stopped c.len-feeds.result c.ended.result.outcome is c.ended.ensures.kept.1 count c.len-feeds.ensures c.ended.ensures.told clean;
+      said = says at c.args.jobs.feeds c.args.jobs.peers held closed.site c.in-Ok.kept.keeper closed.keeper last closed.served closed.stopped c.ended.result.stopped c.len-feeds.result c.ended.result.outcome is c.ended.ensures.kept.1 count c.len-feeds.ensures c.ended.ensures.told;
+      feed = IfErr-weaker c.ended.result.outcome _ _ (λ why h. h.0) (blame at c.args.jobs.feeds c.args.jobs.peers held closed.site c.in-Ok.kept.keeper closed.keeper last closed.served closed.stopped c.ended.result.stopped c.len-feeds.result c.ended.result.outcome is c.ended.ensures.kept.1 count c.len-feeds.ensures c.ended.ensures.told);
+      database = IfErr-weaker c.ended.result.outcome _ _ (λ why h. h.1) (blame at c.args.jobs.feeds c.args.jobs.peers held closed.site c.in-Ok.kept.keeper closed.keeper last closed.served closed.stopped c.ended.result.stopped c.len-feeds.result c.ended.result.outcome is c.ended.ensures.kept.1 count c.len-feeds.ensures c.ended.ensures.told);
+      grows = subst (λ (k : Kept _). Grows (at k.conn) (at c.ended.result.conn)) c.in-Ok.ensures.keeper (grown at c.args.jobs.feeds c.args.jobs.peers held closed.site c.in-Ok.kept.keeper closed.keeper last closed.served closed.stopped c.ended.result.stopped c.len-feeds.result c.ended.result.outcome is c.ended.ensures.kept.1 count c.len-feeds.ensures c.ended.ensures.told);
+    }
 
 pub returns-in-Err-share-clause-grows : goal.returns-in-Err-share-clause-grows
 returns-in-Err-share-clause-grows g c =

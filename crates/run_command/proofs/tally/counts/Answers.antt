@@ -1,7 +1,7 @@
 use Rattle.std.proofs.Common.{rules, arith, ap, take}
 use Rattle.std.specs.Prelude.{slice_index_or}
 use Rattle.std.proofs.lemmas.List.{take_more}
-use Rattle.feeds.specs.declared.report.Ended.TheVariants.{Done}
+use Rattle.feeds.specs.declared.report.WorkerEnd.TheVariants.{Done}
 use Rattle.feeds.specs.declared.report.Report.{Report}
 use Rattle.run_command.specs.Tally.{read_in, refused_in}
 use Rattle.run_command.proofs.TallyLemmas.{read_more, refused_more}

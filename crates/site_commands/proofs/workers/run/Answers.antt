@@ -5,8 +5,8 @@ use Rattle.site_commands.specs.Names.{files_of_run}
 use Rattle.site_commands.proofs.WorkerLemmas.{few_contents, some_contents}
 use Rattle.site_commands.proofs.workers.run.Goals as goal
 
-pub run_beside-requires-after_bounds : goal.run_beside-requires-after_bounds
-run_beside-requires-after_bounds g c κs within =
+pub run_with_peer-requires-after_bounds : goal.run_with_peer-requires-after_bounds
+run_with_peer-requires-after_bounds g c κs within =
     let C = g.S.Shelf.is_content c.args.shelf.now in
     let contents = c.in-Ok-contents_of.contents.items in
     let read : AreContents C (files_of_run c.args.peer.now c.args.files.now) contents = subst (λ names. AreContents C names contents) (c.as_slice.ensures ∙ c.in-Ok.ensures) c.in-Ok-contents_of.ensures.ok in

@@ -11,7 +11,7 @@ returns-in-Ok g c =
     let none : it.fault ≡ None = search rules in
     let after : Flushing _ = record { site = it.shared.now; keeper = c.steps.new.self; pass = c.steps.new.pass; fault = it.fault } in
     subst (λ (f : Flushing _). Turns (λ conn. state g.S.Store conn) f after true) c.self.view_is
-    (stepped (λ conn. state g.S.Store conn) it.shared.now it.keeper c.steps.new.self it.pass c.steps.new.pass it.fault none c.in-Ok.ensures.asked c.in-Ok.ensures.list c.in-Ok.field-0 c.in-Ok.ensures.grew c.in-Ok.ensures.page c.in-Ok.ensures.stays_open)
+    (stepped (λ conn. state g.S.Store conn) it.shared.now it.keeper c.steps.new.self it.pass c.steps.new.pass it.fault none c.in-Ok.ensures.asked c.in-Ok.ensures.keeps.keeps.list c.in-Ok.field-0 c.in-Ok.ensures.keeps.grew c.in-Ok.ensures.keeps.page c.in-Ok.ensures.keeps.stays_open)
 
 pub returns-in-Err : goal.returns-in-Err
 returns-in-Err g c =
@@ -19,10 +19,10 @@ returns-in-Err g c =
     let none : it.fault ≡ None = search rules in
     let after : Flushing _ = record { site = it.shared.now; keeper = c.steps.new.self; pass = c.steps.new.pass; fault = Some c.in-Err.fault } in
     subst (λ (f : Flushing _). Turns (λ conn. state g.S.Store conn) f after false) c.self.view_is
-    (refused (λ conn. state g.S.Store conn) it.shared.now it.keeper c.steps.new.self it.pass c.steps.new.pass it.fault none c.in-Err.ensures.asked c.in-Err.ensures.list c.in-Err.fault c.in-Err.ensures.mark_same)
+    (refused (λ conn. state g.S.Store conn) it.shared.now it.keeper c.steps.new.self it.pass c.steps.new.pass it.fault none c.in-Err.ensures.asked c.in-Err.ensures.keeps.keeps.list c.in-Err.fault c.in-Err.ensures.keeps.keeps.mark_same)
 
 pub invariant_of-self : goal.invariant_of-self
-invariant_of-self g c = ((pages_leave _ _ _ _ c.steps.ensures.asked).same.table ∙ c.self.invariant.0, c.steps.ensures.first)
+invariant_of-self g c = ((pages_leave _ _ _ _ c.steps.ensures.asked).same.table ∙ c.self.invariant.0, c.steps.ensures.keeps.first)
 
 pub invariant_of-self-in-Err : goal.invariant_of-self-in-Err
-invariant_of-self-in-Err g c = ((pages_leave _ _ _ _ c.steps.ensures.asked).same.table ∙ c.self.invariant.0, c.steps.ensures.first)
+invariant_of-self-in-Err g c = ((pages_leave _ _ _ _ c.steps.ensures.asked).same.table ∙ c.self.invariant.0, c.steps.ensures.keeps.first)

@@ -1,10 +1,10 @@
-use Rattle.std.proofs.Common.{arith, sym, ap, ◌∙◌, subst, drop, IsTrue}
+use Rattle.std.proofs.Common.{Err, Ok, arith, sym, ap, ◌∙◌, subst, drop, IsTrue}
 use Rattle.sqlite.specs.Held.{state}
 use Rattle.sqlite.specs.State.{HasCleanDisk, Survives}
 use Rattle.inbox_table.specs.Calls.{Kept}
-use Rattle.keeper.proofs.PageLemmas.{caught_up, rest_crash, still_grows, taken_grows}
+use Rattle.keeper.proofs.PageLemmas.{caught_up, keeps_refused, keeps_taken, rest_crash}
 use Rattle.keeper.proofs.keeper.Keeper.catch_up.Goals as goal
-use Rattle.keeper.specs.Keep.{Grows, KeepsUp, MayKeepAll}
+use Rattle.keeper.specs.Keep.{Keeps, KeepsUp, MayKeepAll}
 
 pub returns-clause-all : goal.returns-clause-all
 returns-clause-all g c clean =
@@ -18,23 +18,15 @@ returns-clause-all g c clean =
     caught_up old new table.rows c.keep_watched.new.self.rows c.in-Ok.fresh A rest (c.rest_of-rest.ensures.rest ∙ ap (λ n. drop n A) c.rows-before.ensures.rows) c.rest_of-rest.ensures.once first was_clean
     (λ clean. (c.in-Ok.ensures.effect clean).was_open) (λ clean. (c.in-Ok.ensures.effect clean).stays_open) (λ clean. (c.in-Ok.ensures.effect clean).takes) (λ clean. (c.in-Ok.ensures.effect clean).fresh) c.in-Ok.ensures.call.counted clean
 
-pub returns-clause-list : goal.returns-clause-list
-returns-clause-list g c =
-    let table = c.self.inside.table in
-    let old = state g.S.Store table.conn in
-    let new = state g.S.Store c.keep_watched.new.self.conn in
-    let rest = drop c.rest_of-rest.result.n c.rest_of-rest.result.site.now in
-    let was_clean : (HasCleanDisk new → HasCleanDisk old) = λ clean. omega (arith, c.in-Ok.ensures.crash.clean, clean) in
-    subst (λ (k : Kept _). Grows (state g.S.Store k.conn) new) c.self.view_is
-    (taken_grows old new rest was_clean (λ clean. (c.in-Ok.ensures.effect clean).was_open) (λ clean. (c.in-Ok.ensures.effect clean).takes) (λ clean. (c.in-Ok.ensures.effect clean).beside) c.in-Ok.ensures.crash)
+pub returns-clause-keeps : goal.returns-clause-keeps
+returns-clause-keeps g c =
+    subst (λ (k : Kept _). Keeps (λ conn. state g.S.Store conn) k c.keep_watched.new.self (Ok tt)) c.self.view_is
+    (keeps_taken (λ conn. state g.S.Store conn) c.self.inside.table c.keep_watched.new.self _ c.in-Ok.ensures.crash tt c.in-Ok.fresh c.in-Ok.ensures.effect)
 
-pub returns-in-Err-clause-list : goal.returns-in-Err-clause-list
-returns-in-Err-clause-list g c =
-    let table = c.self.inside.table in
-    let old = state g.S.Store table.conn in
-    let new = state g.S.Store c.keep_watched.new.self.conn in
-    let was_clean : (HasCleanDisk new → HasCleanDisk old) = λ clean. omega (arith, c.in-Err.ensures.crash.clean, clean) in
-    subst (λ (k : Kept _). Grows (state g.S.Store k.conn) new) c.self.view_is (still_grows old new was_clean (λ clean. (c.in-Err.ensures.effect clean).was_open) (λ clean. (c.in-Err.ensures.effect clean).same) (drop c.rest_of-rest.result.n c.rest_of-rest.result.site.now) c.in-Err.ensures.crash)
+pub returns-in-Err-clause-keeps : goal.returns-in-Err-clause-keeps
+returns-in-Err-clause-keeps g c =
+    subst (λ (k : Kept _). Keeps (λ conn. state g.S.Store conn) k c.keep_watched.new.self (Err c.from.result)) c.self.view_is
+    (keeps_refused (λ conn. state g.S.Store conn) c.self.inside.table c.keep_watched.new.self _ c.in-Err.ensures.crash c.in-Err.fault c.from.result c.from.ensures c.in-Err.ensures.call c.in-Err.ensures.effect)
 
 pub returns-clause-crash : goal.returns-clause-crash
 returns-clause-crash g c =

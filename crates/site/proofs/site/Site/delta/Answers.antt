@@ -9,4 +9,4 @@ pub returns-clause-delta : goal.returns-clause-delta
 returns-clause-delta c =
     let E = set_of c.args.self.now in
     let peer = c.args.peer.now in
-    c.in_ok-delta_from.ensures.events ∙ take_all c.len-len.result (delta E peer) (omega (arith, length-filter (is_lacking E peer) E, c.len-len.ensures))
+    c.in_ok-delta_from.ensures.part.events ∙ take_all c.len-len.result (delta E peer) (omega (arith, length-filter (is_lacking E peer) E, c.len-len.ensures))

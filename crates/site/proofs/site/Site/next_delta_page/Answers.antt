@@ -14,7 +14,7 @@ overflow_add-next c =
     let peer = c.args.peer.now in
     let mark = c.in-Some.mark in
     let kept = mark_of c.mark_at.new.self mark.peer peer mark.own mark.among mark.from c.args.from mark.place c.in-Some.ensures.mark c.in-Some.ensures.peer c.in-Some.ensures.from in
-    omega (arith, c.ranges.from.fits, c.len.ensures, ap length c.in_ok-part.ensures.events, length-take c.args.limit (lacking_of E peer (drop mark.place E)), ap length kept.rest, length-drop c.args.from (delta E peer), length-filter (is_lacking E peer) E, c.len-len.ensures, c.len-len.type_inv)
+    omega (arith, c.ranges.from.fits, c.len.ensures, ap length c.in_ok-part.ensures.part.events, length-take c.args.limit (lacking_of E peer (drop mark.place E)), ap length kept.rest, length-drop c.args.from (delta E peer), length-filter (is_lacking E peer) E, c.len-len.ensures, c.len-len.type_inv)
 
 pub invariant_of-self : goal.invariant_of-self
 invariant_of-self c =
@@ -23,7 +23,7 @@ invariant_of-self c =
     let mark = c.in-Some.mark in
     let part = c.in_ok-part in
     let kept = mark_of A mark.peer peer mark.own mark.among mark.from c.args.from mark.place c.in-Some.ensures.mark c.in-Some.ensures.peer c.in-Some.ensures.from in
-    let moved = mark_moves A part.part.events peer mark.own mark.among c.args.from mark.place part.part.next c.args.limit c.len.result kept c.len.ensures part.ensures.events part.ensures.rest part.ensures.within in
+    let moved = mark_moves A part.part.events peer mark.own mark.among c.args.from mark.place part.part.next c.args.limit c.len.result kept c.len.ensures part.ensures.part.events part.ensures.part.rest part.ensures.part.within in
     let own = subst (λ p. IsMark A p mark.own mark.among (c.args.from + c.len.result) part.part.next) (sym c.in-Some.ensures.peer) moved in
     let was = c.self.invariant in
     let here = subst (λ B. IsMark B mark.peer mark.own mark.among (c.args.from + c.len.result) part.part.next) (sym c.self.view_is) own in

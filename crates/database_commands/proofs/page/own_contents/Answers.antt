@@ -5,7 +5,7 @@ use Rattle.inbox_table.specs.Rows.{IsInbox}
 use Rattle.database_commands.specs.Held.{Holds, KeepsRows}
 use Rattle.database_commands.proofs.BesideLemmas.{service_same}
 use Rattle.database_commands.proofs.HeldLemmas.{inbox_holds}
-use Rattle.database_commands.proofs.page.contents_of.Goals as goal
+use Rattle.database_commands.proofs.page.own_contents.Goals as goal
 
 pub returns-in-Ok-clause-list : goal.returns-in-Ok-clause-list
 returns-in-Ok-clause-list g c clean still held holds =
