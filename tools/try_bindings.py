@@ -43,9 +43,10 @@ class Tries:
 
     def has(self, tool, what):
         """Whether a tool is there; says what is left out where it isn't."""
-        if not shutil.which(tool):
+        is_there = shutil.which(tool) is not None and self.run([tool, "--version"])[0] == 0
+        if not is_there:
             print(f"skipped: {what}, since {tool} isn't there", flush=True)
-        return bool(shutil.which(tool))
+        return is_there
 
     def run(self, words, folder=None, **more):
         ran = subprocess.run(words, cwd=folder or self.folder, env={**self.environment, **more}, stdin=subprocess.DEVNULL, stdout=subprocess.PIPE, stderr=subprocess.STDOUT)

@@ -150,7 +150,8 @@ class Site:
         return self._text(_library.jumbetai_summary)[0]
 
     def delta(self, summary, start=0):
-        """What a peer lacks by its summary, from a place on, a Page at a time."""
+        """What a peer lacks by its summary, from a place on, a Page at a time. Where events come to the site between two
+        pages, some may be passed over: the peer has all when nothing comes by its new summary."""
         summary = _bytes(summary)
         return self._pages(start, _library.jumbetai_delta, summary, len(summary))
 

@@ -17,8 +17,8 @@ import json
 import sys
 import threading
 import time
-import urllib.error
 import urllib.request
+from http.client import HTTPException
 from http.server import BaseHTTPRequestHandler, ThreadingHTTPServer
 from urllib.parse import parse_qs, urlsplit
 
@@ -49,7 +49,7 @@ def pull_for_ever(site, peers, seconds):
         for peer in peers:
             try:
                 pull(site, peer)
-            except (OSError, jumbetai.Error, MemoryError) as why:
+            except (OSError, HTTPException, jumbetai.Error, MemoryError) as why:
                 print(f"service: {peer}: {why}", file=sys.stderr, flush=True)
         time.sleep(seconds)
 
