@@ -6,7 +6,7 @@
 As many crates at once as there are processors and memory (2 GB each), each by as many processes as there are
 processors; of crates side by side the system gives that the most time for which most waits, and what it leaves goes
 to the others. What is newer than its sources is left as it is. A library goes to crates/NAME/out/built, as the statements that the crates
-above it rest on, which is what `rt ci` makes too; the program goes to crates/NAME/out. `rt` itself lets one command
+above it rest on, which is what `rt ci` makes too; the program, and a static library as libNAME.a, go to crates/NAME/out. `rt` itself lets one command
 at a time work in a crate and in those below it, so `rattle` is called as `rt` calls it.
 
 How far it is stands on standard error: on one line that is rewritten where that is a terminal, else a line a crate.
@@ -78,6 +78,12 @@ def is_program(name):
     return os.path.exists(f"{TOP}/crates/{name}/src/main.rt")
 
 
+def is_static(name):
+    """Whether a crate is a static library, as crates.txt says."""
+    with open(f"{TOP}/crates.txt", encoding="utf-8") as it:
+        return any(line.split(":")[0].split() == [name, "staticlib"] for line in it)
+
+
 def sources(name):
     """The files that a crate is made of."""
     for part in SOURCES:
@@ -94,12 +100,18 @@ def is_made(name, file):
     return all(os.path.getmtime(it) <= made for it in [*sources(name), f"{TOP}/crates.txt"])
 
 
+def made_of(name):
+    """The file below a crate's out/ that tells that it is built."""
+    if is_program(name):
+        return name
+    return f"lib{name}.a" if is_static(name) else f"{BUILT}/{name}.rlib/format"
+
+
 def stale(crates, names):
     """Those of the crates, in their order, that aren't as their sources are, or stand on one that isn't."""
     found = []
     for name in names:
-        mark = name if is_program(name) else f"{BUILT}/{name}.rlib/format"
-        if not is_made(name, mark) or any(it in found for it in crates[name][0]):
+        if not is_made(name, made_of(name)) or any(it in found for it in crates[name][0]):
             found.append(name)
     return found
 
@@ -115,7 +127,7 @@ def words_of(crates, name, folder, where):
     for library in reached(crates, own):
         words += ["-L", f"dependency={TOP}/crates/{library}/out/{folder}"]
     words += ["--antt-project", f"{where}/rattle/logic/antt-project.json", "--logic-built", f"{where}/logic_built"]
-    return [*words, "--links", f"{name}="]
+    return [*words, *["--crate-type", "staticlib"] * is_static(name), "--links", f"{name}="]
 
 
 class Build:
@@ -126,12 +138,15 @@ class Build:
         self.folder = f"{TOP}/crates/{name}"
         self.log = tempfile.TemporaryFile("w+", errors="replace")
         words = ["rattle", "build", *words_of(crates, name, BUILT, where), "--jobs", str(jobs)]
-        made, made_of = f"out/{name}", f"out/{name}.o"
+        made, compiled = f"out/{name}", f"out/{name}.o"
+        tools = ["--toolchain", f"{where}/toolchain"]
         if is_program(name):
-            tools = ["--toolchain", f"{where}/toolchain"]
-            link = ["rattle-link", "--target", "x86_64-unknown-linux-gnu", *tools, "-o", f"{made}.new", made_of]
+            link = ["rattle-link", "--target", "x86_64-unknown-linux-gnu", *tools, "-o", f"{made}.new", compiled]
             link += [f"{where}/c/libos_c.a", f"{where}/c/liblibc_c.a"]
-            steps = [[*words, *tools, "--backend", "llvm", "-o", made_of], link, ["mv", f"{made}.new", made]]
+            steps = [[*words, *tools, "--backend", "llvm", "-o", compiled], link, ["mv", f"{made}.new", made]]
+        elif is_static(name):
+            made = f"out/lib{name}.a"
+            steps = [[*words, *tools, "--backend", "llvm", "-o", f"{made}.new"], ["mv", f"{made}.new", made]]
         else:
             os.makedirs(f"{self.folder}/out/{BUILT}", exist_ok=True)
             steps = [[*words, "--statements", "-o", f"out/{BUILT}/{name}.rlib"]]

@@ -98,7 +98,7 @@ is 'a word that is no text' 2 '' "site: the arguments aren't text$lf"
 run --help
 is 'help' 2 '*' ''
 run --version
-is 'the version' 2 "site 0.1.0$lf" ''
+is 'the version' 2 "site $("$here/tools/version.py")$lf" ''
 run cover --help
 is 'help of a command' 2 '*' ''
 all=$((all + 1))

@@ -135,7 +135,7 @@ tells out 'Usage: site cover [OPTIONS] [FILE]...' cover --help
 tells out 'Usage: site cover [OPTIONS] [FILE]...' help cover
 tells out 'Files of CloudEvents' shown --help
 tells out 'cover' --help
-tells out 'site 0.1.0' --version
+tells out "site $("$here/tools/version.py")" --version
 
 # Data of 120 nested arrays is the deepest, of an event and of a batch's member.
 deep() {

@@ -1,0 +1,40 @@
+/* What the proved library exports, as site.c calls it. A site lies in room of jumbetai_site_size()
+ * bytes that the caller gives by pointer, aligned as malloc aligns; it isn't copied or moved while
+ * the site is open. */
+#ifndef JUMBETAI_EXPORTS_H
+#define JUMBETAI_EXPORTS_H
+
+#include <stddef.h>
+#include <stdint.h>
+
+/* status: that of the call. fresh, repeated: what came of events that were taken. listed: how many
+ * events the text has, where it is a page's. events: how many the site has. length: how many bytes
+ * the text of the last answer has. Each call sets all of them. */
+struct jumbetai_reply {
+    uint32_t status;
+    uint64_t fresh, repeated, listed, events, length;
+};
+
+/* A piece of the text, of which `length` bytes are set. */
+struct jumbetai_piece {
+    uint64_t length;
+    unsigned char bytes[4096];
+};
+
+size_t jumbetai_site_size(void);
+void jumbetai_site_open(void *at);
+void jumbetai_site_take(void *at, const unsigned char *bytes, size_t length,
+                        struct jumbetai_reply *reply);
+void jumbetai_site_check(void *at, const unsigned char *bytes, size_t length,
+                         struct jumbetai_reply *reply);
+void jumbetai_site_ask(void *at, uint32_t question, struct jumbetai_reply *reply);
+void jumbetai_site_summary(void *at, struct jumbetai_reply *reply);
+void jumbetai_site_delta(void *at, const unsigned char *summary, size_t length, uint64_t from,
+                         struct jumbetai_reply *reply);
+void jumbetai_site_page(void *at, uint64_t from, struct jumbetai_reply *reply);
+void jumbetai_site_keep_views(void *at, const unsigned char *seed, size_t length,
+                              struct jumbetai_reply *reply);
+void jumbetai_site_read(void *at, uint32_t piece, struct jumbetai_piece *out);
+void jumbetai_site_close(void *at);
+
+#endif

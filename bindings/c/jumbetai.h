@@ -1,0 +1,124 @@
+/* A site in a process of one's own: a set of CloudEvents in memory, its answers, its summary, and
+ * what another site lacks of it. Link with libjumbetai.a: cc program.c -ljumbetai
+ *
+ * A call answers a status, 0 where it is done. None prints, aborts or touches a file. A site may go
+ * from thread to thread, as by a lock, but one thread at a time uses it; two sites have nothing in
+ * common. No call is to be made from a signal handler. */
+#ifndef JUMBETAI_H
+#define JUMBETAI_H
+
+#include <stddef.h>
+#include <stdint.h>
+
+#ifdef __cplusplus
+extern "C" {
+#endif
+
+#define JUMBETAI_VERSION "0.1.0"
+
+/* A site. Made by jumbetai_open and given back by jumbetai_close. */
+typedef struct jumbetai_site jumbetai_site;
+
+/* What a call answers. */
+enum jumbetai_status {
+    JUMBETAI_DONE = 0,
+    JUMBETAI_OUT_OF_MEMORY = 1,
+    JUMBETAI_NO_EVENTS = 2, /* the bytes spell no event and no batch: jumbetai_check says why */
+    JUMBETAI_NO_NUMBER =
+        3, /* an event has no sequence of twenty digits: jumbetai_check says which */
+    JUMBETAI_NO_SUCH_QUESTION = 4,
+    JUMBETAI_SUMMARY_NOT_JSON = 5,
+    JUMBETAI_SUMMARY_SHAPE = 6,         /* JSON, and no summary */
+    JUMBETAI_SUMMARY_VERSION = 7,       /* of a version that isn't known */
+    JUMBETAI_SUMMARY_NOT_CANONICAL = 8, /* not byte for byte as a summary is written */
+    JUMBETAI_BAD_ARGUMENT = 9,          /* a null pointer, or a length above PTRDIFF_MAX */
+    JUMBETAI_NO_RANDOM = 10             /* the system gave no random bytes */
+};
+
+/* The seven questions, as `site` has them. */
+enum jumbetai_question {
+    JUMBETAI_COVER = 1,
+    JUMBETAI_SHOWN,
+    JUMBETAI_CONFLICTS,
+    JUMBETAI_LATEST,
+    JUMBETAI_KINDS,
+    JUMBETAI_DAYS,
+    JUMBETAI_GAPS
+};
+
+/* What came of events that were given: how many were new, and how many were there, where all were
+ * taken. */
+typedef struct jumbetai_counts {
+    uint64_t fresh;
+    uint64_t repeated;
+} jumbetai_counts;
+
+/* A text of a site: UTF-8, with a zero byte behind its last byte that `length` doesn't count. It
+ * belongs to the caller, stays what it is whatever becomes of the site, and is given back by
+ * jumbetai_free. `events` is how many events a page has, and 0 of other texts. Where a call isn't
+ * done, all three are 0. */
+typedef struct jumbetai_text {
+    char *bytes;
+    size_t length;
+    uint64_t events;
+} jumbetai_text;
+
+/* The most events of a page. */
+enum { JUMBETAI_PAGE = 100 };
+
+/* A site without events; null where memory is refused. */
+jumbetai_site *jumbetai_open(void);
+
+/* Gives a site and its memory back. A null pointer is let through. */
+void jumbetai_close(jumbetai_site *site);
+
+/* How many events the site has, each counted once. Constant time. */
+uint64_t jumbetai_count(const jumbetai_site *site);
+
+/* Takes an event, or a batch of events, in the JSON format of CloudEvents 1.0.2, of at most
+ * 33,554,432 bytes. Where the bytes are at fault nothing is taken. At want of memory the first of
+ * them may have been taken, `fresh` of which were new: the same bytes may be given again. `counts`
+ * may be null. */
+int jumbetai_take(jumbetai_site *site, const void *bytes, size_t length, jumbetai_counts *counts);
+
+/* What is wrong with bytes that are refused: a line of JSON for each event at fault, as `site
+ * check` prints of a file `-`; the empty text where nothing is. Takes nothing. */
+int jumbetai_check(jumbetai_site *site, const void *bytes, size_t length, jumbetai_text *text);
+
+/* Keeps views of the events from now on: what is asked of types, of types by day and of the latest
+ * events then takes the time that the answer takes, in place of a pass over all events, and each
+ * event that comes takes a little more. No answer changes. Time and memory in proportion to the
+ * events that are there. Where memory for the views is refused later, the site goes on without. */
+int jumbetai_keep_views(jumbetai_site *site);
+
+/* The answer to a question, in the lines that `site` prints. */
+int jumbetai_ask(jumbetai_site *site, int question, jumbetai_text *text);
+
+/* The summary, as `site summary` prints it. Two sites whose summaries are equal have the same
+ * events, or two texts have one SHA-256. */
+int jumbetai_summary(jumbetai_site *site, jumbetai_text *text);
+
+/* The events that a peer lacks by its summary, whose final line end may be left out: those at the
+ * places from `from` on, counted from 0, at most JUMBETAI_PAGE, as a batch that its jumbetai_take
+ * takes. The next page begins at `from` and `events` more; a page of no events is behind the last.
+ */
+int jumbetai_delta(jumbetai_site *site, const void *summary, size_t length, uint64_t from,
+                   jumbetai_text *text);
+
+/* All events in key order, by pages of the same kind. */
+int jumbetai_page(jumbetai_site *site, uint64_t from, jumbetai_text *text);
+
+/* Gives a text back, and sets it to no text. Texts of no bytes and a null pointer are let through.
+ */
+void jumbetai_free(jumbetai_text *text);
+
+/* A status in words, which are never to be given back. */
+const char *jumbetai_words(int status);
+
+/* The version of the library that is linked, as JUMBETAI_VERSION is that of this header. */
+const char *jumbetai_version(void);
+
+#ifdef __cplusplus
+}
+#endif
+#endif

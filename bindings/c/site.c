@@ -1,0 +1,147 @@
+/* The functions of jumbetai.h over the library's exports. Nothing of this file is proved: it tests
+ * what C lets a caller get wrong, keeps the room that a site lies in, and puts a text together of
+ * its pieces. */
+#define _DEFAULT_SOURCE /* getentropy */
+#include "exports.h"
+#include "jumbetai.h"
+#include <stdlib.h>
+#include <string.h>
+#include <unistd.h>
+
+struct jumbetai_site {
+    uint64_t events;
+    _Alignas(16) unsigned char room[];
+};
+
+/* A text of more bytes isn't left in the site beside the caller's copy. */
+enum { LARGE = 65536 };
+
+static int is_range(const void *bytes, size_t length) {
+    return (bytes || !length) && length <= PTRDIFF_MAX;
+}
+
+/* Where bytes lie, also those of an empty range that lies nowhere. */
+static const unsigned char *start_of(const void *bytes) {
+    return bytes ? bytes : (const unsigned char *)"";
+}
+
+/* The text that the site keeps since the call that replied so. */
+static int copy_text(jumbetai_site *site, const struct jumbetai_reply *reply, jumbetai_text *text) {
+    if (reply->status != JUMBETAI_DONE) return (int)reply->status;
+    char *bytes = reply->length < PTRDIFF_MAX ? malloc((size_t)reply->length + 1) : NULL;
+    if (!bytes) return JUMBETAI_OUT_OF_MEMORY;
+    struct jumbetai_piece piece;
+    size_t had = 0;
+    for (uint32_t i = 0; had < reply->length; i++, had += piece.length) {
+        jumbetai_site_read(site->room, i, &piece);
+        memcpy(bytes + had, piece.bytes, piece.length);
+    }
+    bytes[had] = 0;
+    *text = (jumbetai_text){bytes, had, reply->listed};
+    /* The site keeps its last text: a page without events is in place of a large one. */
+    struct jumbetai_reply unread;
+    if (had > LARGE) jumbetai_site_page(site->room, UINT64_MAX, &unread);
+    return JUMBETAI_DONE;
+}
+
+jumbetai_site *jumbetai_open(void) {
+    jumbetai_site *site = malloc(sizeof *site + jumbetai_site_size());
+    if (!site) return NULL;
+    site->events = 0;
+    jumbetai_site_open(site->room);
+    return site;
+}
+
+void jumbetai_close(jumbetai_site *site) {
+    if (!site) return;
+    jumbetai_site_close(site->room);
+    free(site);
+}
+
+uint64_t jumbetai_count(const jumbetai_site *site) { return site ? site->events : 0; }
+
+int jumbetai_take(jumbetai_site *site, const void *bytes, size_t length, jumbetai_counts *counts) {
+    struct jumbetai_reply reply;
+    if (counts) *counts = (jumbetai_counts){0, 0};
+    if (!site || !is_range(bytes, length)) return JUMBETAI_BAD_ARGUMENT;
+    jumbetai_site_take(site->room, start_of(bytes), length, &reply);
+    site->events = reply.events;
+    if (counts) *counts = (jumbetai_counts){reply.fresh, reply.repeated};
+    return (int)reply.status;
+}
+
+int jumbetai_check(jumbetai_site *site, const void *bytes, size_t length, jumbetai_text *text) {
+    struct jumbetai_reply reply;
+    if (text) *text = (jumbetai_text){0};
+    if (!site || !text || !is_range(bytes, length)) return JUMBETAI_BAD_ARGUMENT;
+    jumbetai_site_check(site->room, start_of(bytes), length, &reply);
+    return copy_text(site, &reply, text);
+}
+
+int jumbetai_keep_views(jumbetai_site *site) {
+    unsigned char seed[16];
+    struct jumbetai_reply reply;
+    if (!site) return JUMBETAI_BAD_ARGUMENT;
+    if (getentropy(seed, sizeof seed)) return JUMBETAI_NO_RANDOM;
+    jumbetai_site_keep_views(site->room, seed, sizeof seed, &reply);
+    return (int)reply.status;
+}
+
+int jumbetai_ask(jumbetai_site *site, int question, jumbetai_text *text) {
+    struct jumbetai_reply reply;
+    if (text) *text = (jumbetai_text){0};
+    if (!site || !text) return JUMBETAI_BAD_ARGUMENT;
+    jumbetai_site_ask(site->room, (uint32_t)question, &reply);
+    return copy_text(site, &reply, text);
+}
+
+int jumbetai_summary(jumbetai_site *site, jumbetai_text *text) {
+    struct jumbetai_reply reply;
+    if (text) *text = (jumbetai_text){0};
+    if (!site || !text) return JUMBETAI_BAD_ARGUMENT;
+    jumbetai_site_summary(site->room, &reply);
+    return copy_text(site, &reply, text);
+}
+
+int jumbetai_delta(jumbetai_site *site, const void *summary, size_t length, uint64_t from,
+                   jumbetai_text *text) {
+    struct jumbetai_reply reply;
+    if (text) *text = (jumbetai_text){0};
+    if (!site || !text || !is_range(summary, length)) return JUMBETAI_BAD_ARGUMENT;
+    jumbetai_site_delta(site->room, start_of(summary), length, from, &reply);
+    return copy_text(site, &reply, text);
+}
+
+int jumbetai_page(jumbetai_site *site, uint64_t from, jumbetai_text *text) {
+    struct jumbetai_reply reply;
+    if (text) *text = (jumbetai_text){0};
+    if (!site || !text) return JUMBETAI_BAD_ARGUMENT;
+    jumbetai_site_page(site->room, from, &reply);
+    return copy_text(site, &reply, text);
+}
+
+void jumbetai_free(jumbetai_text *text) {
+    if (!text) return;
+    free(text->bytes);
+    *text = (jumbetai_text){0};
+}
+
+const char *jumbetai_words(int status) {
+    static const char *const words[] = {
+        [JUMBETAI_DONE] = "done",
+        [JUMBETAI_OUT_OF_MEMORY] = "out of memory",
+        [JUMBETAI_NO_EVENTS] = "the bytes spell no events",
+        [JUMBETAI_NO_NUMBER] = "an event has no sequence of twenty digits",
+        [JUMBETAI_NO_SUCH_QUESTION] = "no such question",
+        [JUMBETAI_SUMMARY_NOT_JSON] = "the summary is no JSON",
+        [JUMBETAI_SUMMARY_SHAPE] = "the summary has another shape",
+        [JUMBETAI_SUMMARY_VERSION] = "the summary is of a version that isn't known",
+        [JUMBETAI_SUMMARY_NOT_CANONICAL] = "the summary isn't written as a summary is",
+        [JUMBETAI_BAD_ARGUMENT] = "a null pointer, or a length that is too large",
+        [JUMBETAI_NO_RANDOM] = "the system gave no random bytes",
+    };
+    int count = (int)(sizeof words / sizeof *words);
+    return status >= 0 && status < count ? words[status] : "no such status";
+}
+
+const char *jumbetai_version(void) { return JUMBETAI_VERSION; }

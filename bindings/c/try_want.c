@@ -1,0 +1,137 @@
+/* Refuses the nth request for memory, for each n in turn, and compares each answer with what the
+ * site has then. It gives the proved library its memory itself, so it is linked with the objects
+ * beside heap.c; where site.c asks, it asks malloc. The last line is 'N requests refused'. */
+#include "jumbetai.h"
+#include <stdbool.h>
+#include <stdio.h>
+#include <stdlib.h>
+#include <string.h>
+
+struct tried {
+    bool ok;
+    void *block;
+};
+
+/* How many requests are still granted. */
+static long granted;
+
+static struct tried tried(void *block) { return (struct tried){block != NULL, block}; }
+
+struct tried rattle_alloc(size_t size, size_t align) {
+    (void)align;
+    return tried(granted-- > 0 ? malloc(size ? size : 1) : NULL);
+}
+
+struct tried rattle_realloc(void *block, size_t kept, size_t size, size_t align) {
+    (void)kept, (void)align;
+    return tried(granted-- > 0 ? realloc(block, size ? size : 1) : NULL);
+}
+
+void rattle_dealloc(void *block) { free(block); }
+
+#define EVENT(id, rest)                                                                            \
+    "{\"specversion\":\"1.0\",\"id\":\"" id                                                        \
+    "\",\"source\":\"/shop\",\"type\":\"order.placed\"" rest "}"
+#define NUMBER(digit) ",\"sequence\":\"0000000000000000000" digit "\""
+
+enum { ENOUGH = 1000000 };
+static const char three[] =
+    "[" EVENT("a", NUMBER("1")) "," EVENT("b", NUMBER("2")) "," EVENT("c", NUMBER("3")) "]";
+static const char unnumbered[] = "[" EVENT("d", NUMBER("4")) "," EVENT("e", "") "]";
+static const char nothing[] = "{\"blocks\":{},\"sources\":{},\"version\":2}";
+
+/* Ends the program where something isn't as it must be. */
+static void must(int holds, const char *what, long at) {
+    if (holds) return;
+    printf("wrong: %s, at request %ld\n", what, at);
+    exit(1);
+}
+
+static int take(jumbetai_site *site, const char *bytes, jumbetai_counts *counts, long requests) {
+    granted = requests;
+    return jumbetai_take(site, bytes, strlen(bytes), counts);
+}
+
+/* Takes the three events with a request refused, then again; answers whether the first take was
+ * done. */
+static bool try_take(jumbetai_site *site, long requests) {
+    jumbetai_counts first, again;
+    int status = take(site, three, &first, requests);
+    must(status == JUMBETAI_DONE || status == JUMBETAI_OUT_OF_MEMORY, "status of the first take",
+         requests);
+    must(first.fresh <= 3 && first.repeated == 0 && jumbetai_count(site) == first.fresh,
+         "the first take", requests);
+    must(status != JUMBETAI_DONE || first.fresh == 3, "count of the first take", requests);
+    must(take(site, three, &again, ENOUGH) == JUMBETAI_DONE, "status of the second take", requests);
+    must(first.fresh + again.fresh == 3 && again.repeated == first.fresh, "the second take",
+         requests);
+    must(take(site, unnumbered, &again, ENOUGH) == JUMBETAI_NO_NUMBER && again.fresh == 0,
+         "an event without a number", requests);
+    return status == JUMBETAI_DONE;
+}
+
+/* The calls that answer a text: the questions, then these. */
+enum { SUMMARY = JUMBETAI_GAPS + 1, DELTA, PAGE, CHECK, VIEWS, CALLS };
+
+static int call(jumbetai_site *site, int which, jumbetai_text *text) {
+    int status;
+    switch (which) {
+    case SUMMARY: return jumbetai_summary(site, text);
+    case DELTA: return jumbetai_delta(site, nothing, sizeof nothing - 1, 0, text);
+    case PAGE: return jumbetai_page(site, 0, text);
+    /* Views, and an answer that they give. */
+    case VIEWS:
+        *text = (jumbetai_text){0};
+        status = jumbetai_keep_views(site);
+        return status ? status : jumbetai_ask(site, JUMBETAI_KINDS, text);
+    case CHECK: return jumbetai_check(site, unnumbered, sizeof unnumbered - 1, text);
+    default: return jumbetai_ask(site, which, text);
+    }
+}
+
+/* Calls with a request refused, then with memory; answers whether the first text came. */
+static bool try_text(jumbetai_site *site, int which, const jumbetai_text *want, long requests) {
+    jumbetai_text text, again;
+    granted = requests;
+    int status = call(site, which, &text);
+    must(status == JUMBETAI_DONE || status == JUMBETAI_OUT_OF_MEMORY, "status of an answer",
+         requests);
+    must((status == JUMBETAI_DONE) == (text.bytes != NULL), "a text without an answer", requests);
+    granted = ENOUGH;
+    must(call(site, which, &again) == JUMBETAI_DONE, "an answer with memory", requests);
+    must(again.length == want->length && !memcmp(again.bytes, want->bytes, want->length),
+         "the text after a refusal", requests);
+    must(!text.bytes ||
+             (text.length == want->length && !memcmp(text.bytes, want->bytes, want->length)),
+         "the text", requests);
+    must(jumbetai_count(site) == 3, "count", requests);
+    jumbetai_free(&text), jumbetai_free(&again);
+    return status == JUMBETAI_DONE;
+}
+
+int main(void) {
+    long refused = 0;
+    bool done = false;
+    for (long n = 0; !done; n++, refused += !done) {
+        jumbetai_site *site = jumbetai_open();
+        done = try_take(site, n);
+        jumbetai_close(site);
+    }
+    for (int which = 1; which < CALLS; which++) {
+        jumbetai_text want;
+        jumbetai_site *whole = jumbetai_open();
+        try_take(whole, ENOUGH), granted = ENOUGH;
+        must(call(whole, which, &want) == JUMBETAI_DONE, "an answer", which);
+        jumbetai_close(whole);
+        done = false;
+        for (long n = 0; !done; n++, refused += !done) {
+            jumbetai_site *site = jumbetai_open();
+            try_take(site, ENOUGH);
+            done = try_text(site, which, &want, n);
+            jumbetai_close(site);
+        }
+        jumbetai_free(&want);
+    }
+    printf("%ld requests refused\n", refused);
+    return 0;
+}

@@ -1,0 +1,184 @@
+"""Tests of jumbetai.py: `python3 -m unittest` in this folder, with JUMBETAI_LIB as jumbetai.py says.
+
+JUMBETAI_BATCH names a file of a batch of events, as tools/make_batch.py makes one of 30.6 MB; without it a batch of 500
+is made here. JUMBETAI_SITE names the program `site`, whose answers are then compared byte for byte; without it that is
+skipped, and said.
+"""
+import doctest
+import json
+import os
+import subprocess
+import tempfile
+import threading
+import unittest
+
+import jumbetai
+from jumbetai import QUESTIONS, Error, Page, Site, Taken
+
+
+def event(number, source="/shop", **more):
+    made = {"specversion": "1.0", "id": str(number), "source": source, "type": "sold", "sequence": f"{number:020d}"}
+    return {**made, **more}
+
+
+def batch(events):
+    return json.dumps(events).encode()
+
+
+FEW = batch([event(number) for number in range(1, 251)])
+
+
+def given_batch():
+    """The batch that JUMBETAI_BATCH names, else a small one."""
+    if not os.environ.get("JUMBETAI_BATCH"):
+        return FEW
+    with open(os.environ["JUMBETAI_BATCH"], "rb") as file:
+        return file.read()
+
+
+def load_tests(_loader, tests, _pattern):
+    tests.addTests(doctest.DocTestSuite(jumbetai))
+    return tests
+
+
+class Sites(unittest.TestCase):
+    def test_an_empty_site(self):
+        with Site() as site:
+            self.assertEqual(len(site), 0)
+            self.assertEqual(site.ask("cover"), b'{"sources":{},"version":1}\n')
+            self.assertEqual(site.ask("shown"), b"")
+            self.assertEqual(list(site.pages()), [])
+
+    def test_events_are_kept_once(self):
+        with Site() as site:
+            self.assertEqual(site.take(FEW), Taken(250, 0))
+            self.assertEqual(site.take(FEW.decode()), Taken(0, 250))
+            self.assertEqual(len(site), 250)
+            self.assertEqual(site.ask("kinds"), b'["sold",250]\n')
+
+    def test_pages(self):
+        with Site() as site, Site() as copy:
+            site.take(FEW)
+            pages = list(site.pages())
+            self.assertEqual([(it.start, it.events) for it in pages], [(0, 100), (100, 100), (200, 50)])
+            self.assertEqual(list(site.pages(start=200)), pages[2:])
+            self.assertEqual(sum(copy.take(it.json).fresh for it in pages), 250)
+            self.assertEqual(copy.summary(), site.summary())
+
+    def test_what_a_peer_lacks(self):
+        with Site() as north, Site() as south:
+            north.take(FEW)
+            south.take(batch([event(number) for number in range(101, 251)]))
+            sent = list(north.delta(south.summary()))
+            for page in sent:
+                south.take(page.json)
+            self.assertEqual(south.summary(), north.summary())
+            self.assertEqual(list(north.delta(south.summary())), [])
+            # The line end of a summary may be left out.
+            self.assertEqual(list(north.delta(south.summary().rstrip(b"\n"))), [])
+            for question in QUESTIONS:
+                self.assertEqual(south.ask(question), north.ask(question), question)
+
+    def test_two_events_under_one_number_go_too(self):
+        with Site() as north, Site() as south:
+            north.take(batch([event(1)]))
+            south.take(batch([event(1, subject="other")]))
+            for one, other in ((north, south), (south, north)):
+                for page in one.delta(other.summary()):
+                    other.take(page.json)
+            self.assertEqual(north.summary(), south.summary())
+            self.assertEqual(len(north), 2)
+
+    def test_kept_views_change_no_answer(self):
+        with Site() as plain, Site() as keeping:
+            keeping.take(batch([event(number) for number in range(1, 11)]))
+            keeping.keep_views()
+            keeping.take(FEW)
+            plain.take(FEW)
+            for question in QUESTIONS:
+                self.assertEqual(plain.ask(question), keeping.ask(question), question)
+
+    def test_refusals(self):
+        with Site() as site:
+            refused = {b"{}": 2, b"": 2, batch([event(1), {**event(2), "sequence": "2"}]): 3}
+            for given, status in refused.items():
+                with self.assertRaises(Error) as caught:
+                    site.take(given)
+                self.assertEqual(caught.exception.status, status, given)
+            self.assertEqual(len(site), 0)
+            line = json.loads(site.check(batch([event(1), {**event(2), "sequence": "2"}])))
+            self.assertEqual((line["index"], line["fault"], line["value"]), (1, "BadSequence", "2"))
+            self.assertEqual(site.check(FEW), b"")
+            summaries = {b"": 5, b"{}": 6, b'{"sources":{},"version":3}': 7, b' {"sources":{},"version":1}': 8}
+            for given, status in summaries.items():
+                with self.assertRaises(Error) as caught:
+                    next(site.delta(given), None)
+                self.assertEqual(caught.exception.status, status, given)
+            with self.assertRaises(ValueError):
+                site.ask("who")
+
+    def test_the_order_in_which_events_come_changes_no_answer(self):
+        with Site() as site, Site() as copy:
+            site.take(given_batch())
+            for page in reversed(list(site.pages())):
+                self.assertEqual(copy.take(page.json).fresh, page.events)
+            self.assertEqual(len(copy), len(site))
+            self.assertTrue(copy.summary() == site.summary(), "summary")
+            for question in QUESTIONS:
+                self.assertTrue(copy.ask(question) == site.ask(question), question)
+
+    def test_a_closed_site(self):
+        site = Site()
+        site.close()
+        site.close()
+        with self.assertRaises(ValueError):
+            site.summary()
+
+    def test_a_site_goes_from_thread_to_thread(self):
+        site, lock = Site(), threading.Lock()
+
+        def work(first):
+            for number in range(first, first + 25):
+                with lock:
+                    site.take(batch([event(number)]))
+
+        threads = [threading.Thread(target=work, args=(1 + 25 * it,)) for it in range(8)]
+        for it in threads:
+            it.start()
+        for it in threads:
+            it.join()
+        self.assertEqual(site.ask("cover"), b'{"sources":{"/shop":[[1,200]]},"version":1}\n')
+        site.close()
+
+
+class BesideTheProgram(unittest.TestCase):
+    def test_all_answers(self):
+        program = os.environ.get("JUMBETAI_SITE")
+        if not program:
+            self.skipTest("JUMBETAI_SITE names no program")
+        with tempfile.TemporaryDirectory() as folder, Site() as site:
+            file = "batch.json"
+            with open(os.path.join(folder, file), "wb") as out:
+                out.write(given_batch())
+            site.take(given_batch())
+
+            def run(*words):
+                return subprocess.run([program, *words], cwd=folder, stdout=subprocess.PIPE, check=True).stdout
+
+            for question in QUESTIONS:
+                self.assertTrue(site.ask(question) == run(question, file), question)
+            run("take", "--db", "site.db", file)
+            self.assertTrue(site.summary() == run("summary", "--db", "site.db"), "summary")
+            with open(os.path.join(folder, "nothing"), "wb") as out:
+                out.write(Site().summary())
+            first, second = list(site.delta(Site().summary()))[:2]
+            self.assertEqual(first.json, run("delta", "--db", "site.db", "nothing"))
+            self.assertEqual(second, Page(100, second.events, run("delta", "--db", "site.db", "--from", "100", "nothing")))
+            self.assertEqual(next(site.pages()).json, run("scrub", "--db", "site.db"))
+            wrong = batch([event(1), {**event(2), "sequence": "2"}])
+            said = subprocess.run([program, "check", "-"], input=wrong, stdout=subprocess.PIPE, check=False).stdout
+            self.assertEqual(site.check(wrong), said)
+
+
+if __name__ == "__main__":
+    unittest.main()

@@ -1,0 +1,339 @@
+//! A site of events in one's own process, over `libjumbetai.a`: a set of CloudEvents that keeps each once, its
+//! answers, its summary, and what another site lacks of it. Sites that took the same events, in whatever order and
+//! however often, give the same bytes for every answer. That is proved of the library; this crate, which calls it
+//! through C, is only tested.
+//!
+//! ```
+//! use jumbetai::{Question, Site};
+//!
+//! let event = br#"{"specversion":"1.0","id":"1","source":"/shop","type":"order.placed",
+//!     "sequence":"00000000000000000001"}"#;
+//! let mut north = Site::new()?;
+//! let mut south = Site::new()?;
+//! assert_eq!(north.take(event)?.fresh, 1);
+//! assert_eq!(north.take(event)?.repeated, 1);
+//!
+//! // The south takes what it lacks, a page of at most 100 events at a time.
+//! let summary = south.summary()?;
+//! for page in north.delta(&summary) {
+//!     south.take(page?.json.as_bytes())?;
+//! }
+//! assert_eq!(south.ask(Question::Kinds)?, "[\"order.placed\",1]\n");
+//! assert_eq!(south.summary()?, north.summary()?);
+//! # Ok::<(), jumbetai::Error>(())
+//! ```
+
+mod ffi;
+
+use std::ffi::{c_int, CStr};
+use std::fmt;
+use std::ptr::NonNull;
+
+/// The most events of a page.
+pub const PAGE: u64 = 100;
+
+/// Why a call isn't done. Its `Display` says so in words.
+#[derive(Clone, Copy, PartialEq, Eq, Debug)]
+pub enum Error {
+    /// Memory was refused. A `take` may then have taken the first of its events: the same bytes may be given again.
+    OutOfMemory,
+    /// The bytes spell no event and no batch of events; nothing was taken. [`Site::check`] says why.
+    NoEvents,
+    /// An event has no sequence of twenty digits; nothing was taken. [`Site::check`] says which.
+    NoNumber,
+    /// The bytes of a peer's summary are no JSON.
+    SummaryNotJson,
+    /// They are JSON, and no summary.
+    SummaryShape,
+    /// They are of a version that isn't known.
+    SummaryVersion,
+    /// They aren't byte for byte as a summary is written.
+    SummaryNotCanonical,
+    /// The system gave no random bytes for [`Site::keep_views`].
+    NoRandom,
+    /// A status that this crate doesn't know: the library that is linked is a later one.
+    Other(i32),
+}
+
+impl Error {
+    fn of(status: c_int) -> Error {
+        match status {
+            1 => Error::OutOfMemory,
+            2 => Error::NoEvents,
+            3 => Error::NoNumber,
+            5 => Error::SummaryNotJson,
+            6 => Error::SummaryShape,
+            7 => Error::SummaryVersion,
+            8 => Error::SummaryNotCanonical,
+            10 => Error::NoRandom,
+            other => Error::Other(other),
+        }
+    }
+
+    /// The status by which the C interface answers it.
+    pub fn status(self) -> i32 {
+        match self {
+            Error::OutOfMemory => 1,
+            Error::NoEvents => 2,
+            Error::NoNumber => 3,
+            Error::SummaryNotJson => 5,
+            Error::SummaryShape => 6,
+            Error::SummaryVersion => 7,
+            Error::SummaryNotCanonical => 8,
+            Error::NoRandom => 10,
+            Error::Other(status) => status,
+        }
+    }
+}
+
+impl fmt::Display for Error {
+    fn fmt(&self, f: &mut fmt::Formatter<'_>) -> fmt::Result {
+        // SAFETY: any status has words, which live as long as the program.
+        let words = unsafe { CStr::from_ptr(ffi::jumbetai_words(self.status())) };
+        f.write_str(&words.to_string_lossy())
+    }
+}
+
+impl std::error::Error for Error {}
+
+/// A question about the events of a site, as the program `site` has them.
+#[derive(Clone, Copy, PartialEq, Eq, Debug)]
+pub enum Question {
+    /// Which sequence numbers each source has.
+    Cover = 1,
+    /// Of each source and id the event with the least text.
+    Shown,
+    /// The events that share a source and id.
+    Conflicts,
+    /// The latest event of each source and subject.
+    Latest,
+    /// How many shown events have each type.
+    Kinds,
+    /// How many shown events have each type and UTC day.
+    Days,
+    /// Which numbers each source lacks.
+    Gaps,
+}
+
+impl Question {
+    /// All seven.
+    pub const ALL: [Question; 7] = [
+        Question::Cover,
+        Question::Shown,
+        Question::Conflicts,
+        Question::Latest,
+        Question::Kinds,
+        Question::Days,
+        Question::Gaps,
+    ];
+}
+
+/// What came of events that were taken.
+#[derive(Clone, Copy, PartialEq, Eq, Debug)]
+pub struct Taken {
+    /// How many were new.
+    pub fresh: u64,
+    /// How many were there.
+    pub repeated: u64,
+}
+
+/// A page of events.
+#[derive(Clone, PartialEq, Eq, Debug)]
+pub struct Page {
+    /// At which place of the whole list its first event stands, counted from 0.
+    pub from: u64,
+    /// How many events it has, 1 to [`PAGE`].
+    pub events: u64,
+    /// The events as a batch, a line of JSON that [`Site::take`] takes.
+    pub json: String,
+}
+
+/// A site without a file. It may go to another thread; one thread at a time uses it, so that a service shares it by
+/// a `Mutex`.
+pub struct Site {
+    raw: NonNull<ffi::Site>,
+}
+
+// SAFETY: a site has nothing in common with another one, and it is a law of the library that it may change thread.
+unsafe impl Send for Site {}
+
+impl Site {
+    /// A site without events.
+    pub fn new() -> Result<Site, Error> {
+        // SAFETY: the call asks for nothing.
+        match NonNull::new(unsafe { ffi::jumbetai_open() }) {
+            Some(raw) => Ok(Site { raw }),
+            None => Err(Error::OutOfMemory),
+        }
+    }
+
+    /// How many events the site has, each counted once.
+    pub fn len(&self) -> u64 {
+        // SAFETY: the site is open.
+        unsafe { ffi::jumbetai_count(self.raw.as_ptr()) }
+    }
+
+    /// Whether the site has no events.
+    pub fn is_empty(&self) -> bool {
+        self.len() == 0
+    }
+
+    /// Takes an event, or a batch of events, in the JSON format of CloudEvents 1.0.2, of at most 33,554,432 bytes.
+    pub fn take(&mut self, bytes: &[u8]) -> Result<Taken, Error> {
+        let mut counts = ffi::Counts::default();
+        // SAFETY: the site is open, and the bytes are lent for the call.
+        let status = unsafe {
+            ffi::jumbetai_take(
+                self.raw.as_ptr(),
+                bytes.as_ptr().cast(),
+                bytes.len(),
+                &mut counts,
+            )
+        };
+        match status {
+            0 => Ok(Taken {
+                fresh: counts.fresh,
+                repeated: counts.repeated,
+            }),
+            status => Err(Error::of(status)),
+        }
+    }
+
+    /// What is wrong with bytes that are refused: a line of JSON for each event at fault, as `site check -` prints
+    /// it; empty where nothing is. Nothing is taken.
+    pub fn check(&mut self, bytes: &[u8]) -> Result<String, Error> {
+        // SAFETY: the site is open, and the bytes are lent for the call.
+        let call = |raw, text: *mut _| unsafe {
+            ffi::jumbetai_check(raw, bytes.as_ptr().cast(), bytes.len(), text)
+        };
+        Ok(self.text(call)?.0)
+    }
+
+    /// Keeps views of the events from now on: [`Question::Kinds`], [`Question::Days`] and
+    /// [`Question::Latest`] then take the time that the answer takes, in place of a pass over all
+    /// events, and each event that comes takes a little more. No answer changes.
+    pub fn keep_views(&mut self) -> Result<(), Error> {
+        // SAFETY: the site is open.
+        match unsafe { ffi::jumbetai_keep_views(self.raw.as_ptr()) } {
+            0 => Ok(()),
+            status => Err(Error::of(status)),
+        }
+    }
+
+    /// The answer to a question, in the lines that the program `site` prints.
+    pub fn ask(&mut self, question: Question) -> Result<String, Error> {
+        // SAFETY: the site is open.
+        Ok(self
+            .text(|raw, text| unsafe { ffi::jumbetai_ask(raw, question as c_int, text) })?
+            .0)
+    }
+
+    /// The summary, by which another site finds what this one lacks: [`Site::delta`] there.
+    pub fn summary(&mut self) -> Result<String, Error> {
+        // SAFETY: the site is open.
+        Ok(self
+            .text(|raw, text| unsafe { ffi::jumbetai_summary(raw, text) })?
+            .0)
+    }
+
+    /// The page from a place on of what a peer lacks by its summary; none where there are no more events.
+    pub fn delta_page(&mut self, summary: &str, from: u64) -> Result<Option<Page>, Error> {
+        let (at, length) = (summary.as_ptr().cast(), summary.len());
+        // SAFETY: the site is open, and the summary is lent for the call.
+        let (json, events) =
+            self.text(|raw, text| unsafe { ffi::jumbetai_delta(raw, at, length, from, text) })?;
+        Ok((events > 0).then_some(Page { from, events, json }))
+    }
+
+    /// The page from a place of key order on; none where there are no more events.
+    pub fn page(&mut self, from: u64) -> Result<Option<Page>, Error> {
+        // SAFETY: the site is open.
+        let (json, events) =
+            self.text(|raw, text| unsafe { ffi::jumbetai_page(raw, from, text) })?;
+        Ok((events > 0).then_some(Page { from, events, json }))
+    }
+
+    /// What a peer lacks by its summary, page by page. It ends after the first error.
+    pub fn delta<'a>(&'a mut self, summary: &'a str) -> Pages<'a> {
+        Pages {
+            site: self,
+            of: Some(summary),
+            from: Some(0),
+        }
+    }
+
+    /// All events in key order, page by page. It ends after the first error.
+    pub fn pages(&mut self) -> Pages<'_> {
+        Pages {
+            site: self,
+            of: None,
+            from: Some(0),
+        }
+    }
+
+    /// The text that a call answers, and how many events it has.
+    fn text(
+        &mut self,
+        call: impl FnOnce(*mut ffi::Site, *mut ffi::Text) -> c_int,
+    ) -> Result<(String, u64), Error> {
+        let mut text = ffi::Text {
+            bytes: std::ptr::null_mut(),
+            length: 0,
+            events: 0,
+        };
+        let status = call(self.raw.as_ptr(), &mut text);
+        if status != 0 {
+            return Err(Error::of(status));
+        }
+        // SAFETY: where a call is done, so many bytes lie there.
+        let bytes = unsafe { std::slice::from_raw_parts(text.bytes.cast::<u8>(), text.length) };
+        let copied = String::from_utf8_lossy(bytes).into_owned();
+        let events = text.events;
+        // SAFETY: the text was made by the call, and isn't used again.
+        unsafe { ffi::jumbetai_free(&mut text) };
+        Ok((copied, events))
+    }
+}
+
+impl Drop for Site {
+    fn drop(&mut self) {
+        // SAFETY: the site is open, and isn't used again.
+        unsafe { ffi::jumbetai_close(self.raw.as_ptr()) }
+    }
+}
+
+impl fmt::Debug for Site {
+    fn fmt(&self, f: &mut fmt::Formatter<'_>) -> fmt::Result {
+        f.debug_struct("Site").field("events", &self.len()).finish()
+    }
+}
+
+/// Pages of events, made by [`Site::delta`] and [`Site::pages`].
+pub struct Pages<'a> {
+    site: &'a mut Site,
+    of: Option<&'a str>,
+    from: Option<u64>,
+}
+
+impl Iterator for Pages<'_> {
+    type Item = Result<Page, Error>;
+
+    fn next(&mut self) -> Option<Self::Item> {
+        let from = self.from.take()?;
+        let found = match self.of {
+            Some(summary) => self.site.delta_page(summary, from),
+            None => self.site.page(from),
+        };
+        let page = found.transpose()?;
+        self.from = page.as_ref().ok().map(|page| from + page.events);
+        Some(page)
+    }
+}
+
+/// The version of the library that is linked.
+pub fn version() -> &'static str {
+    // SAFETY: the text lives as long as the program.
+    unsafe { CStr::from_ptr(ffi::jumbetai_version()) }
+        .to_str()
+        .unwrap_or("")
+}

@@ -1,0 +1,147 @@
+//! A site inside another program: what a caller in C holds is room for one site, which it gives.
+#![tactic(auto)]
+
+ghost use Rattle.std.specs.Borrow.{full_share, sem};
+ghost use Rattle.std.specs.Mem.{type_size};
+ghost use Rattle.std.specs.Prelude.{◌≡◌};
+ghost use Rattle.std.specs.Ptr.{lies_at, room_at};
+ghost use Rattle.site_c.specs.Calls.{Asked, Checked, HasRead, IsEmpty, Lacked, Paged, Summed, Took, Viewed};
+ghost use Rattle.site_c.specs.contracts.held.Held.{the_row};
+
+mod calls;
+mod held;
+pub mod laws;
+
+pub use calls::{PIECE, Piece, Reply};
+use calls::{asked, checked, lacked, let_go, paged, read, summed, taken, viewed};
+pub use held::Held;
+use std::alloc::Global;
+
+/// How many bytes of room a site needs.
+#[unsafe(no_mangle)]
+pub extern "C" fn jumbetai_site_size() -> usize
+    ensures { result ≡ type_size the_row }
+{
+    size_of::<Held>()
+}
+
+/// Makes a site without events in the room.
+#[unsafe(no_mangle)]
+pub unsafe extern "C" fn jumbetai_site_open(alloc: Global, at: *mut u8)
+    requires* { sem 𝓛 (room_at the_row at) }
+    ensures* { ∃ₛ λ made. sem 𝓛 (lies_at the_row full_share at made) ∗ ⌜ IsEmpty made ⌝ }
+{
+    std::ptr::write(at as *mut Held, Held::empty(alloc));
+}
+
+/// Takes the events that the bytes spell, one event or a batch.
+#[unsafe(no_mangle)]
+pub unsafe extern "C" fn jumbetai_site_take(at: *mut u8, bytes: &[u8], reply: &mut Reply)
+    ghost held: { Held }
+    requires* { sem 𝓛 (lies_at the_row full_share at held) }
+    ensures* { ∃ₛ λ kept. sem 𝓛 (lies_at the_row full_share at kept)
+        ∗ ⌜ Took bytes.now held kept reply.new ⌝ }
+{
+    let to = at as *mut Held;
+    std::ptr::write(to, taken(std::ptr::read(to), bytes, reply));
+}
+
+/// Asks a question about the site's events; the text of the answer stays in the site until it is
+/// asked again.
+#[unsafe(no_mangle)]
+pub unsafe extern "C" fn jumbetai_site_ask(at: *mut u8, query: u32, reply: &mut Reply)
+    ghost held: { Held }
+    requires* { sem 𝓛 (lies_at the_row full_share at held) }
+    ensures* { ∃ₛ λ kept. sem 𝓛 (lies_at the_row full_share at kept)
+        ∗ ⌜ Asked query held kept reply.new ⌝ }
+{
+    let to = at as *mut Held;
+    std::ptr::write(to, asked(std::ptr::read(to), query, reply));
+}
+
+/// Asks for the summary that digests the site's events; its text stays in the site as an answer's
+/// does.
+#[unsafe(no_mangle)]
+pub unsafe extern "C" fn jumbetai_site_summary(at: *mut u8, reply: &mut Reply)
+    ghost held: { Held }
+    requires* { sem 𝓛 (lies_at the_row full_share at held) }
+    ensures* { ∃ₛ λ kept. sem 𝓛 (lies_at the_row full_share at kept)
+        ∗ ⌜ Summed held kept reply.new ⌝ }
+{
+    let to = at as *mut Held;
+    std::ptr::write(to, summed(std::ptr::read(to), reply));
+}
+
+/// Asks for the events that a peer lacks by its summary, from a place on, at most 100, as a batch;
+/// its text stays in the site as an answer's does.
+#[unsafe(no_mangle)]
+pub unsafe extern "C" fn jumbetai_site_delta(at: *mut u8, peer: &[u8], from: u64, reply: &mut Reply)
+    ghost held: { Held }
+    requires* { sem 𝓛 (lies_at the_row full_share at held) }
+    ensures* { ∃ₛ λ kept. sem 𝓛 (lies_at the_row full_share at kept)
+        ∗ ⌜ Lacked peer.now from held kept reply.new ⌝ }
+{
+    let to = at as *mut Held;
+    std::ptr::write(to, lacked(std::ptr::read(to), peer, from, reply));
+}
+
+/// Asks for the events at the places from `from` on in key order, at most 100, as a batch; its text
+/// stays in the site as an answer's does.
+#[unsafe(no_mangle)]
+pub unsafe extern "C" fn jumbetai_site_page(at: *mut u8, from: u64, reply: &mut Reply)
+    ghost held: { Held }
+    requires* { sem 𝓛 (lies_at the_row full_share at held) }
+    ensures* { ∃ₛ λ kept. sem 𝓛 (lies_at the_row full_share at kept)
+        ∗ ⌜ Paged from held kept reply.new ⌝ }
+{
+    let to = at as *mut Held;
+    std::ptr::write(to, paged(std::ptr::read(to), from, reply));
+}
+
+/// Tells what is wrong with bytes that `jumbetai_site_take` refuses, a line for each event at
+/// fault; its text stays in the site as an answer's does.
+#[unsafe(no_mangle)]
+pub unsafe extern "C" fn jumbetai_site_check(at: *mut u8, bytes: &[u8], reply: &mut Reply)
+    ghost held: { Held }
+    requires* { sem 𝓛 (lies_at the_row full_share at held) }
+    ensures* { ∃ₛ λ kept. sem 𝓛 (lies_at the_row full_share at kept)
+        ∗ ⌜ Checked bytes.now held kept reply.new ⌝ }
+{
+    let to = at as *mut Held;
+    std::ptr::write(to, checked(std::ptr::read(to), bytes, reply));
+}
+
+/// Has the site keep views from now on, by 16 random bytes that nobody else knows: questions about
+/// types, days and latest events then cost what their answers cost. No answer changes.
+#[unsafe(no_mangle)]
+pub unsafe extern "C" fn jumbetai_site_keep_views(at: *mut u8, seed: &[u8], reply: &mut Reply)
+    ghost held: { Held }
+    requires* { sem 𝓛 (lies_at the_row full_share at held) }
+    ensures* { ∃ₛ λ kept. sem 𝓛 (lies_at the_row full_share at kept)
+        ∗ ⌜ Viewed held kept reply.new ⌝ }
+{
+    let to = at as *mut Held;
+    std::ptr::write(to, viewed(std::ptr::read(to), seed, reply));
+}
+
+/// Copies a piece of the answer's text, counted from 0.
+#[unsafe(no_mangle)]
+pub unsafe extern "C" fn jumbetai_site_read(at: *mut u8, piece: u32, out: &mut Piece)
+    ghost held: { Held }
+    requires* { sem 𝓛 (lies_at the_row full_share at held) }
+    ensures* { ∃ₛ λ kept. sem 𝓛 (lies_at the_row full_share at kept)
+        ∗ ⌜ HasRead piece held kept out.old out.new ⌝ }
+{
+    let to = at as *mut Held;
+    std::ptr::write(to, read(std::ptr::read(to), piece, out));
+}
+
+/// Gives the site's memory back; its room is room again.
+#[unsafe(no_mangle)]
+pub unsafe extern "C" fn jumbetai_site_close(at: *mut u8)
+    ghost held: { Held }
+    requires* { sem 𝓛 (lies_at the_row full_share at held) }
+    ensures* { sem 𝓛 (room_at the_row at) }
+{
+    let_go(std::ptr::read(at as *mut Held));
+}

@@ -1,0 +1,153 @@
+#!/usr/bin/env python3
+"""Makes libjumbetai.a and tries it as its users do: from C, under valgrind too, from Rust and from Python.
+
+    tools/try_bindings.py [--after-ci] [--program FILE] [--library FOLDER] [--events N]
+
+From Rust and Python a batch of 120,000 events, 30.6 MB, is taken, also page by page in another order, and all answers
+have to be the same, and those of the program, byte for byte; from C it is one of 2,000. With --events the batch has N. With --library the library of that folder is tried, and none is made. It also looks
+whether the version is the same wherever it stands. What is left out since a tool isn't there is told. The last line is
+'N of M tries of the library were right'.
+"""
+import argparse
+import contextlib
+import os
+import re
+import shutil
+import subprocess
+import sys
+import tempfile
+
+sys.dont_write_bytecode = True
+TOP = os.path.dirname(os.path.dirname(os.path.realpath(__file__)))
+sys.path.insert(0, f"{TOP}/tools")
+import library  # noqa: E402
+import version  # noqa: E402
+
+QUESTIONS = ("cover", "shown", "conflicts", "latest", "kinds", "days", "gaps")
+STRICT = ["-std=c11", "-Wall", "-Wextra", "-Werror", "-pedantic", "-O1", "-g"]
+VALGRIND = ["valgrind", "-q", "--error-exitcode=9", "--leak-check=full"]
+DONE = re.compile(rb"(\d+) passed, 0 failed|([1-9]\d*) requests refused")
+
+
+class Tries:
+    def __init__(self, folder, program):
+        self.folder, self.program, self.right, self.all = folder, program, 0, 0
+        self.environment = {**os.environ, "PYTHONDONTWRITEBYTECODE": "1", "JUMBETAI_LIB_DIR": f"{folder}/library"}
+
+    def judge(self, what, is_right, why=""):
+        self.right, self.all = self.right + is_right, self.all + 1
+        if not is_right:
+            print(f"wrong: {what}: {str(why)[-2000:]}", flush=True)
+        return is_right
+
+    def has(self, tool, what):
+        """Whether a tool is there; says what is left out where it isn't."""
+        if not shutil.which(tool):
+            print(f"skipped: {what}, since {tool} isn't there", flush=True)
+        return bool(shutil.which(tool))
+
+    def run(self, words, folder=None, **more):
+        ran = subprocess.run(words, cwd=folder or self.folder, env={**self.environment, **more}, stdin=subprocess.DEVNULL, stdout=subprocess.PIPE, stderr=subprocess.STDOUT)
+        return ran.returncode, ran.stdout
+
+    def passes(self, what, words, said=None, folder=None):
+        """Whether a command ends with status 0, and says at its end what it has to."""
+        status, out = self.run(words, folder)
+        is_said = said is None or said.search(out) is not None
+        return self.judge(what, status == 0 and is_said, f"status {status}: {out.decode(errors='replace')}")
+
+
+def made_batch(tries, name, events):
+    with open(f"{tries.folder}/{name}", "wb") as out:
+        subprocess.run([f"{TOP}/tools/make_batch.py", "--events", str(events)], stdout=out, check=True)
+    return f"{tries.folder}/{name}"
+
+
+def try_c(tries):
+    """The programs in C, each linked as a user links it, and once more under valgrind."""
+    for source in ("bindings/c/test_site.c", "bindings/c/try_want.c", "examples/c/ask.c"):
+        name = os.path.basename(source).removesuffix(".c")
+        words = [library.compiler(), *STRICT, "-Ilibrary", f"{TOP}/{source}", "-Llibrary", "-ljumbetai", "-o", name]
+        if tries.passes(f"{source} is compiled", words) and name != "ask":
+            tries.passes(source, [f"./{name}"], DONE)
+    if tries.has("c++", "the header in C++"):
+        tries.passes("the header in C++", ["c++", "-x", "c++", "-Wall", "-Wextra", "-Werror", "-fsyntax-only", "library/jumbetai.h"])
+    batch = made_batch(tries, "small.json", 2000)
+    if tries.has("valgrind", "C under valgrind"):
+        for words in (["./test_site"], ["./try_want"], ["./ask", "delta", batch]):
+            tries.passes(f"{words[0]} under valgrind", [*VALGRIND, *words])
+    if not tries.program:
+        return
+    for question in QUESTIONS:
+        want, got = (tries.run([it, question, batch]) for it in (tries.program, "./ask"))
+        tries.judge(f"C: {question}", got == want and got[0] == 0, got[1][:200])
+    tries.run([tries.program, "take", "--db", "small.db", batch])
+    with open(f"{tries.folder}/none.json", "w", encoding="ascii") as out:
+        out.write("[]")
+    with open(f"{tries.folder}/nothing", "wb") as out:
+        out.write(tries.run(["./ask", "summary", "none.json"])[1])
+    for word, words in (("summary", ["summary"]), ("page", ["scrub", "--all"]), ("delta", ["delta", "--all"])):
+        want = tries.run([tries.program, *words, "--db", "small.db", *["nothing"] * (word == "delta")])
+        got = tries.run(["./ask", word, batch])
+        tries.judge(f"C: {word}", got == want and got[0] == 0, f"{got[1][:200]!r}, not {want[1][:200]!r}")
+
+
+def try_rust(tries, batch):
+    if not tries.has("cargo", "Rust"):
+        return
+    words = ["cargo", "test", "--offline", "--quiet", "--manifest-path", f"{TOP}/bindings/rust/Cargo.toml"]
+    more = {"JUMBETAI_BATCH": batch, "CARGO_TARGET_DIR": f"{tries.folder}/cargo"}
+    status, out = tries.run(words, f"{TOP}/bindings/rust", **more)
+    passed = [int(it) for it in re.findall(rb"test result: ok\. (\d+) passed; 0 failed", out)]
+    tries.judge("Rust: tests and the example of its page", status == 0 and sum(passed) >= 11, out.decode(errors="replace"))
+    with contextlib.suppress(FileNotFoundError):
+        os.remove(f"{TOP}/bindings/rust/Cargo.lock")
+
+
+def try_python(tries, batch):
+    where = f"{tries.folder}/shared/libjumbetai.so"
+    words = [sys.executable, "-m", "unittest", "-v", "test_jumbetai"]
+    status, out = tries.run(words, f"{TOP}/bindings/python", JUMBETAI_LIB=where, JUMBETAI_BATCH=batch)
+    passed = len(re.findall(rb"\.\.\. ok$", out, re.M))
+    tries.judge("Python: tests and the example of its page", status == 0 and passed >= 11, out.decode(errors="replace"))
+
+
+def main():
+    words = argparse.ArgumentParser(description=__doc__, formatter_class=argparse.RawDescriptionHelpFormatter)
+    words.add_argument("--after-ci", action="store_true")
+    words.add_argument("--program", default=f"{TOP}/crates/site_cli/out/site_cli")
+    words.add_argument("--library")
+    words.add_argument("--events", type=int, default=120_000)
+    given = words.parse_args()
+    if not library.compiler():
+        print("skipped: all, since no C compiler is here\n0 of 0 tries of the library were right")
+        return 0
+    program = os.path.abspath(given.program) if os.path.exists(given.program) else None
+    with tempfile.TemporaryDirectory(prefix="try-bindings-") as folder:
+        tries = Tries(folder, program)
+        if program:
+            tries.environment["JUMBETAI_SITE"] = program
+        else:
+            print(f"skipped: what is compared with the program, since {given.program} isn't there", flush=True)
+        for where, told in version.told().items():
+            tries.judge(f"the version in {where}", told == version.version(), told)
+        if given.library:
+            os.makedirs(f"{folder}/library")
+            for file in ("libjumbetai.a", "jumbetai.h"):
+                shutil.copy(f"{given.library}/{file}", f"{folder}/library/{file}")
+        else:
+            library.make(f"{folder}/library", library.proved_part(given.after_ci))
+        # Apart from the archive, or the programs in C would be linked with it.
+        os.makedirs(f"{folder}/shared")
+        words = [library.compiler(), "-o", "../shared/libjumbetai.so", *library.SHARED]
+        tries.passes("the shared object", words, folder=f"{folder}/library")
+        try_c(tries)
+        batch = made_batch(tries, "batch.json", given.events)
+        try_rust(tries, batch)
+        try_python(tries, batch)
+        print(f"{tries.right} of {tries.all} tries of the library were right")
+        return 0 if tries.right == tries.all else 1
+
+
+if __name__ == "__main__":
+    sys.exit(main())

@@ -1,0 +1,112 @@
+#!/usr/bin/env python3
+"""Makes the archive of a release twice and tries it as somebody who has nothing else.
+
+    tools/try_release.py [--program FILE] [--library FOLDER]
+
+The program is by default crates/site_cli/out/site_cli, the library is made (tools/library.py). Both archives have to be
+the same bytes; each file in them has the sum that SHA256SUMS tells; the program runs through the guide's first part in
+a root folder where nothing but the C library is, where the machine lets one be made, and without an environment; the
+example in C is linked with what was unpacked. The last line is 'N of M tries of the archive were right'.
+"""
+import argparse
+import glob
+import os
+import re
+import shlex
+import shutil
+import subprocess
+import sys
+import tempfile
+
+sys.dont_write_bytecode = True
+TOP = os.path.dirname(os.path.dirname(os.path.realpath(__file__)))
+sys.path.insert(0, f"{TOP}/tools")
+import library  # noqa: E402
+from run_guide import steps  # noqa: E402
+from version import version  # noqa: E402
+
+PART = "Orders, and the events that tell of them"
+FILES = ("bin/site", "library/libjumbetai.a", "library/jumbetai.h", "bindings/rust/Cargo.toml", "bindings/python/jumbetai.py", "complete/site.1", "complete/site.bash", "docs/GUIDE.md", "CHANGELOG.md", "ABOUT")
+
+
+class Tries:
+    def __init__(self):
+        self.right = self.all = 0
+
+    def judge(self, what, is_right, why=""):
+        self.right, self.all = self.right + bool(is_right), self.all + 1
+        if not is_right:
+            print(f"wrong: {what}: {str(why)[-1000:]}", flush=True)
+        return bool(is_right)
+
+    def passes(self, what, words, **how):
+        ran = subprocess.run(words, stdin=subprocess.DEVNULL, stdout=subprocess.PIPE, stderr=subprocess.STDOUT, **how)
+        return self.judge(what, ran.returncode == 0, ran.stdout.decode(errors="replace"))
+
+
+def empty_root(folder, program):
+    """Puts the program into a root folder with what it is linked with and nothing else; the words that run it there, or
+    none where the machine lets no root folder be changed."""
+    said = subprocess.run(["ldd", program], capture_output=True, text=True).stdout
+    for file in re.findall(r"(/\S+)", said):
+        os.makedirs(f"{folder}{os.path.dirname(file)}", exist_ok=True)
+        shutil.copy(file, f"{folder}{file}")
+    os.makedirs(f"{folder}/bin")
+    shutil.copy(program, f"{folder}/bin/site")
+    for words in (["chroot", folder], ["unshare", "-r", "chroot", folder]):
+        if shutil.which(words[0]) and subprocess.run([*words, "/bin/site", "--help"], capture_output=True).returncode == 2:
+            return words
+    return None
+
+
+def try_guide(tries, program, folder):
+    """The first part of the guide, whose commands are the program's alone."""
+    words = empty_root(f"{folder}/root", program)
+    if words is None:
+        print("skipped: a root folder with nothing else, since the machine lets none be made: run beside what is here", flush=True)
+        os.makedirs(f"{folder}/beside")
+    for command, want in steps("docs/GUIDE.md", PART)[0]:
+        given = shlex.split(command)
+        run = [*words, "/bin/site", *given[1:]] if words else [program, *given[1:]]
+        how = {} if words else {"cwd": f"{folder}/beside"}
+        # Without an environment: by its whole path, since there is none to look it up in.
+        ran = subprocess.run([shutil.which(run[0]), *run[1:]], env={"PATH": "/usr/sbin:/usr/bin:/sbin:/bin"} if words else {}, stdin=subprocess.DEVNULL, stdout=subprocess.PIPE, stderr=subprocess.STDOUT, text=True, **how)
+        tries.judge(command, ran.stdout == want, f"{ran.stdout!r}, not {want!r}")
+
+
+def main():
+    words = argparse.ArgumentParser(description=__doc__, formatter_class=argparse.RawDescriptionHelpFormatter)
+    words.add_argument("--program", default=f"{TOP}/crates/site_cli/out/site_cli")
+    words.add_argument("--library")
+    words.add_argument("--after-ci", action="store_true")
+    given = words.parse_args()
+    if not library.compiler():
+        print("skipped: all, since no C compiler is here\n0 of 0 tries of the archive were right")
+        return 0
+    tries = Tries()
+    with tempfile.TemporaryDirectory(prefix="try-release-") as folder:
+        where = given.library or f"{folder}/library"
+        if not given.library:
+            library.make(where, library.proved_part(given.after_ci))
+        name = f"jumbetai-{version()}-x86_64-linux"
+        for it in ("first", "second"):
+            tries.passes(f"the {it} archive", [f"{TOP}/tools/release.sh", "--any", given.program, where, f"{folder}/{it}"], umask=0o027 if it == "second" else 0o022)
+        made = [open(file, "rb").read() for file in sorted(glob.glob(f"{folder}/*/{name}.tar.xz"))]
+        tries.judge("both archives are the same bytes", len(made) == 2 and made[0] == made[1], [len(it) for it in made])
+        tries.passes("the sum of the archive", ["sha256sum", "-c", "--quiet", f"{name}.tar.xz.sha256"], cwd=f"{folder}/first")
+        tries.passes("the archive unpacks", ["tar", "-xJf", f"{folder}/first/{name}.tar.xz"], cwd=folder)
+        unpacked = f"{folder}/{name}"
+        tries.passes("the sums of all files", ["sha256sum", "-c", "--quiet", "SHA256SUMS"], cwd=unpacked)
+        for file in FILES:
+            tries.judge(file, os.path.isfile(f"{unpacked}/{file}"))
+        try_guide(tries, f"{unpacked}/bin/site", folder)
+        words = [library.compiler(), "examples/c/ask.c", "-Ilibrary", "-Llibrary", "-ljumbetai", "-o", "ask"]
+        if tries.passes("the example in C", words, cwd=unpacked):
+            said = [subprocess.run([it, "kinds", "examples/batch.json"], cwd=unpacked, capture_output=True).stdout for it in ("./ask", "bin/site")]
+            tries.judge("the example in C answers as the program", said[0] == said[1] != b"", said)
+    print(f"{tries.right} of {tries.all} tries of the archive were right")
+    return 0 if tries.right == tries.all else 1
+
+
+if __name__ == "__main__":
+    sys.exit(main())
