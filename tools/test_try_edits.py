@@ -95,6 +95,8 @@ def main():
         os.makedirs(f"{room}/crates/small/edits")
         with open(f"{room}/crates/small/src/lib.rt", "w", encoding="utf-8") as it:
             it.write(CRATE)
+        with open(f"{room}/crates.txt", "w", encoding="utf-8") as it:
+            it.write("small\n")
         build.TOP = try_edits.TOP = room
         answers = [tried(room, row) for row in ROWS.items()] + [told_of_tables(room)]
         for rows in (TOGETHER, BESIDE):

@@ -3,10 +3,11 @@
 
     tools/try_bindings.py [--after-ci] [--program FILE] [--library FOLDER] [--events N]
 
-From Rust and Python a batch of 120,000 events, 30.6 MB, is taken, also page by page in another order, and all answers
-have to be the same, and those of the program, byte for byte; from C it is one of 2,000. With --events the batch has N. With --library the library of that folder is tried, and none is made. It also looks
-whether the version is the same wherever it stands. What is left out since a tool isn't there is told. The last line is
-'N of M tries of the library were right'.
+From C the answers about examples/orders.json have to be those that were worked out by hand. From Rust and Python a
+batch of 120,000 events, 30.6 MB, is taken, also page by page in another order, and all answers have to be the same,
+and those of the program, byte for byte; from C it is one of 2,000. With --events the batch has N events. With --library
+the library of that folder is tried, and none is made. It also looks whether the version is the same wherever it stands.
+What is left out since a tool isn't there is told. The last line is 'N of M tries of the library were right'.
 """
 import argparse
 import contextlib
@@ -42,9 +43,10 @@ class Tries:
 
     def has(self, tool, what):
         """Whether a tool is there; says what is left out where it isn't."""
-        if not shutil.which(tool):
+        is_there = shutil.which(tool) is not None and self.run([tool, "--version"])[0] == 0
+        if not is_there:
             print(f"skipped: {what}, since {tool} isn't there", flush=True)
-        return bool(shutil.which(tool))
+        return is_there
 
     def run(self, words, folder=None, **more):
         ran = subprocess.run(words, cwd=folder or self.folder, env={**self.environment, **more}, stdin=subprocess.DEVNULL, stdout=subprocess.PIPE, stderr=subprocess.STDOUT)
@@ -55,6 +57,13 @@ class Tries:
         status, out = self.run(words, folder)
         is_said = said is None or said.search(out) is not None
         return self.judge(what, status == 0 and is_said, f"status {status}: {out.decode(errors='replace')}")
+
+
+def worked_answers():
+    """The answers of examples/README.md about examples/orders.json, worked out by hand: a block below each question."""
+    with open(f"{TOP}/examples/README.md", encoding="utf-8") as file:
+        text = file.read()
+    return dict(re.findall(r"^## `(\w+)`$.*?^```\n(.*?)^```$", text, re.M | re.S))
 
 
 def made_batch(tries, name, events):
@@ -76,6 +85,10 @@ def try_c(tries):
     if tries.has("valgrind", "C under valgrind"):
         for words in (["./test_site"], ["./try_want"], ["./ask", "delta", batch]):
             tries.passes(f"{words[0]} under valgrind", [*VALGRIND, *words])
+    worked = worked_answers()
+    for question in QUESTIONS:
+        status, out = tries.run(["./ask", question, f"{TOP}/examples/orders.json"])
+        tries.judge(f"C: {question} of the examples", status == 0 and out.decode() == worked.get(question), out)
     if not tries.program:
         return
     for question in QUESTIONS:

@@ -101,7 +101,8 @@ int jumbetai_summary(jumbetai_site *site, jumbetai_text *text);
 /* The events that a peer lacks by its summary, whose final line end may be left out: those at the
  * places from `from` on, counted from 0, at most JUMBETAI_PAGE, as a batch that its jumbetai_take
  * takes. The next page begins at `from` and `events` more; a page of no events is behind the last.
- */
+ * Where events come to the site between two pages, some may be passed over: the peer has all when
+ * the first page by its new summary has no events. */
 int jumbetai_delta(jumbetai_site *site, const void *summary, size_t length, uint64_t from,
                    jumbetai_text *text);
 

@@ -19,11 +19,12 @@ system's loader looks.
     True
 
 Sites that took the same events, in whatever order and however often, give the same bytes for every answer. That is
-proved of the library; this module, which calls it through C, is only tested. A call holds no lock of Python's while it
-runs, so a site that threads share wants a lock of its own: one thread at a time may use it.
+proved of the library; this module, which calls it through C, is only tested. Threads may share a site: a call on it waits
+for the one before, while other threads of Python run.
 """
 import ctypes
 import os
+import threading
 from collections import namedtuple
 
 __all__ = ["PAGE", "QUESTIONS", "Error", "Page", "Site", "Taken", "version"]
@@ -94,15 +95,17 @@ class Site:
     """A site without a file. It is closed by `close`, by `with`, or when nothing refers to it."""
 
     def __init__(self):
+        self._lock = threading.Lock()
         self._site = _library.jumbetai_open()
         if not self._site:
             raise MemoryError("jumbetai")
 
     def close(self):
         """Gives the site's memory back. No other call is possible then."""
-        site, self._site = self._site, None
-        if site:
-            _library.jumbetai_close(site)
+        with self._lock:
+            site, self._site = self._site, None
+            if site:
+                _library.jumbetai_close(site)
 
     def __enter__(self):
         return self
@@ -116,14 +119,14 @@ class Site:
 
     def __len__(self):
         """How many events the site has, each counted once."""
-        return _library.jumbetai_count(self._open())
+        return self._call(_library.jumbetai_count)
 
     def take(self, given):
         """Takes an event, or a batch of events, in the JSON format of CloudEvents 1.0.2, as bytes or as a text, of at most
         33,554,432 bytes. Where they are at fault nothing is taken. At want of memory (MemoryError) the first of them may
         have been taken: the same may be given again."""
         given, counts = _bytes(given), _Counts()
-        _judge(_library.jumbetai_take(self._open(), given, len(given), ctypes.byref(counts)))
+        _judge(self._call(_library.jumbetai_take, given, len(given), ctypes.byref(counts)))
         return Taken(counts.fresh, counts.repeated)
 
     def check(self, given):
@@ -134,7 +137,7 @@ class Site:
     def keep_views(self):
         """Keeps views of the events from now on: kinds, days and latest then take the time that the answer takes, in
         place of a pass over all events, and each event that comes takes a little more. No answer changes."""
-        _judge(_library.jumbetai_keep_views(self._open()))
+        _judge(self._call(_library.jumbetai_keep_views))
 
     def ask(self, question):
         """The answer to one of QUESTIONS, in the lines that the program `site` prints."""
@@ -147,7 +150,8 @@ class Site:
         return self._text(_library.jumbetai_summary)[0]
 
     def delta(self, summary, start=0):
-        """What a peer lacks by its summary, from a place on, a Page at a time."""
+        """What a peer lacks by its summary, from a place on, a Page at a time. Where events come to the site between two
+        pages, some may be passed over: the peer has all when nothing comes by its new summary."""
         summary = _bytes(summary)
         return self._pages(start, _library.jumbetai_delta, summary, len(summary))
 
@@ -165,16 +169,17 @@ class Site:
 
     def _text(self, call, *arguments):
         text = _Text()
-        _judge(call(self._open(), *arguments, ctypes.byref(text)))
+        _judge(self._call(call, *arguments, ctypes.byref(text)))
         try:
             return ctypes.string_at(text.bytes, text.length), text.events
         finally:
             _library.jumbetai_free(ctypes.byref(text))
 
-    def _open(self):
-        if not self._site:
-            raise ValueError("the site is closed")
-        return self._site
+    def _call(self, function, *arguments):
+        with self._lock:
+            if not self._site:
+                raise ValueError("the site is closed")
+            return function(self._site, *arguments)
 
 
 def _bytes(given):

@@ -7,13 +7,21 @@ skipped, and said.
 import doctest
 import json
 import os
+import socket
 import subprocess
+import sys
 import tempfile
 import threading
+import time
 import unittest
+import urllib.error
+import urllib.request
 
 import jumbetai
 from jumbetai import QUESTIONS, Error, Page, Site, Taken
+
+
+HERE = os.path.dirname(os.path.abspath(__file__))
 
 
 def event(number, source="/shop", **more):
@@ -134,13 +142,13 @@ class Sites(unittest.TestCase):
         with self.assertRaises(ValueError):
             site.summary()
 
-    def test_a_site_goes_from_thread_to_thread(self):
-        site, lock = Site(), threading.Lock()
+    def test_threads_share_a_site(self):
+        site = Site()
 
         def work(first):
             for number in range(first, first + 25):
-                with lock:
-                    site.take(batch([event(number)]))
+                site.take(batch([event(number)]))
+                self.assertGreater(len(site.summary()), 0)
 
         threads = [threading.Thread(target=work, args=(1 + 25 * it,)) for it in range(8)]
         for it in threads:
@@ -149,6 +157,54 @@ class Sites(unittest.TestCase):
             it.join()
         self.assertEqual(site.ask("cover"), b'{"sources":{"/shop":[[1,200]]},"version":1}\n')
         site.close()
+
+
+class Services(unittest.TestCase):
+    """Services of service.py, of which one asks the other for what it lacks."""
+
+    def setUp(self):
+        try:
+            with socket.create_server(("127.0.0.1", 0)) as here:
+                socket.create_connection(here.getsockname(), 1).close()
+        except OSError as why:
+            self.skipTest(f"no port of this machine can be reached: {why}")
+
+    def start(self, *words):
+        command = [sys.executable, "service.py", "--port", "0", "--every", "0.05", *words]
+        service = subprocess.Popen(command, cwd=HERE, stdout=subprocess.PIPE, text=True)
+        self.addCleanup(service.stdout.close)
+        self.addCleanup(service.wait)
+        self.addCleanup(service.kill)
+        return service.stdout.readline().split()[1]
+
+    def call(self, url, body=None):
+        try:
+            with urllib.request.urlopen(urllib.request.Request(url, data=body), timeout=10) as answer:
+                return answer.status, answer.read()
+        except urllib.error.HTTPError as why:
+            with why:
+                return why.code, why.read()
+
+    def test_two_services_come_to_one_view(self):
+        north = self.start()
+        south = self.start("--peer", north)
+        self.assertEqual(self.call(f"{north}/events", FEW), (200, b'{"new": 250, "repeated": 0}'))
+        self.assertEqual(self.call(f"{south}/events", batch([event(1), event(2, "/south")]))[0], 200)
+        for _ in range(200):
+            # Nobody asks for the north, so what it lacks is brought to it here.
+            _, lacking = self.call(f"{south}/delta", self.call(f"{north}/summary")[1])
+            self.assertEqual(self.call(f"{north}/events", lacking)[0], 200)
+            ends = [self.call(f"{it}/summary") for it in (north, south)]
+            if ends[0] == ends[1]:
+                break
+            time.sleep(0.05)
+        self.assertEqual(ends[0], ends[1])
+        self.assertEqual(self.call(f"{south}/kinds"), (200, b'["sold",251]\n'))
+        self.assertEqual(self.call(f"{south}/latest"), self.call(f"{north}/latest"))
+        status, said = self.call(f"{north}/events", batch([{**event(9), "sequence": "9"}]))
+        self.assertEqual((status, json.loads(said)["fault"]), (400, "BadSequence"))
+        self.assertEqual(self.call(f"{north}/delta", b"{}")[0], 400)
+        self.assertEqual(self.call(f"{north}/who")[0], 404)
 
 
 class BesideTheProgram(unittest.TestCase):
