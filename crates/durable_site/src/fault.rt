@@ -1,5 +1,4 @@
 //! Why a site isn't opened.
-use file_disk::OpenError;
 use inbox_table::TableFault;
 use sqlite::ErrorCode;
 use std::io::{self, ErrorKind};
@@ -10,16 +9,7 @@ use thiserror::Error;
 pub enum OpenFault {
     #[error("OutOfMemory")]
     OutOfMemory,
-    /// Somebody else has the database open, or this process has.
-    #[error("Busy")]
-    Busy,
-    /// SQLite left a rollback journal, which it alone can play back.
-    #[error("Journal")]
-    Journal,
-    /// The name is no file's, or the file has another name too.
-    #[error("NoFile")]
-    NoFile,
-    /// The operating system refuses to open, to lock or to read the file.
+    /// The operating system refuses to read or to write a file.
     #[error("System")]
     System,
     /// The file is no database of SQLite, or one with what these crates can't read.
@@ -37,18 +27,15 @@ pub enum OpenFault {
 }
 
 impl OpenFault {
-    /// The number that the refusal is known by, 1 to 9.
+    /// The number that the refusal is known by, 1 to 6.
     pub fn number(self) -> u8 {
         match self {
             OpenFault::OutOfMemory => 1,
-            OpenFault::Busy => 2,
-            OpenFault::Journal => 3,
-            OpenFault::NoFile => 4,
-            OpenFault::System => 5,
-            OpenFault::NoDatabase => 6,
-            OpenFault::Damaged => 7,
-            OpenFault::Store => 8,
-            OpenFault::Foreign => 9,
+            OpenFault::System => 2,
+            OpenFault::NoDatabase => 3,
+            OpenFault::Damaged => 4,
+            OpenFault::Store => 5,
+            OpenFault::Foreign => 6,
         }
     }
 }
@@ -62,24 +49,11 @@ impl From<io::Error> for OpenFault {
     }
 }
 
-impl From<OpenError> for OpenFault {
-    fn from(error: OpenError) -> OpenFault {
-        match error {
-            OpenError::OutOfMemory => OpenFault::OutOfMemory,
-            OpenError::Io(error) => OpenFault::from(error),
-            OpenError::NoFile => OpenFault::NoFile,
-            OpenError::Busy => OpenFault::Busy,
-            OpenError::HotJournal => OpenFault::Journal,
-        }
-    }
-}
-
 /// What an error of the database is that is met when it is opened.
 pub(crate) fn of_error(error: sqlite::Error) -> OpenFault {
     match error {
         sqlite::Error::SqliteFailure(code) => match code {
             ErrorCode::OutOfMemory => OpenFault::OutOfMemory,
-            ErrorCode::DatabaseBusy => OpenFault::Busy,
             ErrorCode::NotADatabase => OpenFault::NoDatabase,
             ErrorCode::DatabaseCorrupt => OpenFault::Damaged,
             ErrorCode::CannotOpen | ErrorCode::SystemIoFailure => OpenFault::System,

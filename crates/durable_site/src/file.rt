@@ -1,17 +1,18 @@
-//! A site over the files of a database, opened by their name.
+//! A site over the files of a database, which are handed over open.
 ghost use Rattle.std.specs.Prelude.{◌≤◌, IfOk};
 ghost use Rattle.sqlite_wal.specs.Files.{image_at};
 ghost use Rattle.durable_site.specs.Files.{IsOver, OpensOver};
 
 use crate::durable::DurableSite;
 use crate::fault::{OpenFault, of_error, of_table};
-use file_disk::{FileFrom, length_of, random_seed};
+use file_disk::{FileFrom, files_of};
 use inbox_table::NotMade;
 use sqlite::Connection;
 use sqlite_disk::Start;
 use sqlite_pager::Options;
 use sqlite_store::FileStore;
 use std::alloc::Global;
+use std::fs;
 
 /// The bytes of a database's page.
 const PAGE: u64 = 4_096;
@@ -27,22 +28,33 @@ const MIB: u64 = 256;
 /// A site over the files of a database.
 pub type FileSite<T> = DurableSite<FileStore<FileFrom<T>>>;
 
-/// Opens a site over the database of that path, as [`DurableSite::open`] does; its files are made
-/// where there are none. Until the site is let go, everybody else who opens the database finds it
-/// busy. What the files hold `T` says in clauses, and no code can ask.
-///
-/// `cache_mib` is how many MiB of the database are kept in memory, which is taken at once; at 0 it is
-/// as much as the file has now, a tenth and 16 MiB, at most 256 MiB. Of a database past it pages are
-/// read again.
-pub fn open_file<T: Start>(
+/// The two files of a database, open for reading and writing, as [`file_disk::files_of`] takes
+/// them: both are locked and nobody else's. They lie in memory as C has a struct of the two numbers
+/// by which the system knows them, then three more.
+#[repr(C)]
+#[derive(Drop)]
+pub struct GivenFiles {
+    pub log: fs::File,
+    pub db: fs::File,
+    /// Drawn at random: the secret under which digests are taken.
+    pub key: u64,
+    /// Drawn at random, for the log's salts.
+    pub seed: u64,
+    /// How many MiB of the database are kept in memory, which is taken at once; at 0 as much as the
+    /// file has now, a tenth and 16 MiB, at most 256 MiB. Of a database past it pages are read again.
+    pub cache_mib: u64,
+}
+
+/// Opens a site over the files of a database, as [`DurableSite::open`] does; files that are empty
+/// get one without events. What they hold `T` says in clauses, and no code can ask.
+pub fn open_files<T: Start>(
     alloc: Global,
-    path: &[u8],
-    cache_mib: u32,
+    given: GivenFiles,
     start: T,
 ) -> Result<FileSite<T>, OpenFault>
     ensures { IfOk result (OpensOver (image_at T.Start)) }
 {
-    let conn = connected(alloc, path, pages_for(path, cache_mib), start)?;
+    let conn = connected(alloc, given, start)?;
     match DurableSite::open(alloc, conn) {
         Ok(site) => Ok(site),
         Err(refused) => Err(fault_of(refused)),
@@ -55,35 +67,33 @@ fn fault_of<T: Start>(refused: NotMade<FileStore<FileFrom<T>>>) -> OpenFault {
     of_table(fault)
 }
 
-/// Opens the database of that path with so many pages in memory.
+/// Opens the database of these files.
 fn connected<T: Start>(
     alloc: Global,
-    path: &[u8],
-    pages: u64,
+    given: GivenFiles,
     start: T,
 ) -> Result<Connection<FileStore<FileFrom<T>>>, OpenFault>
     ensures { IfOk result (IsOver (image_at T.Start)) }
 {
-    let mut options = Options::new(random_seed()?);
+    let pages = pages_for(given.db.metadata()?.len(), given.cache_mib);
+    let mut options = Options::new(given.seed);
     options.cache_pages = pages as usize;
     options.spill_pages = options.spill_pages.max(pages as usize);
-    match file_disk::open(alloc, path, start) {
-        Ok(files) => match Connection::open_files(alloc, files, options) {
-            Ok(conn) => Ok(conn),
-            Err((error, _)) => Err(of_error(error)),
-        },
-        Err(error) => Err(OpenFault::from(error)),
+    let files = files_of(given.log, given.db, given.key, start)?;
+    match Connection::open_files(alloc, files, options) {
+        Ok(conn) => Ok(conn),
+        Err((error, _)) => Err(of_error(error)),
     }
 }
 
 /// The pages that are to be kept in memory. A page stands in the cache at its number modulo the
 /// cache's size, so there is a tenth more than the file has.
-fn pages_for(path: &[u8], cache_mib: u32) -> u64
+fn pages_for(length: u64, cache_mib: u64) -> u64
     ensures { 200 ≤ result }
 {
     if cache_mib > 0 {
-        return u64::from(cache_mib) * MIB;
+        return cache_mib.min(1_048_576) * MIB;
     }
-    let pages = length_of(path) / PAGE;
+    let pages = length / PAGE;
     (pages + pages / 10 + GROWTH).clamp(LEAST_PAGES, MOST_PAGES)
 }

@@ -1,12 +1,12 @@
-//! The files of a database as disks, for programs that have no runtime to open files by: an export
-//! of a static library gets none. Every call goes to the operating system by its C library.
+//! The two files of a database as disks, for programs that are handed them open: the export of a
+//! static library has no runtime to open files by.
 #![tactic(auto)]
 
 mod opening;
 mod system;
 mod system_file;
 
-pub use opening::{OpenError, length_of, open, random_seed};
+pub use opening::files_of;
 pub use sqlite_disk::{Start, Unknown};
 pub use system_file::SystemFile;
 

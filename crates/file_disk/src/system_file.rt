@@ -1,14 +1,12 @@
 //! An open file whose calls are told as a disk's are.
-ghost use Rattle.std.specs.Prelude.{◌≡◌, [], ◌∷◌, IfOk};
-ghost use Rattle.sqlite_disk.specs.Events.{settled};
+ghost use Rattle.std.specs.Prelude.{◌≡◌, IfOk};
 ghost use Rattle.file_disk.specs.File.{calls_of};
-ghost use Rattle.file_disk.specs.Note.{known, locked};
 
 use crate::system::OpenFile;
 use sqlite_disk::Calls;
-use std::io;
+use std::{fs, io};
 
-/// An open file of the operating system, locked and settled.
+/// An open file of the operating system, settled.
 #[derive(Drop)]
 pub struct SystemFile {
     file: OpenFile,
@@ -17,18 +15,18 @@ pub struct SystemFile {
 impl SystemFile {
     ghost use Rattle.file_disk.specs.Opened.{IsSettled};
 
-    /// Takes a file that was locked, after what an earlier process left of it has reached its device.
-    pub(crate) fn settled(mut file: OpenFile, folder: &OpenFile, key: u64) -> io::Result<SystemFile>
-        requires { calls_of file ≡ locked ∷ [] }
+    /// Takes an open file, once what was written to it before has reached its device.
+    pub(crate) fn settled(file: fs::File, key: u64) -> io::Result<SystemFile>
         ensures { IfOk result (IsSettled key) }
     {
-        file.settle(folder, key)?;
+        let mut file = OpenFile::of(file);
+        file.settle(key)?;
         Ok(SystemFile { file })
     }
 }
 
 impl Calls for SystemFile {
-    ghost history = { λ f. known (calls_of f.file) };
+    ghost history = { λ f. calls_of f.file };
 
     fn len(&mut self) -> io::Result<usize> {
         self.file.length()

@@ -3,7 +3,6 @@ use Rattle.sqlite_disk.specs.Events.{Event, replay}
 use Rattle.sqlite_wal.specs.Recovery.{Image}
 use Rattle.sqlite.specs.Files.{file_state}
 use Rattle.sqlite.specs.Start.{FindsIn}
-use Rattle.file_disk.specs.Note.{known}
 use Rattle.durable_site.proofs.file.connected.Goals as goal
 
 abbrev image_from : List ℕ → List ℕ → Image
@@ -11,14 +10,14 @@ image_from log db = record { log = log; db = db }
 
 -- what a file shows after these calls
 abbrev seen : List ℕ → List ℕ → Bool → List Event → List ℕ
-seen log db is_log calls = (replay (cond is_log log db) (known calls)).seen
+seen log db is_log calls = (replay (cond is_log log db) calls).seen
 
-pub returns-in-Ok-open_files : goal.returns-in-Ok-open_files
-returns-in-Ok-open_files g c clean =
-    let log = c.in-Ok.ensures.log in
-    let db = c.in-Ok.ensures.db in
-    let found = c.in-Ok-open_files.ensures.found clean in
+pub returns-in-Ok : goal.returns-in-Ok
+returns-in-Ok g c clean =
+    let log = c.in_ok-files.ensures.log in
+    let db = c.in_ok-files.ensures.db in
+    let found = c.in-Ok.ensures.found clean in
     let same = ap₂ image_from
     (ap₂ (seen g.T.Start.log g.T.Start.db) log.which log.settled)
     (ap₂ (seen g.T.Start.log g.T.Start.db) db.which db.settled) in
-    (c.in-Ok-open_files.ensures.opened clean, subst (λ i. FindsIn i (file_state c.in-Ok-open_files.conn)) same (record { holds = found.holds; reads = found.reads }))
+    (c.in-Ok.ensures.opened clean, subst (λ i. FindsIn i (file_state c.in-Ok.conn)) same (record { holds = found.holds; reads = found.reads }))
