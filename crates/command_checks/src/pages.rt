@@ -5,7 +5,8 @@ use crate::fixture::{add, batch, database, octets};
 use attributes::{Batch, Text};
 use coverage::Summary;
 use database_commands::{
-    CommandFault, Contents, CommandEnd, EventPages, Paged, delta_pages, held, scrub_pages, summary, take,
+    CommandEnd, CommandFault, Contents, EventPages, Paged, delta_pages, held, scrub_pages, summary,
+    take,
 };
 use event_json::write_sequenced;
 use file_reports::events_of;

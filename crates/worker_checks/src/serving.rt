@@ -5,7 +5,7 @@ ghost use Rattle.std.specs.Prelude.{◌≡◌, ◌+◌, length, IfSome};
 use crate::event::{is_text, json_batch};
 use crate::worker::{fill, report};
 use attributes::{List, Octets};
-use feeds::{Aside, WorkerEnd, Idle, Jobs, Questions, ServeFault, Served, serve};
+use feeds::{Aside, Idle, Jobs, Questions, ServeFault, Served, WorkerEnd, serve};
 use site::{Gate, GateShut, Site, Wide};
 use site_lock::{Begun, Pass, SharedSite};
 use std::alloc::Global;

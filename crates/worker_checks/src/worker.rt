@@ -4,7 +4,7 @@ ghost use Rattle.std.specs.Prelude.{◌+◌, ◌<◌, ◌^◌};
 
 use crate::event::{is_text, json_batch};
 use event_json::ReadFault;
-use feeds::{Answers, WorkerEnd, Report, ask, feed, pull, pull_from};
+use feeds::{Answers, Report, WorkerEnd, ask, feed, pull, pull_from};
 use site::{Gate, GateShut, Site, Wide};
 use std::alloc::Global;
 use std::process::Abort;
@@ -186,5 +186,14 @@ fn questions_are_answered_in_their_order(rt: HostRuntime) {
     let mut site = Site::empty(alloc);
     assert!(rt; fill(alloc, &mut site, 1, 2));
     assert!(rt; asks(alloc, &mut site, &Wide, 0, WorkerEnd::Done, &[kinds, cover]));
-    assert!(rt; asks(alloc, &mut site, &First(1), 7, WorkerEnd::GateShut, &[kinds]));
+    assert!(rt;
+        asks(
+            alloc,
+            &mut site,
+            &First(1),
+            7,
+            WorkerEnd::GateShut,
+            &[kinds]
+        )
+    );
 }
