@@ -74,7 +74,7 @@ def made_batch(tries, name, events):
 
 def try_c(tries):
     """The programs in C, each linked as a user links it, and once more under valgrind."""
-    for source in ("bindings/c/test_site.c", "bindings/c/try_want.c", "examples/c/ask.c"):
+    for source in ("bindings/c/test_site.c", "bindings/c/test_file.c", "bindings/c/try_want.c", "examples/c/ask.c"):
         name = os.path.basename(source).removesuffix(".c")
         words = [library.compiler(), *STRICT, "-Ilibrary", f"{TOP}/{source}", "-Llibrary", "-ljumbetai", "-o", name]
         if tries.passes(f"{source} is compiled", words) and name != "ask":
@@ -83,7 +83,7 @@ def try_c(tries):
         tries.passes("the header in C++", ["c++", "-x", "c++", "-Wall", "-Wextra", "-Werror", "-fsyntax-only", "library/jumbetai.h"])
     batch = made_batch(tries, "small.json", 2000)
     if tries.has("valgrind", "C under valgrind"):
-        for words in (["./test_site"], ["./try_want"], ["./ask", "delta", batch]):
+        for words in (["./test_site"], ["./test_file"], ["./try_want"], ["./ask", "delta", batch]):
             tries.passes(f"{words[0]} under valgrind", [*VALGRIND, *words])
     worked = worked_answers()
     for question in QUESTIONS:

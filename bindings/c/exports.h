@@ -37,4 +37,26 @@ void jumbetai_site_keep_views(void *at, const unsigned char *seed, size_t length
 void jumbetai_site_read(void *at, uint32_t piece, struct jumbetai_piece *out);
 void jumbetai_site_close(void *at);
 
+/* Two open files of a database, for reading and writing, by their descriptors: its log, and the
+ * database file. Both are locked and nobody else's, hold what the disk holds, and are the library's
+ * from jumbetai_file_open on, which closes them in the end. key and seed: drawn at random.
+ * cache_mib: how many MiB of the database are kept in memory, 0 for what the library finds fit. */
+struct jumbetai_files {
+    int32_t log, db;
+    uint64_t key, seed, cache_mib;
+};
+
+/* A site over files, in room of jumbetai_file_size() bytes. Where opening it is refused a site that
+ * isn't open lies there, which is closed too. */
+size_t jumbetai_file_size(void);
+void jumbetai_file_open(void *at, struct jumbetai_files *files, struct jumbetai_reply *reply);
+void jumbetai_file_take(void *at, const unsigned char *bytes, size_t length,
+                        struct jumbetai_reply *reply);
+/* what: 1 to 7 a question; 8 the summary; 9 what a peer lacks, whose summary the bytes are; 10 a
+ * page; 11 what is wrong with bytes; 12 that views be kept, by sixteen random bytes. */
+void jumbetai_file_tell(void *at, uint32_t what, const unsigned char *bytes, size_t length,
+                        uint64_t from, struct jumbetai_reply *reply);
+void jumbetai_file_read(void *at, uint32_t piece, struct jumbetai_piece *out);
+void jumbetai_file_close(void *at);
+
 #endif

@@ -1,9 +1,9 @@
 /* A site in a process of one's own: a set of CloudEvents in memory, its answers, its summary, and
  * what another site lacks of it. Link with libjumbetai.a: cc program.c -ljumbetai
  *
- * A call answers a status, 0 where it is done. None prints, aborts or touches a file. A site may go
- * from thread to thread, as by a lock, but one thread at a time uses it; two sites have nothing in
- * common. No call is to be made from a signal handler. */
+ * A call answers a status, 0 where it is done. None prints or aborts, and only a site over a file
+ * touches one. A site may go from thread to thread, as by a lock, but one thread at a time uses it;
+ * two sites have nothing in common. No call is to be made from a signal handler. */
 #ifndef JUMBETAI_H
 #define JUMBETAI_H
 
@@ -32,7 +32,17 @@ enum jumbetai_status {
     JUMBETAI_SUMMARY_VERSION = 7,       /* of a version that isn't known */
     JUMBETAI_SUMMARY_NOT_CANONICAL = 8, /* not byte for byte as a summary is written */
     JUMBETAI_BAD_ARGUMENT = 9,          /* a null pointer, or a length above PTRDIFF_MAX */
-    JUMBETAI_NO_RANDOM = 10             /* the system gave no random bytes */
+    JUMBETAI_NO_RANDOM = 10,            /* the system gave no random bytes */
+    JUMBETAI_NOT_OPEN = 11,             /* no call answers so of a site that was opened */
+    JUMBETAI_BUSY = 12,                 /* somebody else has the database open, or this process */
+    JUMBETAI_JOURNAL = 13,     /* SQLite left a journal: open the database once with sqlite3 */
+    JUMBETAI_NO_FILE = 14,     /* a folder, a device, a log that is a link, a file of two names */
+    JUMBETAI_SYSTEM = 15,      /* the system refuses to open, to lock, to read or to write a file */
+    JUMBETAI_NO_DATABASE = 16, /* no database of SQLite, or one with what isn't read here */
+    JUMBETAI_DAMAGED = 17,     /* a page of it isn't what SQLite writes */
+    JUMBETAI_STORE = 18,       /* it has tables of others, or a statement was refused */
+    JUMBETAI_FOREIGN = 19,     /* the table, or its rows, aren't those that are left here */
+    JUMBETAI_OWED = 20         /* the events are kept, and memory ran out before all were counted */
 };
 
 /* The seven questions, as `site` has them. */
@@ -69,6 +79,13 @@ enum { JUMBETAI_PAGE = 100 };
 /* A site without events; null where memory is refused. */
 jumbetai_site *jumbetai_open(void);
 
+/* A site over a database file, which is made where there is none: what it takes is in the file, on
+ * the disk, once the call is done. The file is one that `site` and sqlite3 open when it is closed;
+ * until then they find it busy, and so does who opens it twice. `path` ends with a zero byte.
+ * `cache_mib` is how many MiB of the file are kept in memory, 0 for as many as it has and 16 more,
+ * at most 256. Time and memory in proportion to the events. `*site` is null where it isn't done. */
+int jumbetai_open_file(const char *path, uint32_t cache_mib, jumbetai_site **site);
+
 /* Gives a site and its memory back. A null pointer is let through. */
 void jumbetai_close(jumbetai_site *site);
 
@@ -77,8 +94,9 @@ uint64_t jumbetai_count(const jumbetai_site *site);
 
 /* Takes an event, or a batch of events, in the JSON format of CloudEvents 1.0.2, of at most
  * 33,554,432 bytes. Where the bytes are at fault nothing is taken. At want of memory the first of
- * them may have been taken, `fresh` of which were new: the same bytes may be given again. `counts`
- * may be null. */
+ * them may have been taken, `fresh` of which were new: the same bytes may be given again. Over a
+ * file all are kept, in one transaction, or none; JUMBETAI_OWED says that they are kept, and that
+ * the rest is counted at the next take. `counts` may be null. */
 int jumbetai_take(jumbetai_site *site, const void *bytes, size_t length, jumbetai_counts *counts);
 
 /* What is wrong with bytes that are refused: a line of JSON for each event at fault, as `site

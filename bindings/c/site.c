@@ -2,16 +2,10 @@
  * what C lets a caller get wrong, keeps the room that a site lies in, and puts a text together of
  * its pieces. */
 #define _DEFAULT_SOURCE /* getentropy */
-#include "exports.h"
-#include "jumbetai.h"
+#include "site.h"
 #include <stdlib.h>
 #include <string.h>
 #include <unistd.h>
-
-struct jumbetai_site {
-    uint64_t events;
-    _Alignas(16) unsigned char room[];
-};
 
 /* A text of more bytes isn't left in the site beside the caller's copy. */
 enum { LARGE = 65536 };
@@ -25,6 +19,23 @@ static const unsigned char *start_of(const void *bytes) {
     return bytes ? bytes : (const unsigned char *)"";
 }
 
+/* What a site over files is asked by: the numbers of the questions, and these behind them. */
+enum { SUMMARY = 8, DELTA, PAGE, CHECK, KEEP_VIEWS };
+
+/* Asks a site over files. */
+static void tell(jumbetai_site *site, uint32_t what, const void *bytes, size_t length,
+                 uint64_t from, struct jumbetai_reply *reply) {
+    jumbetai_file_tell(site->room, what, start_of(bytes), length, from, reply);
+}
+
+/* Asks for a page. */
+static void ask_page(jumbetai_site *site, uint64_t from, struct jumbetai_reply *reply) {
+    if (site->is_file)
+        tell(site, PAGE, NULL, 0, from, reply);
+    else
+        jumbetai_site_page(site->room, from, reply);
+}
+
 /* The text that the site keeps since the call that replied so. */
 static int copy_text(jumbetai_site *site, const struct jumbetai_reply *reply, jumbetai_text *text) {
     if (reply->status != JUMBETAI_DONE) return (int)reply->status;
@@ -33,14 +44,17 @@ static int copy_text(jumbetai_site *site, const struct jumbetai_reply *reply, ju
     struct jumbetai_piece piece;
     size_t had = 0;
     for (uint32_t i = 0; had < reply->length; i++, had += piece.length) {
-        jumbetai_site_read(site->room, i, &piece);
+        if (site->is_file)
+            jumbetai_file_read(site->room, i, &piece);
+        else
+            jumbetai_site_read(site->room, i, &piece);
         memcpy(bytes + had, piece.bytes, piece.length);
     }
     bytes[had] = 0;
     *text = (jumbetai_text){bytes, had, reply->listed};
     /* The site keeps its last text: a page without events is in place of a large one. */
     struct jumbetai_reply unread;
-    if (had > LARGE) jumbetai_site_page(site->room, UINT64_MAX, &unread);
+    if (had > LARGE) ask_page(site, UINT64_MAX, &unread);
     return JUMBETAI_DONE;
 }
 
@@ -48,13 +62,17 @@ jumbetai_site *jumbetai_open(void) {
     jumbetai_site *site = malloc(sizeof *site + jumbetai_site_size());
     if (!site) return NULL;
     site->events = 0;
+    site->is_file = 0;
     jumbetai_site_open(site->room);
     return site;
 }
 
 void jumbetai_close(jumbetai_site *site) {
     if (!site) return;
-    jumbetai_site_close(site->room);
+    if (site->is_file)
+        jumbetai_file_close(site->room);
+    else
+        jumbetai_site_close(site->room);
     free(site);
 }
 
@@ -64,7 +82,10 @@ int jumbetai_take(jumbetai_site *site, const void *bytes, size_t length, jumbeta
     struct jumbetai_reply reply;
     if (counts) *counts = (jumbetai_counts){0, 0};
     if (!site || !is_range(bytes, length)) return JUMBETAI_BAD_ARGUMENT;
-    jumbetai_site_take(site->room, start_of(bytes), length, &reply);
+    if (site->is_file)
+        jumbetai_file_take(site->room, start_of(bytes), length, &reply);
+    else
+        jumbetai_site_take(site->room, start_of(bytes), length, &reply);
     site->events = reply.events;
     if (counts) *counts = (jumbetai_counts){reply.fresh, reply.repeated};
     return (int)reply.status;
@@ -74,7 +95,10 @@ int jumbetai_check(jumbetai_site *site, const void *bytes, size_t length, jumbet
     struct jumbetai_reply reply;
     if (text) *text = (jumbetai_text){0};
     if (!site || !text || !is_range(bytes, length)) return JUMBETAI_BAD_ARGUMENT;
-    jumbetai_site_check(site->room, start_of(bytes), length, &reply);
+    if (site->is_file)
+        tell(site, CHECK, bytes, length, 0, &reply);
+    else
+        jumbetai_site_check(site->room, start_of(bytes), length, &reply);
     return copy_text(site, &reply, text);
 }
 
@@ -83,7 +107,10 @@ int jumbetai_keep_views(jumbetai_site *site) {
     struct jumbetai_reply reply;
     if (!site) return JUMBETAI_BAD_ARGUMENT;
     if (getentropy(seed, sizeof seed)) return JUMBETAI_NO_RANDOM;
-    jumbetai_site_keep_views(site->room, seed, sizeof seed, &reply);
+    if (site->is_file)
+        tell(site, KEEP_VIEWS, seed, sizeof seed, 0, &reply);
+    else
+        jumbetai_site_keep_views(site->room, seed, sizeof seed, &reply);
     return (int)reply.status;
 }
 
@@ -91,7 +118,10 @@ int jumbetai_ask(jumbetai_site *site, int question, jumbetai_text *text) {
     struct jumbetai_reply reply;
     if (text) *text = (jumbetai_text){0};
     if (!site || !text) return JUMBETAI_BAD_ARGUMENT;
-    jumbetai_site_ask(site->room, (uint32_t)question, &reply);
+    if (site->is_file)
+        tell(site, (uint32_t)question < SUMMARY ? (uint32_t)question : 0, NULL, 0, 0, &reply);
+    else
+        jumbetai_site_ask(site->room, (uint32_t)question, &reply);
     return copy_text(site, &reply, text);
 }
 
@@ -99,7 +129,10 @@ int jumbetai_summary(jumbetai_site *site, jumbetai_text *text) {
     struct jumbetai_reply reply;
     if (text) *text = (jumbetai_text){0};
     if (!site || !text) return JUMBETAI_BAD_ARGUMENT;
-    jumbetai_site_summary(site->room, &reply);
+    if (site->is_file)
+        tell(site, SUMMARY, NULL, 0, 0, &reply);
+    else
+        jumbetai_site_summary(site->room, &reply);
     return copy_text(site, &reply, text);
 }
 
@@ -108,7 +141,10 @@ int jumbetai_delta(jumbetai_site *site, const void *summary, size_t length, uint
     struct jumbetai_reply reply;
     if (text) *text = (jumbetai_text){0};
     if (!site || !text || !is_range(summary, length)) return JUMBETAI_BAD_ARGUMENT;
-    jumbetai_site_delta(site->room, start_of(summary), length, from, &reply);
+    if (site->is_file)
+        tell(site, DELTA, summary, length, from, &reply);
+    else
+        jumbetai_site_delta(site->room, start_of(summary), length, from, &reply);
     return copy_text(site, &reply, text);
 }
 
@@ -116,7 +152,7 @@ int jumbetai_page(jumbetai_site *site, uint64_t from, jumbetai_text *text) {
     struct jumbetai_reply reply;
     if (text) *text = (jumbetai_text){0};
     if (!site || !text) return JUMBETAI_BAD_ARGUMENT;
-    jumbetai_site_page(site->room, from, &reply);
+    ask_page(site, from, &reply);
     return copy_text(site, &reply, text);
 }
 
@@ -139,6 +175,16 @@ const char *jumbetai_words(int status) {
         [JUMBETAI_SUMMARY_NOT_CANONICAL] = "the summary isn't written as a summary is",
         [JUMBETAI_BAD_ARGUMENT] = "a null pointer, or a length that is too large",
         [JUMBETAI_NO_RANDOM] = "the system gave no random bytes",
+        [JUMBETAI_NOT_OPEN] = "the site isn't open",
+        [JUMBETAI_BUSY] = "somebody else has the database open",
+        [JUMBETAI_JOURNAL] = "SQLite left a journal: open the database once with sqlite3",
+        [JUMBETAI_NO_FILE] = "no file of one name has this path",
+        [JUMBETAI_SYSTEM] = "the system refuses to open, to read or to write a file",
+        [JUMBETAI_NO_DATABASE] = "the file is no database of SQLite",
+        [JUMBETAI_DAMAGED] = "a page of the file is damaged",
+        [JUMBETAI_STORE] = "the database refused, or has tables of others",
+        [JUMBETAI_FOREIGN] = "the table isn't as jumbetai leaves it",
+        [JUMBETAI_OWED] = "kept, and not all counted, since memory ran out",
     };
     int count = (int)(sizeof words / sizeof *words);
     return status >= 0 && status < count ? words[status] : "no such status";

@@ -54,9 +54,9 @@ pub struct Piece {
 /// The most events of a page.
 const MAX_PAGE: u64 = 100;
 
-const DONE: u32 = 0;
+pub(crate) const DONE: u32 = 0;
 
-const OUT_OF_MEMORY: u32 = 1;
+pub(crate) const OUT_OF_MEMORY: u32 = 1;
 
 const NO_SUCH_QUESTION: u32 = 4;
 
@@ -68,7 +68,7 @@ struct Answered {
 }
 
 /// The events that the bytes spell, each with its number.
-fn batch_of(alloc: Global, bytes: &[u8]) -> Result<Batch, Refused>
+pub(crate) fn batch_of(alloc: Global, bytes: &[u8]) -> Result<Batch, Refused>
     ensures ok { IfOk result (SpellAll (bytes.now ∷ [])) }
     ensures err { IfErr result (IsRefusal (bytes.now ∷ [])) }
 {
@@ -368,7 +368,7 @@ pub(crate) fn read(held: Held, piece: u32, out: &mut Piece) -> Held
 }
 
 /// Copies a piece of a text into the front of the room, and answers how many bytes it has.
-fn copied(text: &[u8], piece: u32, room: &mut [u8; PIECE]) -> u64
+pub(crate) fn copied(text: &[u8], piece: u32, room: &mut [u8; PIECE]) -> u64
     ensures length { result ≡ length (piece_of piece text.now) }
     ensures bytes { take result room.new ≡ piece_of piece text.now }
     ensures behind { drop result room.new ≡ drop result room.old }

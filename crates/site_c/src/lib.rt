@@ -6,14 +6,23 @@ ghost use Rattle.std.specs.Mem.{type_size};
 ghost use Rattle.std.specs.Prelude.{◌≡◌};
 ghost use Rattle.std.specs.Ptr.{lies_at, room_at};
 ghost use Rattle.site_c.specs.Calls.{Asked, Checked, HasRead, IsEmpty, Lacked, Paged, Summed, Took, Viewed};
+ghost use Rattle.site_c.specs.Files.{HasReadFile, OpenedFile, Told, TookFile};
+ghost use Rattle.site_c.specs.contracts.file_held.FileHeld.{the_row as file_row};
 ghost use Rattle.site_c.specs.contracts.held.Held.{the_row};
+ghost use Rattle.durable_site.specs.contracts.file.GivenFiles.{the_row as given_row};
+ghost use base.Fml.{fsep};
 
 mod calls;
+mod file_calls;
+mod file_held;
 mod held;
 pub mod laws;
 
 pub use calls::{PIECE, Piece, Reply};
 use calls::{asked, checked, lacked, let_go, paged, read, summed, taken, viewed};
+use durable_site::GivenFiles;
+use file_calls::{file_let_go, file_opened, file_read, file_taken, told};
+pub use file_held::FileHeld;
 pub use held::Held;
 use std::alloc::Global;
 
@@ -144,4 +153,86 @@ pub unsafe extern "C" fn jumbetai_site_close(at: *mut u8)
     ensures* { sem 𝓛 (room_at the_row at) }
 {
     let_go(std::ptr::read(at as *mut Held));
+}
+
+/// How many bytes of room a site over a file needs.
+#[unsafe(no_mangle)]
+pub extern "C" fn jumbetai_file_size() -> usize
+    ensures { result ≡ type_size file_row }
+{
+    size_of::<FileHeld>()
+}
+
+/// Opens a site over the files of a database, which are the library's from then on; where it is
+/// refused, a site that isn't open lies in the room.
+#[unsafe(no_mangle)]
+pub unsafe extern "C" fn jumbetai_file_open(
+    alloc: Global,
+    at: *mut u8,
+    given: *mut u8,
+    reply: &mut Reply,
+)
+    ghost files: { GivenFiles }
+    requires* { sem 𝓛 (fsep (room_at file_row at) (lies_at given_row full_share given files)) }
+    ensures* { ∃ₛ λ made. sem 𝓛 (fsep (lies_at file_row full_share at made)
+        (room_at given_row given)) ∗ ⌜ OpenedFile made reply.new ⌝ }
+{
+    let files = std::ptr::read(given as *mut GivenFiles);
+    std::ptr::write(at as *mut FileHeld, file_opened(alloc, files, reply));
+}
+
+/// Takes the events that the bytes spell, one event or a batch: they are kept in the file and
+/// synced, and then counted.
+#[unsafe(no_mangle)]
+pub unsafe extern "C" fn jumbetai_file_take(at: *mut u8, bytes: &[u8], reply: &mut Reply)
+    ghost held: { FileHeld }
+    requires* { sem 𝓛 (lies_at file_row full_share at held) }
+    ensures* { ∃ₛ λ kept. sem 𝓛 (lies_at file_row full_share at kept)
+        ∗ ⌜ TookFile bytes.now held kept reply.new ⌝ }
+{
+    let to = at as *mut FileHeld;
+    std::ptr::write(to, file_taken(std::ptr::read(to), bytes, reply));
+}
+
+/// Tells what is asked of the site by a number: 1 to 7 a question, 8 the summary, 9 what the peer
+/// of this summary lacks, 10 a page, 11 what is wrong with bytes, 12 that views be kept, by random
+/// bytes. The text stays in the site until it is asked again.
+#[unsafe(no_mangle)]
+pub unsafe extern "C" fn jumbetai_file_tell(
+    at: *mut u8,
+    what: u32,
+    bytes: &[u8],
+    from: u64,
+    reply: &mut Reply,
+)
+    ghost held: { FileHeld }
+    requires* { sem 𝓛 (lies_at file_row full_share at held) }
+    ensures* { ∃ₛ λ kept. sem 𝓛 (lies_at file_row full_share at kept)
+        ∗ ⌜ Told what bytes.now from held kept reply.new ⌝ }
+{
+    let to = at as *mut FileHeld;
+    std::ptr::write(to, told(std::ptr::read(to), what, bytes, from, reply));
+}
+
+/// Copies a piece of the text, counted from 0.
+#[unsafe(no_mangle)]
+pub unsafe extern "C" fn jumbetai_file_read(at: *mut u8, piece: u32, out: &mut Piece)
+    ghost held: { FileHeld }
+    requires* { sem 𝓛 (lies_at file_row full_share at held) }
+    ensures* { ∃ₛ λ kept. sem 𝓛 (lies_at file_row full_share at kept)
+        ∗ ⌜ HasReadFile piece held kept out.old out.new ⌝ }
+{
+    let to = at as *mut FileHeld;
+    std::ptr::write(to, file_read(std::ptr::read(to), piece, out));
+}
+
+/// Copies the log into the database file, closes both and gives the site's memory back; its room is
+/// room again.
+#[unsafe(no_mangle)]
+pub unsafe extern "C" fn jumbetai_file_close(at: *mut u8)
+    ghost held: { FileHeld }
+    requires* { sem 𝓛 (lies_at file_row full_share at held) }
+    ensures* { sem 𝓛 (room_at file_row at) }
+{
+    file_let_go(std::ptr::read(at as *mut FileHeld));
 }

@@ -1,0 +1,7 @@
+use Rattle.std.proofs.Common.{inl, refl}
+use Rattle.site_c.proofs.file_calls.told.Goals as goal
+
+pub returns-in-Some : goal.returns-in-Some
+returns-in-Some c = record {
+  told = inl (c.in-Some.durable, _, c.in-Some.is, refl, refl, refl, c.answered-site.ensures);
+}

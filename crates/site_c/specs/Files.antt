@@ -1,0 +1,144 @@
+-- What a call leaves in the room that a site over a file lies in, and what it replies.
+use Rattle.std.specs.Prelude.{◌≡◌, ◌≢◌, ◌-◌, ◌<◌, ◌⊎◌, ℕ, List, [], ◌∷◌, drop, length, take, MatchResult, None, Option, Result, Some}
+use Rattle.sqlite_disk.specs.declared.Disk as disk
+use Rattle.sqlite_wal.specs.Recovery.{Image}
+use Rattle.sqlite_store.specs.declared.store.FileStore.{FileStore}
+use Rattle.sqlite.specs.Files.{file_state}
+use Rattle.sqlite.specs.State.{HasCleanDisk}
+use Rattle.attributes.specs.Event.{EventValue}
+use Rattle.inbox_table.specs.declared.fault.TableFault.{TableFault}
+use Rattle.inbox_table.specs.declared.fault.TableFault.TheVariants as table
+use Rattle.durable_site.specs.Durable.{TakeEffect, Takes, events_of}
+use Rattle.durable_site.specs.Files.{OpensOver}
+use Rattle.durable_site.specs.declared.durable.DurableSite.{DurableSite}
+use Rattle.durable_site.specs.declared.fault.OpenFault.{OpenFault}
+use Rattle.durable_site.specs.declared.fault.OpenFault.TheVariants as opening
+use Rattle.file_reports.specs.Numbers.{fault_number}
+use Rattle.file_reports.specs.Reports.{IsRefusal, SpellAll}
+use Rattle.file_reports.specs.declared.refusal.Refused.{Refused}
+use Rattle.site_c.specs.Calls.{Asked, Checked, Lacked, Paged, Summed, Viewed, piece_of}
+use Rattle.site_c.specs.declared.calls.Piece.{Piece}
+use Rattle.site_c.specs.declared.calls.Reply.{Reply}
+use Rattle.site_c.specs.declared.file_held.FileHeld.{FileHeld}
+use Rattle.site_c.specs.declared.held.Held.{Held}
+
+-- the status of a refused opening
+abbrev pub open_status : OpenFault → ℕ
+open_status opening.OutOfMemory = 1
+open_status opening.System = 15
+open_status opening.NoDatabase = 16
+open_status opening.Damaged = 17
+open_status opening.Store = 18
+open_status opening.Foreign = 19
+
+-- the status of a refusal of the table
+abbrev pub table_status : TableFault → ℕ
+table_status table.OutOfMemory = 1
+table_status table.Store = 18
+table_status table.Foreign = 19
+
+-- the reply tells of no events that were taken and of no page
+abbrev pub TellsNone : Reply → Type 0
+TellsNone reply = (reply.fresh ≡ 0) × (reply.repeated ≡ 0) × (reply.listed ≡ 0)
+
+-- what files held of which no code can ask: a theorem over whatever they held is that of `open_files`
+abbrev pub untold : Image
+untold = record { log = []; db = [] }
+
+-- the reply to what the table came to, of so many events, after which so many are owed
+abbrev pub RepliesKept : ℕ → Result ℕ TableFault → ℕ → Reply → Type 0
+RepliesKept count result owed reply = MatchResult result
+    (λ fresh. (reply.fresh ≡ fresh) × (reply.repeated ≡ count - fresh)
+    × (((reply.status ≡ 0) × (owed ≡ 0)) ⊎ ((reply.status ≡ 20) × (0 < owed))))
+    (λ fault. (reply.status ≡ table_status fault) × (reply.fresh ≡ 0) × (reply.repeated ≡ 0))
+
+module _ {D : Type 0} {g : disk.Ghosts D} where
+  -- it was opened over its files, and all its events are counted
+  pub record IsOpenedFile (d : DurableSite (FileStore D g)) : Type 0 where
+    pub over : OpensOver untold d
+    pub counted : d.owed ≡ []
+
+  -- ---- events taken
+
+  -- the events of the batch are in the table, which a crash leaves so, and counted, or owed where
+  -- memory ran out; or they are refused, and all is as it was
+  pub record KeepsBatch (batch : List EventValue) (d e : DurableSite (FileStore D g)) (reply : Reply)
+      : Type 0 where
+    pub result : Result ℕ TableFault
+    pub takes : Takes batch (events_of d) (events_of e) result
+    pub effect : HasCleanDisk (file_state e.table.conn) → TakeEffect batch (events_of d)
+        (events_of e) (file_state d.table.conn) (file_state e.table.conn) result
+    pub replies : RepliesKept (length batch) result (length e.owed) reply
+    pub listed : reply.listed ≡ 0
+    pub events : reply.events ≡ length e.site
+
+  -- nothing was taken, and this is why
+  pub record KeepsNone (refused : Refused) (d e : DurableSite (FileStore D g)) (reply : Reply)
+      : Type 0 where
+    pub same : e ≡ d
+    pub status : reply.status ≡ fault_number refused.fault
+    pub none : TellsNone reply
+    pub events : reply.events ≡ length e.site
+
+  -- the bytes spell events with numbers, which were kept; or they were refused
+  abbrev pub KeepsBytes : List ℕ → DurableSite (FileStore D g) → DurableSite (FileStore D g) → Reply
+      → Type 0
+  KeepsBytes bytes d e reply =
+      ((batch : List EventValue) × SpellAll (bytes ∷ []) batch × KeepsBatch batch d e reply)
+      ⊎ ((refused : Refused) × IsRefusal (bytes ∷ []) refused × KeepsNone refused d e reply)
+
+-- a site that wasn't opened says so
+pub record IsNotOpen (held kept : FileHeld) (reply : Reply) : Type 0 where
+  pub was : held.durable ≡ None
+  pub is : kept.durable ≡ None
+  pub status : reply.status ≡ 11
+  pub none : TellsNone reply
+  pub events : reply.events ≡ 0
+
+-- what `jumbetai_file_open` leaves and replies
+pub record OpenedFile (kept : FileHeld) (reply : Reply) : Type 0 where
+  pub opened : reply.status ≡ 0
+      → (d : _) × (kept.durable ≡ Some d) × IsOpenedFile d × (reply.events ≡ length d.site)
+  pub refused : reply.status ≢ 0 → (kept.durable ≡ None) × (reply.events ≡ 0)
+  pub text : kept.text ≡ []
+  pub none : TellsNone reply
+  pub length_is : reply.length ≡ 0
+
+-- what `jumbetai_file_take` leaves and replies
+pub record TookFile (bytes : List ℕ) (held kept : FileHeld) (reply : Reply) : Type 0 where
+  pub took : ((d : _) × (e : _) × (held.durable ≡ Some d) × (kept.durable ≡ Some e)
+      × KeepsBytes bytes d e reply) ⊎ IsNotOpen held kept reply
+  pub text : kept.text ≡ held.text
+  pub length_is : reply.length ≡ length kept.text
+
+-- ---- what is asked
+
+-- what is asked by this number leaves and replies: what the call of a site in memory does
+pub record Answered (what : ℕ) (bytes : List ℕ) (from : ℕ) (held kept : Held) (reply : Reply)
+    : Type 0 where
+  pub question : what < 8 → Asked what held kept reply
+  pub summary : what ≡ 8 → Summed held kept reply
+  pub delta : what ≡ 9 → Lacked bytes from held kept reply
+  pub page : what ≡ 10 → Paged from held kept reply
+  pub check : what ≡ 11 → Checked bytes held kept reply
+  pub views : what ≡ 12 → Viewed held kept reply
+  pub other : 12 < what → Asked what held kept reply
+
+-- what `jumbetai_file_tell` leaves and replies; the table stays, and what is owed
+pub record Told (what : ℕ) (bytes : List ℕ) (from : ℕ) (held kept : FileHeld) (reply : Reply)
+    : Type 0 where
+  pub told : ((d : _) × (e : _) × (held.durable ≡ Some d) × (kept.durable ≡ Some e)
+      × (e.table ≡ d.table) × (e.owed ≡ d.owed)
+      × Answered what bytes from
+      (record { site = d.site; text = held.text; alloc = held.alloc })
+      (record { site = e.site; text = kept.text; alloc = kept.alloc }) reply)
+      ⊎ (IsNotOpen held kept reply × (kept.text ≡ held.text) × (reply.length ≡ length kept.text))
+
+-- ---- pieces read
+
+-- what `jumbetai_file_read` leaves and copies, as `jumbetai_site_read` does
+abbrev pub HasReadFile : ℕ → FileHeld → FileHeld → Piece → Piece → Type 0
+HasReadFile number held kept was piece = (kept ≡ held)
+    × (piece.length ≡ length (piece_of number held.text))
+    × (take piece.length piece.bytes ≡ piece_of number held.text)
+    × (drop piece.length piece.bytes ≡ drop piece.length was.bytes)

@@ -1,0 +1,14 @@
+//! A site over a file and the text of its last answer.
+
+use attributes::Text;
+use durable_site::{FileSite, Unknown};
+use std::alloc::Global;
+
+/// What lies in the room of a site over a file: the site, where it was opened, and the answer that
+/// it gave last.
+#[derive(Drop)]
+pub struct FileHeld {
+    pub(crate) durable: Option<FileSite<Unknown>>,
+    pub(crate) text: Text,
+    pub(crate) alloc: Global,
+}
