@@ -127,12 +127,14 @@ class Site:
     Until the site is closed, whoever else opens the file finds it busy (Status.BUSY), in this process
     too. Then the program `site`, sqlite3 and Site(path) open it. A process that ends without closing
     it, or is killed, leaves a log beside it (`-wal`), which belongs to it and is read by all of these.
+    A process made by os.fork can't use a site over a file: it raises ValueError there.
 
     Of the file at most `cache_mib` MiB are kept in memory, 0 for as many as it has and 16 more, at
     most 256; beside the events, which all are. To open takes time in proportion to the events."""
 
     def __init__(self, path=None, cache_mib=0):
         self._lock = threading.Lock()
+        self._owner = None if path is None else os.getpid()
         self._site = _library.jumbetai_open() if path is None else _opened(path, cache_mib)
         if not self._site:
             raise MemoryError("jumbetai")
@@ -141,7 +143,7 @@ class Site:
         """Gives the site's memory back, and its file. No other call is possible then."""
         with self._lock:
             site, self._site = self._site, None
-            if site:
+            if site and self._is_ours():
                 _library.jumbetai_close(site)
 
     def __enter__(self):
@@ -212,10 +214,16 @@ class Site:
         finally:
             _library.jumbetai_free(ctypes.byref(text))
 
+    def _is_ours(self):
+        # What two processes wrote to one file by their copies of a site would garble it.
+        return self._owner is None or self._owner == os.getpid()
+
     def _call(self, function, *arguments):
         with self._lock:
             if not self._site:
                 raise ValueError("the site is closed")
+            if not self._is_ours():
+                raise ValueError("the site is over a file, and another process's")
             return function(self._site, *arguments)
 
 

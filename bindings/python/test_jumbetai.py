@@ -252,6 +252,25 @@ class Files(unittest.TestCase):
         with open(text, "rb") as file:
             self.assertEqual(file.read(), b"a" * 200)
 
+    def test_a_forked_process_leaves_the_file(self):
+        with Site(self.file) as site, Site() as plain:
+            site.take(FEW)
+            plain.take(FEW)
+            child = os.fork()
+            if child == 0:
+                ended = 1
+                try:
+                    site.take(batch([event(251)]))
+                except ValueError:
+                    site.close()
+                    ended = 0 if plain.take(batch([event(251)])).fresh == 1 else 2
+                finally:
+                    os._exit(ended)
+            self.assertEqual(os.waitpid(child, 0)[1], 0)
+            self.assertEqual(site.take(batch([event(252)])), Taken(1, 0))
+        with Site(self.file) as site:
+            self.assertEqual(len(site), 251)
+
     def test_a_full_disk_takes_nothing(self):
         with Site(self.file) as site:
             site.take(FEW)
