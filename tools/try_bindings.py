@@ -105,6 +105,24 @@ def try_c(tries):
         tries.judge(f"C: {word}", got == want and got[0] == 0, f"{got[1][:200]!r}, not {want[1][:200]!r}")
 
 
+def try_hold(tries):
+    """The example in Rust, which takes 1,100 events into a file, told by the program where it is there."""
+    events = [
+        f'{{"specversion":"1.0","id":"{it}","source":"/a","type":"t","sequence":"{it:020d}"}}' for it in range(1, 1101)
+    ]
+    with open(f"{tries.folder}/lines", "w", encoding="ascii") as out:
+        out.write("\n".join(events[:100]) + "\n")
+        for first in range(100, 1100, 100):
+            out.write(f"[{','.join(events[first:first + 100])}]\n")
+    with open(f"{tries.folder}/none.summary", "w", encoding="ascii") as out:
+        out.write('{"sources":{},"version":1}\n')
+    said = re.compile(rb"(?:[a-z, ]+: \d+ us\n){7}\Z")
+    tries.passes("Rust: examples/hold.rs", ["cargo/debug/examples/hold", "hold.db", "lines", "none.summary"], said)
+    if tries.program:
+        status, out = tries.run([tries.program, "kinds", "--db", "hold.db"])
+        tries.judge("Rust: what examples/hold.rs leaves", (status, out) == (0, b'["t",1100]\n'), out)
+
+
 def try_rust(tries, batch):
     if not tries.has("cargo", "Rust"):
         return
@@ -112,7 +130,8 @@ def try_rust(tries, batch):
     more = {"JUMBETAI_BATCH": batch, "CARGO_TARGET_DIR": f"{tries.folder}/cargo"}
     status, out = tries.run(words, f"{TOP}/bindings/rust", **more)
     passed = [int(it) for it in re.findall(rb"test result: ok\. (\d+) passed; 0 failed", out)]
-    tries.judge("Rust: tests and the example of its page", status == 0 and sum(passed) >= 11, out.decode(errors="replace"))
+    tries.judge("Rust: tests and the examples of its page", status == 0 and sum(passed) >= 20, out.decode(errors="replace"))
+    try_hold(tries)
     with contextlib.suppress(FileNotFoundError):
         os.remove(f"{TOP}/bindings/rust/Cargo.lock")
 
@@ -122,7 +141,7 @@ def try_python(tries, batch):
     words = [sys.executable, "-m", "unittest", "-v", "test_jumbetai"]
     status, out = tries.run(words, f"{TOP}/bindings/python", JUMBETAI_LIB=where, JUMBETAI_BATCH=batch)
     passed = len(re.findall(rb"\.\.\. ok$", out, re.M))
-    tries.judge("Python: tests and the example of its page", status == 0 and passed >= 11, out.decode(errors="replace"))
+    tries.judge("Python: tests and the example of its page", status == 0 and passed >= 17, out.decode(errors="replace"))
 
 
 def main():

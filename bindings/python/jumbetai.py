@@ -18,16 +18,20 @@ system's loader looks.
     >>> south.summary() == north.summary()
     True
 
+Site(path) is over a database file: what it takes is in the file, and synced, before it is counted.
+Once it is closed the file is opened by Site(path), by the program `site` and by sqlite3.
+
 Sites that took the same events, in whatever order and however often, give the same bytes for every answer. That is
 proved of the library; this module, which calls it through C, is only tested. Threads may share a site: a call on it waits
 for the one before, while other threads of Python run.
 """
 import ctypes
+import enum
 import os
 import threading
 from collections import namedtuple
 
-__all__ = ["PAGE", "QUESTIONS", "Error", "Page", "Site", "Taken", "version"]
+__all__ = ["PAGE", "QUESTIONS", "Error", "Page", "Site", "Status", "Taken", "version"]
 
 # The questions, each at its number less one.
 QUESTIONS = ("cover", "shown", "conflicts", "latest", "kinds", "days", "gaps")
@@ -38,6 +42,28 @@ PAGE = 100
 Taken = namedtuple("Taken", "fresh repeated")
 # At which place of the whole list its first event stands, how many it has, and the events as a batch.
 Page = namedtuple("Page", "start events json")
+
+
+class Status(enum.IntEnum):
+    """Why a call isn't done."""
+
+    OUT_OF_MEMORY = 1  # told as MemoryError
+    NO_EVENTS = 2  # the bytes spell no event and no batch: `check` says why
+    NO_NUMBER = 3  # an event has no sequence of twenty digits: `check` says which
+    SUMMARY_NOT_JSON = 5
+    SUMMARY_SHAPE = 6  # JSON, and no summary
+    SUMMARY_VERSION = 7  # of a version that isn't known
+    SUMMARY_NOT_CANONICAL = 8  # not byte for byte as a summary is written
+    NO_RANDOM = 10  # the system gave no random bytes
+    BUSY = 12  # somebody else has the file open, or this process by another site
+    JOURNAL = 13  # SQLite left a rollback journal: open the file once with sqlite3
+    NO_FILE = 14  # a folder, a device, a file that has a second name, a log that is a link
+    SYSTEM = 15  # the system refuses to open, to lock, to read or to write a file
+    NO_DATABASE = 16  # no database of SQLite, or one with what isn't read here
+    DAMAGED = 17  # a page of the file isn't what SQLite writes
+    STORE = 18  # it has tables of others; or a statement was refused, and nothing taken: a full disk
+    FOREIGN = 19  # the table isn't the one that is made here, or its rows those that are left here
+    OWED = 20  # all are in the file, and memory ran out: the next `take` counts the rest
 
 
 class _Counts(ctypes.Structure):
@@ -56,6 +82,7 @@ def _loaded():
     given, size, number, status = ctypes.c_char_p, ctypes.c_size_t, ctypes.c_uint64, ctypes.c_int
     calls = {
         "open": (site, []),
+        "open_file": (status, [given, ctypes.c_uint32, ctypes.POINTER(site)]),
         "close": (None, [site]),
         "count": (number, [site]),
         "take": (status, [site, given, size, counts]),
@@ -79,11 +106,11 @@ _library = _loaded()
 
 
 class Error(Exception):
-    """A call that isn't done: its status, and that in words."""
+    """A call that isn't done: its status, one of Status where it is known, and that in words."""
 
     def __init__(self, status):
         super().__init__(_library.jumbetai_words(status).decode())
-        self.status = status
+        self.status = Status(status) if status in set(Status) else status
 
 
 def version():
@@ -92,19 +119,31 @@ def version():
 
 
 class Site:
-    """A site without a file. It is closed by `close`, by `with`, or when nothing refers to it."""
+    """A site in memory, without events; or, by a path, one over a database file, which is made where
+    there is none. It is closed by `close`, by `with`, or when nothing refers to it.
 
-    def __init__(self):
+    What a site over a file takes is kept in the file and synced before it is counted: once `take` is
+    done, neither a crash of the process nor one of the machine takes it back. No other call writes.
+    Until the site is closed, whoever else opens the file finds it busy (Status.BUSY), in this process
+    too. Then the program `site`, sqlite3 and Site(path) open it. A process that ends without closing
+    it, or is killed, leaves a log beside it (`-wal`), which belongs to it and is read by all of these.
+    A process made by os.fork can't use a site over a file: it raises ValueError there.
+
+    Of the file at most `cache_mib` MiB are kept in memory, 0 for as many as it has and 16 more, at
+    most 256; beside the events, which all are. To open takes time in proportion to the events."""
+
+    def __init__(self, path=None, cache_mib=0):
         self._lock = threading.Lock()
-        self._site = _library.jumbetai_open()
+        self._owner = None if path is None else os.getpid()
+        self._site = _library.jumbetai_open() if path is None else _opened(path, cache_mib)
         if not self._site:
             raise MemoryError("jumbetai")
 
     def close(self):
-        """Gives the site's memory back. No other call is possible then."""
+        """Gives the site's memory back, and its file. No other call is possible then."""
         with self._lock:
             site, self._site = self._site, None
-            if site:
+            if site and self._is_ours():
                 _library.jumbetai_close(site)
 
     def __enter__(self):
@@ -124,7 +163,7 @@ class Site:
     def take(self, given):
         """Takes an event, or a batch of events, in the JSON format of CloudEvents 1.0.2, as bytes or as a text, of at most
         33,554,432 bytes. Where they are at fault nothing is taken. At want of memory (MemoryError) the first of them may
-        have been taken: the same may be given again."""
+        have been taken: the same may be given again. Over a file all of them are kept, in one transaction, or none."""
         given, counts = _bytes(given), _Counts()
         _judge(self._call(_library.jumbetai_take, given, len(given), ctypes.byref(counts)))
         return Taken(counts.fresh, counts.repeated)
@@ -175,11 +214,27 @@ class Site:
         finally:
             _library.jumbetai_free(ctypes.byref(text))
 
+    def _is_ours(self):
+        # What two processes wrote to one file by their copies of a site would garble it.
+        return self._owner is None or self._owner == os.getpid()
+
     def _call(self, function, *arguments):
         with self._lock:
             if not self._site:
                 raise ValueError("the site is closed")
+            if not self._is_ours():
+                raise ValueError("the site is over a file, and another process's")
             return function(self._site, *arguments)
+
+
+def _opened(path, cache_mib):
+    name, made = os.fsencode(path), ctypes.c_void_p()
+    if b"\0" in name:
+        raise ValueError("embedded null byte")
+    if not 0 <= cache_mib < 1 << 32:
+        raise ValueError(f"no such cache: {cache_mib!r}")
+    _judge(_library.jumbetai_open_file(name, cache_mib, ctypes.byref(made)))
+    return made.value
 
 
 def _bytes(given):

@@ -1,7 +1,7 @@
 #!/usr/bin/env python3
-"""A service that holds a site in its own memory and comes to one view with its peers, over HTTP.
+"""A service that holds a site in its own process and comes to one view with its peers, over HTTP.
 
-    service.py [--port N] [--peer URL].. [--every SECONDS]       by default port 8000, and every second
+    service.py [--port N] [--db FILE] [--peer URL].. [--every SECONDS]  by default port 8000, and every second
 
     POST /events            takes the body, an event or a batch: {"new":1,"repeated":0}, or 400 with what is wrong with it
     GET /summary            the site's summary
@@ -9,8 +9,9 @@
     GET /cover, /shown, ..  the answer to a question
 
 Each so many seconds it gives each peer its summary and takes what it lacks, page by page: what is lost or comes twice
-on the way changes nothing but how often that is done. It is an example: whoever can reach the port may give events, and
-what the site has is gone when the service ends; it gets it back from its peers.
+on the way changes nothing but how often that is done. With a database FILE what was answered as taken is there when the
+service starts again, however it ended; without one it gets it back from its peers. It is an example: whoever can reach
+the port may give events.
 """
 import argparse
 import json
@@ -25,6 +26,8 @@ from urllib.parse import parse_qs, urlsplit
 import jumbetai
 
 LARGEST = 33_554_432
+# What is at fault in what was given. Of the others a later try may be done.
+GIVEN = range(jumbetai.Status.NO_EVENTS, jumbetai.Status.SUMMARY_NOT_CANONICAL + 1)
 
 
 def first_page(site, summary, start):
@@ -87,6 +90,9 @@ def handler_of(site):
                 else:
                     self.answer(404, b"")
             except jumbetai.Error as why:
+                if why.status not in GIVEN:
+                    self.answer(503, f"{why}\n".encode(), "text/plain")
+                    return
                 lines = site.check(body) if asked.path == "/events" else f"{why}\n".encode()
                 self.answer(400, lines, "application/x-ndjson")
             except ValueError as why:
@@ -103,10 +109,14 @@ def handler_of(site):
 def main():
     words = argparse.ArgumentParser(description=__doc__, formatter_class=argparse.RawDescriptionHelpFormatter)
     words.add_argument("--port", type=int, default=8000)
+    words.add_argument("--db")
     words.add_argument("--peer", action="append", default=[])
     words.add_argument("--every", type=float, default=1)
     given = words.parse_args()
-    site = jumbetai.Site()
+    try:
+        site = jumbetai.Site(given.db)
+    except jumbetai.Error as why:
+        sys.exit(f"service: {given.db}: {why}")
     site.keep_views()
     server = ThreadingHTTPServer(("127.0.0.1", given.port), handler_of(site))
     threading.Thread(target=pull_for_ever, args=(site, given.peer, given.every), daemon=True).start()

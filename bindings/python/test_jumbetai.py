@@ -7,6 +7,7 @@ skipped, and said.
 import doctest
 import json
 import os
+import resource
 import socket
 import subprocess
 import sys
@@ -18,7 +19,7 @@ import urllib.error
 import urllib.request
 
 import jumbetai
-from jumbetai import QUESTIONS, Error, Page, Site, Taken
+from jumbetai import QUESTIONS, Error, Page, Site, Status, Taken
 
 
 HERE = os.path.dirname(os.path.abspath(__file__))
@@ -159,6 +160,151 @@ class Sites(unittest.TestCase):
         site.close()
 
 
+# What another process does with a file: its status where it is opened, and how many events it has.
+OPENING = """
+import jumbetai, sys
+try:
+    print("done", len(jumbetai.Site(sys.argv[1])))
+except jumbetai.Error as why:
+    print(why.status.name, why)
+"""
+TAKING = """
+import jumbetai, os, sys
+site = jumbetai.Site(sys.argv[1])
+print(site.take(sys.stdin.buffer.read()).fresh, flush=True)
+os.abort()
+"""
+
+
+def elsewhere(code, file, given=b""):
+    command = [sys.executable, "-c", code, file]
+    ran = subprocess.run(command, cwd=HERE, input=given, stdout=subprocess.PIPE, check=False)
+    return ran.stdout.decode().strip()
+
+
+def said(site):
+    """All that a site says."""
+    return [*map(site.ask, QUESTIONS), site.summary(), *site.pages()]
+
+
+class Files(unittest.TestCase):
+    def setUp(self):
+        folder = tempfile.TemporaryDirectory()
+        self.addCleanup(folder.cleanup)
+        self.folder, self.file = folder.name, os.path.join(folder.name, "site.db")
+
+    def test_a_file_has_what_was_taken(self):
+        with Site() as plain, Site(self.file) as site:
+            plain.take(FEW)
+            self.assertEqual(len(site), 0)
+            self.assertEqual(site.take(FEW), Taken(250, 0))
+            self.assertEqual(site.take(batch([event(250), event(251)])), Taken(1, 1))
+            self.assertNotEqual(said(site), said(plain))
+            plain.take(batch([event(251)]))
+            self.assertEqual(said(site), said(plain))
+        with Site() as plain, Site(self.file) as site:
+            plain.take(FEW)
+            plain.take(batch([event(251)]))
+            self.assertEqual(said(site), said(plain))
+            site.keep_views()
+            site.take(batch([event(252)]))
+            plain.take(batch([event(252)]))
+            self.assertEqual(said(site), said(plain))
+        with Site(path=os.fsencode(self.file), cache_mib=1) as site:
+            self.assertEqual(len(site), 252)
+
+    def test_a_file_is_busy_while_it_is_open(self):
+        with Site(self.file) as site:
+            site.take(FEW)
+            self.assertEqual(elsewhere(OPENING, self.file).split()[0], "BUSY")
+            with self.assertRaises(Error) as caught:
+                Site(self.file)
+            self.assertIs(caught.exception.status, Status.BUSY)
+            self.assertEqual(site.take(batch([event(251)])), Taken(1, 0))
+        self.assertEqual(elsewhere(OPENING, self.file), "done 251")
+
+    def test_an_aborted_process_loses_nothing(self):
+        self.assertEqual(elsewhere(TAKING, self.file, FEW), "250")
+        self.assertGreater(os.path.getsize(f"{self.file}-wal"), 0)
+        with Site(self.file) as site:
+            self.assertEqual(len(site), 250)
+
+    def test_what_is_no_database_is_refused(self):
+        for path in (f"{self.file}\0", b"a\0b"):
+            with self.assertRaises(ValueError):
+                Site(path)
+        for cache in (-1, 1 << 32):
+            with self.assertRaises(ValueError):
+                Site(self.file, cache)
+        self.assertEqual(os.listdir(self.folder), [])
+        text = os.path.join(self.folder, "text.db")
+        with open(text, "wb") as out:
+            out.write(b"a" * 200)
+        refused = {
+            f"{self.folder}/none/site.db": Status.SYSTEM,
+            self.folder: Status.NO_FILE,
+            text: Status.NO_DATABASE,
+        }
+        for path, status in refused.items():
+            with self.assertRaises(Error) as caught:
+                Site(path)
+            self.assertIs(caught.exception.status, status, path)
+        with open(text, "rb") as file:
+            self.assertEqual(file.read(), b"a" * 200)
+
+    def test_a_forked_process_leaves_the_file(self):
+        with Site(self.file) as site, Site() as plain:
+            site.take(FEW)
+            plain.take(FEW)
+            child = os.fork()
+            if child == 0:
+                ended = 1
+                try:
+                    site.take(batch([event(251)]))
+                except ValueError:
+                    site.close()
+                    ended = 0 if plain.take(batch([event(251)])).fresh == 1 else 2
+                finally:
+                    os._exit(ended)
+            self.assertEqual(os.waitpid(child, 0)[1], 0)
+            self.assertEqual(site.take(batch([event(252)])), Taken(1, 0))
+        with Site(self.file) as site:
+            self.assertEqual(len(site), 251)
+
+    def test_a_full_disk_takes_nothing(self):
+        with Site(self.file) as site:
+            site.take(FEW)
+            before, limits = said(site), resource.getrlimit(resource.RLIMIT_FSIZE)
+            largest = os.path.getsize(f"{self.file}-wal")
+            resource.setrlimit(resource.RLIMIT_FSIZE, (largest, limits[1]))
+            try:
+                with self.assertRaises(Error) as caught:
+                    site.take(batch([event(number) for number in range(251, 1000)]))
+            finally:
+                resource.setrlimit(resource.RLIMIT_FSIZE, limits)
+            self.assertIs(caught.exception.status, Status.STORE)
+            self.assertEqual(said(site), before)
+        with Site(self.file) as site:
+            self.assertEqual(said(site), before)
+
+    def test_each_status_has_words_of_its_own(self):
+        words = {str(Error(status)) for status in [*Status, 1_000_000]}
+        self.assertEqual(len(words), len(Status) + 1)
+
+    def test_the_program_reads_what_a_site_leaves(self):
+        program = os.environ.get("JUMBETAI_SITE")
+        if not program:
+            self.skipTest("JUMBETAI_SITE names no program")
+        with Site(self.file) as site:
+            site.take(given_batch())
+            kinds, summary = site.ask("kinds"), site.summary()
+            held = subprocess.run([program, "kinds", "--db", self.file], capture_output=True, check=False)
+            self.assertEqual((held.returncode, held.stdout), (1, b""))
+        for word, answer in (("kinds", kinds), ("summary", summary)):
+            found = subprocess.run([program, word, "--db", self.file], capture_output=True, check=True)
+            self.assertTrue(found.stdout == answer, word)
+
+
 class Services(unittest.TestCase):
     """Services of service.py, of which one asks the other for what it lacks."""
 
@@ -171,11 +317,11 @@ class Services(unittest.TestCase):
 
     def start(self, *words):
         command = [sys.executable, "service.py", "--port", "0", "--every", "0.05", *words]
-        service = subprocess.Popen(command, cwd=HERE, stdout=subprocess.PIPE, text=True)
-        self.addCleanup(service.stdout.close)
-        self.addCleanup(service.wait)
-        self.addCleanup(service.kill)
-        return service.stdout.readline().split()[1]
+        self.service = subprocess.Popen(command, cwd=HERE, stdout=subprocess.PIPE, text=True)
+        self.addCleanup(self.service.stdout.close)
+        self.addCleanup(self.service.wait)
+        self.addCleanup(self.service.kill)
+        return self.service.stdout.readline().split()[1]
 
     def call(self, url, body=None):
         try:
@@ -205,6 +351,17 @@ class Services(unittest.TestCase):
         self.assertEqual((status, json.loads(said)["fault"]), (400, "BadSequence"))
         self.assertEqual(self.call(f"{north}/delta", b"{}")[0], 400)
         self.assertEqual(self.call(f"{north}/who")[0], 404)
+
+    def test_a_service_that_is_killed_has_what_it_answered(self):
+        with tempfile.TemporaryDirectory() as folder:
+            file = os.path.join(folder, "site.db")
+            for taken in (b'{"new": 250, "repeated": 0}', b'{"new": 0, "repeated": 250}'):
+                where = self.start("--db", file)
+                self.assertEqual(self.call(f"{where}/events", FEW), (200, taken))
+                self.service.kill()
+                self.service.wait()
+            with Site(file) as site:
+                self.assertEqual(len(site), 250)
 
 
 class BesideTheProgram(unittest.TestCase):

@@ -24,6 +24,7 @@ pub struct Text {
 
 extern "C" {
     pub fn jumbetai_open() -> *mut Site;
+    pub fn jumbetai_open_file(path: *const c_char, cache_mib: u32, site: *mut *mut Site) -> c_int;
     pub fn jumbetai_close(site: *mut Site);
     pub fn jumbetai_count(site: *const Site) -> u64;
     pub fn jumbetai_take(

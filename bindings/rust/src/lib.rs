@@ -22,12 +22,33 @@
 //! assert_eq!(south.summary()?, north.summary()?);
 //! # Ok::<(), jumbetai::Error>(())
 //! ```
+//!
+//! A site over a file ([`Site::open`]) has what it took when it is opened again:
+//!
+//! ```
+//! # let folder = std::env::temp_dir().join(format!("jumbetai-page-{}", std::process::id()));
+//! # std::fs::create_dir_all(&folder).unwrap();
+//! # let file = folder.join("north.db");
+//! use jumbetai::{Error, Site};
+//!
+//! let event = br#"{"specversion":"1.0","id":"1","source":"/shop","type":"order.placed",
+//!     "sequence":"00000000000000000001"}"#;
+//! let mut north = Site::open(&file)?;
+//! assert_eq!(north.take(event)?.fresh, 1);
+//! assert_eq!(Site::open(&file).err(), Some(Error::Busy));
+//! drop(north);
+//! assert_eq!(Site::open(&file)?.take(event)?.repeated, 1);
+//! # std::fs::remove_dir_all(&folder).unwrap();
+//! # Ok::<(), Error>(())
+//! ```
 
 mod ffi;
 
-use std::ffi::{c_int, CStr};
+use std::ffi::{c_int, CStr, CString};
 use std::fmt;
-use std::ptr::NonNull;
+use std::os::unix::ffi::OsStrExt;
+use std::path::Path;
+use std::ptr::{null_mut, NonNull};
 
 /// The most events of a page.
 pub const PAGE: u64 = 100;
@@ -35,7 +56,8 @@ pub const PAGE: u64 = 100;
 /// Why a call isn't done. Its `Display` says so in words.
 #[derive(Clone, Copy, PartialEq, Eq, Debug)]
 pub enum Error {
-    /// Memory was refused. A `take` may then have taken the first of its events: the same bytes may be given again.
+    /// Memory was refused. A `take` in memory may then have taken the first of its events: the same
+    /// bytes may be given again. Over a file it has taken none.
     OutOfMemory,
     /// The bytes spell no event and no batch of events; nothing was taken. [`Site::check`] says why.
     NoEvents,
@@ -49,8 +71,29 @@ pub enum Error {
     SummaryVersion,
     /// They aren't byte for byte as a summary is written.
     SummaryNotCanonical,
-    /// The system gave no random bytes for [`Site::keep_views`].
+    /// The system gave no random bytes for [`Site::keep_views`] or [`Site::open`].
     NoRandom,
+    /// Somebody else has the file open, or this process by another site.
+    Busy,
+    /// SQLite left a rollback journal beside the file, which it plays back when sqlite3 opens it.
+    Journal,
+    /// No regular file with one name has this path: a folder, a device, a file that has a second
+    /// name, a log that is a link, or a path with a zero byte.
+    NoFile,
+    /// The system refuses to open, to lock, to read or to write a file.
+    System,
+    /// The file is no database of SQLite, or has what isn't read here.
+    NoDatabase,
+    /// A page of the file isn't what SQLite writes.
+    Damaged,
+    /// The file has tables of others; or a statement was refused, as where the disk is full: nothing
+    /// was taken then.
+    Store,
+    /// The table isn't the one that is made here, or its rows aren't those that are left here.
+    Foreign,
+    /// The events that a `take` was given are in the file, all of them, and memory ran out before
+    /// all were counted: the next `take` counts the rest, and until then answers are without them.
+    Owed,
     /// A status that this crate doesn't know: the library that is linked is a later one.
     Other(i32),
 }
@@ -66,6 +109,15 @@ impl Error {
             7 => Error::SummaryVersion,
             8 => Error::SummaryNotCanonical,
             10 => Error::NoRandom,
+            12 => Error::Busy,
+            13 => Error::Journal,
+            14 => Error::NoFile,
+            15 => Error::System,
+            16 => Error::NoDatabase,
+            17 => Error::Damaged,
+            18 => Error::Store,
+            19 => Error::Foreign,
+            20 => Error::Owed,
             other => Error::Other(other),
         }
     }
@@ -81,6 +133,15 @@ impl Error {
             Error::SummaryVersion => 7,
             Error::SummaryNotCanonical => 8,
             Error::NoRandom => 10,
+            Error::Busy => 12,
+            Error::Journal => 13,
+            Error::NoFile => 14,
+            Error::System => 15,
+            Error::NoDatabase => 16,
+            Error::Damaged => 17,
+            Error::Store => 18,
+            Error::Foreign => 19,
+            Error::Owed => 20,
             Error::Other(status) => status,
         }
     }
@@ -148,8 +209,8 @@ pub struct Page {
     pub json: String,
 }
 
-/// A site without a file. It may go to another thread; one thread at a time uses it, so that a service shares it by
-/// a `Mutex`.
+/// A site, in memory alone or over a file. It may go to another thread; one thread at a time uses it,
+/// so that a service shares it by a `Mutex`. A site over a file lets go of it when it is dropped.
 pub struct Site {
     raw: NonNull<ffi::Site>,
 }
@@ -158,12 +219,42 @@ pub struct Site {
 unsafe impl Send for Site {}
 
 impl Site {
-    /// A site without events.
+    /// A site in memory, without events.
     pub fn new() -> Result<Site, Error> {
         // SAFETY: the call asks for nothing.
         match NonNull::new(unsafe { ffi::jumbetai_open() }) {
             Some(raw) => Ok(Site { raw }),
             None => Err(Error::OutOfMemory),
+        }
+    }
+
+    /// A site over a database file, which is made where there is none. What it takes is kept in the
+    /// file and synced before it is counted: once [`Site::take`] is done, neither a crash of the
+    /// process nor one of the machine takes it back. No other call writes.
+    ///
+    /// Until the site is dropped, whoever else opens the file finds it busy ([`Error::Busy`] here),
+    /// in this process too. Then the program `site`, sqlite3 and this call open it. A process that
+    /// ends without dropping it, or is killed, leaves a log beside it (`-wal`), which belongs to it
+    /// and is read by all of these.
+    ///
+    /// Of the file at most 256 MiB are kept in memory, beside the events, which all are. Time and
+    /// memory in proportion to the events that are there.
+    pub fn open(path: impl AsRef<Path>) -> Result<Site, Error> {
+        Site::open_with_cache(path, 0)
+    }
+
+    /// The same, with so many MiB of the file in memory at most; 0 for as many as it has, and 16 more,
+    /// at most 256.
+    pub fn open_with_cache(path: impl AsRef<Path>, mib: u32) -> Result<Site, Error> {
+        let path = path.as_ref().as_os_str().as_bytes();
+        let path = CString::new(path).map_err(|_| Error::NoFile)?;
+        let mut raw = null_mut();
+        // SAFETY: the path ends with a zero byte, and is lent for the call.
+        match unsafe { ffi::jumbetai_open_file(path.as_ptr(), mib, &mut raw) } {
+            0 => NonNull::new(raw)
+                .map(|raw| Site { raw })
+                .ok_or(Error::OutOfMemory),
+            status => Err(Error::of(status)),
         }
     }
 
@@ -179,6 +270,7 @@ impl Site {
     }
 
     /// Takes an event, or a batch of events, in the JSON format of CloudEvents 1.0.2, of at most 33,554,432 bytes.
+    /// Over a file all of them are kept, in one transaction, or none.
     pub fn take(&mut self, bytes: &[u8]) -> Result<Taken, Error> {
         let mut counts = ffi::Counts::default();
         // SAFETY: the site is open, and the bytes are lent for the call.
@@ -277,7 +369,7 @@ impl Site {
         call: impl FnOnce(*mut ffi::Site, *mut ffi::Text) -> c_int,
     ) -> Result<(String, u64), Error> {
         let mut text = ffi::Text {
-            bytes: std::ptr::null_mut(),
+            bytes: null_mut(),
             length: 0,
             events: 0,
         };

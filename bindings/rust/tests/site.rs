@@ -6,7 +6,7 @@
 use jumbetai::{Error, Page, Question, Site, Taken};
 use std::path::{Path, PathBuf};
 use std::process::Command;
-use std::sync::{Arc, Mutex};
+use std::sync::{Arc, Mutex, MutexGuard, PoisonError};
 
 const WORDS: [&str; 7] = [
     "cover",
@@ -27,6 +27,46 @@ fn event(number: u64) -> String {
 fn batch(numbers: impl IntoIterator<Item = u64>) -> Vec<u8> {
     let events: Vec<String> = numbers.into_iter().map(event).collect();
     format!("[{}]", events.join(",")).into_bytes()
+}
+
+/// A folder of its own, which goes away in the end. One test at a time has one: while a process is
+/// started it has, for a moment, whatever files the other tests have open, and a database that one of
+/// them lets go of then is still busy.
+struct Folder {
+    path: PathBuf,
+    _alone: MutexGuard<'static, ()>,
+}
+
+static ALONE: Mutex<()> = Mutex::new(());
+
+impl Folder {
+    fn new(name: &str) -> Folder {
+        let _alone = ALONE.lock().unwrap_or_else(PoisonError::into_inner);
+        let path = std::env::temp_dir().join(format!("jumbetai-{}-{name}", std::process::id()));
+        std::fs::create_dir_all(&path).unwrap();
+        Folder { path, _alone }
+    }
+
+    fn file(&self, name: &str) -> PathBuf {
+        self.path.join(name)
+    }
+}
+
+impl Drop for Folder {
+    fn drop(&mut self) {
+        let _gone = std::fs::remove_dir_all(&self.path);
+    }
+}
+
+/// All that a site says.
+fn said(site: &mut Site) -> Vec<String> {
+    let mut all: Vec<String> = Question::ALL
+        .into_iter()
+        .map(|it| site.ask(it).unwrap())
+        .collect();
+    all.push(site.summary().unwrap());
+    all.extend(site.pages().map(|page| page.unwrap().json));
+    all
 }
 
 fn bring(from: &mut Site, to: &mut Site) -> u64 {
@@ -167,6 +207,178 @@ fn kept_views_change_no_answer() {
 }
 
 #[test]
+fn a_file_has_what_was_taken() {
+    let folder = Folder::new("kept");
+    let file = folder.file("site.db");
+    let mut plain = Site::new().unwrap();
+    plain.take(&batch(1..=300)).unwrap();
+    let mut site = Site::open(&file).unwrap();
+    assert!(site.is_empty());
+    let taken = |fresh, repeated| Ok(Taken { fresh, repeated });
+    assert_eq!(site.take(&batch(1..=250)), taken(250, 0));
+    assert_eq!(site.take(b"{}"), Err(Error::NoEvents));
+    assert_eq!(site.take(&batch(201..=300)), taken(50, 50));
+    assert!(said(&mut site) == said(&mut plain));
+    drop(site);
+    let mut site = Site::open(&file).unwrap();
+    assert_eq!(site.len(), 300);
+    assert!(said(&mut site) == said(&mut plain));
+    site.keep_views().unwrap();
+    assert_eq!(site.take(&batch(300..=310)), taken(10, 1));
+    plain.take(&batch(301..=310)).unwrap();
+    assert!(said(&mut site) == said(&mut plain));
+    drop(site);
+    let mut site = Site::open_with_cache(&file, 1).unwrap();
+    assert!(said(&mut site) == said(&mut plain));
+}
+
+#[test]
+fn a_site_in_memory_and_one_over_a_file_come_together() {
+    let folder = Folder::new("together");
+    let mut north = Site::open(folder.file("north.db")).unwrap();
+    let mut south = Site::new().unwrap();
+    north.take(&batch(1..=250)).unwrap();
+    south.take(&batch(151..=400)).unwrap();
+    assert_eq!(bring(&mut north, &mut south), 150);
+    assert_eq!(bring(&mut south, &mut north), 150);
+    assert!(said(&mut north) == said(&mut south));
+}
+
+const OPEN: &str = "JUMBETAI_TEST_OPEN";
+const OPENED: i32 = 100;
+
+/// The status by which another process opens the file: this test, run in it, ends with it and
+/// `OPENED` more.
+fn opened_elsewhere(path: &Path) -> i32 {
+    let out = Command::new(std::env::current_exe().unwrap())
+        .args(["--exact", "a_file_is_busy_while_it_is_open"])
+        .env(OPEN, path)
+        .output()
+        .unwrap();
+    out.status.code().unwrap() - OPENED
+}
+
+#[test]
+fn a_file_is_busy_while_it_is_open() {
+    if let Some(path) = std::env::var_os(OPEN) {
+        let status = Site::open(path).err().map_or(0, Error::status);
+        std::process::exit(OPENED + status);
+    }
+    let folder = Folder::new("busy");
+    let file = folder.file("site.db");
+    let mut site = Site::open(&file).unwrap();
+    site.take(&batch(1..=3)).unwrap();
+    assert_eq!(opened_elsewhere(&file), Error::Busy.status());
+    assert_eq!(Site::open(&file).err(), Some(Error::Busy));
+    assert_eq!(site.take(&batch(3..=4)).unwrap().fresh, 1);
+    drop(site);
+    assert_eq!(opened_elsewhere(&file), 0);
+    assert_eq!(Site::open(&file).unwrap().len(), 4);
+}
+
+const TAKE: &str = "JUMBETAI_TEST_TAKE";
+
+#[test]
+fn an_aborted_process_loses_nothing() {
+    if let Some(path) = std::env::var_os(TAKE) {
+        let mut site = Site::open(path).unwrap();
+        site.take(&batch(1..=250)).unwrap();
+        std::process::abort();
+    }
+    let folder = Folder::new("aborted");
+    let file = folder.file("site.db");
+    let ended = Command::new(std::env::current_exe().unwrap())
+        .args(["--exact", "an_aborted_process_loses_nothing"])
+        .env(TAKE, &file)
+        .current_dir(&folder.path)
+        .output()
+        .unwrap();
+    assert_eq!(ended.status.code(), None);
+    assert!(folder.file("site.db-wal").metadata().unwrap().len() > 0);
+    assert_eq!(Site::open(&file).unwrap().len(), 250);
+}
+
+#[test]
+fn a_site_over_a_file_goes_from_thread_to_thread() {
+    let folder = Folder::new("threads");
+    let file = folder.file("site.db");
+    let site = Arc::new(Mutex::new(Site::open(&file).unwrap()));
+    let work = |first: u64| {
+        let site = Arc::clone(&site);
+        std::thread::spawn(move || {
+            for number in first..first + 5 {
+                site.lock().unwrap().take(event(number).as_bytes()).unwrap();
+            }
+        })
+    };
+    let threads: Vec<_> = (0..4).map(|it| work(1 + 5 * it)).collect();
+    for it in threads {
+        it.join().unwrap();
+    }
+    let site = Arc::into_inner(site).unwrap().into_inner().unwrap();
+    std::thread::spawn(move || drop(site)).join().unwrap();
+    assert_eq!(Site::open(&file).unwrap().len(), 20);
+}
+
+#[test]
+fn what_is_no_database_is_refused() {
+    let folder = Folder::new("refused");
+    let refused = |name: &str| Site::open(folder.file(name)).err();
+    assert_eq!(refused("zero\0byte"), Some(Error::NoFile));
+    assert!(folder.path.read_dir().unwrap().next().is_none());
+    assert_eq!(refused("none/site.db"), Some(Error::System));
+    assert_eq!(refused("."), Some(Error::NoFile));
+    std::fs::write(folder.file("text.db"), [b'a'; 200]).unwrap();
+    assert_eq!(refused("text.db"), Some(Error::NoDatabase));
+    assert_eq!(std::fs::read(folder.file("text.db")).unwrap(), [b'a'; 200]);
+    Site::open(folder.file("site.db"))
+        .unwrap()
+        .take(&batch(1..=3))
+        .unwrap();
+    std::fs::hard_link(folder.file("site.db"), folder.file("second.db")).unwrap();
+    assert_eq!(refused("site.db"), Some(Error::NoFile));
+    std::fs::remove_file(folder.file("second.db")).unwrap();
+    std::fs::write(folder.file("site.db-journal"), [0xd9; 512]).unwrap();
+    assert_eq!(refused("site.db"), Some(Error::Journal));
+    std::fs::remove_file(folder.file("site.db-journal")).unwrap();
+    assert_eq!(Site::open(folder.file("site.db")).unwrap().len(), 3);
+    let mut bytes = std::fs::read(folder.file("site.db")).unwrap();
+    bytes[100] ^= 0xff;
+    std::fs::write(folder.file("site.db"), bytes).unwrap();
+    assert_eq!(refused("site.db"), Some(Error::Damaged));
+}
+
+#[test]
+fn each_error_has_its_status_and_its_words() {
+    let all = [
+        (1, Error::OutOfMemory),
+        (2, Error::NoEvents),
+        (3, Error::NoNumber),
+        (5, Error::SummaryNotJson),
+        (6, Error::SummaryShape),
+        (7, Error::SummaryVersion),
+        (8, Error::SummaryNotCanonical),
+        (10, Error::NoRandom),
+        (12, Error::Busy),
+        (13, Error::Journal),
+        (14, Error::NoFile),
+        (15, Error::System),
+        (16, Error::NoDatabase),
+        (17, Error::Damaged),
+        (18, Error::Store),
+        (19, Error::Foreign),
+        (20, Error::Owed),
+    ];
+    let unknown = Error::Other(1_000_000).to_string();
+    let mut words: Vec<String> = all.iter().map(|(_, it)| it.to_string()).collect();
+    assert!(all.iter().all(|(status, it)| it.status() == *status));
+    assert!(!words.contains(&unknown));
+    words.sort();
+    words.dedup();
+    assert_eq!(words.len(), all.len());
+}
+
+#[test]
 fn the_version_is_that_of_the_crate() {
     assert_eq!(jumbetai::version(), env!("CARGO_PKG_VERSION"));
 }
@@ -216,31 +428,57 @@ fn answers_are_those_of_the_program() {
         eprintln!("skipped: JUMBETAI_SITE names no program");
         return;
     };
-    let folder = std::env::temp_dir().join(format!("jumbetai-{}", std::process::id()));
-    std::fs::create_dir_all(&folder).unwrap();
+    let kept = Folder::new("program");
+    let folder = &kept.path;
     let bytes = given_batch();
     std::fs::write(folder.join("batch.json"), &bytes).unwrap();
     let mut site = Site::new().unwrap();
     site.take(&bytes).unwrap();
     for (question, word) in Question::ALL.into_iter().zip(WORDS) {
-        let said = printed(&program, &folder, &[word, "batch.json"]);
+        let said = printed(&program, folder, &[word, "batch.json"]);
         assert!(site.ask(question).unwrap() == said, "{word}");
     }
-    printed(
-        &program,
-        &folder,
-        &["take", "--db", "site.db", "batch.json"],
-    );
-    assert!(site.summary().unwrap() == printed(&program, &folder, &["summary", "--db", "site.db"]));
+    printed(&program, folder, &["take", "--db", "site.db", "batch.json"]);
+    assert!(site.summary().unwrap() == printed(&program, folder, &["summary", "--db", "site.db"]));
     let nothing = Site::new().unwrap().summary().unwrap();
     std::fs::write(folder.join("nothing"), &nothing).unwrap();
     let second = site.delta_page(&nothing, 100).unwrap().unwrap();
     let words = ["delta", "--db", "site.db", "--from", "100", "nothing"];
-    assert_eq!(second.json, printed(&program, &folder, &words));
+    assert_eq!(second.json, printed(&program, folder, &words));
     let first = site.page(0).unwrap().unwrap();
     assert_eq!(
         first.json,
-        printed(&program, &folder, &["scrub", "--db", "site.db"])
+        printed(&program, folder, &["scrub", "--db", "site.db"])
     );
-    std::fs::remove_dir_all(&folder).unwrap();
+}
+
+#[test]
+fn the_program_reads_what_a_site_leaves() {
+    let Some(program) = std::env::var_os("JUMBETAI_SITE").map(PathBuf::from) else {
+        eprintln!("skipped: JUMBETAI_SITE names no program");
+        return;
+    };
+    let kept = Folder::new("left");
+    let folder = &kept.path;
+    let file = kept.file("site.db");
+    let mut site = Site::open(&file).unwrap();
+    site.take(&given_batch()).unwrap();
+    let words = ["kinds", "--db", "site.db"];
+    let held = Command::new(&program)
+        .args(words)
+        .current_dir(folder)
+        .output()
+        .unwrap();
+    assert_eq!(held.status.code(), Some(1));
+    assert!(held.stdout.is_empty());
+    let kinds = site.ask(Question::Kinds).unwrap();
+    let summary = site.summary().unwrap();
+    drop(site);
+    assert!(printed(&program, folder, &words) == kinds);
+    assert!(printed(&program, folder, &["summary", "--db", "site.db"]) == summary);
+    std::fs::write(folder.join("more.json"), event(9_000_000)).unwrap();
+    printed(&program, folder, &["take", "--db", "site.db", "more.json"]);
+    let mut site = Site::open(&file).unwrap();
+    assert_eq!(site.take(event(9_000_000).as_bytes()).unwrap().repeated, 1);
+    assert!(site.summary().unwrap() != summary);
 }
