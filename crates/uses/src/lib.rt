@@ -91,6 +91,3 @@ fn keep_all<R: Wait, S: Alter + Drop>(flusher: &mut Flusher<'_, R, S>) -> bool {
     }
     false
 }
-
-#[cfg(test)]
-mod tests;

@@ -1,6 +1,5 @@
-//! Files are taken side by side into a database in memory.
+//! The use of the libraries: files are taken side by side into a database in memory.
 
-use crate::kinds;
 use attributes::{Octets, Text};
 use file_reports::{Shelf, Unread};
 use sqlite::Connection;
@@ -8,6 +7,7 @@ use std::alloc::Global;
 use std::process::Abort;
 use std::sync::Wait;
 use std::thread::Threads;
+use uses::kinds;
 
 const FIRST: &str =
     r#"[{"id":"a1","sequence":"00000000000000000001","source":"/orders","specversion":"1.0","type":"t.a"},{"id":"a2","sequence":"00000000000000000002","source":"/orders","specversion":"1.0","type":"t.b"}]"#;
