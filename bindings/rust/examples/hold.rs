@@ -1,4 +1,4 @@
-//! Opens a site over a database file and times what a service does with it: `hold DB LINES SUMMARY`.
+//! `hold DB LINES SUMMARY` opens a site over a database file and times what a service does with it.
 //!
 //! LINES has a hundred lines with one new event each, then ten with a hundred each; SUMMARY is that
 //! of a peer. The lines that are printed are those of `hold` of tools/baseline_tables, and two more

@@ -86,8 +86,8 @@ pub enum Error {
     NoDatabase,
     /// A page of the file isn't what SQLite writes.
     Damaged,
-    /// The file has tables of others; or a statement was refused, as where the disk is full: nothing
-    /// was taken then.
+    /// The file has tables of others; or a statement was refused, as where the disk is full, and
+    /// nothing was taken.
     Store,
     /// The table isn't the one that is made here, or its rows aren't those that are left here.
     Foreign,
@@ -209,8 +209,8 @@ pub struct Page {
     pub json: String,
 }
 
-/// A site, in memory alone or over a file. It may go to another thread; one thread at a time uses it,
-/// so that a service shares it by a `Mutex`. A site over a file lets go of it when it is dropped.
+/// A site, in memory alone or over a file. It may go to another thread; one thread at a time uses
+/// it, so that a service shares it by a `Mutex`. A site over a file lets go of it when it is dropped.
 pub struct Site {
     raw: NonNull<ffi::Site>,
 }
@@ -243,8 +243,8 @@ impl Site {
         Site::open_with_cache(path, 0)
     }
 
-    /// The same, with so many MiB of the file in memory at most; 0 for as many as it has, and 16 more,
-    /// at most 256.
+    /// The same, with so many MiB of the file in memory at most; 0 for as many as it has, and 16
+    /// more, at most 256.
     pub fn open_with_cache(path: impl AsRef<Path>, mib: u32) -> Result<Site, Error> {
         let path = path.as_ref().as_os_str().as_bytes();
         let path = CString::new(path).map_err(|_| Error::NoFile)?;

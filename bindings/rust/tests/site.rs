@@ -30,8 +30,8 @@ fn batch(numbers: impl IntoIterator<Item = u64>) -> Vec<u8> {
 }
 
 /// A folder of its own, which goes away in the end. One test at a time has one: while a process is
-/// started it has, for a moment, whatever files the other tests have open, and a database that one of
-/// them lets go of then is still busy.
+/// started it has, for a moment, whatever files the other tests have open, and a database that one
+/// of them lets go of then is still busy.
 struct Folder {
     path: PathBuf,
     _alone: MutexGuard<'static, ()>,
