@@ -210,7 +210,7 @@ pub struct Page {
 }
 
 /// A site, in memory alone or over a file. It may go to another thread; one thread at a time uses
-/// it, so that a service shares it by a `Mutex`. A site over a file lets go of it when it is dropped.
+/// it, so that a service shares it by a `Mutex`. Over a file it lets go of that when it is dropped.
 pub struct Site {
     raw: NonNull<ffi::Site>,
 }
