@@ -151,6 +151,17 @@ static int open_both(char *path, struct jumbetai_files *files) {
     return status;
 }
 
+void jumbetai_unlock(int locks[2]) {
+    struct flock range = {
+        .l_type = F_UNLCK, .l_whence = SEEK_SET, .l_start = 1 << 30, .l_len = 512};
+    for (int i = 0; i < 2; i++) {
+        if (locks[i] < 0) continue;
+        /* A process that is just being started has copies of all files: to close ours isn't enough. */
+        fcntl(locks[i], F_OFD_SETLK, &range);
+        close(locks[i]);
+    }
+}
+
 int jumbetai_open_file(const char *path, uint32_t cache_mib, jumbetai_site **site) {
     struct jumbetai_files files = {.cache_mib = cache_mib};
     struct jumbetai_reply reply;
@@ -165,9 +176,14 @@ int jumbetai_open_file(const char *path, uint32_t cache_mib, jumbetai_site **sit
         free(real);
     }
     if (!status) {
+        made->locks[0] = fcntl(files.log, F_DUPFD_CLOEXEC, 3);
+        made->locks[1] = fcntl(files.db, F_DUPFD_CLOEXEC, 3);
         jumbetai_file_open(made->room, &files, &reply);
         status = (int)reply.status;
-        if (status) jumbetai_file_close(made->room);
+        if (status) {
+            jumbetai_file_close(made->room);
+            jumbetai_unlock(made->locks);
+        }
     }
     if (status) {
         free(made);

@@ -83,7 +83,8 @@ jumbetai_site *jumbetai_open(void);
  * the disk, once the call is done. The file is one that `site` and sqlite3 open when it is closed;
  * until then they find it busy, and so does who opens it twice. `path` ends with a zero byte.
  * `cache_mib` is how many MiB of the file are kept in memory, 0 for as many as it has and 16 more,
- * at most 256. Time and memory in proportion to the events. `*site` is null where it isn't done. */
+ * at most 256. Time and memory in proportion to the events. A process that was forked while the site
+ * is open neither uses nor closes it. `*site` is null where it isn't done. */
 int jumbetai_open_file(const char *path, uint32_t cache_mib, jumbetai_site **site);
 
 /* Gives a site and its memory back. A null pointer is let through. */

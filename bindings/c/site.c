@@ -69,10 +69,12 @@ jumbetai_site *jumbetai_open(void) {
 
 void jumbetai_close(jumbetai_site *site) {
     if (!site) return;
-    if (site->is_file)
+    if (site->is_file) {
         jumbetai_file_close(site->room);
-    else
+        jumbetai_unlock(site->locks);
+    } else {
         jumbetai_site_close(site->room);
+    }
     free(site);
 }
 

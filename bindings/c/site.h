@@ -8,7 +8,11 @@
 struct jumbetai_site {
     uint64_t events;
     int is_file;
+    int locks[2]; /* the open files of a site over files, to let go of their locks */
     _Alignas(16) unsigned char room[];
 };
+
+/* Lets go of what `locks` has. */
+void jumbetai_unlock(int locks[2]);
 
 #endif
