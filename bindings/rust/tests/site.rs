@@ -6,7 +6,7 @@
 use jumbetai::{Error, Page, Question, Site, Taken};
 use std::path::{Path, PathBuf};
 use std::process::Command;
-use std::sync::{Arc, Mutex, MutexGuard, PoisonError};
+use std::sync::{Arc, Mutex};
 
 const WORDS: [&str; 7] = [
     "cover",
@@ -29,22 +29,16 @@ fn batch(numbers: impl IntoIterator<Item = u64>) -> Vec<u8> {
     format!("[{}]", events.join(",")).into_bytes()
 }
 
-/// A folder of its own, which goes away in the end. One test at a time has one: while a process is
-/// started it has, for a moment, whatever files the other tests have open, and a database that one
-/// of them lets go of then is still busy.
+/// A folder of its own, which goes away in the end.
 struct Folder {
     path: PathBuf,
-    _alone: MutexGuard<'static, ()>,
 }
-
-static ALONE: Mutex<()> = Mutex::new(());
 
 impl Folder {
     fn new(name: &str) -> Folder {
-        let _alone = ALONE.lock().unwrap_or_else(PoisonError::into_inner);
         let path = std::env::temp_dir().join(format!("jumbetai-{}-{name}", std::process::id()));
         std::fs::create_dir_all(&path).unwrap();
-        Folder { path, _alone }
+        Folder { path }
     }
 
     fn file(&self, name: &str) -> PathBuf {
