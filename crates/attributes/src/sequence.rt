@@ -3,7 +3,7 @@
 ghost use Rattle.std.specs.Prelude.{◌≡◌, ◌≤◌, ℕ, if◌then◌else◌, IfErr, IfOk, None, Some, option_and_then, option_map};
 ghost use Rattle.attributes.specs.Fault.{IsEvent};
 ghost use Rattle.attributes.specs.Event.{scalar_of, words_of};
-ghost use Rattle.attributes.specs.Sequence.{fault_at, is_sequence, number_of, sequence_fault, sequence_of};
+ghost use Rattle.attributes.specs.Sequence.{fault_at, is_sequence, max_sequence, number_of, sequence_fault, sequence_of};
 
 use crate::body::Attribute;
 use crate::character::are_digits;
@@ -13,7 +13,10 @@ use crate::text::Text;
 use std::alloc::{AllocError, Global};
 use std::marker::Model;
 
-/// The number of an event among those of its source, in 1..=9,223,372,036,854,775,807.
+/// The greatest sequence number, 2^63 - 1: what an integer of a database holds.
+pub const MAX_SEQUENCE: u64 = 9_223_372_036_854_775_807;
+
+/// The number of an event among those of its source, in 1..=[`MAX_SEQUENCE`].
 #[derive(Clone, Copy, PartialEq, Eq, Debug)]
 pub struct Sequence {
     number: u64,
@@ -51,7 +54,7 @@ impl Sequence {
     pub fn of_u64(number: u64) -> Option<Sequence>
         ensures { result ≡ (if is_sequence number then Some number else None) }
     {
-        if number >= 1 && number <= 9_223_372_036_854_775_807 {
+        if number >= 1 && number <= MAX_SEQUENCE {
             Some(Sequence { number })
         } else {
             None
@@ -75,7 +78,7 @@ impl Sequence {
     pub fn number(self) -> u64
         ensures value { result ≡ self }
         ensures low { 1 ≤ result }
-        ensures high { result ≤ 9223372036854775807 }
+        ensures high { result ≤ max_sequence }
     {
         self.number
     }

@@ -5,13 +5,11 @@ ghost use Rattle.command_words.specs.declared.request.Action.{Action};
 
 use crate::fault::Faulty;
 use crate::request::Action;
-use attributes::{Fault, Moment, Text};
+use attributes::{Fault, MAX_SEQUENCE, Moment, Text};
 use std::alloc::Global;
 
 /// The most digits of a number.
 const MAX_DIGITS: usize = 20;
-/// The greatest number of an order, and of a row, 2^63 - 1.
-const MAX_ORDER: u64 = 9_223_372_036_854_775_807;
 /// The most files of a run.
 const MAX_WORKERS: u64 = 16;
 /// The most bytes of the time of a command.
@@ -51,7 +49,7 @@ pub fn order_number(alloc: Global, text: &str) -> Result<u64, Faulty>
 {
     match number_of(text) {
         Some(number) => {
-            if number == 0 || number > MAX_ORDER {
+            if number == 0 || number > MAX_SEQUENCE {
                 return Err(no_order(alloc, text));
             }
             Ok(number)
@@ -77,7 +75,7 @@ pub fn base(alloc: Global, text: &str) -> Result<u64, Faulty>
 {
     match number_of(text) {
         Some(number) => {
-            if number > MAX_ORDER {
+            if number > MAX_SEQUENCE {
                 return Err(no_base(alloc, text));
             }
             Ok(number)

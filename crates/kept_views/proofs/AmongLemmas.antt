@@ -10,7 +10,7 @@ use Rattle.attributes.specs.Event.{EventValue, kind_of}
 use Rattle.inbox.specs.Sets.{set_of}
 use Rattle.inbox.specs.Shown.{is_shown}
 use Rattle.inbox.proofs.ReadLemmas.{filter_kept, filter_left_out}
-use Rattle.kept_views.specs.Tables.{EachHasRow, KindDay, Rank, RowsAreOf, StandsFor, Tables, Thread, count_of_day, count_of_kind, is_day, is_on, is_slot, place_at, slot_of}
+use Rattle.kept_views.specs.Tables.{EachHasRow, KindDay, Rank, RowsAreOf, StandsFor, Tables, Entity, count_of_day, count_of_kind, is_day, is_on, is_slot, place_at, slot_of}
 use Rattle.kept_views.specs.steps.Among.{AreOf, shown_before}
 use Rattle.kept_views.specs.steps.Moves.{ComesIn, count_in, day_count_in}
 use Rattle.kept_views.proofs.MemberLemmas.{at_head, head_or_behind, length_filtered}
@@ -42,13 +42,13 @@ module _ (A L : List EventValue) (e : EventValue) (place : ℕ) (at : slice_get 
       head_alone : Contains (e ∷ []) f → e ≡ f
       head_alone d = elim (head_or_behind e f [] d) as (λ _. e ≡ f) [ inl h ↦ h | inr n ↦ absurd (omega (arith, n.1)) ]
 
-  row_came : (t : Thread) (r : Rank) → is_slot (slot_of e) t r ≡ true → place_at new.threads t r ≡ Some place
-  row_came t r h = comes.threads t r ∙ ap (λ b. if b then Some place else place_at old.threads t r) h
+  row_came : (t : Entity) (r : Rank) → is_slot (slot_of e) t r ≡ true → place_at new.entities t r ≡ Some place
+  row_came t r h = comes.entities t r ∙ ap (λ b. if b then Some place else place_at old.entities t r) h
 
-  row_kept : (t : Thread) (r : Rank) → is_slot (slot_of e) t r ≡ false → place_at new.threads t r ≡ place_at old.threads t r
-  row_kept t r h = comes.threads t r ∙ ap (λ b. if b then Some place else place_at old.threads t r) h
+  row_kept : (t : Entity) (r : Rank) → is_slot (slot_of e) t r ≡ false → place_at new.entities t r ≡ place_at old.entities t r
+  row_kept t r h = comes.entities t r ∙ ap (λ b. if b then Some place else place_at old.entities t r) h
 
-  rows : RowsAreOf A (L ++ e ∷ []) new.threads
+  rows : RowsAreOf A (L ++ e ∷ []) new.entities
   rows t r p h = from (is_slot (slot_of e) t r) refl
     where
       some_same : {x y : ℕ} → Some x ≡ Some y → x ≡ y
@@ -62,12 +62,12 @@ module _ (A L : List EventValue) (e : EventValue) (place : ℕ) (at : slice_get 
           let row = was.rows t r p (sym (row_kept t r b) ∙ h) in
           (row.0, row.1, stays row.0 row.2, row.3)
 
-  each : EachHasRow (L ++ e ∷ []) new.threads
+  each : EachHasRow (L ++ e ∷ []) new.entities
   each f t r c h = from (is_slot (slot_of e) t r) refl
     where
-      from : (b : Bool) → is_slot (slot_of e) t r ≡ b → (p : ℕ) × (place_at new.threads t r ≡ Some p)
+      from : (b : Bool) → is_slot (slot_of e) t r ≡ b → (p : ℕ) × (place_at new.entities t r ≡ Some p)
       from true b = (place, row_came t r b)
-      from false b = elim (is_new f c) as (λ _. (p : ℕ) × (place_at new.threads t r ≡ Some p)) [
+      from false b = elim (is_new f c) as (λ _. (p : ℕ) × (place_at new.entities t r ≡ Some p)) [
         | inl d ↦ let row = was.each f t r d h in (row.0, row_kept t r b ∙ row.1)
         | inr same ↦ absurd (true≢false (sym (slot_itself (slot_of e) t r (ap slot_of same ∙ h)) ∙ b))
       ]

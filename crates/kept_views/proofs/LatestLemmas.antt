@@ -1,4 +1,4 @@
--- The latest events, by the rows of their threads.
+-- The latest events, by the rows of their entities.
 use Rattle.std.proofs.Common.{◌≡◌, ℕ, suc, ◌-◌, List, [], ◌∷◌, Bool, true, false, ◌||◌, ◌&&◌, inl, inr, cond, if◌then◌else◌, length, map, fold, refl, sym, ap, ap₂, subst, ◌∙◌, arith, Option, Some, None, slice_get}
 use Rattle.std.specs.Prelude.{Contains, filter_map, option_and_then}
 use Rattle.std.specs.declared.cmp.Ordering.{Ordering}
@@ -19,13 +19,13 @@ use Rattle.attributes.specs.Event.{EventValue, id_of, source_of, subject_of}
 use Rattle.inbox.specs.Ordered.{has}
 use Rattle.inbox.specs.Sets.{AreEvents, set_of}
 use Rattle.inbox.specs.Shown.{shown}
-use Rattle.views.specs.Latest.{greater, greatest, is_of, latest_of, number_cmp, thread_cmp, thread_of, threads_of}
-use Rattle.views.specs.Law.{LatestAreGreatest, NoneTie, ThreadsHaveLatest}
+use Rattle.views.specs.Latest.{greater, greatest, is_of, latest_of, number_cmp, entity_cmp, entity_of, entities_of}
+use Rattle.views.specs.Law.{LatestAreGreatest, NoneTie, EntitiesHaveLatest}
 use Rattle.views.specs.Number.{number_or_0}
 use Rattle.views.proofs.GreatestLemmas.{greatest_bound, greatest_one, each_there}
 use Rattle.views.proofs.TableLemmas.{with_values}
-use Rattle.kept_views.specs.Tables.{EachHasRow, Rank, Rows, RowsAreOf, Thread, is_rank, is_thread, place_at, rank_cmp, rows_of, slot_of}
-use Rattle.kept_views.specs.steps.Latest.{latest_row, thread_row, top_event, top_rank}
+use Rattle.kept_views.specs.Tables.{EachHasRow, Rank, Rows, RowsAreOf, Entity, is_rank, is_entity, place_at, rank_cmp, rows_of, slot_of}
+use Rattle.kept_views.specs.steps.Latest.{latest_row, entity_row, top_event, top_rank}
 use Rattle.kept_views.specs.steps.Rows.{put_all}
 use Rattle.kept_views.specs.steps.Seen.{rank_in}
 use Rattle.kept_views.proofs.AnswerLemmas.{in_order_of_keys, one_order, row_found}
@@ -33,7 +33,7 @@ use Rattle.kept_views.proofs.ListLemmas.{any_false}
 use Rattle.kept_views.proofs.MemberLemmas.{all_in, at_head, behind, head_or_behind, place_in}
 use Rattle.kept_views.proofs.ShownLemmas.{equal_from, neither_less}
 use Rattle.kept_views.proofs.StandsLemmas.{in_slot}
-use Rattle.kept_views.proofs.TableLemmas.{rank_cmp_total, rank_exact, rank_itself, thread_exact, thread_itself}
+use Rattle.kept_views.proofs.TableLemmas.{rank_cmp_total, rank_exact, rank_itself, entity_exact, entity_itself}
 
 -- ---- the last of ranks that rise is the greatest
 module _ {K : Type 0} (R : K → K → Ordering) where
@@ -80,39 +80,39 @@ module _ {Y : Type 0} where
 pub top_found : (A : List EventValue) (rows : Rows) (k : Rank) (p : ℕ) → top_rank rows ≡ Some k → lookup (is_rank k) rows ≡ Some p → top_event A rows ≡ slice_get A p
 top_found A rows k p top found = ap (option_and_then (λ rank. option_and_then (slice_get A) (lookup (is_rank rank) rows))) top ∙ ap (option_and_then (slice_get A)) found
 
--- an event goes in at its thread
-pub goes_in : (table : List (Thread × Option EventValue)) (e : EventValue) (source subject : List ℕ) → source ≡ source_of e → Some subject ≡ subject_of e
-    → insert_entry thread_cmp table (source, subject) (Some e) ≡ put_all thread_cmp table (cons_option (thread_row e) [])
+-- an event goes in at its entity
+pub goes_in : (table : List (Entity × Option EventValue)) (e : EventValue) (source subject : List ℕ) → source ≡ source_of e → Some subject ≡ subject_of e
+    → insert_entry entity_cmp table (source, subject) (Some e) ≡ put_all entity_cmp table (cons_option (entity_row e) [])
 goes_in table e source subject h k =
-    ap (λ s. insert_entry thread_cmp table (s, subject) (Some e)) h
-    ∙ ap (λ o. put_all thread_cmp table (cons_option (option_map (λ thread. (thread, Some e)) (option_map (λ subject. (source_of e, subject)) o)) [])) k
+    ap (λ s. insert_entry entity_cmp table (s, subject) (Some e)) h
+    ∙ ap (λ o. put_all entity_cmp table (cons_option (option_map (λ entity. (entity, Some e)) (option_map (λ subject. (source_of e, subject)) o)) [])) k
 
--- ---- threads
-thread_cmp_total : IsTotalOrder thread_cmp
-thread_cmp_total = then_total (on_total (λ (t : Thread). t.0) nat_list_cmp_total) (on_total (λ (t : Thread). t.1) nat_list_cmp_total)
+-- ---- entities
+entity_cmp_total : IsTotalOrder entity_cmp
+entity_cmp_total = then_total (on_total (λ (t : Entity). t.0) nat_list_cmp_total) (on_total (λ (t : Entity). t.1) nat_list_cmp_total)
 
-thread_cmp_exact : (t u : Thread) → thread_cmp t u ≡ Equal → t ≡ u
-thread_cmp_exact t u h = exact_pairs _ _ exact_bytes exact_bytes t u h
+entity_cmp_exact : (t u : Entity) → entity_cmp t u ≡ Equal → t ≡ u
+entity_cmp_exact t u h = exact_pairs _ _ exact_bytes exact_bytes t u h
 
-thread_at : (e : EventValue) (t : Thread) (r : Rank) → slot_of e ≡ Some (t, r) → thread_of e ≡ Some t
-thread_at e t r h =
+entity_at : (e : EventValue) (t : Entity) (r : Rank) → slot_of e ≡ Some (t, r) → entity_of e ≡ Some t
+entity_at e t r h =
     let s = in_slot e t r h in
     ap (option_map (λ subject. (source_of e, subject))) s.subject ∙ ap (λ x. Some (x, t.1)) s.source
 
-is_of_thread : (e : EventValue) (t : Thread) → thread_of e ≡ Some t → is_of t e ≡ true
-is_of_thread e t h = ap (λ o. option_map_or (λ own. is_eq (thread_cmp t own)) o false) h ∙ ap is_eq (tied_itself thread_cmp_total t)
+is_of_entity : (e : EventValue) (t : Entity) → entity_of e ≡ Some t → is_of t e ≡ true
+is_of_entity e t h = ap (λ o. option_map_or (λ own. is_eq (entity_cmp t own)) o false) h ∙ ap is_eq (tied_itself entity_cmp_total t)
 
-thread_if_of : (e : EventValue) (t : Thread) → is_of t e ≡ true → thread_of e ≡ Some t
-thread_if_of e t h = from (thread_of e) refl h
+entity_if_of : (e : EventValue) (t : Entity) → is_of t e ≡ true → entity_of e ≡ Some t
+entity_if_of e t h = from (entity_of e) refl h
   where
-    from : (o : Option Thread) → thread_of e ≡ o → option_map_or (λ own. is_eq (thread_cmp t own)) o false ≡ true → thread_of e ≡ Some t
+    from : (o : Option Entity) → entity_of e ≡ o → option_map_or (λ own. is_eq (entity_cmp t own)) o false ≡ true → entity_of e ≡ Some t
     from None is h = absurd (true≢false (sym h))
-    from (Some own) is h = is ∙ ap Some (sym (thread_cmp_exact t own (equal_from _ h)))
+    from (Some own) is h = is ∙ ap Some (sym (entity_cmp_exact t own (equal_from _ h)))
 
-slot_at : (e : EventValue) (t : Thread) → thread_of e ≡ Some t → slot_of e ≡ Some (t, (number_or_0 e, id_of e))
-slot_at e t h = through (subject_of e) ∙ ap (option_map (λ thread. (thread, (number_or_0 e, id_of e)))) h
+slot_at : (e : EventValue) (t : Entity) → entity_of e ≡ Some t → slot_of e ≡ Some (t, (number_or_0 e, id_of e))
+slot_at e t h = through (subject_of e) ∙ ap (option_map (λ entity. (entity, (number_or_0 e, id_of e)))) h
   where
-    through : (o : Option (List ℕ)) → option_map {U = Thread × Rank} (λ subject. ((source_of e, subject), (number_or_0 e, id_of e))) o ≡ option_map (λ thread. (thread, (number_or_0 e, id_of e))) (option_map (λ subject. (source_of e, subject)) o)
+    through : (o : Option (List ℕ)) → option_map {U = Entity × Rank} (λ subject. ((source_of e, subject), (number_or_0 e, id_of e))) o ≡ option_map (λ entity. (entity, (number_or_0 e, id_of e))) (option_map (λ subject. (source_of e, subject)) o)
     through None = refl
     through (Some s) = refl
 
@@ -198,16 +198,16 @@ key_found {P} {X} same itself p (row ∷ rows) c = from (key_found same itself p
     ]
 
 -- ---- the rows of the shown events
-module _ (A : List EventValue) (threads : List (Thread × Rows)) (rows : RowsAreOf A (shown (set_of A)) threads) (each : EachHasRow (shown (set_of A)) threads) (distinct : IsDistinct is_thread (map (λ (t : Thread × Rows). t.0) threads))
-    (events : AreEvents A) (greatest_law : LatestAreGreatest) (each_law : ThreadsHaveLatest) (tie_law : NoneTie) where
+module _ (A : List EventValue) (entities : List (Entity × Rows)) (rows : RowsAreOf A (shown (set_of A)) entities) (each : EachHasRow (shown (set_of A)) entities) (distinct : IsDistinct is_entity (map (λ (t : Entity × Rows). t.0) entities))
+    (events : AreEvents A) (greatest_law : LatestAreGreatest) (each_law : EntitiesHaveLatest) (tie_law : NoneTie) where
   abbrev S : List EventValue
   S = shown (set_of A)
 
-  rows_are : (t : Thread) (rs : Rows) → lookup (is_thread t) threads ≡ Some rs → rows_of threads t ≡ rs
+  rows_are : (t : Entity) (rs : Rows) → lookup (is_entity t) entities ≡ Some rs → rows_of entities t ≡ rs
   rows_are t rs h = ap (λ o. option_map_or (λ (rows : Rows). rows) o []) h
 
   -- the event of the greatest rank is shown, in its slot
-  row_top : (t : Thread) (rs : Rows) (k : Rank) → lookup (is_thread t) threads ≡ Some rs → top_rank rs ≡ Some k → (e : EventValue) × (top_event A rs ≡ Some e) × Contains S e × (slot_of e ≡ Some (t, k))
+  row_top : (t : Entity) (rs : Rows) (k : Rank) → lookup (is_entity t) entities ≡ Some rs → top_rank rs ≡ Some k → (e : EventValue) × (top_event A rs ≡ Some e) × Contains S e × (slot_of e ≡ Some (t, k))
   row_top t rs k there top =
       let ranks : List Rank = map (λ (row : Rank × ℕ). row.0) rs in
       let member : Contains ranks k = greatest_one rank_cmp_total (λ x. Contains ranks x) ranks k (all_members (λ x. Contains ranks x) ranks (λ x c. c)) top in
@@ -215,14 +215,14 @@ module _ (A : List EventValue) (threads : List (Thread × Rows)) (rows : RowsAre
       let row = rows t k place.0 (ap (lookup (is_rank k)) (rows_are t rs there) ∙ place.1) in
       (row.0, top_found A rs k place.0 top place.1 ∙ row.1, row.2, row.3)
 
-  -- and it is the latest of its thread
-  latest_at : (t : Thread) (rs : Rows) (k : Rank) (e : EventValue) → lookup (is_thread t) threads ≡ Some rs → top_rank rs ≡ Some k → Contains S e → slot_of e ≡ Some (t, k) → latest_of S t ≡ Some e
+  -- and it is the latest of its entity
+  latest_at : (t : Entity) (rs : Rows) (k : Rank) (e : EventValue) → lookup (is_entity t) entities ≡ Some rs → top_rank rs ≡ Some k → Contains S e → slot_of e ≡ Some (t, k) → latest_of S t ≡ Some e
   latest_at t rs k e there top c slot =
-      let of-e : is_of t e ≡ true = is_of_thread e t (thread_at e t k slot) in
+      let of-e : is_of t e ≡ true = is_of_entity e t (entity_at e t k slot) in
       let found = each_law S t e c of-e in
       let l = found.0 in
       let is = greatest_law S t l found.1 in
-      let slot-l = slot_at l t (thread_if_of l t is.of_thread) in
+      let slot-l = slot_at l t (entity_if_of l t is.of_entity) in
       let rank-l : Rank = (number_or_0 l, id_of l) in
       let place = each l t rank-l is.is_there slot-l in
       let ranks : List Rank = map (λ (row : Rank × ℕ). row.0) rs in
@@ -233,57 +233,57 @@ module _ (A : List EventValue) (threads : List (Thread × Rows)) (rows : RowsAre
       let first : is_lt (number_cmp e l) ≡ false = ap (λ (x : Rank). is_lt (rank_cmp x rank-l)) own ∙ bound in
       let second : is_lt (number_cmp l e) ≡ false = right _ _ (all_in (λ f. (is_of t f && is_lt (number_cmp l f)) ≡ false) S e (any_false (λ f. is_of t f && is_lt (number_cmp l f)) S is.greatest) c) of-e in
       let tie : number_cmp e l ≡ Equal = neither_less (number_cmp e l) (number_cmp l e) (number_cmp_total.antisymm l e) first second in
-      found.1 ∙ ap Some (sym (tie_law A t e l events c is.is_there of-e is.of_thread (ap is_eq tie)))
+      found.1 ∙ ap Some (sym (tie_law A t e l events c is.is_there of-e is.of_entity (ap is_eq tie)))
     where
       right : (a b : Bool) → (a && b) ≡ false → a ≡ true → b ≡ false
       right true b h t = h
       right false b h t = absurd (true≢false (sym t))
 
-  abbrev keys : List Thread
-  keys = map (λ (row : Thread × Option EventValue). row.0) (filter_map (latest_row A) threads)
+  abbrev keys : List Entity
+  keys = map (λ (row : Entity × Option EventValue). row.0) (filter_map (latest_row A) entities)
 
-  -- what a thread gives
-  row_is : (x : Thread × Rows) (y : Thread × Option EventValue) → Contains threads x → latest_row A x ≡ Some y → (e : EventValue) × (y ≡ (x.0, Some e)) × Contains S e × (thread_of e ≡ Some x.0) × (latest_of S x.0 ≡ Some e)
+  -- what an entity gives
+  row_is : (x : Entity × Rows) (y : Entity × Option EventValue) → Contains entities x → latest_row A x ≡ Some y → (e : EventValue) × (y ≡ (x.0, Some e)) × Contains S e × (entity_of e ≡ Some x.0) × (latest_of S x.0 ≡ Some e)
   row_is x y c h = from (top_rank x.1) refl
     where
-      place : (i : ℕ) × (slice_get threads i ≡ Some x)
-      place = place_in threads x c
+      place : (i : ℕ) × (slice_get entities i ≡ Some x)
+      place = place_in entities x c
 
-      there : lookup (is_thread x.0) threads ≡ Some x.1
-      there = row_found is_thread thread_exact thread_itself threads distinct place.0 x place.1
+      there : lookup (is_entity x.0) entities ≡ Some x.1
+      there = row_found is_entity entity_exact entity_itself entities distinct place.0 x place.1
 
-      from : (o : Option Rank) → top_rank x.1 ≡ o → (e : EventValue) × (y ≡ (x.0, Some e)) × Contains S e × (thread_of e ≡ Some x.0) × (latest_of S x.0 ≡ Some e)
-      from None is = let none : None ≡ Some y = sym (ap (λ o. option_and_then thread_row (option_and_then (λ rank. option_and_then (slice_get A) (lookup (is_rank rank) x.1)) o)) is) ∙ h in absurd (cc)
+      from : (o : Option Rank) → top_rank x.1 ≡ o → (e : EventValue) × (y ≡ (x.0, Some e)) × Contains S e × (entity_of e ≡ Some x.0) × (latest_of S x.0 ≡ Some e)
+      from None is = let none : None ≡ Some y = sym (ap (λ o. option_and_then entity_row (option_and_then (λ rank. option_and_then (slice_get A) (lookup (is_rank rank) x.1)) o)) is) ∙ h in absurd (cc)
       from (Some k) is =
           let top = row_top x.0 x.1 k there is in
-          let own : thread_of top.0 ≡ Some x.0 = thread_at top.0 x.0 k top.3 in
-          let gives : Some (x.0, Some top.0) ≡ Some y = sym (ap (option_and_then thread_row) top.1 ∙ ap (option_map (λ thread. (thread, Some top.0))) own) ∙ h in
+          let own : entity_of top.0 ≡ Some x.0 = entity_at top.0 x.0 k top.3 in
+          let gives : Some (x.0, Some top.0) ≡ Some y = sym (ap (option_and_then entity_row) top.1 ∙ ap (option_map (λ entity. (entity, Some top.0))) own) ∙ h in
           let same : (x.0, Some top.0) ≡ y = cc in
           (top.0, sym same, top.2, own, latest_at x.0 x.1 k top.0 there is top.2 top.3)
 
-  pub latest_listed : put_all thread_cmp [] (filter_map (latest_row A) threads) ≡ with_values (latest_of S) (threads_of S)
+  pub latest_listed : put_all entity_cmp [] (filter_map (latest_row A) entities) ≡ with_values (latest_of S) (entities_of S)
   latest_listed =
-      in_order_of_keys thread_cmp_total thread_cmp_exact (latest_of S) (filter_map (latest_row A) threads)
-      (all_members _ (filter_map (latest_row A) threads) (λ y c. let g = of_filter_map (latest_row A) threads y c in let r = row_is g.0 y g.1 g.2 in
-      ap (λ (z : Thread × Option EventValue). z.1) r.1 ∙ sym r.4 ∙ ap (λ (z : Thread × Option EventValue). latest_of S z.0) (sym r.1)))
-      ∙ ap (with_values (latest_of S)) (one_order thread_cmp_total thread_cmp_exact keys (filter_map thread_of S) (λ t. both_ways _ _ (λ h. in_has thread_cmp_total thread_cmp_exact _ t (onward t (has_in thread_cmp_total thread_cmp_exact _ t h))) (λ h. in_has thread_cmp_total thread_cmp_exact _ t (backward t (has_in thread_cmp_total thread_cmp_exact _ t h)))))
+      in_order_of_keys entity_cmp_total entity_cmp_exact (latest_of S) (filter_map (latest_row A) entities)
+      (all_members _ (filter_map (latest_row A) entities) (λ y c. let g = of_filter_map (latest_row A) entities y c in let r = row_is g.0 y g.1 g.2 in
+      ap (λ (z : Entity × Option EventValue). z.1) r.1 ∙ sym r.4 ∙ ap (λ (z : Entity × Option EventValue). latest_of S z.0) (sym r.1)))
+      ∙ ap (with_values (latest_of S)) (one_order entity_cmp_total entity_cmp_exact keys (filter_map entity_of S) (λ t. both_ways _ _ (λ h. in_has entity_cmp_total entity_cmp_exact _ t (onward t (has_in entity_cmp_total entity_cmp_exact _ t h))) (λ h. in_has entity_cmp_total entity_cmp_exact _ t (backward t (has_in entity_cmp_total entity_cmp_exact _ t h)))))
     where
-      onward : (t : Thread) → Contains keys t → Contains (filter_map thread_of S) t
+      onward : (t : Entity) → Contains keys t → Contains (filter_map entity_of S) t
       onward t c =
-          let m = of_map (λ (row : Thread × Option EventValue). row.0) (filter_map (latest_row A) threads) t c in
-          let g = of_filter_map (latest_row A) threads m.0 m.1 in
+          let m = of_map (λ (row : Entity × Option EventValue). row.0) (filter_map (latest_row A) entities) t c in
+          let g = of_filter_map (latest_row A) entities m.0 m.1 in
           let r = row_is g.0 m.0 g.1 g.2 in
-          in_filter_map thread_of S r.0 t r.2 (r.3 ∙ ap Some (ap (λ (z : Thread × Option EventValue). z.0) (sym r.1) ∙ m.2))
+          in_filter_map entity_of S r.0 t r.2 (r.3 ∙ ap Some (ap (λ (z : Entity × Option EventValue). z.0) (sym r.1) ∙ m.2))
 
-      backward : (t : Thread) → Contains (filter_map thread_of S) t → Contains keys t
+      backward : (t : Entity) → Contains (filter_map entity_of S) t → Contains keys t
       backward t c =
-          let m = of_filter_map thread_of S t c in
+          let m = of_filter_map entity_of S t c in
           let e = m.0 in
           let slot = slot_at e t m.2 in
           let place = each e t (number_or_0 e, id_of e) m.1 slot in
-          with_rows e place.0 place.1 (lookup (is_thread t) threads) refl
+          with_rows e place.0 place.1 (lookup (is_entity t) entities) refl
         where
-          with_rows : (e : EventValue) (p : ℕ) → place_at threads t (number_or_0 e, id_of e) ≡ Some p → (o : Option Rows) → lookup (is_thread t) threads ≡ o → Contains keys t
+          with_rows : (e : EventValue) (p : ℕ) → place_at entities t (number_or_0 e, id_of e) ≡ Some p → (o : Option Rows) → lookup (is_entity t) entities ≡ o → Contains keys t
           with_rows e p h None is = let none : None ≡ Some p = sym (ap (λ o. lookup (is_rank (number_or_0 e, id_of e)) (option_map_or (λ (rows : Rows). rows) o [])) is) ∙ h in absurd (cc)
           with_rows e p h (Some rs) is =
               let rank : Rank = (number_or_0 e, id_of e) in
@@ -291,6 +291,6 @@ module _ (A : List EventValue) (threads : List (Thread × Rows)) (rows : RowsAre
               let member : Contains ranks rank = in_map (λ (row : Rank × ℕ). row.0) rs (rank, p) (found_in is_rank rank_exact rank rs p (ap (lookup (is_rank rank)) (sym (rows_are t rs is)) ∙ h)) in
               let k = greatest_some rank_cmp ranks rank member in
               let top = row_top t rs k.0 is k.1 in
-              let own : thread_of top.0 ≡ Some t = thread_at top.0 t k.0 top.3 in
-              in_map (λ (row : Thread × Option EventValue). row.0) (filter_map (latest_row A) threads) (t, Some top.0)
-              (in_filter_map (latest_row A) threads (t, rs) (t, Some top.0) (found_in is_thread thread_exact t threads rs is) (ap (option_and_then thread_row) top.1 ∙ ap (option_map (λ thread. (thread, Some top.0))) own))
+              let own : entity_of top.0 ≡ Some t = entity_at top.0 t k.0 top.3 in
+              in_map (λ (row : Entity × Option EventValue). row.0) (filter_map (latest_row A) entities) (t, Some top.0)
+              (in_filter_map (latest_row A) entities (t, rs) (t, Some top.0) (found_in is_entity entity_exact t entities rs is) (ap (option_and_then entity_row) top.1 ∙ ap (option_map (λ entity. (entity, Some top.0))) own))

@@ -20,11 +20,11 @@ use Rattle.inbox.specs.Shown.{IsShownOf, NoneHas, is_shown, shown}
 use Rattle.inbox.proofs.OrderLemmas.{key_cmp_total, tied_events}
 use Rattle.inbox.proofs.SetLemmas.{all-in_order, has-in_order, in_order-push, sorted-in_order}
 use Rattle.views.specs.Number.{number_or_0}
-use Rattle.kept_views.specs.Tables.{CountsDays, CountsKinds, EachHasRow, KindDay, Rank, RowsAreOf, StandsFor, Tables, Thread, count_of_day, count_of_kind, counted, is_day, is_on, is_rank, is_slot, is_thread, place_at, slot_of}
+use Rattle.kept_views.specs.Tables.{CountsDays, CountsKinds, EachHasRow, KindDay, Rank, RowsAreOf, StandsFor, Tables, Entity, count_of_day, count_of_kind, counted, is_day, is_on, is_rank, is_slot, is_entity, place_at, slot_of}
 use Rattle.kept_views.specs.steps.Moves.{ComesIn, CountsChange, GoesOut, are_together, count_in, day_count_in, one_less, one_more, slot_apart}
 use Rattle.kept_views.proofs.MemberLemmas.{all_in, at_place, from_filter, from_inserted, is_inserted, is_last, length_filtered, length_in_order, place_in, to_filter, to_inserted, was_there}
 use Rattle.kept_views.proofs.ShownLemmas.{first_counts, first_shows, hidden_counts, hides, hides_it, hides_none, hides_one, key_back, one_key, one_text, replaced_counts, replaces_shows, shown_of_new, stays_hidden, apart, tie_of}
-use Rattle.kept_views.proofs.TableLemmas.{rank_exact, rank_itself, thread_exact, thread_itself}
+use Rattle.kept_views.proofs.TableLemmas.{rank_exact, rank_itself, entity_exact, entity_itself}
 
 -- ---- what comes again, and what is new
 pub known : (A : List EventValue) (e : EventValue) (T : Tables) → has key_cmp A e ≡ true → StandsFor A T → StandsFor (append_new key_cmp A (e ∷ [])) T
@@ -89,40 +89,40 @@ day_fits A T k s =
     )
 
 -- ---- slots
-same_slot : (s : Thread × Rank) (t : Thread) (r : Rank) → (is_thread s.0 t && is_rank s.1 r) ≡ true → s ≡ (t, r)
-same_slot s t r h = from (is_thread s.0 t) (is_rank s.1 r) refl refl h
+same_slot : (s : Entity × Rank) (t : Entity) (r : Rank) → (is_entity s.0 t && is_rank s.1 r) ≡ true → s ≡ (t, r)
+same_slot s t r h = from (is_entity s.0 t) (is_rank s.1 r) refl refl h
   where
-    from : (a b : Bool) → is_thread s.0 t ≡ a → is_rank s.1 r ≡ b → (a && b) ≡ true → s ≡ (t, r)
-    from true true e f h = ap₂ (λ (x : Thread) (y : Rank). (x, y)) (thread_exact s.0 t e) (rank_exact s.1 r f)
+    from : (a b : Bool) → is_entity s.0 t ≡ a → is_rank s.1 r ≡ b → (a && b) ≡ true → s ≡ (t, r)
+    from true true e f h = ap₂ (λ (x : Entity) (y : Rank). (x, y)) (entity_exact s.0 t e) (rank_exact s.1 r f)
     from true false e f h = absurd (true≢false (sym h))
     from false b e f h = absurd (true≢false (sym h))
 
-pub slot_exact : (o : Option (Thread × Rank)) (t : Thread) (r : Rank) → is_slot o t r ≡ true → o ≡ Some (t, r)
+pub slot_exact : (o : Option (Entity × Rank)) (t : Entity) (r : Rank) → is_slot o t r ≡ true → o ≡ Some (t, r)
 slot_exact None t r h = absurd (true≢false (sym h))
 slot_exact (Some s) t r h = ap Some (same_slot s t r h)
 
-pub slot_itself : (o : Option (Thread × Rank)) (t : Thread) (r : Rank) → o ≡ Some (t, r) → is_slot o t r ≡ true
-slot_itself o t r h = ap (λ x. is_slot x t r) h ∙ ap₂ (λ (a b : Bool). a && b) (thread_itself t) (rank_itself r)
+pub slot_itself : (o : Option (Entity × Rank)) (t : Entity) (r : Rank) → o ≡ Some (t, r) → is_slot o t r ≡ true
+slot_itself o t r h = ap (λ x. is_slot x t r) h ∙ ap₂ (λ (a b : Bool). a && b) (entity_itself t) (rank_itself r)
 
 -- what a slot says of its event
-pub record InSlot (e : EventValue) (t : Thread) (r : Rank) : Type 0 where
+pub record InSlot (e : EventValue) (t : Entity) (r : Rank) : Type 0 where
   pub source : source_of e ≡ t.0
   pub subject : subject_of e ≡ Some t.1
   pub number : number_or_0 e ≡ r.0
   pub id : id_of e ≡ r.1
 
-pub in_slot : (e : EventValue) (t : Thread) (r : Rank) → slot_of e ≡ Some (t, r) → InSlot e t r
+pub in_slot : (e : EventValue) (t : Entity) (r : Rank) → slot_of e ≡ Some (t, r) → InSlot e t r
 in_slot e t r h = from (subject_of e) refl h
   where
-    from : (o : Option (List ℕ)) → subject_of e ≡ o → option_map {U = Thread × Rank} (λ subject. ((source_of e, subject), (number_or_0 e, id_of e))) o ≡ Some (t, r) → InSlot e t r
+    from : (o : Option (List ℕ)) → subject_of e ≡ o → option_map {U = Entity × Rank} (λ subject. ((source_of e, subject), (number_or_0 e, id_of e))) o ≡ Some (t, r) → InSlot e t r
     from None is h = absurd (cc)
     from (Some subject) is h =
-        let same : ◌≡◌ {A = Thread × Rank} ((source_of e, subject), (number_or_0 e, id_of e)) (t, r) = cc in
+        let same : ◌≡◌ {A = Entity × Rank} ((source_of e, subject), (number_or_0 e, id_of e)) (t, r) = cc in
         record {
-          source = ap (λ (s : Thread × Rank). s.0.0) same;
-          subject = is ∙ ap (λ (s : Thread × Rank). Some s.0.1) same;
-          number = ap (λ (s : Thread × Rank). s.1.0) same;
-          id = ap (λ (s : Thread × Rank). s.1.1) same;
+          source = ap (λ (s : Entity × Rank). s.0.0) same;
+          subject = is ∙ ap (λ (s : Entity × Rank). Some s.0.1) same;
+          number = ap (λ (s : Entity × Rank). s.1.0) same;
+          id = ap (λ (s : Entity × Rank). s.1.1) same;
         }
 
 subject_exact : (a b : Option (List ℕ)) → option_eq bytes_eq a b ≡ true → a ≡ b
@@ -154,7 +154,7 @@ together_alike o e source id h =
     ∙ ap (λ s. option_map (λ subject. ((s, subject), (number_or_0 o, id_of o))) (subject_of e)) source
     ∙ ap₂ (λ (n : ℕ) (i : List ℕ). option_map (λ subject. ((source_of e, subject), (n, i))) (subject_of e)) numbers id
 
-pub alike_together : (o e : EventValue) (t : Thread) (r : Rank) → InSlot o t r → InSlot e t r → are_together o e ≡ true
+pub alike_together : (o e : EventValue) (t : Entity) (r : Rank) → InSlot o t r → InSlot e t r → are_together o e ≡ true
 alike_together o e t r a b =
     ap₂ (λ (s : Option (List ℕ)) (n : ℕ). option_eq bytes_eq (subject_of o) s && (number_or_0 o == n)) (b.subject ∙ sym a.subject) (b.number ∙ sym a.number)
     ∙ ap₂ (λ (x y : Bool). x && y) (subject_itself (subject_of o)) (same (number_or_0 o))
@@ -177,12 +177,12 @@ module _ (A : List EventValue) (e : EventValue) (fresh : has key_cmp A e ≡ fal
   grown = in_order-push key_cmp_total A e
 
   -- it is enough that they are those of the set with the event
-  stands : (T : Tables) → CountsKinds (shown E') T.kinds → CountsDays (shown E') T.days → RowsAreOf (A ++ e ∷ []) (shown E') T.threads → EachHasRow (shown E') T.threads → StandsFor (A ++ e ∷ []) T
+  stands : (T : Tables) → CountsKinds (shown E') T.kinds → CountsDays (shown E') T.days → RowsAreOf (A ++ e ∷ []) (shown E') T.entities → EachHasRow (shown E') T.entities → StandsFor (A ++ e ∷ []) T
   stands T kinds days rows each = record {
     kinds = subst (λ X. CountsKinds (shown X) T.kinds) (sym grown) kinds;
     days = subst (λ X. CountsDays (shown X) T.days) (sym grown) days;
-    rows = subst (λ X. RowsAreOf (A ++ e ∷ []) (shown X) T.threads) (sym grown) rows;
-    each = subst (λ X. EachHasRow (shown X) T.threads) (sym grown) each;
+    rows = subst (λ X. RowsAreOf (A ++ e ∷ []) (shown X) T.entities) (sym grown) rows;
+    each = subst (λ X. EachHasRow (shown X) T.entities) (sym grown) each;
   }
 
   -- what is shown stays so unless it is hidden
@@ -228,28 +228,28 @@ module _ (A : List EventValue) (e : EventValue) (fresh : has key_cmp A e ≡ fal
         let c = from_filter (is_shown E) E f row.2 in
         let at = place_in E f c.0 in
         (f, was_there A e f p row.1, stays f row.2 (hides_none E e fresh_in o there greater at.0 f at.1 c.1), row.3))
-        (λ f t r c h. elim (was f c) as (λ _. (p : ℕ) × (place_at old.threads t r ≡ Some p)) [
+        (λ f t r c h. elim (was f c) as (λ _. (p : ℕ) × (place_at old.entities t r ≡ Some p)) [
           | inl same ↦ absurd (true≢false (sym (ap (is_shown E') (sym same) ∙ (from_filter (is_shown E') E' f c).1) ∙ stays_hidden E e fresh_in o there greater))
           | inr d ↦ s.each f t r d.0 h
         ])
 
     -- ---- the rows once it has come, and none has gone
     module _ (mid : Tables) (comes : ComesIn e (length A) old mid) where
-      row_came : (t : Thread) (r : Rank) → is_slot (slot_of e) t r ≡ true → place_at mid.threads t r ≡ Some (length A)
-      row_came t r h = comes.threads t r ∙ ap (λ b. if b then Some (length A) else place_at old.threads t r) h
+      row_came : (t : Entity) (r : Rank) → is_slot (slot_of e) t r ≡ true → place_at mid.entities t r ≡ Some (length A)
+      row_came t r h = comes.entities t r ∙ ap (λ b. if b then Some (length A) else place_at old.entities t r) h
 
-      row_kept : (t : Thread) (r : Rank) → is_slot (slot_of e) t r ≡ false → place_at mid.threads t r ≡ place_at old.threads t r
-      row_kept t r h = comes.threads t r ∙ ap (λ b. if b then Some (length A) else place_at old.threads t r) h
+      row_kept : (t : Entity) (r : Rank) → is_slot (slot_of e) t r ≡ false → place_at mid.entities t r ≡ place_at old.entities t r
+      row_kept t r h = comes.entities t r ∙ ap (λ b. if b then Some (length A) else place_at old.entities t r) h
 
-      some_row : (t : Thread) (r : Rank) → (p : ℕ) × (place_at old.threads t r ≡ Some p) → (p : ℕ) × (place_at mid.threads t r ≡ Some p)
+      some_row : (t : Entity) (r : Rank) → (p : ℕ) × (place_at old.entities t r ≡ Some p) → (p : ℕ) × (place_at mid.entities t r ≡ Some p)
       some_row t r p = from (is_slot (slot_of e) t r) refl
         where
-          from : (b : Bool) → is_slot (slot_of e) t r ≡ b → (p : ℕ) × (place_at mid.threads t r ≡ Some p)
+          from : (b : Bool) → is_slot (slot_of e) t r ≡ b → (p : ℕ) × (place_at mid.entities t r ≡ Some p)
           from true h = (length A, row_came t r h)
           from false h = (p.0, row_kept t r h ∙ p.1)
 
       -- the row of the event itself
-      own_row : is_shown E' e ≡ true → (t : Thread) (r : Rank) (p : ℕ) → is_slot (slot_of e) t r ≡ true → place_at mid.threads t r ≡ Some p
+      own_row : is_shown E' e ≡ true → (t : Entity) (r : Rank) (p : ℕ) → is_slot (slot_of e) t r ≡ true → place_at mid.entities t r ≡ Some p
           → (f : EventValue) × (slice_get (A ++ e ∷ []) p ≡ Some f) × Contains (shown E') f × (slot_of f ≡ Some (t, r))
       own_row shows t r p slot h =
           let place : length A ≡ p = some_same (sym (row_came t r slot) ∙ h) in
@@ -265,12 +265,12 @@ module _ (A : List EventValue) (e : EventValue) (fresh : has key_cmp A e ≡ fal
           (raised bytes_eq (count_of_kind (shown E)) (count_of_kind (shown E')) (λ k. bytes_eq k (kind_of e)) old.kinds mid.kinds s.kinds (λ k. first_counts E e fresh_in none (λ f. bytes_eq k (kind_of f))) comes.kinds)
           (raised is_day (count_of_day (shown E)) (count_of_day (shown E')) (λ k. is_on k e) old.days mid.days s.days (λ k. first_counts E e fresh_in none (is_on k)) comes.days)
           rows
-          (λ f t r c h. elim (was f c) as (λ _. (p : ℕ) × (place_at mid.threads t r ≡ Some p)) [
+          (λ f t r c h. elim (was f c) as (λ _. (p : ℕ) × (place_at mid.entities t r ≡ Some p)) [
             | inl same ↦ (length A, row_came t r (slot_itself (slot_of e) t r (ap slot_of (sym same) ∙ h)))
             | inr d ↦ some_row t r (s.each f t r d.0 h)
           ])
         where
-          rows : RowsAreOf (A ++ e ∷ []) (shown E') mid.threads
+          rows : RowsAreOf (A ++ e ∷ []) (shown E') mid.entities
           rows t r p h = from (is_slot (slot_of e) t r) refl
             where
               from : (b : Bool) → is_slot (slot_of e) t r ≡ b → (f : EventValue) × (slice_get (A ++ e ∷ []) p ≡ Some f) × Contains (shown E') f × (slot_of f ≡ Some (t, r))
@@ -319,14 +319,14 @@ module _ (A : List EventValue) (e : EventValue) (fresh : has key_cmp A e ≡ fal
               let all : AllByRecursion IsEvent E = all-in_order key_cmp_total IsEvent A events in
               tied_events tells f o (all_in IsEvent E f all c) (all_in IsEvent E o all (at_place E o there.place there.is_there)) h
 
-          row_gone : (t : Thread) (r : Rank) → is_slot (slot_apart o e) t r ≡ true → place_at new.threads t r ≡ None
-          row_gone t r h = goes.threads t r ∙ ap (λ b. if b then None else place_at mid.threads t r) h
+          row_gone : (t : Entity) (r : Rank) → is_slot (slot_apart o e) t r ≡ true → place_at new.entities t r ≡ None
+          row_gone t r h = goes.entities t r ∙ ap (λ b. if b then None else place_at mid.entities t r) h
 
-          row_stays : (t : Thread) (r : Rank) → is_slot (slot_apart o e) t r ≡ false → place_at new.threads t r ≡ place_at mid.threads t r
-          row_stays t r h = goes.threads t r ∙ ap (λ b. if b then None else place_at mid.threads t r) h
+          row_stays : (t : Entity) (r : Rank) → is_slot (slot_apart o e) t r ≡ false → place_at new.entities t r ≡ place_at mid.entities t r
+          row_stays t r h = goes.entities t r ∙ ap (λ b. if b then None else place_at mid.entities t r) h
 
           -- what stood in the slot of the other is the other's, or the event's own
-          hidden_if_other : (f : EventValue) (t : Thread) (r : Rank) → Contains (shown E) f → slot_of f ≡ Some (t, r) → is_slot (slot_of e) t r ≡ false → is_slot (slot_apart o e) t r ≡ false → hides e f ≡ false
+          hidden_if_other : (f : EventValue) (t : Entity) (r : Rank) → Contains (shown E) f → slot_of f ≡ Some (t, r) → is_slot (slot_of e) t r ≡ false → is_slot (slot_apart o e) t r ≡ false → hides e f ≡ false
           hidden_if_other f t r c h a b =
               let d = from_filter (is_shown E) E f c in
               let at = place_in E f d.0 in
@@ -339,7 +339,7 @@ module _ (A : List EventValue) (e : EventValue) (fresh : has key_cmp A e ≡ fal
                   from true x = true≢false (sym (slot_itself (slot_of e) t r (sym (together_alike o e sources ids x) ∙ own)) ∙ a)
                   from false x = true≢false (sym (ap (λ y. is_slot (if y then None else slot_of o) t r) x ∙ slot_itself (slot_of o) t r own) ∙ b)
 
-          rows_after : RowsAreOf (A ++ e ∷ []) (shown E') new.threads
+          rows_after : RowsAreOf (A ++ e ∷ []) (shown E') new.entities
           rows_after t r p h = from (is_slot (slot_apart o e) t r) (is_slot (slot_of e) t r) refl refl
             where
               from : (b a : Bool) → is_slot (slot_apart o e) t r ≡ b → is_slot (slot_of e) t r ≡ a → (f : EventValue) × (slice_get (A ++ e ∷ []) p ≡ Some f) × Contains (shown E') f × (slot_of f ≡ Some (t, r))
@@ -351,7 +351,7 @@ module _ (A : List EventValue) (e : EventValue) (fresh : has key_cmp A e ≡ fal
                   (f, was_there A e f p row.1, stays f row.2 (hidden_if_other f t r row.2 row.3 own b), row.3)
 
           -- what isn't hidden doesn't stand in the slot that is emptied
-          not_gone : (f : EventValue) (t : Thread) (r : Rank) → Contains (shown E') f → slot_of f ≡ Some (t, r) → is_slot (slot_apart o e) t r ≡ false
+          not_gone : (f : EventValue) (t : Entity) (r : Rank) → Contains (shown E') f → slot_of f ≡ Some (t, r) → is_slot (slot_apart o e) t r ≡ false
           not_gone f t r c h = from (is_slot (slot_apart o e) t r) refl
             where
               apart_is : is_slot (slot_apart o e) t r ≡ true → (are_together o e ≡ false) × (slot_of o ≡ Some (t, r))
@@ -383,8 +383,8 @@ module _ (A : List EventValue) (e : EventValue) (fresh : has key_cmp A e ≡ fal
               (lowered is_day mid_days (count_of_day (shown E')) (λ k. is_on k o) mid.days new.days mid_days_count (λ k. replaced_counts E e fresh_in o there less (sorted-in_order key_cmp_total A) (is_on k)) goes.days)
               rows_after
               (λ f t r c h.
-              let kept : place_at new.threads t r ≡ place_at mid.threads t r = row_stays t r (not_gone f t r c h) in
-              elim (was f c) as (λ _. (p : ℕ) × (place_at new.threads t r ≡ Some p)) [
+              let kept : place_at new.entities t r ≡ place_at mid.entities t r = row_stays t r (not_gone f t r c h) in
+              elim (was f c) as (λ _. (p : ℕ) × (place_at new.entities t r ≡ Some p)) [
                 | inl same ↦ (length A, kept ∙ row_came t r (slot_itself (slot_of e) t r (ap slot_of (sym same) ∙ h)))
                 | inr d ↦ let q = some_row t r (s.each f t r d.0 h) in (q.0, kept ∙ q.1)
               ])

@@ -11,9 +11,9 @@ use Rattle.std.proofs.lemmas.Cmp.{nat_cmp_total, nat_list_cmp_total, on_total, t
 use Rattle.std.proofs.lemmas.Map.Lookups.{exact_bytes, exact_pairs, exact_unsigned}
 use Rattle.std.proofs.lemmas.Slice.Eq.{bytes_eq-Decides}
 use mathlib.Core.Bool.{true≢false}
-use Rattle.kept_views.specs.Tables.{Rank, Rows, Thread, is_rank, is_thread, place_at, rank_cmp}
+use Rattle.kept_views.specs.Tables.{Rank, Rows, Entity, is_rank, is_entity, place_at, rank_cmp}
 use Rattle.kept_views.specs.steps.Moves.{PutsAt}
-use Rattle.kept_views.specs.steps.Seen.{rank_in, rows_in, thread_in, threads_in}
+use Rattle.kept_views.specs.steps.Seen.{rank_in, rows_in, entity_in, entities_in}
 
 pub option_same : {X : Type 0} (o : Option X) → option_map (λ x. x) o ≡ o
 option_same None = refl
@@ -52,7 +52,7 @@ keeps_both : {K X : Type 0} (eq : K → K → Bool) (test : K → Bool) (es ms f
 unfolding KeepsOthers
 keeps_both eq test es ms fs first second = λ other is apart. second other is apart ∙ first other is apart
 
--- ---- threads and ranks are told apart exactly
+-- ---- entities and ranks are told apart exactly
 pub and_left : (a b : Bool) → (a && b) ≡ true → a ≡ true
 and_left true b h = refl
 and_left false b h = absurd (cc)
@@ -61,14 +61,14 @@ pub and_right : (a b : Bool) → (a && b) ≡ true → b ≡ true
 and_right true b h = h
 and_right false b h = absurd (cc)
 
-pub thread_exact : (t u : Thread) → is_thread t u ≡ true → t ≡ u
-thread_exact t u h =
+pub entity_exact : (t u : Entity) → is_entity t u ≡ true → t ≡ u
+entity_exact t u h =
     let first : t.0 ≡ u.0 = (bytes_eq-Decides t.0 u.0).0 (and_left (bytes_eq t.0 u.0) _ h) in
     let second : t.1 ≡ u.1 = (bytes_eq-Decides t.1 u.1).0 (and_right (bytes_eq t.0 u.0) _ h) in
     ap₂ (λ (x y : List ℕ). (x, y)) first second
 
-pub thread_itself : (t : Thread) → is_thread t t ≡ true
-thread_itself t = ap₂ (λ (a b : Bool). a && b) ((bytes_eq-Decides t.0 t.0).1 refl) ((bytes_eq-Decides t.1 t.1).1 refl)
+pub entity_itself : (t : Entity) → is_entity t t ≡ true
+entity_itself t = ap₂ (λ (a b : Bool). a && b) ((bytes_eq-Decides t.0 t.0).1 refl) ((bytes_eq-Decides t.1 t.1).1 refl)
 
 pub rank_exact : (r s : Rank) → is_rank r s ≡ true → r ≡ s
 rank_exact r s h = exact_pairs _ _ exact_unsigned exact_bytes r s ((Equal-is (rank_cmp r s)).0 h)
@@ -87,74 +87,74 @@ module _ {Y : Type 0} where
   abbrev pub at_rank : Rank → ℕ × String Y → Bool
   at_rank r k = is_rank r (rank_in k)
 
-  abbrev pub at_thread : Thread → String Y × String Y → Bool
-  at_thread t k = is_thread t (thread_in k)
+  abbrev pub at_entity : Entity → String Y × String Y → Bool
+  at_entity t k = is_entity t (entity_in k)
 
   pub row_seen : (rows : Held Y) (r : Rank) → lookup (is_rank r) (rows_in rows) ≡ lookup (at_rank r) rows.entries
   row_seen rows r = seen rank_in is_rank (λ (n : ℕ). n) r rows.entries ∙ option_same (lookup (at_rank r) rows.entries)
 
-  place_seen : (es : List ((String Y × String Y) × Held Y)) (t : Thread) (r : Rank) → place_at (threads_in es) t r ≡ lookup (is_rank r) (option_map_or (λ (rows : Rows). rows) (option_map rows_in (lookup (at_thread t) es)) [])
-  place_seen es t r = ap (λ o. lookup (is_rank r) (option_map_or (λ (rows : Rows). rows) o [])) (seen thread_in is_thread rows_in t es)
+  place_seen : (es : List ((String Y × String Y) × Held Y)) (t : Entity) (r : Rank) → place_at (entities_in es) t r ≡ lookup (is_rank r) (option_map_or (λ (rows : Rows). rows) (option_map rows_in (lookup (at_entity t) es)) [])
+  place_seen es t r = ap (λ o. lookup (is_rank r) (option_map_or (λ (rows : Rows). rows) o [])) (seen entity_in is_entity rows_in t es)
 
-  -- a thread has other rows than before, which differ at one rank
-  pub puts_at : (t : Thread) (r : Rank) (place : Option ℕ) (es fs : List ((String Y × String Y) × Held Y)) (w : Option (Held Y))
-      → KeepsOthers (λ x y. is_thread (thread_in x) (thread_in y)) (at_thread t) es fs → lookup (at_thread t) fs ≡ w
-      → ((s : Rank) → lookup (is_rank s) (option_map_or (λ (rows : Rows). rows) (option_map rows_in w) []) ≡ (if is_rank r s then place else place_at (threads_in es) t s))
-      → PutsAt (Some (t, r)) place (threads_in es) (threads_in fs)
+  -- an entity has other rows than before, which differ at one rank
+  pub puts_at : (t : Entity) (r : Rank) (place : Option ℕ) (es fs : List ((String Y × String Y) × Held Y)) (w : Option (Held Y))
+      → KeepsOthers (λ x y. is_entity (entity_in x) (entity_in y)) (at_entity t) es fs → lookup (at_entity t) fs ≡ w
+      → ((s : Rank) → lookup (is_rank s) (option_map_or (λ (rows : Rows). rows) (option_map rows_in w) []) ≡ (if is_rank r s then place else place_at (entities_in es) t s))
+      → PutsAt (Some (t, r)) place (entities_in es) (entities_in fs)
   puts_at t r place es fs w keeps there inner = λ u s.
       place_seen fs u s
-      ∙ ap (λ o. lookup (is_rank s) (option_map_or (λ (rows : Rows). rows) (option_map rows_in o) [])) (read_after thread_in is_thread thread_exact thread_itself t es fs w keeps there u)
-      ∙ elim (is_thread t u) as (λ b. is_thread t u ≡ b → lookup (is_rank s) (option_map_or (λ (rows : Rows). rows) (option_map rows_in (if b then w else lookup (at_thread u) es)) [])
-      ≡ (if b && is_rank r s then place else place_at (threads_in es) u s)) [
-        | true ↦ λ e. inner s ∙ ap (λ x. if is_rank r s then place else place_at (threads_in es) x s) (thread_exact t u e)
+      ∙ ap (λ o. lookup (is_rank s) (option_map_or (λ (rows : Rows). rows) (option_map rows_in o) [])) (read_after entity_in is_entity entity_exact entity_itself t es fs w keeps there u)
+      ∙ elim (is_entity t u) as (λ b. is_entity t u ≡ b → lookup (is_rank s) (option_map_or (λ (rows : Rows). rows) (option_map rows_in (if b then w else lookup (at_entity u) es)) [])
+      ≡ (if b && is_rank r s then place else place_at (entities_in es) u s)) [
+        | true ↦ λ e. inner s ∙ ap (λ x. if is_rank r s then place else place_at (entities_in es) x s) (entity_exact t u e)
         | false ↦ λ e. sym (place_seen es u s)
       ] refl
 
-  -- the rows of a thread that was there change at a rank
-  pub rows_change : (t : Thread) (r : Rank) (place : Option ℕ) (es : List ((String Y × String Y) × Held Y)) (m n : Held Y) → lookup (at_thread t) es ≡ Some m
+  -- the rows of an entity that was there change at a rank
+  pub rows_change : (t : Entity) (r : Rank) (place : Option ℕ) (es : List ((String Y × String Y) × Held Y)) (m n : Held Y) → lookup (at_entity t) es ≡ Some m
       → KeepsOthers (λ x y. is_rank (rank_in x) (rank_in y)) (at_rank r) m.entries n.entries → lookup (at_rank r) n.entries ≡ place
-      → (s : Rank) → lookup (is_rank s) (rows_in n) ≡ (if is_rank r s then place else place_at (threads_in es) t s)
+      → (s : Rank) → lookup (is_rank s) (rows_in n) ≡ (if is_rank r s then place else place_at (entities_in es) t s)
   rows_change t r place es m n there keeps got s =
       row_seen n s ∙ read_after rank_in is_rank rank_exact rank_itself r m.entries n.entries place keeps got s
       ∙ ap (λ o. if is_rank r s then place else o) (sym (row_seen m s) ∙ sym (place_seen es t s ∙ ap (λ o. lookup (is_rank s) (option_map_or (λ (rows : Rows). rows) (option_map rows_in o) [])) there))
 
-  -- a thread that was not there has one row
-  pub rows_begin : (t : Thread) (r : Rank) (place : Option ℕ) (es : List ((String Y × String Y) × Held Y)) (m n : Held Y) → lookup (at_thread t) es ≡ None → m.entries ≡ []
+  -- an entity that was not there has one row
+  pub rows_begin : (t : Entity) (r : Rank) (place : Option ℕ) (es : List ((String Y × String Y) × Held Y)) (m n : Held Y) → lookup (at_entity t) es ≡ None → m.entries ≡ []
       → KeepsOthers (λ x y. is_rank (rank_in x) (rank_in y)) (at_rank r) m.entries n.entries → lookup (at_rank r) n.entries ≡ place
-      → (s : Rank) → lookup (is_rank s) (rows_in n) ≡ (if is_rank r s then place else place_at (threads_in es) t s)
+      → (s : Rank) → lookup (is_rank s) (rows_in n) ≡ (if is_rank r s then place else place_at (entities_in es) t s)
   rows_begin t r place es m n there empty keeps got s =
       row_seen n s ∙ read_after rank_in is_rank rank_exact rank_itself r m.entries n.entries place keeps got s
       ∙ ap (λ o. if is_rank r s then place else o) (ap (lookup (at_rank s)) empty ∙ sym (place_seen es t s ∙ ap (λ o. lookup (is_rank s) (option_map_or (λ (rows : Rows). rows) (option_map rows_in o) [])) there))
 
-  -- a thread that isn't there has no row to take out
-  pub nothing_there : (t : Thread) (r : Rank) (es : List ((String Y × String Y) × Held Y)) → lookup (at_thread t) es ≡ None → PutsAt (Some (t, r)) None (threads_in es) (threads_in es)
+  -- an entity that isn't there has no row to take out
+  pub nothing_there : (t : Entity) (r : Rank) (es : List ((String Y × String Y) × Held Y)) → lookup (at_entity t) es ≡ None → PutsAt (Some (t, r)) None (entities_in es) (entities_in es)
   nothing_there t r es there = λ u s.
-      elim (is_thread t u) as (λ b. is_thread t u ≡ b → place_at (threads_in es) u s ≡ (if b && is_rank r s then None else place_at (threads_in es) u s)) [
+      elim (is_entity t u) as (λ b. is_entity t u ≡ b → place_at (entities_in es) u s ≡ (if b && is_rank r s then None else place_at (entities_in es) u s)) [
         | true ↦ λ e.
-            let none : place_at (threads_in es) u s ≡ None = place_seen es u s ∙ ap (λ o. lookup (is_rank s) (option_map_or (λ (rows : Rows). rows) (option_map rows_in o) [])) (ap (λ x. lookup (at_thread x) es) (sym (thread_exact t u e)) ∙ there) in
-            elim (is_rank r s) as (λ b. place_at (threads_in es) u s ≡ (if b then None else place_at (threads_in es) u s)) [ true ↦ none | false ↦ refl ]
+            let none : place_at (entities_in es) u s ≡ None = place_seen es u s ∙ ap (λ o. lookup (is_rank s) (option_map_or (λ (rows : Rows). rows) (option_map rows_in o) [])) (ap (λ x. lookup (at_entity x) es) (sym (entity_exact t u e)) ∙ there) in
+            elim (is_rank r s) as (λ b. place_at (entities_in es) u s ≡ (if b then None else place_at (entities_in es) u s)) [ true ↦ none | false ↦ refl ]
         | false ↦ λ e. refl
       ] refl
 
   -- what was read, put back as it was
-  pub put_back : (t : Thread) (es fs : List ((String Y × String Y) × Held Y)) (m n : Held Y) → lookup (at_thread t) es ≡ Some m → fs ≡ set_value (at_thread t) es n → n.entries ≡ m.entries → threads_in fs ≡ threads_in es
+  pub put_back : (t : Entity) (es fs : List ((String Y × String Y) × Held Y)) (m n : Held Y) → lookup (at_entity t) es ≡ Some m → fs ≡ set_value (at_entity t) es n → n.entries ≡ m.entries → entities_in fs ≡ entities_in es
   put_back t es fs m n there is same =
-      ap threads_in is ∙ written es there
+      ap entities_in is ∙ written es there
     where
-      written : (es : List ((String Y × String Y) × Held Y)) → lookup (at_thread t) es ≡ Some m → threads_in (set_value (at_thread t) es n) ≡ threads_in es
+      written : (es : List ((String Y × String Y) × Held Y)) → lookup (at_entity t) es ≡ Some m → entities_in (set_value (at_entity t) es n) ≡ entities_in es
       written [] h = refl
       written (e ∷ es) h =
-          elim (at_thread t e.0) as (λ b. cond b (Some e.1) (lookup (at_thread t) es) ≡ Some m → threads_in (cond b ((e.0, n) ∷ es) (e ∷ set_value (at_thread t) es n)) ≡ threads_in (e ∷ es)) [
-            | true ↦ λ h. let own : e.1 ≡ m = cc in ap (λ l. (thread_in e.0, map (λ (r : (ℕ × String Y) × ℕ). (rank_in r.0, r.1)) l) ∷ threads_in es) (same ∙ sym (ap (λ (m : Held Y). m.entries) own))
-            | false ↦ λ h. ap (λ l. (thread_in e.0, rows_in e.1) ∷ l) (written es h)
+          elim (at_entity t e.0) as (λ b. cond b (Some e.1) (lookup (at_entity t) es) ≡ Some m → entities_in (cond b ((e.0, n) ∷ es) (e ∷ set_value (at_entity t) es n)) ≡ entities_in (e ∷ es)) [
+            | true ↦ λ h. let own : e.1 ≡ m = cc in ap (λ l. (entity_in e.0, map (λ (r : (ℕ × String Y) × ℕ). (rank_in r.0, r.1)) l) ∷ entities_in es) (same ∙ sym (ap (λ (m : Held Y). m.entries) own))
+            | false ↦ λ h. ap (λ l. (entity_in e.0, rows_in e.1) ∷ l) (written es h)
           ] h
 
-  -- the last row of a thread went, and the thread with it
-  pub thread_goes : (t : Thread) (r : Rank) (es ms fs : List ((String Y × String Y) × Held Y)) (m n : Held Y) → lookup (at_thread t) es ≡ Some m
-      → KeepsOthers (λ x y. is_thread (thread_in x) (thread_in y)) (at_thread t) es ms → KeepsOthers (λ x y. is_thread (thread_in x) (thread_in y)) (at_thread t) ms fs → lookup (at_thread t) fs ≡ None
+  -- the last row of an entity went, and the entity with it
+  pub entity_goes : (t : Entity) (r : Rank) (es ms fs : List ((String Y × String Y) × Held Y)) (m n : Held Y) → lookup (at_entity t) es ≡ Some m
+      → KeepsOthers (λ x y. is_entity (entity_in x) (entity_in y)) (at_entity t) es ms → KeepsOthers (λ x y. is_entity (entity_in x) (entity_in y)) (at_entity t) ms fs → lookup (at_entity t) fs ≡ None
       → KeepsOthers (λ x y. is_rank (rank_in x) (rank_in y)) (at_rank r) m.entries n.entries → lookup (at_rank r) n.entries ≡ None → length n.entries ≡ 0
-      → PutsAt (Some (t, r)) None (threads_in es) (threads_in fs)
-  thread_goes t r es ms fs m n there first second gone keeps got none =
+      → PutsAt (Some (t, r)) None (entities_in es) (entities_in fs)
+  entity_goes t r es ms fs m n there first second gone keeps got none =
       puts_at t r None es fs None (keeps_both _ _ es ms fs first second) gone
       (λ s. sym (ap (λ l. lookup (is_rank s) (map (λ (r : (ℕ × String Y) × ℕ). (rank_in r.0, r.1)) l)) (empty n.entries none)) ∙ rows_change t r None es m n there keeps got s)
     where

@@ -16,10 +16,10 @@ abbrev pub KindDay : Type 0
 KindDay = List ℕ × ℤ
 
 -- a source and a subject
-abbrev pub Thread : Type 0
-Thread = List ℕ × List ℕ
+abbrev pub Entity : Type 0
+Entity = List ℕ × List ℕ
 
--- a number and an id, which tell the events of a thread apart
+-- a number and an id, which tell the events of an entity apart
 abbrev pub Rank : Type 0
 Rank = ℕ × List ℕ
 
@@ -27,11 +27,11 @@ Rank = ℕ × List ℕ
 abbrev pub Rows : Type 0
 Rows = List (Rank × ℕ)
 
--- the tables: types with counts, types by day with counts, and threads with rows
+-- the tables: types with counts, types by day with counts, and entities with rows
 pub record Tables : Type 0 where
   pub kinds : List (List ℕ × ℕ)
   pub days : List (KindDay × ℕ)
-  pub threads : List (Thread × Rows)
+  pub entities : List (Entity × Rows)
 
 -- ---- types
 
@@ -67,50 +67,50 @@ abbrev pub CountsDays : List EventValue → List (KindDay × ℕ) → Type 0
 CountsDays events rows =
     (day : KindDay) → lookup (is_day day) rows ≡ counted (count_of_day events day)
 
--- ---- threads
+-- ---- entities
 
 -- by number, then id
 abbrev pub rank_cmp : Rank → Rank → Ordering
 rank_cmp x y = ordering_then (nat_cmp x.0 y.0) (byte_cmp x.1 y.1)
 
-abbrev pub is_thread : Thread → Thread → Bool
-is_thread x y = bytes_eq x.0 y.0 && bytes_eq x.1 y.1
+abbrev pub is_entity : Entity → Entity → Bool
+is_entity x y = bytes_eq x.0 y.0 && bytes_eq x.1 y.1
 
 abbrev pub is_rank : Rank → Rank → Bool
 is_rank x y = is_eq (rank_cmp x y)
 
--- the rows of the thread
-abbrev pub rows_of : List (Thread × Rows) → Thread → Rows
-rows_of threads thread = option_map_or (λ rows. rows) (lookup (is_thread thread) threads) []
+-- the rows of the entity
+abbrev pub rows_of : List (Entity × Rows) → Entity → Rows
+rows_of entities entity = option_map_or (λ rows. rows) (lookup (is_entity entity) entities) []
 
--- the place of the row of the thread that has the rank
-abbrev pub place_at : List (Thread × Rows) → Thread → Rank → Option ℕ
-place_at threads thread rank = lookup (is_rank rank) (rows_of threads thread)
+-- the place of the row of the entity that has the rank
+abbrev pub place_at : List (Entity × Rows) → Entity → Rank → Option ℕ
+place_at entities entity rank = lookup (is_rank rank) (rows_of entities entity)
 
--- where the row of an event stands: in its thread, at its number and id; none without a subject
-abbrev pub slot_of : EventValue → Option (Thread × Rank)
+-- where the row of an event stands: in its entity, at its number and id; none without a subject
+abbrev pub slot_of : EventValue → Option (Entity × Rank)
 slot_of e = option_map (λ subject. ((source_of e, subject), (number_or_0 e, id_of e))) (subject_of e)
 
--- whether a slot is that of the thread and the rank
-abbrev pub is_slot : Option (Thread × Rank) → Thread → Rank → Bool
-is_slot slot thread rank = option_map_or (λ s. is_thread s.0 thread && is_rank s.1 rank) slot false
+-- whether a slot is that of the entity and the rank
+abbrev pub is_slot : Option (Entity × Rank) → Entity → Rank → Bool
+is_slot slot entity rank = option_map_or (λ s. is_entity s.0 entity && is_rank s.1 rank) slot false
 
 -- each row is of one of the events, which came at the row's place
-abbrev pub RowsAreOf : List EventValue → List EventValue → List (Thread × Rows) → Type 0
-RowsAreOf A events threads =
-    (thread : Thread) (rank : Rank) (place : ℕ) → place_at threads thread rank ≡ Some place
+abbrev pub RowsAreOf : List EventValue → List EventValue → List (Entity × Rows) → Type 0
+RowsAreOf A events entities =
+    (entity : Entity) (rank : Rank) (place : ℕ) → place_at entities entity rank ≡ Some place
     → (e : EventValue) × (slice_get A place ≡ Some e) × Contains events e
-    × (slot_of e ≡ Some (thread, rank))
+    × (slot_of e ≡ Some (entity, rank))
 
 -- each of the events that has a subject has a row
-abbrev pub EachHasRow : List EventValue → List (Thread × Rows) → Type 0
-EachHasRow events threads =
-    (e : EventValue) (thread : Thread) (rank : Rank) → Contains events e
-    → slot_of e ≡ Some (thread, rank) → (place : ℕ) × (place_at threads thread rank ≡ Some place)
+abbrev pub EachHasRow : List EventValue → List (Entity × Rows) → Type 0
+EachHasRow events entities =
+    (e : EventValue) (entity : Entity) (rank : Rank) → Contains events e
+    → slot_of e ≡ Some (entity, rank) → (place : ℕ) × (place_at entities entity rank ≡ Some place)
 
 -- the tables are those of the shown events of what came
 pub record StandsFor (A : List EventValue) (tables : Tables) : Type 0 where
   pub kinds : CountsKinds (shown (set_of A)) tables.kinds
   pub days : CountsDays (shown (set_of A)) tables.days
-  pub rows : RowsAreOf A (shown (set_of A)) tables.threads
-  pub each : EachHasRow (shown (set_of A)) tables.threads
+  pub rows : RowsAreOf A (shown (set_of A)) tables.entities
+  pub each : EachHasRow (shown (set_of A)) tables.entities

@@ -9,13 +9,13 @@ ghost use Rattle.views.specs.Latest.{latest};
 ghost use Rattle.views.specs.Question.{IsTrueOf, query_of};
 ghost use Rattle.views.specs.Tally.{tally};
 ghost use Rattle.kept_views.specs.Tables.{CountsKinds, EachHasRow, RowsAreOf, StandsFor};
-ghost use Rattle.kept_views.specs.steps.Seen.{kinds_in, threads_in};
+ghost use Rattle.kept_views.specs.steps.Seen.{kinds_in, entities_in};
 
 use crate::days::list_days;
+use crate::entities::Entities;
 use crate::kept::Views;
 use crate::latest::{copied, ordered_latest};
 use crate::tally::Tally;
-use crate::threads::Threads;
 use attributes::{Batch, Text};
 use inbox::Inbox;
 use std::alloc::{AllocError, Global};
@@ -60,17 +60,17 @@ fn list_kinds(alloc: Global, kinds: &Tally) -> Result<Kinds, AllocError>
 
 /// Copies of the latest events, by source, then subject. Time in proportion to them, times the
 /// logarithm of their number, and to what is copied.
-fn list_latest(alloc: Global, inbox: &Inbox, threads: &Threads) -> Result<Batch, AllocError>
+fn list_latest(alloc: Global, inbox: &Inbox, entities: &Entities) -> Result<Batch, AllocError>
     ensures { IfOk result (λ batch.
-        RowsAreOf inbox.now.arrivals (shown (events inbox.now)) (threads_in threads.now.entries)
-        → EachHasRow (shown (events inbox.now)) (threads_in threads.now.entries)
+        RowsAreOf inbox.now.arrivals (shown (events inbox.now)) (entities_in entities.now.entries)
+        → EachHasRow (shown (events inbox.now)) (entities_in entities.now.entries)
         → batch ≡ latest (events inbox.now)) }
 {
     // Laws that the clause rests on, and that what came are events; the calls do nothing.
     latest_are_greatest();
     latest_are_one();
     let _arrived = inbox.arrived();
-    let table = ordered_latest(alloc, inbox, threads)?;
+    let table = ordered_latest(alloc, inbox, entities)?;
     Ok(copied(alloc, &table)?)
 }
 
@@ -93,7 +93,7 @@ impl Views {
         match query {
             Query::Kinds => Ok(Answer::Kinds(list_kinds(self.alloc, &self.kinds)?)),
             Query::Days => Ok(Answer::Days(list_days(self.alloc, &self.days)?)),
-            Query::Latest => Ok(Answer::Latest(list_latest(self.alloc, inbox, &self.threads)?)),
+            Query::Latest => Ok(Answer::Latest(list_latest(self.alloc, inbox, &self.entities)?)),
             _ => answer(self.alloc, inbox, query),
         }
     }

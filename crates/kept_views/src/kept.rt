@@ -14,10 +14,10 @@ ghost use Rattle.kept_views.specs.steps.Moves.{ComesIn, GoesOut, count_in, day_c
 ghost use Rattle.kept_views.specs.steps.Seen.{day_in, slot_in};
 
 use crate::days::{DayKey, DayTally, day_of, lower_day, raise_day};
+use crate::entities::{Entities, Slot, bring, clear, slot_of};
 use crate::gap::has_key_of;
 use crate::seed::Seed;
 use crate::tally::{Tally, lower, raise};
-use crate::threads::{Slot, Threads, bring, clear, slot_of};
 use attributes::Sequenced;
 use attributes::laws::text_tells_events;
 use inbox::Inbox;
@@ -33,7 +33,7 @@ use std::marker::Model;
 pub struct Views {
     pub(crate) kinds: Tally,
     pub(crate) days: DayTally,
-    pub(crate) threads: Threads,
+    pub(crate) entities: Entities,
     pub(crate) alloc: Global,
 }
 
@@ -42,12 +42,12 @@ impl Model for Views {
 
     ghost Value = { Tables };
 
-    ghost use Rattle.kept_views.specs.steps.Seen.{days_in, kinds_in, threads_in};
+    ghost use Rattle.kept_views.specs.steps.Seen.{days_in, kinds_in, entities_in};
 
     ghost view = { λ v. record {
       kinds = kinds_in v.kinds.entries;
       days = days_in v.days.entries;
-      threads = threads_in v.threads.entries;
+      entities = entities_in v.entities.entries;
     } };
 }
 
@@ -91,7 +91,7 @@ impl Views {
         Views {
             kinds: IndexMap::with_hasher(alloc, seed),
             days: IndexMap::with_hasher(alloc, seed),
-            threads: IndexMap::with_hasher(alloc, seed),
+            entities: IndexMap::with_hasher(alloc, seed),
             alloc,
         }
     }
@@ -190,7 +190,7 @@ impl Views {
         self.days.reserve(1)?;
         let slot = slot_of(self.alloc, event)?;
         // The rows tell no room before, so what may be refused there is the last such step.
-        bring(self.alloc, &mut self.threads, slot, place)?;
+        bring(self.alloc, &mut self.entities, slot, place)?;
         raise(&mut self.kinds, kind);
         raise_day(&mut self.days, day);
         Ok(())
@@ -204,6 +204,6 @@ impl Views {
     {
         lower(&mut self.kinds, event.event().kind());
         lower_day(&mut self.days, day);
-        clear(&mut self.threads, slot);
+        clear(&mut self.entities, slot);
     }
 }

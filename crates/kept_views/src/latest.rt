@@ -3,13 +3,13 @@
 ghost use Rattle.std.specs.Prelude.{◌≡◌, [], IfOk, OnOk, Some, filter_map, map};
 ghost use Rattle.std.specs.List.{IsDistinct, cons_option};
 ghost use Rattle.std.specs.Option.{option_and_then, option_copied};
-ghost use Rattle.views.specs.Latest.{thread_cmp};
-ghost use Rattle.kept_views.specs.Tables.{is_thread};
-ghost use Rattle.kept_views.specs.steps.Latest.{latest_row, thread_row, top_event};
+ghost use Rattle.views.specs.Latest.{entity_cmp};
+ghost use Rattle.kept_views.specs.Tables.{is_entity};
+ghost use Rattle.kept_views.specs.steps.Latest.{latest_row, entity_row, top_event};
 ghost use Rattle.kept_views.specs.steps.Rows.{put_all};
-ghost use Rattle.kept_views.specs.steps.Seen.{rows_in, threads_in};
+ghost use Rattle.kept_views.specs.steps.Seen.{rows_in, entities_in};
 
-use crate::threads::{Rows, Threads};
+use crate::entities::{Entities, Rows};
 use attributes::{Batch, Sequenced};
 use inbox::Inbox;
 use std::alloc::{AllocError, Global};
@@ -18,7 +18,7 @@ use std::collections::BTreeMap;
 /// Events by source and subject, lent.
 type Latest<'a> = BTreeMap<(&'a str, &'a str), &'a Sequenced>;
 
-/// The event that came at the place of the greatest number and id of a thread.
+/// The event that came at the place of the greatest number and id of an entity.
 fn last_event<'a>(inbox: &'a Inbox, rows: &Rows) -> Option<&'a Sequenced>
     ensures { option_copied result ≡ top_event inbox.now.arrivals (rows_in rows.now) }
 {
@@ -35,9 +35,9 @@ fn last_event<'a>(inbox: &'a Inbox, rows: &Rows) -> Option<&'a Sequenced>
 /// Puts an event in at its source and subject.
 fn add<'a>(latest: &mut Latest<'a>, event: &'a Sequenced) -> Result<(), AllocError>
     ensures { OnOk result (map (λ e. ((e.0.0.now, e.0.1.now), Some e.1.now)) latest.new.entries
-        ≡ put_all thread_cmp
+        ≡ put_all entity_cmp
         (map (λ e. ((e.0.0.now, e.0.1.now), Some e.1.now)) latest.old.entries)
-        (cons_option (thread_row event.now) [])) }
+        (cons_option (entity_row event.now) [])) }
 {
     if let Some(subject) = event.event().subject() {
         latest.insert((event.event().source(), subject), event)?;
@@ -45,12 +45,12 @@ fn add<'a>(latest: &mut Latest<'a>, event: &'a Sequenced) -> Result<(), AllocErr
     Ok(())
 }
 
-/// Puts the latest event of a thread in, if it has one.
+/// Puts the latest event of an entity in, if it has one.
 fn add_last<'a>(latest: &mut Latest<'a>, inbox: &'a Inbox, rows: &Rows) -> Result<(), AllocError>
     ensures { OnOk result (map (λ e. ((e.0.0.now, e.0.1.now), Some e.1.now)) latest.new.entries
-        ≡ put_all thread_cmp
+        ≡ put_all entity_cmp
         (map (λ e. ((e.0.0.now, e.0.1.now), Some e.1.now)) latest.old.entries)
-        (cons_option (option_and_then thread_row
+        (cons_option (option_and_then entity_row
         (top_event inbox.now.arrivals (rows_in rows.now))) [])) }
 {
     match last_event(inbox, rows) {
@@ -64,17 +64,17 @@ fn add_last<'a>(latest: &mut Latest<'a>, inbox: &'a Inbox, rows: &Rows) -> Resul
 pub(crate) fn ordered_latest<'a>(
     alloc: Global,
     inbox: &'a Inbox,
-    threads: &Threads,
+    entities: &Entities,
 ) -> Result<Latest<'a>, AllocError>
     ensures rows { IfOk result (λ latest.
         map (λ e. ((e.0.0.now, e.0.1.now), Some e.1.now)) latest.entries
-        ≡ put_all thread_cmp []
-        (filter_map (latest_row inbox.now.arrivals) (threads_in threads.now.entries))) }
+        ≡ put_all entity_cmp []
+        (filter_map (latest_row inbox.now.arrivals) (entities_in entities.now.entries))) }
     ensures distinct { OnOk result
-        (IsDistinct is_thread (map (λ t. t.0) (threads_in threads.now.entries))) }
+        (IsDistinct is_entity (map (λ t. t.0) (entities_in entities.now.entries))) }
 {
     let mut latest = BTreeMap::new(alloc);
-    for (_, rows) in threads.iter() {
+    for (_, rows) in entities.iter() {
         add_last(&mut latest, inbox, rows)?;
     }
     Ok(latest)

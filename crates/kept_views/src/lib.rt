@@ -3,12 +3,12 @@
 
 mod answer;
 mod days;
+mod entities;
 mod from_inbox;
 mod gap;
 mod kept;
 mod latest;
 mod seed;
 mod tally;
-mod threads;
 
 pub use kept::Views;

@@ -22,10 +22,10 @@ ghost use Rattle.outbox.specs.declared.fault.OutboxFault.TheVariants.{OutOfMemor
 ghost use Rattle.outbox.specs.Layout.{IsOthers, ServiceLayout, schema_in};
 
 use crate::fault::OutboxFault;
-use crate::service::{MAX, NotMade, Service};
+use crate::service::{NotMade, Service};
 use crate::status::Status;
 use crate::stored::{Stored, order_in, read_row, source_in};
-use attributes::{Fault, Moment, Text};
+use attributes::{Fault, MAX_SEQUENCE, Moment, Text};
 use database_layout::{Layout, lacks_name};
 use sqlite::{Alter, Connection, Row};
 use std::alloc::Global;
@@ -68,7 +68,7 @@ fn command_in(alloc: Global, row: &Row, number: u64) -> Result<Option<Stored<'_>
     let Some(stored) = read_row(row) else {
         return Ok(None);
     };
-    if stored.number != number || stored.order == 0 || stored.order > MAX {
+    if stored.number != number || stored.order == 0 || stored.order > MAX_SEQUENCE {
         return Ok(None);
     }
     if is_time(alloc, stored.at)? {
@@ -106,7 +106,7 @@ pub(crate) fn replay(
     let mut orders = 0u64;
     let mut last = base;
     for row in rows {
-        if last == MAX {
+        if last == MAX_SEQUENCE {
             return Ok(None);
         }
         let Some(stored) = command_in(alloc, row, last + 1)? else {
@@ -181,7 +181,7 @@ fn service_in(alloc: Global, rows: &[Row]) -> Result<Option<(Text, u64)>, Outbox
     let Some((source, base)) = source_in(&rows[0]) else {
         return Ok(None);
     };
-    if base > MAX || source.len() > 1024 {
+    if base > MAX_SEQUENCE || source.len() > 1024 {
         return Ok(None);
     }
     let source = Text::of(alloc, source)?;

@@ -20,13 +20,10 @@ use crate::row::event;
 use crate::statement::{page, status_rows, write};
 use crate::status::Status;
 use crate::stored::{read_row, status_in_row};
-use attributes::{Batch, Moment, Sequenced, Text};
+use attributes::{Batch, MAX_SEQUENCE, Moment, Sequenced, Text};
 use sqlite::{Alter, Connection, Row};
 use std::alloc::Global;
 use std::marker::Model;
-
-/// The greatest number of an order or a row.
-pub(crate) const MAX: u64 = 9_223_372_036_854_775_807;
 
 /// The orders of a service and the outbox of their events, in a database.
 ///
@@ -167,7 +164,7 @@ fn decide<S: Alter>(
         Some(fault) => return Err(fault),
         None => {}
     }
-    if last == MAX {
+    if last == MAX_SEQUENCE {
         return Err(OutboxFault::Full);
     }
     Ok(())
@@ -177,7 +174,7 @@ fn decide<S: Alter>(
 fn next_number(last: u64) -> u64
     ensures { last < max_sequence → result ≡ suc last }
 {
-    if last < MAX { last + 1 } else { last }
+    if last < MAX_SEQUENCE { last + 1 } else { last }
 }
 
 impl<S: Alter> Service<S> {
@@ -372,7 +369,7 @@ impl<S: Alter> Service<S> {
         ensures same { IsSame (state S.Store self.old.conn) (state S.Store self.new.conn) }
         ensures fault { IfErr result (λ f. (f ≡ OutOfMemory) ⊎ (f ≡ Store)) }
     {
-        let rows = page(&mut self.conn, after.min(MAX), limit)?;
+        let rows = page(&mut self.conn, after.min(MAX_SEQUENCE), limit)?;
         stored_events(self.alloc, self.source.as_str(), &rows)
     }
 }

@@ -77,8 +77,8 @@ each_there Q [] q = tt
 each_there Q (x ∷ xs) q = (q x (0, omega arith, refl), each_there Q xs (λ y c. q y (suc c.0, omega (arith, c.1), c.2)))
 
 pub latest_is_greatest : LatestAreGreatest
-latest_is_greatest events thread e h = record {
-  is_there = greatest_one number_cmp_total (λ x. Contains events x) (filter (is_of thread) events) e (all_kept (is_of thread) (λ x. Contains events x) events (each_there (λ x. Contains events x) events (λ y c. c))) h;
-  of_thread = greatest_one number_cmp_total (λ x. is_of thread x ≡ true) (filter (is_of thread) events) e (all_pass (is_of thread) events) h;
-  greatest = any_filtered (is_of thread) (λ f. is_lt (number_cmp e f)) events (greatest_bound number_cmp_total (filter (is_of thread) events) e h);
+latest_is_greatest events entity e h = record {
+  is_there = greatest_one number_cmp_total (λ x. Contains events x) (filter (is_of entity) events) e (all_kept (is_of entity) (λ x. Contains events x) events (each_there (λ x. Contains events x) events (λ y c. c))) h;
+  of_entity = greatest_one number_cmp_total (λ x. is_of entity x ≡ true) (filter (is_of entity) events) e (all_pass (is_of entity) events) h;
+  greatest = any_filtered (is_of entity) (λ f. is_lt (number_cmp e f)) events (greatest_bound number_cmp_total (filter (is_of entity) events) e h);
 }

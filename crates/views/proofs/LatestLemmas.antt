@@ -1,4 +1,4 @@
--- The latest item of each thread: what one more item changes.
+-- The latest item of each entity: what one more item changes.
 use Rattle.std.proofs.Common.{◌≡◌, List, [], ◌∷◌, ◌++◌, Bool, true, false, ◌||◌, map, if◌then◌else◌, refl, sym, ap, ◌∙◌, Option, Some, None}
 use Rattle.std.specs.Prelude.{cond, filter, filter_map, option_map, option_and_then}
 use Rattle.std.specs.List.{cons_option}
@@ -22,17 +22,17 @@ values_alike : {K V : Type 0} (f g : K → V) → ((k : K) → f k ≡ g k) → 
 values_alike f g h [] = refl
 values_alike f g h (k ∷ ks) = cc (h k, values_alike f g h ks)
 
-module _ {X K : Type 0} {R : K → K → Ordering} (o : IsTotalOrder R) (C : X → X → Ordering) (thread : X → Option K) where
+module _ {X K : Type 0} {R : K → K → Ordering} (o : IsTotalOrder R) (C : X → X → Ordering) (entity : X → Option K) where
   abbrev pub belongs : K → X → Bool
-  belongs k x = option_map_or (λ own. is_eq (R k own)) (thread x) false
+  belongs k x = option_map_or (λ own. is_eq (R k own)) (entity x) false
 
-  -- the greatest of the items of a thread
+  -- the greatest of the items of an entity
   abbrev pub best : List X → K → Option X
   best xs k = greatest C (filter (belongs k) xs)
 
-  -- each thread with its greatest item
+  -- each entity with its greatest item
   abbrev pub rows : List X → List (K × Option X)
-  rows xs = with_values (best xs) (in_order R (filter_map thread xs))
+  rows xs = with_values (best xs) (in_order R (filter_map entity xs))
 
   best-push : (xs : List X) (x : X) (k : K) → best (xs ++ x ∷ []) k ≡ cond (belongs k x) (Some (greater C (best xs k) x)) (best xs k)
   best-push xs x k =
@@ -43,7 +43,7 @@ module _ {X K : Type 0} {R : K → K → Ordering} (o : IsTotalOrder R) (C : X �
       ]
 
   belongs_alike : (j k : K) → R k j ≡ Equal → (x : X) → belongs j x ≡ belongs k x
-  belongs_alike j k e x = elim (thread x) as (λ m. option_map_or (λ own. is_eq (R j own)) m false ≡ option_map_or (λ own. is_eq (R k own)) m false) [
+  belongs_alike j k e x = elim (entity x) as (λ m. option_map_or (λ own. is_eq (R j own)) m false ≡ option_map_or (λ own. is_eq (R k own)) m false) [
     | None ↦ refl
     | Some own ↦ ap is_eq (sym (o.congr k j own e))
   ]
@@ -59,48 +59,48 @@ module _ {X K : Type 0} {R : K → K → Ordering} (o : IsTotalOrder R) (C : X �
   by_tie true x l h e f = absurd (true≢false e)
   by_tie false x l h e f = f e
 
-  none_belongs : (xs : List X) (k : K) → has R (filter_map thread xs) k ≡ false → filter (belongs k) xs ≡ []
+  none_belongs : (xs : List X) (k : K) → has R (filter_map entity xs) k ≡ false → filter (belongs k) xs ≡ []
   none_belongs [] k h = refl
   none_belongs (x ∷ xs) k h =
-      elim (thread x) as (λ m. has R (cons_option m (filter_map thread xs)) k ≡ false → cond (option_map_or (λ own. is_eq (R k own)) m false) (x ∷ filter (belongs k) xs) (filter (belongs k) xs) ≡ []) [
+      elim (entity x) as (λ m. has R (cons_option m (filter_map entity xs)) k ≡ false → cond (option_map_or (λ own. is_eq (R k own)) m false) (x ∷ filter (belongs k) xs) (filter (belongs k) xs) ≡ []) [
         | None ↦ λ h. none_belongs xs k h
-        | Some own ↦ λ h. by_tie (is_eq (R k own)) x (filter (belongs k) xs) (has R (filter_map thread xs) k) h (none_belongs xs k)
+        | Some own ↦ λ h. by_tie (is_eq (R k own)) x (filter (belongs k) xs) (has R (filter_map entity xs) k) h (none_belongs xs k)
       ] h
 
   pub found : (xs : List X) (k : K) → option_and_then (λ m. m) (lookup (is_at (R k)) (rows xs)) ≡ best xs k
   found xs k =
-      ap (option_and_then (λ m. m)) (look_up R k (best xs k) (best xs) (λ j e. best_alike xs j k e) (in_order R (filter_map thread xs)) ∙ ap (λ b. if b then Some (best xs k) else None) (has-in_order o (filter_map thread xs) k))
-      ∙ elim (has R (filter_map thread xs) k) as (λ b. has R (filter_map thread xs) k ≡ b → option_and_then (λ m. m) (if b then Some (best xs k) else None) ≡ best xs k) [
+      ap (option_and_then (λ m. m)) (look_up R k (best xs k) (best xs) (λ j e. best_alike xs j k e) (in_order R (filter_map entity xs)) ∙ ap (λ b. if b then Some (best xs k) else None) (has-in_order o (filter_map entity xs) k))
+      ∙ elim (has R (filter_map entity xs) k) as (λ b. has R (filter_map entity xs) k ≡ b → option_and_then (λ m. m) (if b then Some (best xs k) else None) ≡ best xs k) [
         | true ↦ λ e. refl
         | false ↦ λ e. sym (ap (greatest C) (none_belongs xs k e))
       ] refl
 
-  threads-push : (xs : List X) (x : X) (k : K) → thread x ≡ Some k → filter_map thread (xs ++ x ∷ []) ≡ filter_map thread xs ++ k ∷ []
-  threads-push xs x k e = filter_map-append thread xs (x ∷ []) ∙ ap (λ m. filter_map thread xs ++ cons_option m []) e
+  entities-push : (xs : List X) (x : X) (k : K) → entity x ≡ Some k → filter_map entity (xs ++ x ∷ []) ≡ filter_map entity xs ++ k ∷ []
+  entities-push xs x k e = filter_map-append entity xs (x ∷ []) ∙ ap (λ m. filter_map entity xs ++ cons_option m []) e
 
-  threads-skip : (xs : List X) (x : X) → thread x ≡ None → filter_map thread (xs ++ x ∷ []) ≡ filter_map thread xs
-  threads-skip xs x e = filter_map-append thread xs (x ∷ []) ∙ ap (λ m. filter_map thread xs ++ cons_option m []) e ∙ append-nil (filter_map thread xs)
+  entities-skip : (xs : List X) (x : X) → entity x ≡ None → filter_map entity (xs ++ x ∷ []) ≡ filter_map entity xs
+  entities-skip xs x e = filter_map-append entity xs (x ∷ []) ∙ ap (λ m. filter_map entity xs ++ cons_option m []) e ∙ append-nil (filter_map entity xs)
 
   eq_turned : (j k : K) → is_eq (R j k) ≡ is_eq (R k j)
   eq_turned j k = ap is_eq (o.antisymm j k) ∙ elim (R k j) as (λ r. is_eq (ordering_reverse r) ≡ is_eq r) [ Less ↦ refl | Equal ↦ refl | Greater ↦ refl ]
 
-  -- one more item of a thread
-  pub rows-push : (xs : List X) (x : X) (k : K) → thread x ≡ Some k → insert_entry R (rows xs) k (Some (greater C (best xs k) x)) ≡ rows (xs ++ x ∷ [])
+  -- one more item of an entity
+  pub rows-push : (xs : List X) (x : X) (k : K) → entity x ≡ Some k → insert_entry R (rows xs) k (Some (greater C (best xs k) x)) ≡ rows (xs ++ x ∷ [])
   rows-push xs x k e =
       let own : (j : K) → belongs j x ≡ is_eq (R k j) = λ j. ap (λ m. option_map_or (λ own. is_eq (R j own)) m false) e ∙ eq_turned j k in
       insert_value o k (Some (greater C (best xs k) x)) (best xs) (best (xs ++ x ∷ []))
       (λ j t. best-push xs x j ∙ ap (λ b. cond b (Some (greater C (best xs j) x)) (best xs j)) (own j ∙ ap is_eq t) ∙ ap (λ m. Some (greater C m x)) (best_alike xs j k t))
       (λ j t. best-push xs x j ∙ ap (λ b. cond b (Some (greater C (best xs j) x)) (best xs j)) (own j ∙ t))
-      (in_order R (filter_map thread xs)) (sorted-in_order o (filter_map thread xs))
-      ∙ ap (with_values (best (xs ++ x ∷ []))) (sym (in_order-push o (filter_map thread xs) k) ∙ ap (in_order R) (sym (threads-push xs x k e)))
+      (in_order R (filter_map entity xs)) (sorted-in_order o (filter_map entity xs))
+      ∙ ap (with_values (best (xs ++ x ∷ []))) (sym (in_order-push o (filter_map entity xs) k) ∙ ap (in_order R) (sym (entities-push xs x k e)))
 
-  -- one more item of no thread
-  pub rows-skip : (xs : List X) (x : X) → thread x ≡ None → rows xs ≡ rows (xs ++ x ∷ [])
+  -- one more item of no entity
+  pub rows-skip : (xs : List X) (x : X) → entity x ≡ None → rows xs ≡ rows (xs ++ x ∷ [])
   rows-skip xs x e =
       values_alike (best xs) (best (xs ++ x ∷ []))
       (λ j. sym (best-push xs x j ∙ ap (λ b. cond b (Some (greater C (best xs j) x)) (best xs j)) (ap (λ m. option_map_or (λ own. is_eq (R j own)) m false) e)))
-      (in_order R (filter_map thread xs))
-      ∙ ap (λ ks. with_values (best (xs ++ x ∷ [])) (in_order R ks)) (sym (threads-skip xs x e))
+      (in_order R (filter_map entity xs))
+      ∙ ap (λ ks. with_values (best (xs ++ x ∷ [])) (in_order R ks)) (sym (entities-skip xs x e))
 
   -- the same of a map whose keys are seen through f and whose items through h
   module _ {Y Z : Type 0} (f : Y → K) (h : Z → X) where
@@ -115,7 +115,7 @@ module _ {X K : Type 0} {R : K → K → Ordering} (o : IsTotalOrder R) (C : X �
         through None = refl
         through (Some z) = refl
 
-    pub best_step : (es : List (Y × Z)) (y : Y) (z : Z) (xs : List X) (x : X) → map (λ (e : Y × Z). (f e.0, Some (h e.1))) es ≡ rows xs → thread x ≡ Some (f y)
+    pub best_step : (es : List (Y × Z)) (y : Y) (z : Z) (xs : List X) (x : X) → map (λ (e : Y × Z). (f e.0, Some (h e.1))) es ≡ rows xs → entity x ≡ Some (f y)
         → h z ≡ greater C (option_map h (lookup (is_at (λ z. R (f y) (f z))) es)) x
         → map (λ (e : Y × Z). (f e.0, Some (h e.1))) (insert_entry (λ x y. R (f x) (f y)) es y z) ≡ rows (xs ++ x ∷ [])
     best_step es y z xs x same own winner =

@@ -1,4 +1,4 @@
--- Each thread has one latest event.
+-- Each entity has one latest event.
 use Rattle.std.proofs.Common.{◌≡◌, ◌<◌, ℕ, zero, suc, List, [], ◌∷◌, Bool, true, false, ◌&&◌, ◌||◌, length, refl, sym, subst, ap, ap₂, ◌∙◌, arith, if◌then◌else◌, Option, Some, None}
 use Rattle.std.specs.Prelude.{Contains, cond, filter, fold, not, slice_index_or}
 use Rattle.std.specs.declared.cmp.Ordering.{Ordering}
@@ -16,8 +16,8 @@ use Rattle.inbox.specs.KeyOrder.{same_key, text_cmp}
 use Rattle.inbox.specs.Laws.{SetLaws}
 use Rattle.inbox.specs.Sets.{set_of}
 use Rattle.inbox.specs.Shown.{is_shown, shown}
-use Rattle.views.specs.Latest.{greater, greatest, is_of, latest_of, number_cmp, thread_cmp, thread_of}
-use Rattle.views.specs.Law.{NoneTie, ThreadsHaveLatest}
+use Rattle.views.specs.Latest.{greater, greatest, is_of, latest_of, number_cmp, entity_cmp, entity_of}
+use Rattle.views.specs.Law.{NoneTie, EntitiesHaveLatest}
 use Rattle.views.proofs.GapLemmas.{all_kept, all_pass}
 use Rattle.views.proofs.GreatestLemmas.{each_there}
 
@@ -52,8 +52,8 @@ passes {X} p (x ∷ xs) e c t h = from (λ k. passes p xs e k t) c.0 c.1 c.2
     from later zero lt at = (none (p x) refl h).0 (ap p at ∙ t)
     from later (suc k) lt at = later (k, omega (arith, lt), at) (none (p x) refl h).1
 
-pub threads_have_latest : ThreadsHaveLatest
-threads_have_latest events thread e c t = some_of number_cmp (filter (is_of thread) events) (passes (is_of thread) events e c t)
+pub entities_have_latest : EntitiesHaveLatest
+entities_have_latest events entity e c t = some_of number_cmp (filter (is_of entity) events) (passes (is_of entity) events e c t)
 
 -- none passes, so each fails
 any_false : {X : Type 0} (q : X → Bool) (xs : List X) → list_any q xs ≡ false → AllByRecursion (λ x. q x ≡ false) xs
@@ -75,11 +75,11 @@ second_equal Equal Equal h = refl
 second_equal Equal Greater h = absurd (true≢false (sym h))
 second_equal Greater s h = absurd (true≢false (sym h))
 
--- an event of a thread has its source
-source_is : (thread : List ℕ × List ℕ) (e : EventValue) → is_of thread e ≡ true → thread.0 ≡ source_of e
-source_is thread e h = elim (subject_of e) as (λ o. option_map_or (λ own. is_eq (thread_cmp thread own)) (option_map (λ subject. (source_of e, subject)) o) false ≡ true → thread.0 ≡ source_of e) [
+-- an event of an entity has its source
+source_is : (entity : List ℕ × List ℕ) (e : EventValue) → is_of entity e ≡ true → entity.0 ≡ source_of e
+source_is entity e h = elim (subject_of e) as (λ o. option_map_or (λ own. is_eq (entity_cmp entity own)) (option_map (λ subject. (source_of e, subject)) o) false ≡ true → entity.0 ≡ source_of e) [
   | None ↦ λ h. absurd (true≢false (sym h))
-  | Some subject ↦ λ h. exact_bytes thread.0 (source_of e) (first_equal (byte_cmp thread.0 (source_of e)) (byte_cmp thread.1 subject) h)
+  | Some subject ↦ λ h. exact_bytes entity.0 (source_of e) (first_equal (byte_cmp entity.0 (source_of e)) (byte_cmp entity.1 subject) h)
 ] h
 
 -- events with one source and one id have one key
@@ -105,7 +105,7 @@ neither_less Equal s t h k = refl
 neither_less Greater s t h k = absurd (true≢false (sym (ap is_lt t) ∙ k))
 
 pub none_tie : ((e f : EventValue) → IsEvent e → IsEvent f → text e ≡ text f → e ≡ f) → SetLaws → NoneTie
-none_tie tells laws A thread e f are in-e in-f of-e of-f ties = tells e f (event e there-e) (event f there-f) (exact_bytes (text e) (text f) alike)
+none_tie tells laws An entity e f are in-e in-f of-e of-f ties = tells e f (event e there-e) (event f there-f) (exact_bytes (text e) (text f) alike)
   where
     E : List EventValue
     E = set_of A
@@ -126,7 +126,7 @@ none_tie tells laws A thread e f are in-e in-f of-e of-f ties = tells e f (event
     there-f = there f in-f
 
     sources : source_of e ≡ source_of f
-    sources = sym (source_is thread e of-e) ∙ source_is thread f of-f
+    sources = sym (source_is entity e of-e) ∙ source_is entity f of-f
 
     ids : id_of e ≡ id_of f
     ids = exact_bytes (id_of e) (id_of f) (second_equal _ (byte_cmp (id_of e) (id_of f)) ties)

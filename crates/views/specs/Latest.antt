@@ -19,31 +19,31 @@ greater R (Some y) x = if is_lt (R y x) then x else y
 abbrev pub greatest : {K : Type 0} → (K → K → Ordering) → List K → Option K
 greatest R xs = fold (λ best x. Some (greater R best x)) None xs
 
--- the source and the subject of an event that has a subject: its thread
-abbrev pub thread_of : EventValue → Option (List ℕ × List ℕ)
-thread_of e = option_map (λ subject. (source_of e, subject)) (subject_of e)
+-- the source and the subject of an event that has a subject: its entity
+abbrev pub entity_of : EventValue → Option (List ℕ × List ℕ)
+entity_of e = option_map (λ subject. (source_of e, subject)) (subject_of e)
 
 -- by source, then subject
-abbrev pub thread_cmp : List ℕ × List ℕ → List ℕ × List ℕ → Ordering
-thread_cmp x y = ordering_then (byte_cmp x.0 y.0) (byte_cmp x.1 y.1)
+abbrev pub entity_cmp : List ℕ × List ℕ → List ℕ × List ℕ → Ordering
+entity_cmp x y = ordering_then (byte_cmp x.0 y.0) (byte_cmp x.1 y.1)
 
--- whether the event is of the thread
+-- whether the event is of the entity
 abbrev pub is_of : List ℕ × List ℕ → EventValue → Bool
-is_of thread e = option_map_or (λ own. is_eq (thread_cmp thread own)) (thread_of e) false
+is_of entity e = option_map_or (λ own. is_eq (entity_cmp entity own)) (entity_of e) false
 
 -- by number, then id
 abbrev pub number_cmp : EventValue → EventValue → Ordering
 number_cmp e f =
     ordering_then (nat_cmp (number_or_0 e) (number_or_0 f)) (byte_cmp (id_of e) (id_of f))
 
--- the threads of the events, each once and in order
-abbrev pub threads_of : List EventValue → List (List ℕ × List ℕ)
-threads_of events = in_order thread_cmp (filter_map thread_of events)
+-- the entities of the events, each once and in order
+abbrev pub entities_of : List EventValue → List (List ℕ × List ℕ)
+entities_of events = in_order entity_cmp (filter_map entity_of events)
 
--- the latest of the events that are of the thread: the greatest by number, then id
+-- the latest of the events that are of the entity: the greatest by number, then id
 abbrev pub latest_of : List EventValue → List ℕ × List ℕ → Option EventValue
-latest_of events thread = greatest number_cmp (filter (is_of thread) events)
+latest_of events entity = greatest number_cmp (filter (is_of entity) events)
 
--- thread by thread, the latest shown event
+-- entity by entity, the latest shown event
 abbrev pub latest : List EventValue → List EventValue
-latest E = filter_map (latest_of (shown E)) (threads_of (shown E))
+latest E = filter_map (latest_of (shown E)) (entities_of (shown E))

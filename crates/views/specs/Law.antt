@@ -12,32 +12,32 @@ use Rattle.views.specs.Question.{AreLines, IsAnswer, IsTrueOf, query_of}
 use Rattle.views.specs.declared.query.Query.{Query}
 use Rattle.views.specs.declared.query.Answer.{Answer}
 
--- e is one of the events, of the thread, and no event of the thread is greater by number, then id
+-- e is one of the events, of the entity, and no event of the entity is greater by number, then id
 pub record IsLatest (events : List EventValue)
-    (thread : List ℕ × List ℕ) (e : EventValue) : Type 0 where
+    (entity : List ℕ × List ℕ) (e : EventValue) : Type 0 where
   pub is_there : Contains events e
-  pub of_thread : is_of thread e ≡ true
-  pub greatest : list_any (λ f. is_of thread f && is_lt (number_cmp e f)) events ≡ false
+  pub of_entity : is_of entity e ≡ true
+  pub greatest : list_any (λ f. is_of entity f && is_lt (number_cmp e f)) events ≡ false
 
 -- what is found as the latest is
 abbrev pub LatestAreGreatest : Type 0
 LatestAreGreatest =
-    (events : List EventValue) (thread : List ℕ × List ℕ) (e : EventValue)
-    → latest_of events thread ≡ Some e → IsLatest events thread e
+    (events : List EventValue) (entity : List ℕ × List ℕ) (e : EventValue)
+    → latest_of events entity ≡ Some e → IsLatest events entity e
 
--- a thread of which there is an event has a latest one
-abbrev pub ThreadsHaveLatest : Type 0
-ThreadsHaveLatest =
-    (events : List EventValue) (thread : List ℕ × List ℕ) (e : EventValue)
-    → Contains events e → is_of thread e ≡ true
-    → (l : EventValue) × (latest_of events thread ≡ Some l)
+-- an entity of which there is an event has a latest one
+abbrev pub EntitiesHaveLatest : Type 0
+EntitiesHaveLatest =
+    (events : List EventValue) (entity : List ℕ × List ℕ) (e : EventValue)
+    → Contains events e → is_of entity e ≡ true
+    → (l : EventValue) × (latest_of events entity ≡ Some l)
 
--- of the shown events of a set no two of one thread have one number and one id, so none tie
+-- of the shown events of a set no two of one entity have one number and one id, so none tie
 abbrev pub NoneTie : Type 0
 NoneTie =
-    (A : List EventValue) (thread : List ℕ × List ℕ) (e f : EventValue) → AreEvents A
+    (A : List EventValue) (entity : List ℕ × List ℕ) (e f : EventValue) → AreEvents A
     → Contains (shown (set_of A)) e → Contains (shown (set_of A)) f
-    → is_of thread e ≡ true → is_of thread f ≡ true → is_eq (number_cmp e f) ≡ true → e ≡ f
+    → is_of entity e ≡ true → is_of entity f ≡ true → is_eq (number_cmp e f) ≡ true → e ≡ f
 
 -- the lines of a true answer to a question answer it
 abbrev pub LinesAreAnswers : Type 0

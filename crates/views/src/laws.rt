@@ -1,6 +1,6 @@
 //! Laws of answers, each as the contract of a function that does nothing.
 
-ghost use Rattle.views.specs.Law.{AnswersAreAlike, AnswersAreOne, LatestAreGreatest, LinesAreAnswers, NoneTie, ThreadsHaveLatest};
+ghost use Rattle.views.specs.Law.{AnswersAreAlike, AnswersAreOne, LatestAreGreatest, LinesAreAnswers, NoneTie, EntitiesHaveLatest};
 
 use attributes::laws::text_tells_events;
 use coverage::laws::{numbers_tell_cover_texts, numbers_tell_summaries};
@@ -15,7 +15,7 @@ pub fn latest_are_greatest()
 /// A source and subject that an event has has a latest event, and just one: no two shown events of
 /// a set tie by number and id there.
 pub fn latest_are_one()
-    ensures each { ThreadsHaveLatest }
+    ensures each { EntitiesHaveLatest }
     ensures one { NoneTie }
 {
     text_tells_events();

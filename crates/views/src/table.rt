@@ -90,7 +90,7 @@ fn later<'a>(before: Option<&'a Sequenced>, event: &'a Sequenced) -> &'a Sequenc
 }
 
 /// The latest of the events of each source and subject.
-pub(crate) fn by_thread<'a>(
+pub(crate) fn by_entity<'a>(
     alloc: Global,
     list: &[&'a Sequenced],
 ) -> Result<BTreeMap<(&'a str, &'a str), &'a Sequenced>, AllocError>
@@ -103,9 +103,9 @@ pub(crate) fn by_thread<'a>(
         let event: &'a Sequenced = *event;
         match event.event().subject() {
             Some(subject) => {
-                let thread = (event.event().source(), subject);
-                let latest = later(table.get(&thread).copied(), event);
-                table.insert(thread, latest)?;
+                let entity = (event.event().source(), subject);
+                let latest = later(table.get(&entity).copied(), event);
+                table.insert(entity, latest)?;
             }
             None => {}
         }

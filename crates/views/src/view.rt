@@ -8,7 +8,7 @@ ghost use Rattle.views.specs.Tally.{days, kinds};
 
 use crate::day::Day;
 use crate::row::{Days, Kinds};
-use crate::table::{by_day, by_kind, by_thread};
+use crate::table::{by_day, by_entity, by_kind};
 use attributes::{Batch, Sequenced, Text};
 use inbox::Inbox;
 use std::alloc::{AllocError, Global};
@@ -112,7 +112,7 @@ pub(crate) fn latest_events<'a>(
     ensures { IfOk result (λ list. map (λ e. e.now) list.items ≡ latest (events inbox.now)) }
 {
     let shown = shown_events(alloc, inbox)?;
-    let table = by_thread(alloc, &shown)?;
+    let table = by_entity(alloc, &shown)?;
     Ok(latest_in_order(alloc, &table)?)
 }
 

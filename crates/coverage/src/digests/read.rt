@@ -13,7 +13,7 @@ ghost use Rattle.coverage.specs.steps.Fits.{AreAscending, AreJust, Fits};
 use super::SourceDigests;
 use crate::intervals::Intervals;
 use crate::numbers::shape::block_in;
-use attributes::Sequence;
+use attributes::{MAX_SEQUENCE, Sequence};
 use hex::FromHex;
 use serde_json::Value;
 use std::alloc::{AllocError, Global};
@@ -53,7 +53,7 @@ fn read_list(alloc: Global, list: &[Value]) -> Result<Option<BTreeMap<u64, [u8; 
 fn place_of(k: u64) -> Option<Sequence>
     ensures { MatchOption result (max_sequence ≤ k) (λ n. n ≡ k + 1) }
 {
-    if k >= 9_223_372_036_854_775_807 {
+    if k >= MAX_SEQUENCE {
         return None;
     }
     Sequence::of_u64(k + 1)

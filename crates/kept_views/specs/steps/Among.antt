@@ -8,8 +8,8 @@ use Rattle.kept_views.specs.Tables.{CountsDays, CountsKinds, EachHasRow, RowsAre
 pub record AreOf (A events : List EventValue) (tables : Tables) : Type 0 where
   pub kinds : CountsKinds events tables.kinds
   pub days : CountsDays events tables.days
-  pub rows : RowsAreOf A events tables.threads
-  pub each : EachHasRow events tables.threads
+  pub rows : RowsAreOf A events tables.entities
+  pub each : EachHasRow events tables.entities
 
 -- those of the first n events of a set that are shown
 abbrev pub shown_before : ℕ → List EventValue → List EventValue

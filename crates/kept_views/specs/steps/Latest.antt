@@ -1,10 +1,10 @@
--- The latest event of a thread, by its rows.
+-- The latest event of an entity, by its rows.
 use Rattle.std.specs.Prelude.{List, Option, Some, map, option_and_then, slice_get}
 use Rattle.std.specs.Map.{lookup}
 use Rattle.std.specs.Option.{option_map}
 use Rattle.attributes.specs.Event.{EventValue}
-use Rattle.views.specs.Latest.{greatest, thread_of}
-use Rattle.kept_views.specs.Tables.{Rank, Rows, Thread, is_rank, rank_cmp}
+use Rattle.views.specs.Latest.{greatest, entity_of}
+use Rattle.kept_views.specs.Tables.{Rank, Rows, Entity, is_rank, rank_cmp}
 
 -- the greatest rank
 abbrev pub top_rank : Rows → Option Rank
@@ -15,10 +15,10 @@ abbrev pub top_event : List EventValue → Rows → Option EventValue
 top_event A rows =
     option_and_then (λ rank. option_and_then (slice_get A) (lookup (is_rank rank) rows)) (top_rank rows)
 
--- an event with its thread
-abbrev pub thread_row : EventValue → Option (Thread × Option EventValue)
-thread_row e = option_map (λ thread. (thread, Some e)) (thread_of e)
+-- an event with its entity
+abbrev pub entity_row : EventValue → Option (Entity × Option EventValue)
+entity_row e = option_map (λ entity. (entity, Some e)) (entity_of e)
 
--- a thread with the event of its greatest rank
-abbrev pub latest_row : List EventValue → Thread × Rows → Option (Thread × Option EventValue)
-latest_row A thread = option_and_then thread_row (top_event A thread.1)
+-- an entity with the event of its greatest rank
+abbrev pub latest_row : List EventValue → Entity × Rows → Option (Entity × Option EventValue)
+latest_row An entity = option_and_then entity_row (top_event An entity.1)

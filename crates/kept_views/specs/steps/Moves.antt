@@ -5,7 +5,7 @@ use Rattle.std.specs.Option.{option_eq, option_map_or, unwrap_or}
 use Rattle.attributes.specs.Event.{EventValue, kind_of, subject_of}
 use Rattle.views.specs.Number.{number_or_0}
 use Rattle.views.specs.Tally.{kind_and_day}
-use Rattle.kept_views.specs.Tables.{KindDay, Rank, Rows, Tables, Thread, counted, is_day, is_slot, place_at, slot_of}
+use Rattle.kept_views.specs.Tables.{KindDay, Rank, Rows, Tables, Entity, counted, is_day, is_slot, place_at, slot_of}
 
 -- the count of the type in a table
 abbrev pub count_in : List (List ℕ × ℕ) → List ℕ → ℕ
@@ -33,27 +33,27 @@ CountsChange {K} same test change old new =
     ≡ (if test k then change (unwrap_or (lookup (same k) old) 0) else lookup (same k) old)
 
 -- a slot has this place from now on, or none, and the others what they had
-abbrev pub PutsAt : Option (Thread × Rank) → Option ℕ → List (Thread × Rows) → List (Thread × Rows) → Type 0
+abbrev pub PutsAt : Option (Entity × Rank) → Option ℕ → List (Entity × Rows) → List (Entity × Rows) → Type 0
 PutsAt slot place old new =
-    (thread : Thread) (rank : Rank)
-    → place_at new thread rank ≡ (if is_slot slot thread rank then place else place_at old thread rank)
+    (entity : Entity) (rank : Rank)
+    → place_at new entity rank ≡ (if is_slot slot entity rank then place else place_at old entity rank)
 
 -- an event came in at a place: its type has one more, and its type and day, and its slot the place
 pub record ComesIn (e : EventValue) (place : ℕ) (old new : Tables) : Type 0 where
   pub kinds : CountsChange bytes_eq (λ k. bytes_eq k (kind_of e)) one_more old.kinds new.kinds
   pub days : CountsChange is_day (is_own (kind_and_day e)) one_more old.days new.days
-  pub threads : PutsAt (slot_of e) (Some place) old.threads new.threads
+  pub entities : PutsAt (slot_of e) (Some place) old.entities new.entities
 
 -- an event went: its type has one less, and its type and day, and this slot nothing
-pub record GoesOut (e : EventValue) (slot : Option (Thread × Rank)) (old new : Tables) : Type 0 where
+pub record GoesOut (e : EventValue) (slot : Option (Entity × Rank)) (old new : Tables) : Type 0 where
   pub kinds : CountsChange bytes_eq (λ k. bytes_eq k (kind_of e)) one_less old.kinds new.kinds
   pub days : CountsChange is_day (is_own (kind_and_day e)) one_less old.days new.days
-  pub threads : PutsAt slot None old.threads new.threads
+  pub entities : PutsAt slot None old.entities new.entities
 
 -- whether two events have one subject or none, and one number
 abbrev pub are_together : EventValue → EventValue → Bool
 are_together e f = option_eq bytes_eq (subject_of e) (subject_of f) && (number_or_0 e == number_or_0 f)
 
 -- the slot of an event, unless it is together with the other
-abbrev pub slot_apart : EventValue → EventValue → Option (Thread × Rank)
+abbrev pub slot_apart : EventValue → EventValue → Option (Entity × Rank)
 slot_apart e f = if are_together e f then None else slot_of e

@@ -2,8 +2,8 @@
 use Rattle.std.specs.Prelude.{ℕ, ℤ, List, map, string_bytes}
 use Rattle.std.specs.BTreeMap.{BTreeMap}
 use Rattle.std.specs.declared.string.String.{String}
-use Rattle.kept_views.specs.declared.threads.Slot.{Slot}
-use Rattle.kept_views.specs.Tables.{KindDay, Rank, Rows, Thread}
+use Rattle.kept_views.specs.declared.entities.Slot.{Slot}
+use Rattle.kept_views.specs.Tables.{KindDay, Rank, Rows, Entity}
 
 module _ {Y : Type 0} where
   abbrev pub kinds_in : List (String Y × ℕ) → List (List ℕ × ℕ)
@@ -15,8 +15,8 @@ module _ {Y : Type 0} where
   abbrev pub days_in : List ((String Y × ℤ) × ℕ) → List (KindDay × ℕ)
   days_in es = map (λ e. (day_in e.0, e.1)) es
 
-  abbrev pub thread_in : String Y × String Y → Thread
-  thread_in t = (string_bytes t.0, string_bytes t.1)
+  abbrev pub entity_in : String Y × String Y → Entity
+  entity_in t = (string_bytes t.0, string_bytes t.1)
 
   abbrev pub rank_in : ℕ × String Y → Rank
   rank_in r = (r.0, string_bytes r.1)
@@ -24,8 +24,8 @@ module _ {Y : Type 0} where
   abbrev pub rows_in : BTreeMap (ℕ × String Y) ℕ → Rows
   rows_in rows = map (λ r. (rank_in r.0, r.1)) rows.entries
 
-  abbrev pub threads_in : List ((String Y × String Y) × BTreeMap (ℕ × String Y) ℕ) → List (Thread × Rows)
-  threads_in es = map (λ e. (thread_in e.0, rows_in e.1)) es
+  abbrev pub entities_in : List ((String Y × String Y) × BTreeMap (ℕ × String Y) ℕ) → List (Entity × Rows)
+  entities_in es = map (λ e. (entity_in e.0, rows_in e.1)) es
 
-abbrev pub slot_in : Slot → Thread × Rank
-slot_in s = (thread_in s.thread, rank_in s.rank)
+abbrev pub slot_in : Slot → Entity × Rank
+slot_in s = (entity_in s.entity, rank_in s.rank)

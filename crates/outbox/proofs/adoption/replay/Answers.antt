@@ -15,8 +15,8 @@ loop-row-preserved c =
     replay_on c.args.base c.args.rows.now c.loop-row.row-index c.loop-row.statuses c.insert.new.self c.loop-row.orders c.placed-orders.result c.loop-row.last c.row-item.result it low c.row-item.is room shown command
     (ap (status_fault it.status) (sym c.status_at.ensures) ∙ sym c.fault_after.ensures ∙ c.in-None.is) c.in-Ok.ensures.updates.0 (c.placed-orders.ensures.placed it.order) c.placed-orders.ensures.few c.loop-row.invariant
 
-pub returns-then-last-eq-MAX-clause-none : goal.returns-then-last-eq-MAX-clause-none
-returns-then-last-eq-MAX-clause-none c commands =
+pub returns-then-last-eq-MAX_SEQUENCE-clause-none : goal.returns-then-last-eq-MAX_SEQUENCE-clause-none
+returns-then-last-eq-MAX_SEQUENCE-clause-none c commands =
     let low : c.loop-row.row-index < length c.args.rows.now = omega arith in
     let full : c.loop-row.last ≡ max_sequence = search rules in
     stops_full c.args.base c.args.rows.now c.loop-row.row-index c.loop-row.statuses c.loop-row.orders c.loop-row.last c.row-item.result commands low c.row-item.is c.loop-row.invariant full

@@ -8,8 +8,8 @@ pub returns-in-Some-clause-refused : goal.returns-in-Some-clause-refused
 returns-in-Some-clause-refused g c clean no_memory no_store source base commands count box =
     refused_some base commands c.args.status c.args.order c.in-Some.fault (ap (status_fault c.args.status) (sym (c.in_ok-found.ensures.status clean source base commands box)) ∙ sym c.fault_after.ensures ∙ c.in-Some.is)
 
-pub returns-then-last-eq-MAX-clause-refused : goal.returns-then-last-eq-MAX-clause-refused
-returns-then-last-eq-MAX-clause-refused g c clean no_memory no_store source base commands count box =
+pub returns-then-last-eq-MAX_SEQUENCE-clause-refused : goal.returns-then-last-eq-MAX_SEQUENCE-clause-refused
+returns-then-last-eq-MAX_SEQUENCE-clause-refused g c clean no_memory no_store source base commands count box =
     refused_full base commands c.args.status c.args.order (ap (status_fault c.args.status) (sym (c.in_ok-found.ensures.status clean source base commands box)) ∙ sym c.fault_after.ensures ∙ c.in-None.is) (sym count ∙ (let e : c.args.last ≡ max_sequence = search rules in e))
 
 pub returns-clause-accepted : goal.returns-clause-accepted

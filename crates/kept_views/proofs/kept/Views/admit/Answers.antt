@@ -28,5 +28,5 @@ returns-clause-comes c =
       days =
           subst (λ (l : List (KindDay × ℕ)). CountsChange is_day (is_own (kind_and_day c.args.event.now)) one_more l (days_in c.raise_day.new.tally.entries)) same
           (subst (λ o. CountsChange is_day (is_own o) one_more (days_in c.reserve-2.new.self.entries) (days_in c.raise_day.new.tally.entries)) c.in_ok-day.ensures c.raise_day.ensures);
-      threads = rw (← c.in_ok-slot.ensures, ← c.self.view_is) c.in_ok-bring.ensures.ok;
+      entities = rw (← c.in_ok-slot.ensures, ← c.self.view_is) c.in_ok-bring.ensures.ok;
     }

@@ -15,5 +15,5 @@ returns-in_ok-list_days-in-Days-clause-answer c =
 pub returns-in_ok-list_latest-in-Latest-clause-answer : goal.returns-in_ok-list_latest-in-Latest-clause-answer
 returns-in_ok-list_latest-in-Latest-clause-answer c =
     c.in_ok-list_latest-in-Latest.ensures
-    (subst (λ v. RowsAreOf c.args.inbox.now.arrivals (shown (events c.args.inbox.now)) v.threads) (sym c.self.view_is) c.requires.rows)
-    (subst (λ v. EachHasRow (shown (events c.args.inbox.now)) v.threads) (sym c.self.view_is) c.requires.each)
+    (subst (λ v. RowsAreOf c.args.inbox.now.arrivals (shown (events c.args.inbox.now)) v.entities) (sym c.self.view_is) c.requires.rows)
+    (subst (λ v. EachHasRow (shown (events c.args.inbox.now)) v.entities) (sym c.self.view_is) c.requires.each)

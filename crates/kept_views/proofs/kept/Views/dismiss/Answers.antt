@@ -20,5 +20,5 @@ returns c =
       days =
           subst (λ (l : List (KindDay × ℕ)). CountsChange is_day (is_own (kind_and_day c.args.event.now)) one_less l (days_in c.lower_day.new.tally.entries)) (ap (λ v. v.days) c.self.view_is)
           (subst (λ o. CountsChange is_day (is_own o) one_less (days_in c.self.inside.days.entries) (days_in c.lower_day.new.tally.entries)) c.requires.own c.lower_day.ensures);
-      threads = rw (← c.self.view_is) c.clear.ensures;
+      entities = rw (← c.self.view_is) c.clear.ensures;
     }

@@ -4,7 +4,7 @@ ghost use Rattle.std.specs.Prelude.{◌≡◌, IfOk, None, OnErr, OnOk, Some};
 ghost use Rattle.std.specs.Option.{option_map};
 ghost use Rattle.kept_views.specs.Tables.{slot_of};
 ghost use Rattle.kept_views.specs.steps.Moves.{PutsAt};
-ghost use Rattle.kept_views.specs.steps.Seen.{slot_in, threads_in};
+ghost use Rattle.kept_views.specs.steps.Seen.{slot_in, entities_in};
 
 use crate::seed::Seed;
 use attributes::Sequenced;
@@ -15,16 +15,16 @@ use std::collections::BTreeMap;
 /// A number and an id.
 pub(crate) type Rank = (u64, String);
 
-/// The places among what came of the events of a thread.
+/// The places among what came of the events of an entity.
 pub(crate) type Rows = BTreeMap<Rank, u64>;
 
 /// The rows of each source and subject.
-pub(crate) type Threads = IndexMap<(String, String), Rows, Seed>;
+pub(crate) type Entities = IndexMap<(String, String), Rows, Seed>;
 
 /// Where the row of an event stands.
 #[derive(Drop)]
 pub(crate) struct Slot {
-    pub(crate) thread: (String, String),
+    pub(crate) entity: (String, String),
     pub(crate) rank: Rank,
 }
 
@@ -41,69 +41,69 @@ pub(crate) fn slot_of(alloc: Global, event: &Sequenced) -> Result<Option<Slot>, 
     let subject = String::from_str(alloc, subject)?;
     let id = String::from_str(alloc, event.id())?;
     Ok(Some(Slot {
-        thread: (source, subject),
+        entity: (source, subject),
         rank: (number, id),
     }))
 }
 
 /// Puts a row in.
-fn put_row(alloc: Global, threads: &mut Threads, slot: Slot, place: u64) -> Result<(), AllocError>
+fn put_row(alloc: Global, entities: &mut Entities, slot: Slot, place: u64) -> Result<(), AllocError>
     ensures ok { OnOk result (PutsAt (Some (slot_in slot)) (Some place)
-        (threads_in threads.old.entries) (threads_in threads.new.entries)) }
+        (entities_in entities.old.entries) (entities_in entities.new.entries)) }
     ensures err { OnErr result
-        (threads_in threads.new.entries ≡ threads_in threads.old.entries) }
+        (entities_in entities.new.entries ≡ entities_in entities.old.entries) }
 {
-    if let Some(rows) = threads.get_mut(&slot.thread) {
+    if let Some(rows) = entities.get_mut(&slot.entity) {
         rows.insert(slot.rank, place)?;
         return Ok(());
     }
     let mut rows = BTreeMap::new(alloc);
     rows.insert(slot.rank, place)?;
-    threads.insert(slot.thread, rows)?;
+    entities.insert(slot.entity, rows)?;
     Ok(())
 }
 
 /// Puts a row in where there is a slot, with its place. Memory is wanted for that alone, and where
-/// it is refused nothing has changed. Time logarithmic in the rows of the thread.
+/// it is refused nothing has changed. Time logarithmic in the rows of the entity.
 pub(crate) fn bring(
     alloc: Global,
-    threads: &mut Threads,
+    entities: &mut Entities,
     slot: Option<Slot>,
     place: u64,
 ) -> Result<(), AllocError>
     ensures ok { OnOk result (PutsAt (option_map slot_in slot) (Some place)
-        (threads_in threads.old.entries) (threads_in threads.new.entries)) }
+        (entities_in entities.old.entries) (entities_in entities.new.entries)) }
     ensures err { OnErr result
-        (threads_in threads.new.entries ≡ threads_in threads.old.entries) }
+        (entities_in entities.new.entries ≡ entities_in entities.old.entries) }
 {
     match slot {
-        Some(slot) => put_row(alloc, threads, slot, place),
+        Some(slot) => put_row(alloc, entities, slot, place),
         None => Ok(()),
     }
 }
 
-/// Takes a row out; a thread without rows goes too.
-fn take_row_out(threads: &mut Threads, slot: &Slot)
+/// Takes a row out; an entity without rows goes too.
+fn take_row_out(entities: &mut Entities, slot: &Slot)
     ensures { PutsAt (Some (slot_in slot.now)) None
-        (threads_in threads.old.entries) (threads_in threads.new.entries) }
+        (entities_in entities.old.entries) (entities_in entities.new.entries) }
 {
-    let Some(rows) = threads.get_mut(&slot.thread) else {
+    let Some(rows) = entities.get_mut(&slot.entity) else {
         return;
     };
     rows.remove(&slot.rank);
     if rows.is_empty() {
-        threads.swap_remove(&slot.thread);
+        entities.swap_remove(&slot.entity);
     }
 }
 
 /// Empties a slot, where there is one. It takes no memory. Time logarithmic in the rows of the
-/// thread.
-pub(crate) fn clear(threads: &mut Threads, slot: Option<Slot>)
+/// entity.
+pub(crate) fn clear(entities: &mut Entities, slot: Option<Slot>)
     ensures { PutsAt (option_map slot_in slot) None
-        (threads_in threads.old.entries) (threads_in threads.new.entries) }
+        (entities_in entities.old.entries) (entities_in entities.new.entries) }
 {
     match slot {
-        Some(slot) => take_row_out(threads, &slot),
+        Some(slot) => take_row_out(entities, &slot),
         None => {}
     }
 }
