@@ -31,5 +31,5 @@ pub returns : goal.returns
 returns c =
     let A = c.args.self.now in
     let kept = c.self.inside.blocks in
-    all_handled c.sets_are_members.ensures A c.args.peer.now c.args.own.now kept c.loop-i.found c.arrived-few.ensures.events (subst (λ l. IsKeptOf l kept) c.self.view_is c.self.invariant.4) c.requires
+    all_handled c.sets_are_members.ensures A c.args.peer.now c.args.own.now kept c.loop-i.found c.arrived.ensures.events (subst (λ l. IsKeptOf l kept) c.self.view_is c.self.invariant.4) c.requires
     (λ j ps less. c.loop-i.invariant j ps (omega (arith, less, c.loop-i-test.false, c.len-i-end.ensures)))
