@@ -32,7 +32,8 @@ pub enum Command {
     Scrub,
     /// `run --db DB [--peer FILE] FILE..`: takes files side by side into a database.
     Run,
-    /// `service --db DB [--source S] [--base N]`: the service of a database, made where there is none.
+    /// `service --db DB [--source S] [--base N]`: the service of a database, made where there is
+    /// none.
     Service,
     /// `order --db DB [--source S] --at TIME ACTION ORDER`: a command to a service.
     Order,

@@ -341,11 +341,11 @@ impl Summary {
         }
     }
 
-    /// Whether the summary needs no event of a source that stands in the block of a number, going by
-    /// the own summary of a site and the numbers that the site has: it holds each of them that is
-    /// in the block, and in version 2 has the own digest of the block. Where it isn't so, the answer
-    /// may be false. Time logarithmic in the sources, the intervals and the blocks of the source,
-    /// and linear in the intervals of the block.
+    /// Whether the summary needs no event of a source that stands in the block of a number, going
+    /// by the own summary of a site and the numbers that the site has: it holds each of them that
+    /// is in the block, and in version 2 has the own digest of the block. Where it isn't so, the
+    /// answer may be false. Time logarithmic in the sources, the intervals and the blocks of the
+    /// source, and linear in the intervals of the block.
     pub fn wants_none_beside(
         &self,
         own: &Summary,

@@ -38,6 +38,10 @@ upgraded l = l
 
 -- the schema while both are there
 abbrev pub both_in : Layout → Schema
-both_in InboxService = schema_of (inbox 0 ∷ service_tables 2 ++ inbox2 5 ∷ []) (inbox_index 0 ∷ inbox2_index 5 ∷ [])
-both_in ServiceInbox = schema_of (service_tables 0 ++ inbox 3 ∷ inbox2 5 ∷ []) (inbox_index 3 ∷ inbox2_index 5 ∷ [])
+both_in InboxService =
+    schema_of (inbox 0 ∷ service_tables 2 ++ inbox2 5 ∷ [])
+    (inbox_index 0 ∷ inbox2_index 5 ∷ [])
+both_in ServiceInbox =
+    schema_of (service_tables 0 ++ inbox 3 ∷ inbox2 5 ∷ [])
+    (inbox_index 3 ∷ inbox2_index 5 ∷ [])
 both_in _ = schema_of (inbox 0 ∷ inbox2 2 ∷ []) (inbox_index 0 ∷ inbox2_index 2 ∷ [])

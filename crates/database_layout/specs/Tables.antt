@@ -30,8 +30,8 @@ key_column name = column name Integer false
 abbrev pub filled_column : List ℕ → Kind → Column
 filled_column name kind = column name kind true
 
--- a STRICT table whose first column is the INTEGER PRIMARY KEY, with these CHECKs and no UNIQUE; its
--- rows lie in this tree
+-- a STRICT table whose first column is the INTEGER PRIMARY KEY, with these CHECKs and no UNIQUE;
+-- its rows lie in this tree
 abbrev pub table : List ℕ → ℕ → List Column → List Term → Table
 table name tree columns checks = record {
   name = name;
@@ -118,8 +118,8 @@ inbox = keyed (codes "inbox") inbox_columns
 abbrev pub inbox2 : ℕ → Table
 inbox2 = keyed (codes "inbox2") inbox2_columns
 
--- the index with this name, which SQLite makes for the UNIQUE of a table; it lies in the tree behind
--- the table's
+-- the index with this name, which SQLite makes for the UNIQUE of a table; it lies in the tree
+-- behind the table's
 abbrev pub key_index : List ℕ → ℕ → Index
 key_index name tree = record {
   name = name;

@@ -87,8 +87,8 @@ fn drop<S: Alter>(tx: &mut Transaction<'_, S>) -> Result<usize, Error>
     tx.execute("DROP TABLE inbox", &[])
 }
 
-/// Makes the three tables of a service, where the layout has room for them. A refusal may leave some
-/// of them in the transaction, which its caller then gives up.
+/// Makes the three tables of a service, where the layout has room for them. A refusal may leave
+/// some of them in the transaction, which its caller then gives up.
 pub fn make_service<S: Alter>(tx: &mut Transaction<'_, S>) -> Result<(), Error>
     ensures same_reference { tx.new.conn.ghost_name ≡ tx.old.conn.ghost_name }
     ensures made { HasCleanDisk (state S.Store tx.new.conn.now)

@@ -272,8 +272,8 @@ pub(crate) fn are_inbox2(table: &Table, index: &Index, tree: u32) -> bool
     table.tree == tree && is_inbox2(table) && is_key_index(index, "sqlite_autoindex_inbox2_1", tree)
 }
 
-/// Whether an inbox of our form is there, of either version, wherever its rows lie and whatever lies
-/// beside it.
+/// Whether an inbox of our form is there, of either version, wherever its rows lie and whatever
+/// lies beside it.
 pub fn has_inbox_form(schema: &Schema) -> bool
     ensures { IsTrue result ↔ HasInboxForm schema.now.tables }
 {

@@ -6,9 +6,10 @@ ghost use Rattle.database_layout.specs.Layout.{GainsInbox2, GainsService, HasInb
 use crate::form::{are_inbox, are_inbox2, are_service};
 use sqlite_schema::schema::{Index, Schema, Table};
 
-/// Which tables of ours a database has, in the order in which they were made. The rows of a table lie
-/// in a tree with a number, an index in one of its own; a new one gets the number above all others
-/// and keeps it, so an upgrade leaves a gap. The number in a comment is that of a part's first tree.
+/// Which tables of ours a database has, in the order in which they were made. The rows of a table
+/// lie in a tree with a number, an index in one of its own; a new one gets the number above all
+/// others and keeps it, so an upgrade leaves a gap. The number in a comment is that of a part's
+/// first tree.
 #[derive(Clone, Copy, PartialEq, Eq, Debug)]
 pub enum Layout {
     /// None.
@@ -103,8 +104,8 @@ fn of_service_first(a: &Table, b: &Table, c: &Table, d: &Table, index: &Index) -
 }
 
 impl Layout {
-    /// The layout of a schema, where it has tables of ours alone, each in its whole form. None where
-    /// there is any other table, index or view.
+    /// The layout of a schema, where it has tables of ours alone, each in its whole form. None
+    /// where there is any other table, index or view.
     pub fn of(schema: &Schema) -> Option<Layout>
         ensures { IfSome result (λ l. schema.now ≡ schema_in l) }
     {

@@ -1,5 +1,5 @@
-//! The tables that a database file of ours has: which there may be, where they lie, and how they are
-//! made.
+//! The tables that a database file of ours has: which there may be, where they lie, and how they
+//! are made.
 #![tactic(auto)]
 
 mod check;

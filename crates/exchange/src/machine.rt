@@ -20,8 +20,8 @@ use site::Site;
 use std::alloc::{AllocError, Global};
 use std::mem;
 
-/// Where want of memory stopped a run: how many steps were done, and how many events of its list the
-/// next step took.
+/// Where want of memory stopped a run: how many steps were done, and how many events of its list
+/// the next step took.
 #[derive(Clone, Copy, PartialEq, Eq, Debug)]
 pub struct Stop {
     pub done: u64,

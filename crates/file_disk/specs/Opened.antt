@@ -14,7 +14,8 @@ IsSettled key f = calls_of f.file ≡ settled key ∷ []
 
 module _ {S : Type 0} {g : calls.Ghosts SystemFile} where
   -- it is the log or the database file, and was settled under its key
-  pub record IsFresh {start : Ghosts S} (is_log : Bool) (f : Modelled SystemFile S g start) : Type 0 where
+  pub record IsFresh {start : Ghosts S} (is_log : Bool) (f : Modelled SystemFile S g start)
+      : Type 0 where
     pub which : f.is_log ≡ is_log
     pub settled : IsSettled f.key f.calls
 

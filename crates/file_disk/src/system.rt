@@ -1,6 +1,6 @@
 //! What touches the operating system: a function makes one call and notes it with its answer.
-//! Nothing outside this module adds to a file's record, so that these few bodies make the calls that
-//! they note is all that has to be read.
+//! Nothing outside this module adds to a file's record, so that these few bodies make the calls
+//! that they note is all that has to be read.
 ghost use Rattle.std.specs.Prelude.{◌≡◌, ◌<◌, ◌≤◌, ◌^◌, [], ◌∷◌, length, take, true, false, is_ok, IfOk, MatchResult, OnErr, OnOk};
 ghost use Rattle.sqlite_disk.specs.Events.{cut, flushed, measured, read, read_under, settled, written};
 ghost use Rattle.sqlite_disk.specs.Refusal.{as_number, finds_no_room, is_no_room};

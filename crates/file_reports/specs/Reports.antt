@@ -34,8 +34,8 @@ abbrev pub SpellAll : List (List ℕ) → List EventValue → Type 0
 SpellAll files events =
     (lists : List (List EventValue)) × EachReads files lists × (events ≡ joined lists)
 
--- the files spell events with numbers, and the site's set, of which these are the arrivals, is that of
--- these events
+-- the files spell events with numbers, and the site's set, of which these are the arrivals, is that
+-- of these events
 abbrev pub KeepsFiles : List (List ℕ) → List EventValue → Type 0
 KeepsFiles files site = (lists : List (List EventValue)) × EachReads files lists
     × AreEvents (joined lists) × (set_of site ≡ set_of (joined lists))

@@ -12,9 +12,9 @@ use std::alloc::{AllocError, Global};
 use views::Query;
 use views::laws::answers_are_alike;
 
-/// An answer, in lines that end with LF, and the events that it is about. To give the memory of many
-/// events back, one after the other, can take longer than to ask about them, so the caller says
-/// when, and whether: a program that ends next may leave it.
+/// An answer, in lines that end with LF, and the events that it is about. To give the memory of
+/// many events back, one after the other, can take longer than to ask about them, so the caller
+/// says when, and whether: a program that ends next may leave it.
 #[derive(Drop)]
 pub struct Reported {
     pub text: Text,
@@ -43,8 +43,8 @@ pub fn report(alloc: Global, query: Query, files: &[Octets]) -> Result<Reported,
     Ok(Reported { text, events })
 }
 
-/// The answer to a question about the events of files, as [`crate::site_of`] has them, and those of a
-/// batch besides. Time n log n in the batch, and that of the question.
+/// The answer to a question about the events of files, as [`crate::site_of`] has them, and those of
+/// a batch besides. Time n log n in the batch, and that of the question.
 pub fn report_with(query: Query, mut events: Site, held: Batch) -> Result<Reported, AllocError>
     ensures ok { IfOk result (λ r. (files : List (List ℕ)) → KeepsFiles files events
         → IsReportWith query held files r.text) }

@@ -204,8 +204,8 @@ impl Inbox {
         &self.arrivals[i as usize]
     }
 
-    /// The place among what came, from 0, of the event at place i of key order: `arrived_at` of it is
-    /// that event. The time grows with the logarithm of the number of events.
+    /// The place among what came, from 0, of the event at place i of key order: `arrived_at` of it
+    /// is that event. The time grows with the logarithm of the number of events.
     pub fn came_at(&self, i: u64) -> u64
         requires { i < length (events self.now) }
         ensures { slice_get self.now.arrivals result ≡ slice_get (events self.now) i }

@@ -11,7 +11,8 @@ use Rattle.inbox_table.specs.declared.fault.TableFault.{TableFault}
 use Rattle.inbox_table.specs.declared.fault.TableFault.TheVariants.{Foreign}
 
 -- what an opening does, while the disk gives back what was written; the table has these events
-pub record Opens (tells : ℕ → ℕ → Type 0) (old new : State) (events : List EventValue) : Type 0 where
+pub record Opens (tells : ℕ → ℕ → Type 0) (old new : State) (events : List EventValue)
+    : Type 0 where
   -- where a table of either name was there, it was taken over with them
   pub adopts : has_inbox old.now.schema ≡ true → Adopts old new events
   -- and of one of version 1 the watch was told, after each thousand, how many were in

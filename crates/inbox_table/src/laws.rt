@@ -4,10 +4,10 @@ ghost use Rattle.inbox_table.specs.Law.{StopsLeaveAList, StopsLeaveNoEvents, Sto
 
 use database_layout::laws::trees_tell_tables;
 
-/// A `keep` may be stopped at any write: then its clause `crash` tells what is left. The file that is
-/// opened again has the list of before, or all that was given too, and that is what
-/// [`crate::Table::adopt`] finds. Where the call had answered, its clause `settled` leaves the latter
-/// alone.
+/// A `keep` may be stopped at any write: then its clause `crash` tells what is left. The file that
+/// is opened again has the list of before, or all that was given too, and that is what
+/// [`crate::Table::adopt`] finds. Where the call had answered, its clause `settled` leaves the
+/// latter alone.
 pub fn stops_leave_a_list()
     ensures { StopsLeaveAList }
 {
@@ -22,8 +22,8 @@ pub fn stops_leave_no_events()
     trees_tell_tables();
 }
 
-/// So may the taking over of a table of version 1. The file that is opened again is as it was, or has
-/// in version 2 the list that it had in version 1: never both versions, and never neither.
+/// So may the taking over of a table of version 1. The file that is opened again is as it was, or
+/// has in version 2 the list that it had in version 1: never both versions, and never neither.
 pub fn stops_leave_one_version()
     ensures { StopsLeaveOneVersion }
 {

@@ -89,7 +89,8 @@ place_at entities entity rank = lookup (is_rank rank) (rows_of entities entity)
 
 -- where the row of an event stands: in its entity, at its number and id; none without a subject
 abbrev pub slot_of : EventValue → Option (Entity × Rank)
-slot_of e = option_map (λ subject. ((source_of e, subject), (number_or_0 e, id_of e))) (subject_of e)
+slot_of e =
+    option_map (λ subject. ((source_of e, subject), (number_or_0 e, id_of e))) (subject_of e)
 
 -- whether a slot is that of the entity and the rank
 abbrev pub is_slot : Option (Entity × Rank) → Entity → Rank → Bool

@@ -76,9 +76,9 @@ fn list_latest(alloc: Global, inbox: &Inbox, entities: &Entities) -> Result<Batc
 
 impl Views {
     /// The answer to a question about the events that came, as `views::answer` gives it. `Kinds`,
-    /// `Days` and `Latest` cost time in proportion to the rows of the answer, times the logarithm of
-    /// their number, and to what is copied into it, and memory in proportion to the answer; other
-    /// questions cost what `views::answer` costs. `AllocError` where memory is refused.
+    /// `Days` and `Latest` cost time in proportion to the rows of the answer, times the logarithm
+    /// of their number, and to what is copied into it, and memory in proportion to the answer;
+    /// other questions cost what `views::answer` costs. `AllocError` where memory is refused.
     pub fn answer(&self, inbox: &Inbox, query: Query) -> Result<Answer, AllocError>
         requires { StandsFor inbox.now.arrivals self.now }
         ensures query { IfOk result (λ a. query_of a ≡ query) }

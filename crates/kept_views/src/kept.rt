@@ -117,10 +117,10 @@ impl Views {
         }
     }
 
-    /// `put` of an event that isn't there, by the place where it goes in, as `Inbox::place_of` tells
-    /// it: for whoever has searched already. Time logarithmic in the shown events of its source and
-    /// subject, and a search of the inbox where another event has its source and id; a type, day,
-    /// source or subject that is new is copied, and an id in any case.
+    /// `put` of an event that isn't there, by the place where it goes in, as `Inbox::place_of`
+    /// tells it: for whoever has searched already. Time logarithmic in the shown events of its
+    /// source and subject, and a search of the inbox where another event has its source and id; a
+    /// type, day, source or subject that is new is copied, and an id in any case.
     pub fn put_at(&mut self, inbox: &Inbox, event: &Sequenced, gap: u64) -> Result<(), AllocError>
         requires stands { StandsFor inbox.now.arrivals self.old }
         requires new { has key_cmp inbox.now.arrivals event.now ≡ false }
@@ -167,8 +167,8 @@ impl Views {
         }
     }
 
-    /// Counts an event in, which came at a place, where no more than `before` have been. On a refusal
-    /// nothing has changed.
+    /// Counts an event in, which came at a place, where no more than `before` have been. On a
+    /// refusal nothing has changed.
     pub(crate) fn admit(
         &mut self,
         event: &Sequenced,

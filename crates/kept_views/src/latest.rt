@@ -59,8 +59,8 @@ fn add_last<'a>(latest: &mut Latest<'a>, inbox: &'a Inbox, rows: &Rows) -> Resul
     }
 }
 
-/// The latest event of each source and subject, by source, then subject, lent. Time in proportion to
-/// them, times the logarithm of their number.
+/// The latest event of each source and subject, by source, then subject, lent. Time in proportion
+/// to them, times the logarithm of their number.
 pub(crate) fn ordered_latest<'a>(
     alloc: Global,
     inbox: &'a Inbox,

@@ -9,8 +9,8 @@ use Rattle.line_intake.specs.declared.answer.Told.{Told}
 use Rattle.line_intake.specs.declared.step.FollowFault.{FollowFault}
 use Rattle.line_intake.specs.declared.step.FollowFault.TheVariants as fault
 
--- the input lost lines, from its first on, and the text acknowledges each of them but the empty ones:
--- one at fault with its fault, any other with so many of its events as new
+-- the input lost lines, from its first on, and the text acknowledges each of them but the empty
+-- ones: one at fault with its fault, any other with so many of its events as new
 pub record AreTold (old new : Option (List ℕ)) (tells : List Told) (text : List ℕ) : Type 0 where
   pub lines : List (List ℕ)
   pub lists : List (List EventValue)

@@ -8,7 +8,8 @@ use Rattle.line_intake.specs.declared.answer.Told.{Told}
 
 -- the answer to a line whose events are kept by now: so many were new, so many were there
 abbrev pub kept_line : ℕ → ℕ → ℕ → List ℕ
-kept_line line fresh repeated = codes "{\"line\":" ++ decimal line ++ codes ",\"new\":" ++ decimal fresh
+kept_line line fresh repeated =
+    codes "{\"line\":" ++ decimal line ++ codes ",\"new\":" ++ decimal fresh
     ++ codes ",\"repeated\":" ++ decimal repeated ++ codes "}" ++ 10 ∷ []
 
 -- a line is at fault

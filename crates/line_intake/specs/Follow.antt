@@ -94,8 +94,8 @@ pub record IsFollowed (start : Place) (out : Option (List ℕ)) (faults : ℕ) (
   pub kept : K turns
   pub faulty : faults ≡ faults_of turns
 
--- the input couldn't be read on: nothing more was written, and the table is as it was then; or lines
--- were read behind those of the turns, and their turn stopped
+-- the input couldn't be read on: nothing more was written, and the table is as it was then; or
+-- lines were read behind those of the turns, and their turn stopped
 abbrev pub StopsBehind : FollowFault → Place → Database → State → Option (List ℕ) → Type 0
 StopsBehind (fault.Input why) last mid new out = (mid ≡ new.now) × (last.out ≡ out)
 StopsBehind why last mid new out = (lines : ℕ) × (left : Option (List ℕ)) × (tells : List Told)

@@ -8,8 +8,8 @@ use Rattle.file_reports.specs.declared.refusal.ReportFault.{ReportFault}
 use Rattle.line_intake.specs.Lines.{TakesLine}
 use Rattle.line_intake.specs.declared.answer.Told.{Told}
 
--- the line spells these events, all of them with numbers; or it has this fault, and nothing is taken
--- of it
+-- the line spells these events, all of them with numbers; or it has this fault, and nothing is
+-- taken of it
 abbrev pub IsJudged : List ℕ → Option ReportFault → List EventValue → Type 0
 IsJudged line None L = Reads line L × AreSequenced L
 IsJudged line (Some why) L = IsFault line why × (L ≡ [])
@@ -30,8 +30,8 @@ TakesLines old [] new = Consumes old new []
 TakesLines old (line ∷ lines) new =
     (mid : Option (List ℕ)) × TakesLine old mid line × TakesLines mid lines new
 
--- so many lines were there before, so many are there now: the input lost those between, and they are
--- told so
+-- so many lines were there before, so many are there now: the input lost those between, and they
+-- are told so
 pub record IsGathered (before now : ℕ) (old new : Option (List ℕ)) (tells : List Told)
     (lists : List (List EventValue)) : Type 0 where
   pub lines : List (List ℕ)

@@ -5,9 +5,9 @@ use Rattle.outbox.specs.Call.{IsFounded, MayAccept, MayFound}
 use Rattle.outbox.specs.Order.{Accepted, AreAccepted, orders_of, status_of}
 use Rattle.outbox.specs.Service.{IsService}
 
--- a command was given to a service with these commands, and stopped at any write: what it left is what
--- was there, or what a commit of the command makes. The database that is opened again is that of the
--- service with the commands of before, or with them and the one that was given
+-- a command was given to a service with these commands, and stopped at any write: what it left is
+-- what was there, or what a commit of the command makes. The database that is opened again is that
+-- of the service with the commands of before, or with them and the one that was given
 abbrev pub StopsLeaveAService : Type 0
 StopsLeaveAService = (source : List ℕ) (base : ℕ) (commands : List Accepted) (c : Accepted)
     (old again : Database) → IsDatabase old → IsDatabase again
@@ -15,9 +15,9 @@ StopsLeaveAService = (source : List ℕ) (base : ℕ) (commands : List Accepted)
     → (again.trees ≡ old.trees) ⊎ MayAccept source base c old again.trees
     → IsService again source base commands ⊎ IsService again source base (commands ++ c ∷ [])
 
--- a service was being made with this source and base, and stopped at any write: what it left is what was
--- there, or what the commit makes. The database that is opened again is the one of before, or has the
--- service with that source and base and no commands, beside what was there
+-- a service was being made with this source and base, and stopped at any write: what it left is
+-- what was there, or what the commit makes. The database that is opened again is the one of before,
+-- or has the service with that source and base and no commands, beside what was there
 abbrev pub StopsLeaveANewServiceOrNone : Type 0
 StopsLeaveANewServiceOrNone = (source : List ℕ) (base : ℕ) (old again : Database)
     → IsDatabase old → IsDatabase again

@@ -19,12 +19,12 @@ LeavesOrMakes source base old new = HasCleanDisk new → (db : Trees) → new.ma
     → old.may_leave db ⊎ ((has_name old.now.schema ≡ false) × MayFound source base old.now db)
 
 -- a service was opened, with this source and base where none was there
-pub record Opens {S : Type 0} (source : List ℕ) (base : ℕ) (old : State) (is : Shown S) (new : State)
-    : Type 0 where
+pub record Opens {S : Type 0} (source : List ℕ) (base : ℕ) (old : State) (is : Shown S)
+    (new : State) : Type 0 where
   -- no fault of the disk is forgotten
   pub clean : doubt old.is_clean ≤ doubt new.is_clean
-  -- a table of one of the names was there: nothing is changed, and the source and the base are those
-  -- of each service that the database is, whatever was given
+  -- a table of one of the names was there: nothing is changed, and the source and the base are
+  -- those of each service that the database is, whatever was given
   pub left : has_name old.now.schema ≡ true → Leaves old new
   pub exact : HasCleanDisk new → has_name old.now.schema ≡ true
       → HasNoOther old.now is.source is.base

@@ -35,8 +35,8 @@ pub record IsAllowed (source : List ℕ) (base : ℕ) : Type 0 where
   pub short : length source ≤ max_source
   pub high : base ≤ max_sequence
 
--- the database is not that of a service, whatever source and base are allowed, and whatever commands
--- it accepted
+-- the database is not that of a service, whatever source and base are allowed, and whatever
+-- commands it accepted
 abbrev pub IsNoService : Database → Type 0
 IsNoService db = (source : List ℕ) (base : ℕ) (commands : List Accepted)
     → IsAllowed source base → IsService db source base commands → ⊥

@@ -97,7 +97,8 @@ pub(crate) fn replay(
 ) -> Result<Option<Replayed>, OutboxFault>
     requires { base ≤ max_sequence }
     ensures replay { IfOk result (λ o. IfSome o (IsReplay base rows.now)) }
-    ensures range { IfOk result (λ o. IfSome o (λ r. (base + r.orders ≤ r.last) × (r.last ≤ max_sequence))) }
+    ensures range { IfOk result (λ o. IfSome o (λ r. (base + r.orders ≤ r.last)
+        × (r.last ≤ max_sequence))) }
     ensures none { IfOk result (λ o. IfNone o ((commands : List Accepted)
         → AreAccepted base [] commands → rows.now ≢ shown_rows (suc base) commands)) }
     ensures fault { IfErr result (λ f. f ≡ OutOfMemory) }

@@ -234,9 +234,9 @@ impl<S: Alter> Service<S> {
 
     /// The event of the next row, where that is this command's: what [`Service::place`],
     /// [`Service::ship`] or [`Service::cancel`] answers if it is accepted. Nothing is asked of the
-    /// database, so it may be refused all the same. For whoever wants the memory of an answer before
-    /// anything is written. Where no number is left, and no command accepted, it is the event of
-    /// the last number.
+    /// database, so it may be refused all the same. For whoever wants the memory of an answer
+    /// before anything is written. Where no number is left, and no command accepted, it is the
+    /// event of the last number.
     ///
     /// The fault is want of memory or, never in fact, `Store`.
     pub fn next_event(

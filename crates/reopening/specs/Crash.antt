@@ -21,7 +21,8 @@ abbrev pub AreOfFiles : Image → Trees → Type 0
 AreOfFiles image trees = (db : Trees) → HoldsDatabase image db → trees ≡ db
 
 -- a connection's files after a crash
-pub record IsCrashed {D : Type 0} {g : Ghosts D} (c : Held (FileStore D g)) (files : Files D) : Type 0 where
+pub record IsCrashed {D : Type 0} {g : Ghosts D} (c : Held (FileStore D g)) (files : Files D)
+    : Type 0 where
   -- they may be opened: no sync of either has failed since
   pub log : IsTrue (g.is_usable files.log)
   pub db : IsTrue (g.is_usable files.db)
@@ -47,8 +48,8 @@ pub record IsReopened (old new : State) : Type 0 where
   pub opens : Opens new
 
 -- files that crashed aren't opened for this error
-pub record FailsToReopen {D : Type 0} {g : Ghosts D} (c : Held (FileStore D g)) (rest : Leftover D g)
-    (e : Error) : Type 0 where
+pub record FailsToReopen {D : Type 0} {g : Ghosts D} (c : Held (FileStore D g))
+    (rest : Leftover D g) (e : Error) : Type 0 where
   pub files : Files D
   pub crashed : IsCrashed c files
   -- for want of memory, a fault of the disk meanwhile, by its name, or a limit of the format: where

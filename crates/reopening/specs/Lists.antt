@@ -47,7 +47,8 @@ module _ {D : Type 0} {g : Ghosts D} (c : Held (FileStore D g)) where
   pub record FindsList (found : State) (events : List EventValue) : Type 0 where
     -- they are the list of before the call, or that list and the events that it was given, each in
     -- its turn behind the last
-    pub kept : (old : Held (FileStore D g)) (held L : List EventValue) → HadList (file_state old) held
+    pub kept : (old : Held (FileStore D g)) (held L : List EventValue)
+        → HadList (file_state old) held
         → KeepsUntil (file_state old) L (file_state c)
         → (events ≡ held) ⊎ (events ≡ append_new key_cmp held L)
     -- there are none where the table was being made

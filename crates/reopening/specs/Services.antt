@@ -17,7 +17,8 @@ use Rattle.reopening.specs.Crash.{FailsToReopen}
 use Rattle.reopening.specs.declared.services.NoService.{NoService}
 use Rattle.reopening.specs.declared.services.NoService.TheVariants as none
 
--- before a call the database had the service with this source and base, which accepted these commands
+-- before a call the database had the service with this source and base, which accepted these
+-- commands
 pub record HadService (old : State) (source : List ℕ) (base : ℕ) (commands : List Accepted)
     : Type 0 where
   pub is_open : IsTrue old.is_open
@@ -26,8 +27,8 @@ pub record HadService (old : State) (source : List ℕ) (base : ℕ) (commands :
   -- a crash left it alone, as after each call that answered
   pub settled : IsSettled old
 
--- and then it was given this command, by a call of `place`, `ship` or `cancel` that came to its end or
--- was stopped at any write: this is `crash` of the clause `effect`
+-- and then it was given this command, by a call of `place`, `ship` or `cancel` that came to its end
+-- or was stopped at any write: this is `crash` of the clause `effect`
 abbrev pub CommandsUntil : State → List ℕ → ℕ → Accepted → State → Type 0
 CommandsUntil old source base c stopped = HasCleanDisk stopped → IsTrue old.is_open → (db : Trees)
     → stopped.may_leave db → old.may_leave db ⊎ MayAccept source base c old.now db
@@ -46,7 +47,8 @@ FoundsUntil old source base stopped = Survives old stopped (MayFound source base
 module _ {D : Type 0} {g : Ghosts D} (c : Held (FileStore D g)) where
   -- whatever service there was before a call that was given a command and left the connection `c`
   abbrev pub AfterCommand : (List ℕ → ℕ → List Accepted → Accepted → Type 0) → Type 0
-  AfterCommand P = (old : Held (FileStore D g)) (source : List ℕ) (base : ℕ) (commands : List Accepted)
+  AfterCommand P =
+      (old : Held (FileStore D g)) (source : List ℕ) (base : ℕ) (commands : List Accepted)
       (a : Accepted) → HadService (file_state old) source base commands
       → CommandsUntil (file_state old) source base a (file_state c) → P source base commands a
 

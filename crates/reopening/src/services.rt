@@ -22,9 +22,9 @@ pub enum NoService<D: Disk + Drop> {
     Refused(NotMade<FileStore<D>>),
 }
 
-/// Lets the machine crash, opens the files again and takes the service in them: after a command that
-/// came to its end or was stopped at any write, it has the commands of before, or those and that one;
-/// after [`Service::create`] it has none.
+/// Lets the machine crash, opens the files again and takes the service in them: after a command
+/// that came to its end or was stopped at any write, it has the commands of before, or those and
+/// that one; after [`Service::create`] it has none.
 ///
 /// It is refused as [`reopened`] and then [`Service::adopt`] are, but for one: a service that was
 /// there before the command isn't `Foreign`. Time and memory are those of both.

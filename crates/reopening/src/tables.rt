@@ -22,12 +22,12 @@ pub enum NoTable<D: Disk> {
     Refused(NotMade<FileStore<D>>),
 }
 
-/// Lets the machine crash, opens the files again and takes the table in them, with its events: after
-/// a call of a table that came to its end or was stopped at any write, they are those of before the
-/// call or those that it commits.
+/// Lets the machine crash, opens the files again and takes the table in them, with its events:
+/// after a call of a table that came to its end or was stopped at any write, they are those of
+/// before the call or those that it commits.
 ///
-/// It is refused as [`reopened`] and then [`Table::adopt_and_load`] are, but for one: a list that was
-/// there before the call isn't `Foreign`. Time and memory are those of both.
+/// It is refused as [`reopened`] and then [`Table::adopt_and_load`] are, but for one: a list that
+/// was there before the call isn't `Foreign`. Time and memory are those of both.
 pub fn table_reopened<D: Crash + Drop>(
     alloc: Global,
     conn: Connection<FileStore<D>>,

@@ -16,8 +16,9 @@ LacksAt A L i = (e : EventValue) → slice_get L i ≡ Some e → has key_cmp A 
 abbrev pub AreDistinct : List EventValue → Type 0
 AreDistinct A = append_new key_cmp [] A ≡ A
 
--- the events L were brought to a site with the arrivals `old`: behind these stand those that weren't
--- there, and both kinds are counted; after a refusal it has so many of them alone, from the first on
+-- the events L were brought to a site with the arrivals `old`: behind these stand those that
+-- weren't there, and both kinds are counted; after a refusal it has so many of them alone, from the
+-- first on
 pub record Brings (old new L : List EventValue) (result : Result Counts Short) : Type 0 where
   pub arrivals : OnOk result (new ≡ append_new key_cmp old L)
   pub set : OnOk result (set_of new ≡ union (set_of old) L)

@@ -8,8 +8,8 @@ pub fn unsplit_passes_see_all()
     ensures { UnsplitPassesSeeAll }
 {}
 
-/// Each call of a pass, of whatever kind, comes behind what others added and is one call of the site
-/// machine, with the reply that it has there.
+/// Each call of a pass, of whatever kind, comes behind what others added and is one call of the
+/// site machine, with the reply that it has there.
 pub fn calls_follow()
     ensures { CallsFollow }
 {}

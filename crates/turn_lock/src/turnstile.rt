@@ -190,10 +190,10 @@ impl<O: Machine<A, C> + Drop, A, C> Turnstile<O, A, C> {
     }
 
     /// Lets time pass between two looks for the turn of a ticket, after so many looks of which the
-    /// last found that so many turns ended. At first it yields. A pass that waits longer sleeps from
-    /// look to look, for 1 microsecond and then twice as long each time: up to 64 where its turn is
-    /// the next, and up to 1,024 where five or more are before it. It sleeps not at all where a turn
-    /// ended since the look. So waiting for long costs little time of the processor.
+    /// last found that so many turns ended. At first it yields. A pass that waits longer sleeps
+    /// from look to look, for 1 microsecond and then twice as long each time: up to 64 where its
+    /// turn is the next, and up to 1,024 where five or more are before it. It sleeps not at all
+    /// where a turn ended since the look. So waiting for long costs little time of the processor.
     fn pause<R: Wait>(&self, rt: &R, looks: u32, ended: u64, ticket: u64) {
         if looks < YIELDS {
             thread::yield_now();

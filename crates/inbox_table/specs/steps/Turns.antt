@@ -88,13 +88,14 @@ pub record IsTakingEach (h : Home) (rows : ℕ) (all left : List (List EventValu
   pub rest : append_new key_cmp held (joined left) ≡ append_new key_cmp events (joined all)
   pub count : length held ≡ rows + fresh
   -- so many of each were new, and those of the lists that are left are told behind them
-  pub counted : (more : List ℕ) → AreFreshEach held left more → AreFreshEach events all (each ++ more)
+  pub counted : (more : List ℕ) → AreFreshEach held left more
+      → AreFreshEach events all (each ++ more)
   pub sound : IsDatabase old → IsDatabase now
   pub others : KeepsOthers (schema_at h).tables (tree_at h) old.trees now.trees
 
 -- since the transaction began, the events of lists were put in, and these lists are left
-pub record IsKeepingEach (rows : ℕ) (all left : List (List EventValue)) (old now : State) (fresh : ℕ)
-    (each : List ℕ) : Type 0 where
+pub record IsKeepingEach (rows : ℕ) (all left : List (List EventValue)) (old now : State)
+    (fresh : ℕ) (each : List ℕ) : Type 0 where
   pub table : (h : Home) (events : List EventValue) → IsFilled h old.now events
       → rows ≡ length events → IsTakingEach h rows all left events old.now now.now fresh each
   pub was_open : IsTrue now.is_open → IsTrue old.is_open

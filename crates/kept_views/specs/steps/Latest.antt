@@ -13,7 +13,8 @@ top_rank rows = greatest rank_cmp (map (λ row. row.0) rows)
 -- the event that came at the place of the greatest rank
 abbrev pub top_event : List EventValue → Rows → Option EventValue
 top_event A rows =
-    option_and_then (λ rank. option_and_then (slice_get A) (lookup (is_rank rank) rows)) (top_rank rows)
+    option_and_then (λ rank. option_and_then (slice_get A) (lookup (is_rank rank) rows))
+    (top_rank rows)
 
 -- an event with its entity
 abbrev pub entity_row : EventValue → Option (Entity × Option EventValue)

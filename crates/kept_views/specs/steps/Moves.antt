@@ -27,16 +27,19 @@ abbrev pub one_less : ℕ → Option ℕ
 one_less n = counted (n - 1)
 
 -- the counts of the keys that pass the test change so, and the others stay
-abbrev pub CountsChange : {K : Type 0} → (K → K → Bool) → (K → Bool) → (ℕ → Option ℕ) → List (K × ℕ) → List (K × ℕ) → Type 0
+abbrev pub CountsChange : {K : Type 0} → (K → K → Bool) → (K → Bool) → (ℕ → Option ℕ)
+    → List (K × ℕ) → List (K × ℕ) → Type 0
 CountsChange {K} same test change old new =
     (k : K) → lookup (same k) new
     ≡ (if test k then change (unwrap_or (lookup (same k) old) 0) else lookup (same k) old)
 
 -- a slot has this place from now on, or none, and the others what they had
-abbrev pub PutsAt : Option (Entity × Rank) → Option ℕ → List (Entity × Rows) → List (Entity × Rows) → Type 0
+abbrev pub PutsAt : Option (Entity × Rank) → Option ℕ → List (Entity × Rows)
+    → List (Entity × Rows) → Type 0
 PutsAt slot place old new =
     (entity : Entity) (rank : Rank)
-    → place_at new entity rank ≡ (if is_slot slot entity rank then place else place_at old entity rank)
+    → place_at new entity rank
+    ≡ (if is_slot slot entity rank then place else place_at old entity rank)
 
 -- an event came in at a place: its type has one more, and its type and day, and its slot the place
 pub record ComesIn (e : EventValue) (place : ℕ) (old new : Tables) : Type 0 where
@@ -45,14 +48,16 @@ pub record ComesIn (e : EventValue) (place : ℕ) (old new : Tables) : Type 0 wh
   pub entities : PutsAt (slot_of e) (Some place) old.entities new.entities
 
 -- an event went: its type has one less, and its type and day, and this slot nothing
-pub record GoesOut (e : EventValue) (slot : Option (Entity × Rank)) (old new : Tables) : Type 0 where
+pub record GoesOut (e : EventValue) (slot : Option (Entity × Rank)) (old new : Tables)
+    : Type 0 where
   pub kinds : CountsChange bytes_eq (λ k. bytes_eq k (kind_of e)) one_less old.kinds new.kinds
   pub days : CountsChange is_day (is_own (kind_and_day e)) one_less old.days new.days
   pub entities : PutsAt slot None old.entities new.entities
 
 -- whether two events have one subject or none, and one number
 abbrev pub are_together : EventValue → EventValue → Bool
-are_together e f = option_eq bytes_eq (subject_of e) (subject_of f) && (number_or_0 e == number_or_0 f)
+are_together e f =
+    option_eq bytes_eq (subject_of e) (subject_of f) && (number_or_0 e == number_or_0 f)
 
 -- the slot of an event, unless it is together with the other
 abbrev pub slot_apart : EventValue → EventValue → Option (Entity × Rank)

@@ -24,7 +24,8 @@ module _ {Y : Type 0} where
   abbrev pub rows_in : BTreeMap (ℕ × String Y) ℕ → Rows
   rows_in rows = map (λ r. (rank_in r.0, r.1)) rows.entries
 
-  abbrev pub entities_in : List ((String Y × String Y) × BTreeMap (ℕ × String Y) ℕ) → List (Entity × Rows)
+  abbrev pub entities_in : List ((String Y × String Y) × BTreeMap (ℕ × String Y) ℕ)
+      → List (Entity × Rows)
   entities_in es = map (λ e. (entity_in e.0, rows_in e.1)) es
 
 abbrev pub slot_in : Slot → Entity × Rank

@@ -87,8 +87,8 @@ impl Site {
         peer.wants_none_beside(own, &self.summary, event.event().source(), event.number())
     }
 
-    /// Whether more events than so many stand in the blocks in which the peer differs. It spares time:
-    /// no answer rests on it. Costs a few look-ups in the summaries for each block.
+    /// Whether more events than so many stand in the blocks in which the peer differs. It spares
+    /// time: no answer rests on it. Costs a few look-ups in the summaries for each block.
     fn differs_in_many(&self, peer: &Summary, own: &Summary, most: u64) -> bool {
         let mut count: u64 = 0;
         for i in 0..self.blocks.len() {

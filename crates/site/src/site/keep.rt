@@ -13,9 +13,9 @@ use kept_views::Views;
 use std::alloc::AllocError;
 use std::hash::RandomState;
 
-/// An event that isn't there comes to the views, where they are kept, before the inbox takes it at a
-/// gap of key order. Where memory is refused to them they are let go: no event is refused for their
-/// sake.
+/// An event that isn't there comes to the views, where they are kept, before the inbox takes it at
+/// a gap of key order. Where memory is refused to them they are let go: no event is refused for
+/// their sake.
 pub(super) fn bring(views: &mut Option<Box<Views>>, inbox: &Inbox, event: &Sequenced, gap: u64)
     requires views { IfSome views.old (λ v. StandsFor inbox.now.arrivals v.value) }
     requires new { has key_cmp inbox.now.arrivals event.now ≡ false }
@@ -36,8 +36,8 @@ impl Site {
     /// Keeps the views of what came, from now on: a `query` of types, of types by day and of the
     /// latest events then costs what its answer costs, and each event that comes a little more. The
     /// answers are the same, and so is all else that the site says. Keys are hashed by the random
-    /// state, which nobody else knows. Views that are kept already are made anew. Time and memory in
-    /// proportion to the events. After want of memory nothing has changed.
+    /// state, which nobody else knows. Views that are kept already are made anew. Time and memory
+    /// in proportion to the events. After want of memory nothing has changed.
     ///
     /// Where memory for the views of an event is refused later, the site takes the event and lets
     /// the views go: it answers as one that keeps none, until it is asked to keep them again.

@@ -22,7 +22,8 @@ use kept_views::Views;
 use std::alloc::AllocError;
 
 /// Makes all that a new event, which goes in at a gap of key order, needs to grow: room for it, its
-/// place in its block, its number in the summary, and what the views have of it, where they are kept.
+/// place in its block, its number in the summary, and what the views have of it, where they are
+/// kept.
 pub(super) fn grow(
     inbox: &mut Inbox,
     summary: &mut Summary,
