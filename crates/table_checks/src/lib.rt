@@ -18,6 +18,8 @@ mod memory;
 #[cfg(test)]
 mod orders;
 #[cfg(test)]
+mod region;
+#[cfg(test)]
 mod relays;
 #[cfg(test)]
 mod stops;
