@@ -1,7 +1,6 @@
 pub mod TableLemmas
 pub mod StepLemmas
 pub mod ConflictLemmas
-pub mod ListLemmas
 pub mod DayLemmas
 pub mod LatestLemmas
 pub mod OrderLemmas

@@ -6,12 +6,15 @@ ghost use Rattle.std.specs.Option.{option_copied, option_map_or};
 ghost use Rattle.std.specs.Ordering.{is_lt};
 ghost use Rattle.attributes.specs.Bytes.{byte_cmp};
 ghost use Rattle.attributes.specs.Event.{kind_of};
+ghost use Rattle.inbox.specs.Kept.{events};
+ghost use Rattle.inbox.specs.Shown.{shown};
 ghost use Rattle.views.specs.Latest.{greater, number_cmp};
 ghost use Rattle.views.specs.Tally.{day_cmp, kind_and_day, tally};
 ghost use Rattle.views.specs.steps.Rows.{latest_rows};
 
 use crate::day::Day;
 use attributes::Sequenced;
+use inbox::Inbox;
 use std::alloc::{AllocError, Global};
 use std::collections::BTreeMap;
 
@@ -29,35 +32,39 @@ fn count<K: Ord + Drop>(table: &mut BTreeMap<K, u64>, key: K) -> Result<(), Allo
     Ok(())
 }
 
-/// How many of the events have each type.
+/// How many of the shown events have each type. Goes over the events once.
 pub(crate) fn by_kind<'a>(
     alloc: Global,
-    list: &[&'a Sequenced],
+    inbox: &'a Inbox,
 ) -> Result<BTreeMap<&'a str, u64>, AllocError>
     ensures { IfOk result (λ table. map (λ e. (e.0.now, e.1)) table.entries
-        ≡ tally byte_cmp (map (λ e. kind_of e.now) list.now)) }
+        ≡ tally byte_cmp (map kind_of (shown (events inbox.now)))) }
 {
     let mut table = BTreeMap::new(alloc);
-    for event in list {
-        count(&mut table, event.event().kind())?;
+    for i in 0..inbox.len() {
+        if inbox.is_shown(i) {
+            count(&mut table, inbox.at(i).event().kind())?;
+        }
     }
     Ok(table)
 }
 
-/// How many of the events that have a time have each type and day.
+/// How many of the shown events that have a time have each type and day. Goes over the events once.
 pub(crate) fn by_day<'a>(
     alloc: Global,
-    list: &[&'a Sequenced],
+    inbox: &'a Inbox,
 ) -> Result<BTreeMap<(&'a str, Day), u64>, AllocError>
     ensures { IfOk result (λ table. map (λ e. ((e.0.0.now, e.0.1), e.1)) table.entries
-        ≡ tally day_cmp (filter_map (λ e. kind_and_day e.now) list.now)) }
+        ≡ tally day_cmp (filter_map kind_and_day (shown (events inbox.now)))) }
 {
     let mut table = BTreeMap::new(alloc);
-    for event in list {
-        let event = event.event();
-        match Day::of_event(event) {
-            Some(day) => count(&mut table, (event.kind(), day))?,
-            None => {}
+    for i in 0..inbox.len() {
+        if inbox.is_shown(i) {
+            let event = inbox.at(i).event();
+            match Day::of_event(event) {
+                Some(day) => count(&mut table, (event.kind(), day))?,
+                None => {}
+            }
         }
     }
     Ok(table)

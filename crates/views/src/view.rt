@@ -35,8 +35,7 @@ pub(crate) fn shown_events<'a>(
 pub(crate) fn count_kinds(alloc: Global, inbox: &Inbox) -> Result<Kinds, AllocError>
     ensures { IfOk result (λ rows. rows ≡ kinds (events inbox.now)) }
 {
-    let shown = shown_events(alloc, inbox)?;
-    let table = by_kind(alloc, &shown)?;
+    let table = by_kind(alloc, inbox)?;
     Ok(listed_kinds(alloc, &table)?)
 }
 
@@ -56,8 +55,7 @@ fn listed_kinds(alloc: Global, table: &BTreeMap<&str, u64>) -> Result<Kinds, All
 pub(crate) fn count_days(alloc: Global, inbox: &Inbox) -> Result<Days, AllocError>
     ensures { IfOk result (λ rows. rows ≡ days (events inbox.now)) }
 {
-    let shown = shown_events(alloc, inbox)?;
-    let table = by_day(alloc, &shown)?;
+    let table = by_day(alloc, inbox)?;
     Ok(listed_days(alloc, &table)?)
 }
 

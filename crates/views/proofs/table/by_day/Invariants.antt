@@ -1,7 +1,9 @@
-use Rattle.std.proofs.Common.{◌≡◌, map, take}
+use Rattle.std.proofs.Common.{◌≡◌, filter, map, take}
 use Rattle.std.specs.Prelude.{filter_map}
+use Rattle.inbox.specs.Kept.{events}
+use Rattle.inbox.specs.Shown.{is_shown}
 use Rattle.views.specs.Tally.{day_cmp, kind_and_day, tally}
 use Rattle.views.proofs.table.by_day.Given as goal
 
-abbrev pub invariant-loop-event : goal.invariant-loop-event
-invariant-loop-event l = map (λ e. ((e.0.0.now, e.0.1), e.1)) l.table.entries ≡ tally day_cmp (filter_map (λ e. kind_and_day e.now) (take l.event-index l.list))
+abbrev pub invariant-loop-i : goal.invariant-loop-i
+invariant-loop-i l = map (λ e. ((e.0.0.now, e.0.1), e.1)) l.table.entries ≡ tally day_cmp (filter_map kind_and_day (filter (is_shown (events l.inbox)) (take l.i (events l.inbox))))

@@ -1,30 +1,44 @@
-use Rattle.std.proofs.Common.{◌^◌, rules, ◌<◌, ◌++◌, [], ◌∷◌, length, map, take, sym, ap, ◌∙◌, arith}
+use Rattle.std.proofs.Common.{◌^◌, rules, ◌<◌, ◌++◌, [], ◌∷◌, filter, map, take, sym, ap, ◌∙◌, arith, subst}
 use Rattle.std.proofs.lemmas.Cmp.{nat_list_cmp_total}
+use Rattle.std.proofs.lemmas.List.{map-append}
 use Rattle.attributes.specs.Event.{kind_of}
 use Rattle.attributes.specs.Bytes.{byte_cmp}
+use Rattle.inbox.specs.Kept.{events}
+use Rattle.inbox.specs.Shown.{is_shown}
 use Rattle.views.specs.Tally.{tally}
 use Rattle.views.proofs.TableLemmas.{before-le, count_step}
-use Rattle.views.proofs.StepLemmas.{length_map_take, map_take}
+use Rattle.views.proofs.StepLemmas.{filter_kept, filter_left_out, item_at, length_map_filter_take}
+use Rattle.views.proofs.table.by_kind.Goals.{then-is_shown+in_ok-count, else-is_shown}
 use Rattle.views.proofs.table.by_kind.Goals as goal
 
 pub count-requires : goal.count-requires
 count-requires c =
-    let xs = c.args.list.now in
-    let i = c.loop-event.event-index in
-    let room : length xs < 2 ^ 64 = search rules in
+    let E = events c.args.inbox.now in
+    let i = c.loop-i.i in
+    let room : c.len-i-end.result < 2 ^ 64 = search rules in
     omega (
       arith,
-      before-le nat_list_cmp_total (λ b. b.now) c.loop-event.table.entries c.kind.result (map (λ e. kind_of e.now) (take i xs)) c.loop-event.invariant,
-      length_map_take (λ e. kind_of e.now) xs i,
-      c.loop-event-test.true,
+      before-le nat_list_cmp_total (λ b. b.now) c.loop-i.table.entries c.kind.result (map kind_of (filter (is_shown E) (take i E))) c.loop-i.invariant,
+      length_map_filter_take kind_of (is_shown E) E i,
+      c.loop-i-test.true,
       room,
     )
 
-pub loop-event-preserved : goal.loop-event-preserved
-loop-event-preserved c =
-    let xs = c.args.list.now in
-    let i = c.loop-event.event-index in
-    ap (map (λ e. (e.0.now, e.1))) c.in_ok-count.ensures
-    ∙ count_step nat_list_cmp_total (λ b. b.now) c.loop-event.table.entries c.kind.result (map (λ e. kind_of e.now) (take i xs)) c.loop-event.invariant
-    ∙ ap (tally byte_cmp) (ap (λ k. map (λ e. kind_of e.now) (take i xs) ++ k ∷ []) (c.kind.ensures.value ∙ ap kind_of (c.event.ensures))
-    ∙ sym (map_take (λ e. kind_of e.now) xs i c.event-item.result c.loop-event-test.true c.event-item.is))
+pub loop-i-preserved : goal.loop-i-preserved
+loop-i-preserved c =
+    let E = events c.args.inbox.now in
+    let i = c.loop-i.i in
+    let before = filter (is_shown E) (take i E) in
+    elim c.if-is_shown.branch [
+      | then-is_shown+in_ok-count w ↦
+          let kept = filter_kept (is_shown E) E i w.at.result.now w.at.ensures (sym (c.is_shown.ensures _ w.at.ensures) ∙ w.if-is_shown.true) in
+          ap (λ t. map (λ e. (e.0.now, e.1)) t.entries) w.table-is
+          ∙ ap (map (λ e. (e.0.now, e.1))) w.in_ok-count.ensures
+          ∙ count_step nat_list_cmp_total (λ b. b.now) c.loop-i.table.entries w.kind.result (map kind_of before) c.loop-i.invariant
+          ∙ ap (λ k. tally byte_cmp (map kind_of before ++ k ∷ [])) (w.kind.ensures.value ∙ ap kind_of w.event.ensures)
+          ∙ ap (tally byte_cmp) (sym (ap (map kind_of) kept ∙ map-append kind_of before (w.at.result.now ∷ [])))
+      | else-is_shown w ↦
+          let here = item_at E i (subst (λ n. c.loop-i.i < n) c.len-i-end.ensures c.loop-i-test.true) in
+          ap (λ t. map (λ e. (e.0.now, e.1)) t.entries) w.table-is ∙ c.loop-i.invariant
+          ∙ ap (λ es. tally byte_cmp (map kind_of es)) (sym (filter_left_out (is_shown E) E i here.0 here.1 (sym (c.is_shown.ensures here.0 here.1) ∙ w.if-is_shown.false)))
+    ]

@@ -1,8 +1,10 @@
-use Rattle.std.proofs.Common.{◌≡◌, map, take}
+use Rattle.std.proofs.Common.{◌≡◌, filter, map, take}
 use Rattle.attributes.specs.Event.{kind_of}
 use Rattle.attributes.specs.Bytes.{byte_cmp}
+use Rattle.inbox.specs.Kept.{events}
+use Rattle.inbox.specs.Shown.{is_shown}
 use Rattle.views.specs.Tally.{tally}
 use Rattle.views.proofs.table.by_kind.Given as goal
 
-abbrev pub invariant-loop-event : goal.invariant-loop-event
-invariant-loop-event l = map (λ e. (e.0.now, e.1)) l.table.entries ≡ tally byte_cmp (map (λ e. kind_of e.now) (take l.event-index l.list))
+abbrev pub invariant-loop-i : goal.invariant-loop-i
+invariant-loop-i l = map (λ e. (e.0.now, e.1)) l.table.entries ≡ tally byte_cmp (map kind_of (filter (is_shown (events l.inbox)) (take l.i (events l.inbox))))
