@@ -105,7 +105,7 @@ neither_less Equal s t h k = refl
 neither_less Greater s t h k = absurd (true≢false (sym (ap is_lt t) ∙ k))
 
 pub none_tie : ((e f : EventValue) → IsEvent e → IsEvent f → text e ≡ text f → e ≡ f) → SetLaws → NoneTie
-none_tie tells laws An entity e f are in-e in-f of-e of-f ties = tells e f (event e there-e) (event f there-f) (exact_bytes (text e) (text f) alike)
+none_tie tells laws A entity e f are in-e in-f of-e of-f ties = tells e f (event e there-e) (event f there-f) (exact_bytes (text e) (text f) alike)
   where
     E : List EventValue
     E = set_of A

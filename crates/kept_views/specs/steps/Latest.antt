@@ -22,4 +22,4 @@ entity_row e = option_map (λ entity. (entity, Some e)) (entity_of e)
 
 -- an entity with the event of its greatest rank
 abbrev pub latest_row : List EventValue → Entity × Rows → Option (Entity × Option EventValue)
-latest_row An entity = option_and_then entity_row (top_event An entity.1)
+latest_row A entity = option_and_then entity_row (top_event A entity.1)
