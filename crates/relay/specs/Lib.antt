@@ -1,5 +1,6 @@
 pub mod Route
 pub mod Relay
+pub mod Call
 pub mod Fault
 pub mod Fan
 pub mod steps

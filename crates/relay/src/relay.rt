@@ -1,12 +1,11 @@
 //! A relay and its mark.
 
-ghost use Rattle.std.specs.Prelude.{◌≡◌, ◌≢◌, ◌⊎◌, ◌↔◌, ◌≤◌, ◌+◌, Err, OnOk, OnErr, IfOk, IfErr, IfSome, IsTrue, false};
-ghost use Rattle.sqlite.specs.State.{HasCleanDisk};
+ghost use Rattle.std.specs.Prelude.{◌≡◌, ◌≢◌, ◌↔◌, ◌≤◌, ◌+◌, ◌⊎◌, Err, OnOk, OnErr, IfErr, IsTrue, false};
 ghost use Rattle.sqlite.specs.Held.{state};
-ghost use Rattle.outbox.specs.Call.{IsSame, IsSettled, LeavesAsBefore};
 ghost use Rattle.relay.specs.Route.{AreIn, AreOf};
-ghost use Rattle.relay.specs.Relay.{ForNextRows, HandsOn, HasRows, IsLast, Sends};
-ghost use Rattle.relay.specs.declared.fault.RelayFault.TheVariants.{OutOfMemory, RouteFailed, Stranger, Store};
+ghost use Rattle.relay.specs.Relay.{IsLast};
+ghost use Rattle.relay.specs.Call.{MakesJob, ReadsService, Steps};
+ghost use Rattle.relay.specs.declared.fault.RelayFault.TheVariants.{RouteFailed, Stranger};
 
 use crate::fault::{RelayFault, fault_of};
 use crate::route::Route;
@@ -117,31 +116,9 @@ impl Relay {
         service: &mut Service<S>,
         route: &mut R,
     ) -> Result<u64, RelayFault>
-        ensures kept_service { (service.new.source ≡ service.old.source)
-            × (service.new.base ≡ service.old.base) × (service.new.last ≡ service.old.last) }
-        ensures service { IsSame (state S.Store service.old.conn) (state S.Store service.new.conn) }
-        ensures stays_open { HasCleanDisk (state S.Store service.new.conn)
-            → OnOk result (IsTrue (state S.Store service.new.conn).is_open) }
-        ensures settled { HasCleanDisk (state S.Store service.new.conn)
-            → OnOk result (IsSettled (state S.Store service.new.conn)) }
-        ensures crash { LeavesAsBefore (state S.Store service.old.conn)
-            (state S.Store service.new.conn) }
-        ensures site { self.new.site ≡ self.old.site }
-        ensures sent { HasCleanDisk (state S.Store service.new.conn) → IfOk result (λ n.
-            ForNextRows service.old.source service.old.base self.old.mark
-            (state S.Store service.old.conn).now
-            (Sends (R.accepted route.new) self.old.mark n self.new.mark)) }
-        ensures took { HasCleanDisk (state S.Store service.new.conn) → OnOk result (
-            ForNextRows service.old.source service.old.base self.old.mark
-            (state S.Store service.old.conn).now (HandsOn R.takes route.old route.new)) }
-        ensures kept { AreIn (R.accepted route.old) (R.accepted route.new) }
-        ensures new { HasCleanDisk (state S.Store service.new.conn)
-            → ForNextRows service.old.source service.old.base self.old.mark
-            (state S.Store service.old.conn).now
-            (AreOf (R.accepted route.new) (R.accepted route.old)) }
-        ensures refused { OnErr result (self.new.mark ≡ self.old.mark) }
-        ensures failed { result ≡ Err RouteFailed → R.has_failed route.old route.new }
-        ensures fault { IfErr result (λ f. (f ≡ RouteFailed) ⊎ ((f ≡ OutOfMemory) ⊎ (f ≡ Store))) }
+        ensures reads { ReadsService (λ conn. state S.Store conn) service.old service.new result }
+        ensures steps { Steps (λ conn. state S.Store conn) R.accepted R.takes R.has_failed
+            service.old service.new self.old self.new route.old route.new result }
     {
         let rows = match service.rows_after(self.mark, MAX_PAGE) {
             Ok(rows) => rows,
@@ -161,22 +138,8 @@ impl Relay {
     /// The next rows, at most 100, as a job that a worker can carry; none where there are no rows.
     /// The fault is `Store` or want of memory. The mark rises when the outcome is settled.
     pub fn job<S: Alter>(&self, service: &mut Service<S>) -> Result<Option<Job>, RelayFault>
-        ensures kept_service { (service.new.source ≡ service.old.source)
-            × (service.new.base ≡ service.old.base) × (service.new.last ≡ service.old.last) }
-        ensures service { IsSame (state S.Store service.old.conn) (state S.Store service.new.conn) }
-        ensures stays_open { HasCleanDisk (state S.Store service.new.conn)
-            → OnOk result (IsTrue (state S.Store service.new.conn).is_open) }
-        ensures settled { HasCleanDisk (state S.Store service.new.conn)
-            → OnOk result (IsSettled (state S.Store service.new.conn)) }
-        ensures crash { LeavesAsBefore (state S.Store service.old.conn)
-            (state S.Store service.new.conn) }
-        ensures site { IfOk result (λ o. IfSome o (λ j. (j.site ≡ self.now.site)
-            × (j.first ≡ self.now.mark + 1))) }
-        ensures last { IfOk result (λ o. IfSome o (λ j. IsLast self.now.mark j.rows j.last)) }
-        ensures rows { HasCleanDisk (state S.Store service.new.conn) → IfOk result (λ o.
-            ForNextRows service.old.source service.old.base self.now.mark
-            (state S.Store service.old.conn).now (HasRows o)) }
-        ensures fault { IfErr result (λ f. (f ≡ OutOfMemory) ⊎ (f ≡ Store)) }
+        ensures reads { ReadsService (λ conn. state S.Store conn) service.old service.new result }
+        ensures job { MakesJob (λ conn. state S.Store conn) service.old service.new self.now result }
     {
         let rows = match service.rows_after(self.mark, MAX_PAGE) {
             Ok(rows) => rows,
