@@ -68,8 +68,8 @@ calls_of (Failed Store) pages = pages
 calls_of (Failed NoThread) pages = pages
 calls_of (Failed GateShut) pages = pages
 
--- the gate let a worker make just its calls, counted from 1, and was told of each; it was shut before
--- the next one where the worker ended at a shut gate
+-- the gate let a worker make just its calls, counted from 1, and was told of each; it was shut
+-- before the next one where the worker ended at a shut gate
 pub record IsGated (lets shuts heard : ℕ → ℕ → Type 0) (worker pages : ℕ) (end : End) : Type 0 where
   pub through : LetsThrough lets heard worker 0 (calls_of end pages)
   pub shut : end ≡ Failed GateShut → shuts worker (pages + 1)

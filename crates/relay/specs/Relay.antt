@@ -28,9 +28,10 @@ abbrev pub Sends : List EventValue → ℕ → ℕ → ℕ → List EventValue �
 Sends accepted mark count last rows =
     (count ≡ length rows) × AreIn rows accepted × IsLast mark rows last
 
--- without rows the route was asked for nothing; else it was sent these rows once, and this is what the
--- send of a route does
-abbrev pub HandsOn : {R : Type 0} → (R → List EventValue → R → Type 0) → R → R → List EventValue → Type 0
+-- without rows the route was asked for nothing; else it was sent these rows once, and this is what
+-- the send of a route does
+abbrev pub HandsOn : {R : Type 0} → (R → List EventValue → R → Type 0) → R → R → List EventValue
+    → Type 0
 HandsOn takes old new rows = ((rows ≡ []) × (new ≡ old)) ⊎ takes old rows new
 
 -- the job has the rows, and there is none exactly where there are no rows

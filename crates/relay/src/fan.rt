@@ -283,7 +283,8 @@ pub fn fan_out<H: Threads + Wait + Sync, S: Alter, R: Route + Drop + Send, G: Ga
         result.ends.items (Leaves R.accepted R.takes R.has_failed (G.lets gate.now)
         (G.shuts gate.now) (G.heard gate.now)) }
     ensures sent { HasCleanDisk (state S.Store service.new.conn) → (commands : List Accepted)
-        → IsService (state S.Store service.old.conn).now service.old.source service.old.base commands
+        → IsService (state S.Store service.old.conn).now service.old.source service.old.base
+        commands
         → AtEach relays.old.items relays.new.items routes.items result.routes.items
         result.ends.items (Delivers R.accepted R.takes R.has_failed (G.lets gate.now)
         (G.shuts gate.now) (G.heard gate.now) service.old.base

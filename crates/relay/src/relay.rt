@@ -139,7 +139,8 @@ impl Relay {
     /// The fault is `Store` or want of memory. The mark rises when the outcome is settled.
     pub fn job<S: Alter>(&self, service: &mut Service<S>) -> Result<Option<Job>, RelayFault>
         ensures reads { ReadsService (λ conn. state S.Store conn) service.old service.new result }
-        ensures job { MakesJob (λ conn. state S.Store conn) service.old service.new self.now result }
+        ensures job { MakesJob (λ conn. state S.Store conn) service.old service.new self.now
+            result }
     {
         let rows = match service.rows_after(self.mark, MAX_PAGE) {
             Ok(rows) => rows,

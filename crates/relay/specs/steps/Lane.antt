@@ -80,7 +80,8 @@ pub record Carries {R : Type 0} (accepted : R → List EventValue)
   pub handed : HandsOver takes has_failed lets shuts heard
       (AreBetween start rows old.relay.mark new.relay.mark) old new
 
--- why a call of a worker failed, or wasn't made: the route failed in it, or the gate was shut before
+-- why a call of a worker failed, or wasn't made: the route failed in it, or the gate was
+-- shut before
 abbrev pub StopsAt : {R : Type 0} → (R → R → Type 0) → (ℕ → ℕ → Type 0) → (ℕ → ℕ → Type 0)
     → (ℕ → ℕ → Type 0) → ℕ → ℕ → R → R → RelayFault → Type 0
 StopsAt has_failed lets shuts heard worker call old new OutOfMemory = ⊥

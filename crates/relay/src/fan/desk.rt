@@ -122,9 +122,11 @@ fn turn<'s, E, H: Threads + Wait + Sync, S: Alter, R: Route + Drop + Send + 's, 
     ensures goes { (db : Database) (olds : List (Lane R))
         → IsStill db (state S.Store service.old.conn)
         → Each (IsOf R.accepted R.takes R.has_failed G.lets G.shuts G.heard gate.now
-        service.old.source service.old.base db (state S.Store service.old.conn)) olds slots.old.items
+        service.old.source service.old.base db (state S.Store service.old.conn))
+        olds slots.old.items
         → Each (IsOf R.accepted R.takes R.has_failed G.lets G.shuts G.heard gate.now
-        service.old.source service.old.base db (state S.Store service.new.conn)) olds slots.new.items }
+        service.old.source service.old.base db (state S.Store service.new.conn))
+        olds slots.new.items }
 {
     let slot = mem::replace(&mut slots[place], Slot::Taken);
     slots[place] = renew(scope, rt, alloc, gate, done, refused, service, slot);
@@ -157,8 +159,8 @@ fn first_open<R: Route + Drop, G: Gate>(slots: &Vec<Slot<R, G>>) -> Option<usize
     None
 }
 
-/// Whose turn it is: of a lane that is here, or else of one whose worker says that it has come back,
-/// for which it waits. No lane where all have ended.
+/// Whose turn it is: of a lane that is here, or else of one whose worker says that it has come
+/// back, for which it waits. No lane where all have ended.
 fn next_place<H: Wait, R: Route + Drop, G: Gate>(
     rt: &H,
     told: &Receiver<u64, Global>,
@@ -200,9 +202,11 @@ fn run<'s, E, H: Threads + Wait + Sync, S: Alter, R: Route + Drop + Send + 's, G
     ensures goes { (db : Database) (olds : List (Lane R))
         → IsStill db (state S.Store service.old.conn)
         → Each (IsOf R.accepted R.takes R.has_failed G.lets G.shuts G.heard gate.now
-        service.old.source service.old.base db (state S.Store service.old.conn)) olds slots.old.items
+        service.old.source service.old.base db (state S.Store service.old.conn))
+        olds slots.old.items
         → Each (IsOf R.accepted R.takes R.has_failed G.lets G.shuts G.heard gate.now
-        service.old.source service.old.base db (state S.Store service.new.conn)) olds slots.new.items }
+        service.old.source service.old.base db (state S.Store service.new.conn))
+        olds slots.new.items }
 {
     for _ in rt.forever() {
         let Some(place) = next_place(rt, told, slots) else {
@@ -251,12 +255,12 @@ fn run_in_scope<'a, H: Threads + Wait + Sync, S: Alter, R: Route + Drop + Send, 
     ensures goes { (olds : List (Lane R))
         → Each (IsOf R.accepted R.takes R.has_failed G.lets G.shuts G.heard gate.now
         lent.entry.service.now.source lent.entry.service.now.base
-        (state S.Store lent.entry.service.now.conn).now (state S.Store lent.entry.service.now.conn)) olds
-        lent.entry.slots.items
+        (state S.Store lent.entry.service.now.conn).now
+        (state S.Store lent.entry.service.now.conn)) olds lent.entry.slots.items
         → Each (IsOf R.accepted R.takes R.has_failed G.lets G.shuts G.heard gate.now
         lent.entry.service.now.source lent.entry.service.now.base
-        (state S.Store lent.entry.service.now.conn).now (state S.Store result.service.now.conn)) olds
-        result.slots.items }
+        (state S.Store lent.entry.service.now.conn).now
+        (state S.Store result.service.now.conn)) olds result.slots.items }
 {
     thread::scope(
         thread::scope_env(),

@@ -65,8 +65,9 @@ fn work<H: Wait, R: Route, G: Gate>(
     lane
 }
 
-/// Lets a worker carry the lane over the window, in a thread of its own. Where no thread can be made
-/// the worker's closure comes back with the lane in it; called here, it hands the lane out, stopped.
+/// Lets a worker carry the lane over the window, in a thread of its own. Where no thread can be
+/// made the worker's closure comes back with the lane in it; called here, it hands the lane
+/// out, stopped.
 pub(super) fn start<'s, E, H: Threads + Wait + Sync, R: Route + Drop + Send + 's, G: Gate + Sync>(
     scope: &Scope<'s, E>,
     rt: &'s H,
