@@ -44,7 +44,8 @@ module _ {S : Type 0} (state : Held S → State) where
     pub page : answer ≡ true → HasCleanDisk (state g.keeper.conn) → g.keeper.rows
         ≡ f.keeper.rows + min (max_page * max_pages) (length (leaves g.pass) - f.keeper.rows)
 
-  -- a turn makes steps in one, unless one was refused before: then it does nothing and answers false
+  -- a turn makes steps in one, unless one was refused before: then it does nothing and answers
+  -- false
   pub record Turns (f g : Flushing S) (answer : Bool) : Type 0 where
     pub flushes : Flushes f g
     pub step : f.fault ≡ None → Steps f g answer

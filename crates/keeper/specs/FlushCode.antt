@@ -13,7 +13,8 @@ use Rattle.keeper.specs.declared.fault.KeepFault.{KeepFault}
 abbrev pub flushing_code : {S : Type 0} → Coded S → Coded (Flushing S)
 flushing_code {S} store =
     code_by (TableId × (Kept S × (Shown × Option KeepFault)))
-    (coded× table_id_coded (coded× (kept_code store) (coded× shown_code (coded_option fault.the_row.coded))))
+    (coded× table_id_coded (coded× (kept_code store)
+    (coded× shown_code (coded_option fault.the_row.coded))))
     (λ f. (f.site, (f.keeper, (f.pass, f.fault))))
     (λ p. record { site = p.0; keeper = p.1.0; pass = p.1.1.0; fault = p.1.1.1 })
     (λ _. refl)

@@ -18,10 +18,10 @@ FirstArrivalsStay = (db : Database) (rows : ℕ) (opening : List EventValue)
     (seen more : List (Entry Call))
     → HasFirst db rows (leave opening seen) → HasFirst db rows (leave opening (seen ++ more))
 
--- a caller's pass, which went from p to q, asked what came after the first n arrivals, and there was
--- nothing; the keeper's pass r is of the same site and has seen that, and the database has the table
--- with the first arrivals up to the mark, which has reached n: then the table has first all the
--- arrivals that the caller had seen
+-- a caller's pass, which went from p to q, asked what came after the first n arrivals, and there
+-- was nothing; the keeper's pass r is of the same site and has seen that, and the database has the
+-- table with the first arrivals up to the mark, which has reached n: then the table has first all
+-- the arrivals that the caller had seen
 abbrev pub AcknowledgedAreKept : Type 0
 AcknowledgedAreKept = (db : Database) (mark n limit : ℕ) (p q r : Shown)
     → Made p q (call (command.Fresh n limit) (Paged [])) → 1 ≤ limit

@@ -18,7 +18,8 @@ use std::sync::Wait;
 const MAX_PAGES: u64 = 10;
 
 /// A keeper with a pass of its own: each turn keeps what ten steps would, in one transaction, until
-/// one is refused. Contracts see the shared site, the keeper, the pass, and the refusal, if one came.
+/// one is refused. Contracts see the shared site, the keeper, the pass, and the refusal, if one
+/// came.
 #[derive(Drop)]
 pub struct Flusher<'a, R: Wait, S: Alter> {
     rt: &'a R,
@@ -79,8 +80,8 @@ impl<'a, R: Wait, S: Alter + Drop> Flusher<'a, R, S> {
         }
     }
 
-    /// Ten steps in one transaction, unless one was refused before. False where they are refused, or
-    /// others were.
+    /// Ten steps in one transaction, unless one was refused before. False where they are refused,
+    /// or others were.
     pub fn flush(&mut self) -> bool
         ensures { Turns (λ conn. state S.Store conn) self.old self.new result }
     {

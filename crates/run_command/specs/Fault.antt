@@ -31,7 +31,8 @@ of_end place feeds GateShut = Some (run.Database command.OutOfMemory)
 of_end place zero (BadInput fault) = Some (run.Database command.OutOfMemory)
 of_end place (suc feeds) (BadInput fault) = Some (run.Feed place fault)
 
--- the database's fault in a run: want of memory, a refusal of the database, or rows that no inbox has
+-- the database's fault in a run: want of memory, a refusal of the database, or rows that no
+-- inbox has
 abbrev pub IsOfDatabase : CommandFault → Type 0
 IsOfDatabase command.OutOfMemory = Unit {0}
 IsOfDatabase command.Store = Unit {0}

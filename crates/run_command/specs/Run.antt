@@ -40,7 +40,8 @@ joined lists = flat_map (λ events. events) lists
 
 -- each feed was read, and the text counts its events: those that have numbers are all among these
 -- arrivals, whose number and summary the text tells
-pub record SaysRun (feeds : List (List ℕ)) (arrivals : List EventValue) (text : List ℕ) : Type 0 where
+pub record SaysRun (feeds : List (List ℕ)) (arrivals : List EventValue) (text : List ℕ)
+    : Type 0 where
   pub lists : List (List EventValue)
   pub read : EachSpells feeds lists
   pub fed : pull.Holds arrivals (sequenced (joined lists))

@@ -42,18 +42,18 @@ pub struct RunEnd<S: Alter + Drop> {
 }
 
 /// Takes feeds side by side into the inbox of a database, each in a thread of its own, with the
-/// events of the peers, and keeps what came meanwhile, 1,000 events at most to a transaction; what is
-/// left in the end is kept in one. Answers how many events the feeds had, how many of them had no number,
-/// how many the inbox has now, and its summary. The table is made where there is none. At most 16
-/// jobs; what was asked is not told.
+/// events of the peers, and keeps what came meanwhile, 1,000 events at most to a transaction; what
+/// is left in the end is kept in one. Answers how many events the feeds had, how many of them had
+/// no number, how many the inbox has now, and its summary. The table is made where there is none.
+/// At most 16 jobs; what was asked is not told.
 ///
 /// Of several faults the first is told, in this order: that of the workers as a whole, those of
 /// workers in their order, that of keeping beside them, that of keeping the rest. What was taken by
 /// then is kept all the same, but after a fault of the workers as a whole or of keeping.
 ///
-/// The gate is asked before each call of a worker, feeds before peers before those who ask, and told
-/// after it: it may hold them up, while what they handed over is kept. A worker that it stops ends
-/// as one that wants memory.
+/// The gate is asked before each call of a worker, feeds before peers before those who ask, and
+/// told after it: it may hold them up, while what they handed over is kept. A worker that it stops
+/// ends as one that wants memory.
 ///
 /// The watch is told how many events the table has, of how many that the inbox had or that were
 /// handed over; while workers work the latter is some hundred too many.

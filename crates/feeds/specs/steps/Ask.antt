@@ -10,8 +10,8 @@ use Rattle.views.specs.declared.query.Query.{Query}
 use Rattle.feeds.specs.declared.report.WorkerEnd.{WorkerEnd}
 use Rattle.feeds.specs.declared.report.WorkerEnd.TheVariants.{GateShut, OutOfMemory}
 
--- it stopped at this question: before its call, or after it, which was refused or whose answer there
--- was no memory to keep
+-- it stopped at this question: before its call, or after it, which was refused or whose answer
+-- there was no memory to keep
 abbrev pub StopsAt : Query → List Call → List Answer → List Answer → WorkerEnd → Type 0
 StopsAt query m old new ended = (new ≡ old) × (((ended ≡ GateShut) × (m ≡ []))
     ⊎ ((ended ≡ OutOfMemory) × ((reply : Reply) × (m ≡ call (command.Query query) reply ∷ []))))

@@ -29,7 +29,8 @@ Sums n (Err _) = ⊥
 -- the call for a page, in the same way
 abbrev pub Pages : Sources → ℕ → List Call → Result (List EventValue) WorkerEnd → Type 0
 Pages peer place m (Ok events) =
-    (m ≡ call (command.DeltaPage peer place max_page) (Paged events) ∷ []) × (length events ≤ max_page)
+    (m ≡ call (command.DeltaPage peer place max_page) (Paged events) ∷ [])
+    × (length events ≤ max_page)
 Pages peer place m (Err OutOfMemory) = (fault : DeskFault)
     × (m ≡ call (command.DeltaPage peer place max_page) (refused fault) ∷ [])
 Pages peer place m (Err GateShut) = m ≡ []
@@ -40,7 +41,8 @@ abbrev pub HasSameCounts : Tally → Tally → Type 0
 HasSameCounts t u = (u.fresh ≡ t.fresh) × (u.repeated ≡ t.repeated) × (u.refused ≡ t.refused)
 
 -- a page was moved, whole if nothing ended it
-pub record Moves (peer : Sources) (m n : List Call) (t u : Tally) (o : Option WorkerEnd) : Type 0 where
+pub record Moves (peer : Sources) (m n : List Call) (t u : Tally) (o : Option WorkerEnd)
+    : Type 0 where
   pub pages : ArePages peer (t.fresh + t.repeated) m
   pub handles : Handles n (replied m)
   pub counted : Counted n t u

@@ -22,8 +22,8 @@ pub record Counted (m : List Call) (t u : Tally) : Type 0 where
   pub refused : u.refused ≡ t.refused
   pub all : fresh_of m + repeated_of m ≡ length (handled m)
 
--- what ended a worker at these calls, if anything did: the last of them was refused, or the gate was
--- shut before the next
+-- what ended a worker at these calls, if anything did: the last of them was refused, or the gate
+-- was shut before the next
 abbrev pub StopsBy : List Call → Option WorkerEnd → Type 0
 StopsBy m None = AreAnswered m
 StopsBy m (Some ended.OutOfMemory) = EndsRefused m
@@ -31,8 +31,8 @@ StopsBy m (Some ended.GateShut) = AreAnswered m
 StopsBy m (Some _) = ⊥
 
 -- one batch was handed over, whole if nothing ended it
-pub record Flushed (m : List Call) (batch left : List EventValue) (t u : Tally) (o : Option WorkerEnd)
-    : Type 0 where
+pub record Flushed (m : List Call) (batch left : List EventValue) (t u : Tally)
+    (o : Option WorkerEnd) : Type 0 where
   pub handles : Handles m batch
   pub counted : Counted m t u
   pub whole : o ≡ None → (handled m ≡ batch) × (left ≡ [])

@@ -90,8 +90,8 @@ fn turn_until_done<R: Wait, A: Aside + Drop>(rt: &R, left: &AtomicU64, mut aside
     unreachable!()
 }
 
-/// Does each job in a thread of its own, and turns the aside meanwhile. What came of the jobs is put
-/// into the room that was made for it; none where a thread couldn't be started.
+/// Does each job in a thread of its own, and turns the aside meanwhile. What came of the jobs is
+/// put into the room that was made for it; none where a thread couldn't be started.
 #[cycle(jobs)]
 #[tactic(auto, using(crate::proofs::ServeLemmas::one_more, crate::proofs::ServeLemmas::at_last))]
 fn run_jobs<R: Threads + Wait + Sync, G: Gate + Sync, A: Aside + Drop>(
