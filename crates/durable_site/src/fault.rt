@@ -1,4 +1,7 @@
 //! Why a site isn't opened.
+ghost use Rattle.std.specs.Prelude.{◌≢◌};
+ghost use Rattle.durable_site.specs.declared.fault.OpenFault.TheVariants.{Foreign};
+
 use inbox_table::TableFault;
 use sqlite::ErrorCode;
 use std::io::{self, ErrorKind};
@@ -41,6 +44,8 @@ impl OpenFault {
 }
 
 impl From<io::Error> for OpenFault {
+    ghost from_gives = { λ _ f. f ≢ Foreign };
+
     fn from(error: io::Error) -> OpenFault {
         match error.kind() {
             ErrorKind::OutOfMemory => OpenFault::OutOfMemory,
@@ -50,7 +55,9 @@ impl From<io::Error> for OpenFault {
 }
 
 /// What an error of the database is that is met when it is opened.
-pub(crate) fn of_error(error: sqlite::Error) -> OpenFault {
+pub(crate) fn of_error(error: sqlite::Error) -> OpenFault
+    ensures { result ≢ Foreign }
+{
     match error {
         sqlite::Error::SqliteFailure(code) => match code {
             ErrorCode::OutOfMemory => OpenFault::OutOfMemory,

@@ -1,7 +1,8 @@
 //! A site over the files of a database, which are handed over open.
-ghost use Rattle.std.specs.Prelude.{◌≤◌, IfOk};
+ghost use Rattle.std.specs.Prelude.{◌≢◌, ◌≤◌, IfErr, IfOk};
 ghost use Rattle.sqlite_wal.specs.Files.{image_at};
 ghost use Rattle.durable_site.specs.Files.{IsOver, OpensOver};
+ghost use Rattle.durable_site.specs.declared.fault.OpenFault.TheVariants.{Foreign};
 
 use crate::durable::DurableSite;
 use crate::fault::{OpenFault, of_error, of_table};
@@ -54,7 +55,7 @@ pub fn open_files<T: Start>(
 ) -> Result<FileSite<T>, OpenFault>
     ensures { IfOk result (OpensOver (image_at T.Start)) }
 {
-    let conn = connected(alloc, given, start)?;
+    let conn = connect(alloc, given, start)?;
     match DurableSite::open(alloc, conn) {
         Ok(site) => Ok(site),
         Err(refused) => Err(fault_of(refused)),
@@ -67,13 +68,16 @@ fn fault_of<T: Start>(refused: NotMade<FileStore<FileFrom<T>>>) -> OpenFault {
     of_table(fault)
 }
 
-/// Opens the database of these files.
-fn connected<T: Start>(
+/// Opens the database of these files; of empty ones a database without tables. The fault is
+/// `OutOfMemory`, `System`, `NoDatabase`, `Damaged` or `Store`. What they hold `T` says in clauses,
+/// and no code can ask. Time in proportion to the log, and memory to the cache.
+pub fn connect<T: Start>(
     alloc: Global,
     given: GivenFiles,
     start: T,
 ) -> Result<Connection<FileStore<FileFrom<T>>>, OpenFault>
-    ensures { IfOk result (IsOver (image_at T.Start)) }
+    ensures over { IfOk result (IsOver (image_at T.Start)) }
+    ensures fault { IfErr result (λ f. f ≢ Foreign) }
 {
     let pages = pages_for(given.db.metadata()?.len(), given.cache_mib);
     let mut options = Options::new(given.seed);

@@ -8,6 +8,6 @@ mod file;
 
 pub use durable::DurableSite;
 pub use fault::OpenFault;
-pub use file::{FileSite, GivenFiles, open_files};
-pub use file_disk::Unknown;
+pub use file::{FileSite, GivenFiles, connect, open_files};
+pub use file_disk::{FileFrom, Unknown};
 pub use inbox_table::{NotMade, TableFault};

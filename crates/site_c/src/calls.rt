@@ -52,7 +52,7 @@ pub struct Piece {
 }
 
 /// The most events of a page.
-const MAX_PAGE: u64 = 100;
+pub(crate) const MAX_PAGE: u64 = 100;
 
 pub(crate) const DONE: u32 = 0;
 
@@ -62,9 +62,9 @@ const NO_SUCH_QUESTION: u32 = 4;
 
 /// A text, and how many events it has, where it is that of a page.
 #[derive(Drop)]
-struct Answered {
-    text: Text,
-    listed: u64,
+pub(crate) struct Answered {
+    pub(crate) text: Text,
+    pub(crate) listed: u64,
 }
 
 /// The events that the bytes spell, each with its number.
@@ -246,7 +246,7 @@ fn batch_line(alloc: Global, batch: &Batch) -> Result<Text, AllocError>
 }
 
 /// The line of a page, or want of memory.
-fn page_line(alloc: Global, page: Result<Batch, AllocError>) -> Result<Answered, u32>
+pub(crate) fn page_line(alloc: Global, page: Result<Batch, AllocError>) -> Result<Answered, u32>
     ensures ok { IfOk result (λ m. IfOk page (λ events. IsPageLine events m.text m.listed)) }
     ensures page { IfOk result (λ m. IfErr page (λ _. ⊥)) }
     ensures err { IfErr result (λ status. status ≡ 1) }

@@ -15,13 +15,13 @@ use file_reports::Refused;
 use std::alloc::Global;
 
 /// The site wasn't opened.
-const NOT_OPEN: u32 = 11;
+pub(crate) const NOT_OPEN: u32 = 11;
 
 /// The events are kept, and memory ran out before all were counted: the next take counts the rest.
 const OWED: u32 = 20;
 
 /// The status of a refused opening.
-fn open_status(fault: OpenFault) -> u32
+pub(crate) fn open_status(fault: OpenFault) -> u32
     ensures { result ≡ open_status fault }
 {
     match fault {

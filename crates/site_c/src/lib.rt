@@ -7,8 +7,10 @@ ghost use Rattle.std.specs.Prelude.{◌≡◌};
 ghost use Rattle.std.specs.Ptr.{lies_at, room_at};
 ghost use Rattle.site_c.specs.Calls.{Asked, Checked, HasRead, IsEmpty, Lacked, Paged, Summed, Took, Viewed};
 ghost use Rattle.site_c.specs.Files.{HasReadFile, OpenedFile, Told, TookFile};
+ghost use Rattle.site_c.specs.Outboxes.{HasReadOutbox, OpenedOutbox, OrderedOutbox, ShownOutbox};
 ghost use Rattle.site_c.specs.contracts.file_held.FileHeld.{the_row as file_row};
 ghost use Rattle.site_c.specs.contracts.held.Held.{the_row};
+ghost use Rattle.site_c.specs.contracts.outbox_held.OutboxHeld.{the_row as outbox_row};
 ghost use Rattle.durable_site.specs.contracts.file.GivenFiles.{the_row as given_row};
 ghost use base.Fml.{fsep};
 
@@ -17,6 +19,8 @@ mod file_calls;
 mod file_held;
 mod held;
 pub mod laws;
+mod outbox_calls;
+mod outbox_held;
 
 pub use calls::{PIECE, Piece, Reply};
 use calls::{asked, checked, lacked, let_go, paged, read, summed, taken, viewed};
@@ -24,6 +28,9 @@ use durable_site::GivenFiles;
 use file_calls::{file_let_go, file_opened, file_read, file_taken, told};
 pub use file_held::FileHeld;
 pub use held::Held;
+pub use outbox_calls::OutboxReply;
+use outbox_calls::{outbox_let_go, outbox_opened, outbox_ordered, outbox_read, outbox_shown};
+pub use outbox_held::OutboxHeld;
 use std::alloc::Global;
 
 /// How many bytes of room a site needs.
@@ -235,4 +242,98 @@ pub unsafe extern "C" fn jumbetai_file_close(at: *mut u8)
     ensures* { sem 𝓛 (room_at file_row at) }
 {
     file_let_go(std::ptr::read(at as *mut FileHeld));
+}
+
+/// How many bytes of room an outbox over a file needs.
+#[unsafe(no_mangle)]
+pub extern "C" fn jumbetai_outbox_size() -> usize
+    ensures { result ≡ type_size outbox_row }
+{
+    size_of::<OutboxHeld>()
+}
+
+/// Opens an outbox over the files of a database, which are the library's from then on, and makes it
+/// where there is none: with this base, and with the source that the bytes are, or `/orders` where
+/// `has_source` is 0. One that is there has to have the source that is given. Where it is refused, an
+/// outbox that isn't open lies in the room.
+#[unsafe(no_mangle)]
+pub unsafe extern "C" fn jumbetai_outbox_open(
+    alloc: Global,
+    at: *mut u8,
+    given: *mut u8,
+    has_source: u32,
+    source: &[u8],
+    base: u64,
+    reply: &mut OutboxReply,
+)
+    ghost files: { GivenFiles }
+    requires* { sem 𝓛 (fsep (room_at outbox_row at) (lies_at given_row full_share given files)) }
+    ensures* { ∃ₛ λ made. sem 𝓛 (fsep (lies_at outbox_row full_share at made)
+        (room_at given_row given))
+        ∗ ⌜ OpenedOutbox has_source source.now base made reply.new ⌝ }
+{
+    let files = std::ptr::read(given as *mut GivenFiles);
+    std::ptr::write(
+        at as *mut OutboxHeld,
+        outbox_opened(alloc, files, has_source, source, base, reply),
+    );
+}
+
+/// Gives the service a command: 1 places the order, 2 ships it, 3 cancels it. Accepted, the order and
+/// its row are kept in the file and synced, and the line of the event stays in the outbox until it is
+/// asked again.
+#[unsafe(no_mangle)]
+pub unsafe extern "C" fn jumbetai_outbox_order(
+    at: *mut u8,
+    action: u32,
+    order: u64,
+    time: &[u8],
+    reply: &mut OutboxReply,
+)
+    ghost held: { OutboxHeld }
+    requires* { sem 𝓛 (lies_at outbox_row full_share at held) }
+    ensures* { ∃ₛ λ kept. sem 𝓛 (lies_at outbox_row full_share at kept)
+        ∗ ⌜ OrderedOutbox action order time.now held kept reply.new ⌝ }
+{
+    let to = at as *mut OutboxHeld;
+    std::ptr::write(
+        to,
+        outbox_ordered(std::ptr::read(to), action, order, time, reply),
+    );
+}
+
+/// Asks for the rows with a greater number, at most 100, as a batch; its text stays in the outbox as
+/// a command's does.
+#[unsafe(no_mangle)]
+pub unsafe extern "C" fn jumbetai_outbox_rows(at: *mut u8, after: u64, reply: &mut OutboxReply)
+    ghost held: { OutboxHeld }
+    requires* { sem 𝓛 (lies_at outbox_row full_share at held) }
+    ensures* { ∃ₛ λ kept. sem 𝓛 (lies_at outbox_row full_share at kept)
+        ∗ ⌜ ShownOutbox after held kept reply.new ⌝ }
+{
+    let to = at as *mut OutboxHeld;
+    std::ptr::write(to, outbox_shown(std::ptr::read(to), after, reply));
+}
+
+/// Copies a piece of the text, counted from 0.
+#[unsafe(no_mangle)]
+pub unsafe extern "C" fn jumbetai_outbox_read(at: *mut u8, piece: u32, out: &mut Piece)
+    ghost held: { OutboxHeld }
+    requires* { sem 𝓛 (lies_at outbox_row full_share at held) }
+    ensures* { ∃ₛ λ kept. sem 𝓛 (lies_at outbox_row full_share at kept)
+        ∗ ⌜ HasReadOutbox piece held kept out.old out.new ⌝ }
+{
+    let to = at as *mut OutboxHeld;
+    std::ptr::write(to, outbox_read(std::ptr::read(to), piece, out));
+}
+
+/// Copies the log into the database file, closes both and gives the outbox's memory back; its room is
+/// room again.
+#[unsafe(no_mangle)]
+pub unsafe extern "C" fn jumbetai_outbox_close(at: *mut u8)
+    ghost held: { OutboxHeld }
+    requires* { sem 𝓛 (lies_at outbox_row full_share at held) }
+    ensures* { sem 𝓛 (room_at outbox_row at) }
+{
+    outbox_let_go(std::ptr::read(at as *mut OutboxHeld));
 }

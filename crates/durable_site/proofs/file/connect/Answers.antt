@@ -3,7 +3,7 @@ use Rattle.sqlite_disk.specs.Events.{Event, replay}
 use Rattle.sqlite_wal.specs.Recovery.{Image}
 use Rattle.sqlite.specs.Files.{file_state}
 use Rattle.sqlite.specs.Start.{FindsIn}
-use Rattle.durable_site.proofs.file.connected.Goals as goal
+use Rattle.durable_site.proofs.file.connect.Goals as goal
 
 abbrev image_from : List ℕ → List ℕ → Image
 image_from log db = record { log = log; db = db }
@@ -12,8 +12,8 @@ image_from log db = record { log = log; db = db }
 abbrev seen : List ℕ → List ℕ → Bool → List Event → List ℕ
 seen log db is_log calls = (replay (cond is_log log db) calls).seen
 
-pub returns-in-Ok : goal.returns-in-Ok
-returns-in-Ok g c clean =
+pub returns-in-Ok-clause-over : goal.returns-in-Ok-clause-over
+returns-in-Ok-clause-over g c clean =
     let log = c.in_ok-files.ensures.log in
     let db = c.in_ok-files.ensures.db in
     let found = c.in-Ok.ensures.found clean in
