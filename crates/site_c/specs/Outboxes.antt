@@ -116,7 +116,7 @@ module _ {D : Type 0} {g : disk.Ghosts D} where
       : Type 0 where
     pub first : Held (FileStore D g)
     pub over : IsOver untold first
-    pub opens : Opens source base (file_state first) s (file_state s.conn)
+    pub opens : Opens (source_of has_source source) base (file_state first) s (file_state s.conn)
     pub is_given : has_source ≢ 0
     pub other : s.source ≢ source
 

@@ -1,10 +1,11 @@
 //! What each call does to the outbox over a file that lies in the room.
 
-ghost use Rattle.std.specs.Prelude.{◌≡◌, ◌<◌, ◌≤◌, ◌↔◌, ◌⊎◌, suc, List, [], length, IfErr, IfNone, IfOk, IfSome, IsTrue};
+ghost use Rattle.std.specs.Prelude.{◌≡◌, ◌≢◌, ◌<◌, ◌≤◌, ◌↔◌, ◌⊎◌, suc, List, [], length, IfErr, IfNone, IfOk, IfSome, IsFalse, IsTrue};
 ghost use Rattle.sqlite.specs.Files.{file_state};
 ghost use Rattle.sqlite.specs.State.{HasCleanDisk};
 ghost use Rattle.attributes.specs.Event.{EventValue};
 ghost use Rattle.attributes.specs.Sequence.{max_sequence};
+ghost use Rattle.attributes.specs.declared.fault.Fault.TheVariants as time;
 ghost use Rattle.outbox.specs.Call.{CommandCall, CommandEffect, IsSame, LeavesAsBefore};
 ghost use Rattle.outbox.specs.Row.{row_event};
 ghost use Rattle.outbox.specs.Shown.{IsAllowed};
@@ -157,6 +158,14 @@ fn is_same(one: &Text, other: &Text) -> bool
     one.as_str() == other.as_str()
 }
 
+/// Whether a service with this source of its own is the one that was asked for.
+fn is_meant(has_source: u32, own: &Text, source: &Text) -> bool
+    ensures meant { IsTrue result → has_source ≢ 0 → own.now ≡ source.now }
+    ensures another { IsFalse result → (has_source ≢ 0) × (own.now ≢ source.now) }
+{
+    has_source == 0 || is_same(own, source)
+}
+
 /// The service of the database that the files hold, made where there is none, or the status.
 fn served(
     alloc: Global,
@@ -179,10 +188,10 @@ fn served(
         Ok(service) => service,
         Err(refused) => return Err(outbox_status(refused.fault)),
     };
-    if has_source != 0 && !is_same(service.source(), &text) {
-        return Err(ANOTHER_SOURCE);
+    if is_meant(has_source, service.source(), &text) {
+        return Ok(service);
     }
-    Ok(service)
+    Err(ANOTHER_SOURCE)
 }
 
 /// Opens an outbox over the files.
@@ -241,6 +250,17 @@ fn action_at(number: u32) -> Option<Status>
     }
 }
 
+/// The status of a refusal of a time.
+fn time_status(fault: Fault) -> u32
+    ensures { (IsWant result × (fault ≡ time.OutOfMemory))
+        ⊎ ((result ≡ 25) × (fault ≢ time.OutOfMemory)) }
+{
+    match fault {
+        Fault::OutOfMemory => OUT_OF_MEMORY,
+        _ => NO_TIME,
+    }
+}
+
 /// The time that the bytes are, or the status.
 fn moment_of(alloc: Global, bytes: &[u8]) -> Result<Moment, u32>
     ensures ok { IfOk result (λ at. (at ≡ bytes.now) × IsTime bytes.now) }
@@ -255,8 +275,7 @@ fn moment_of(alloc: Global, bytes: &[u8]) -> Result<Moment, u32>
     };
     match Moment::of_text(alloc, text) {
         Ok(at) => Ok(at),
-        Err(Fault::OutOfMemory) => Err(OUT_OF_MEMORY),
-        Err(_) => Err(NO_TIME),
+        Err(fault) => Err(time_status(fault)),
     }
 }
 
@@ -334,7 +353,8 @@ fn event_line(alloc: Global, event: &Sequenced) -> Result<Text, AllocError>
 fn refuse(status: u32, text: Text, reply: &mut OutboxReply) -> Text
     ensures text { result ≡ text }
     ensures replies { (reply.new.status ≡ status) × (reply.new.number ≡ 0)
-        × (reply.new.listed ≡ 0) × (reply.new.length ≡ length text) }
+        × (reply.new.listed ≡ 0) × (reply.new.length ≡ length result) }
+    ensures none { (reply.new.base ≡ 0) × (reply.new.last ≡ 0) × (reply.new.orders ≡ 0) }
 {
     tell(status, 0, 0, text.as_str().len() as u64, reply);
     text
