@@ -11,7 +11,7 @@ use Rattle.attributes.specs.Sequence.{max_sequence}
 use Rattle.outbox.specs.Order.{Accepted}
 use Rattle.outbox.specs.Shown.{IsAllowed, Shown}
 use Rattle.outbox.specs.declared.fault.OutboxFault.{OutboxFault}
-use Rattle.outbox.specs.declared.fault.OutboxFault.TheVariants.{OutOfMemory, Store, Foreign}
+use Rattle.outbox.specs.declared.fault.OutboxFault.TheVariants.{OutOfMemory, Store}
 use Rattle.site_c.specs.Outboxes.{Carries, outbox_status, source_of}
 
 module _ {D : Type 0} {g : disk.Ghosts D} where

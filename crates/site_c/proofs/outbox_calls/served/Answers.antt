@@ -1,4 +1,4 @@
-use Rattle.std.proofs.Common.{◌≡◌, ◌∙◌, inl, inr, refl, subst, sym}
+use Rattle.std.proofs.Common.{◌∙◌, inl, inr, refl, subst, sym}
 use Rattle.sqlite.specs.Files.{file_state}
 use Rattle.outbox.specs.Opening.{IsRefused, Opens}
 use Rattle.outbox.specs.Shown.{IsAllowed}
