@@ -100,8 +100,8 @@ module _ {D : Type 0} {g : disk.Ghosts D} where
 
   -- ---- opening
 
-  -- the files have a service, or one was made in them with what was given; where a source was given,
-  -- it has that
+  -- the files have a service, or one was made in them with what was given; where a source was
+  -- given, it has that
   pub record OpensOutbox (has_source : ℕ) (source : List ℕ) (base : ℕ) (s : Shown (FileStore D g))
       : Type 0 where
     pub given : IsGiven has_source source base
@@ -128,8 +128,8 @@ module _ {D : Type 0} {g : disk.Ghosts D} where
     pub refused : IsRefused source base (file_state first) (file_state last) fault
 
   -- there is a service, or the status says why not: want of memory; what was given isn't a source
-  -- and a base, and the files weren't asked; they hold no database that can be opened; no service can
-  -- be opened in it; the one that is there has another source
+  -- and a base, and the files weren't asked; they hold no database that can be opened; no service
+  -- can be opened in it; the one that is there has another source
   abbrev pub Serves : ℕ → List ℕ → ℕ → Result (Shown (FileStore D g)) ℕ → Type 0
   Serves has_source source base (Ok s) = OpensOutbox has_source source base s
   Serves has_source source base (Err status) = IsWant status
@@ -149,8 +149,8 @@ module _ {D : Type 0} {g : disk.Ghosts D} where
 
   -- ---- commands
 
-  -- a service was given a command: accepted, its row is written and synced, and the text is the line
-  -- of its event; refused, the service is as it was, and the text
+  -- a service was given a command: accepted, its row is written and synced, and the text is the
+  -- line of its event; refused, the service is as it was, and the text
   pub record Carries (c : Accepted) (was is : Shown (FileStore D g)) (text kept : List ℕ)
       (status number : ℕ) : Type 0 where
     pub result : Result EventValue OutboxFault
@@ -161,7 +161,8 @@ module _ {D : Type 0} {g : disk.Ghosts D} where
         (λ e. (status ≡ 0) × (number ≡ is.last) × (kept ≡ event_line e))
         (λ fault. (status ≡ outbox_status fault) × (number ≡ 0) × (kept ≡ text))
 
-  -- the arguments name a command, which it was given; or they name none, and nothing was asked of it
+  -- the arguments name a command, which it was given; or they name none, and nothing was asked of
+  -- it
   abbrev pub Commands : ℕ → ℕ → List ℕ → Shown (FileStore D g) → Shown (FileStore D g) → List ℕ
       → List ℕ → ℕ → ℕ → Type 0
   Commands action order time was is text kept status number =

@@ -252,10 +252,10 @@ pub extern "C" fn jumbetai_outbox_size() -> usize
     size_of::<OutboxHeld>()
 }
 
-/// Opens an outbox over the files of a database, which are the library's from then on, and makes it
-/// where there is none: with this base, and with the source that the bytes are, or `/orders` where
-/// `has_source` is 0. One that is there has to have the source that is given. Where it is refused, an
-/// outbox that isn't open lies in the room.
+/// Opens an outbox over the files of a database, which are the library's from then on, and makes
+/// it where there is none: with this base, and with the source that the bytes are, or `/orders`
+/// where `has_source` is 0. One that is there has to have the source that is given. Where it is
+/// refused, an outbox that isn't open lies in the room.
 #[unsafe(no_mangle)]
 pub unsafe extern "C" fn jumbetai_outbox_open(
     alloc: Global,
@@ -279,9 +279,9 @@ pub unsafe extern "C" fn jumbetai_outbox_open(
     );
 }
 
-/// Gives the service a command: 1 places the order, 2 ships it, 3 cancels it. Accepted, the order and
-/// its row are kept in the file and synced, and the line of the event stays in the outbox until it is
-/// asked again.
+/// Gives the service a command: 1 places the order, 2 ships it, 3 cancels it. Accepted, the order
+/// and its row are kept in the file and synced, and the line of the event stays in the outbox
+/// until it is asked again.
 #[unsafe(no_mangle)]
 pub unsafe extern "C" fn jumbetai_outbox_order(
     at: *mut u8,
@@ -302,8 +302,8 @@ pub unsafe extern "C" fn jumbetai_outbox_order(
     );
 }
 
-/// Asks for the rows with a greater number, at most 100, as a batch; its text stays in the outbox as
-/// a command's does.
+/// Asks for the rows with a greater number, at most 100, as a batch; its text stays in the outbox
+/// as a command's does.
 #[unsafe(no_mangle)]
 pub unsafe extern "C" fn jumbetai_outbox_rows(at: *mut u8, after: u64, reply: &mut OutboxReply)
     ghost held: { OutboxHeld }
@@ -327,8 +327,8 @@ pub unsafe extern "C" fn jumbetai_outbox_read(at: *mut u8, piece: u32, out: &mut
     std::ptr::write(to, outbox_read(std::ptr::read(to), piece, out));
 }
 
-/// Copies the log into the database file, closes both and gives the outbox's memory back; its room is
-/// room again.
+/// Copies the log into the database file, closes both and gives the outbox's memory back; its room
+/// is room again.
 #[unsafe(no_mangle)]
 pub unsafe extern "C" fn jumbetai_outbox_close(at: *mut u8)
     ghost held: { OutboxHeld }

@@ -25,10 +25,11 @@ use std::alloc::{AllocError, Global};
 #[repr(C)]
 #[derive(Drop)]
 pub struct OutboxReply {
-    /// 0: done. 1: out of memory. 11: no service is open. 15 to 19: what an opening or the database
-    /// refuses, as of a site over a file. 21: the order is there. 22: it isn't. 23: it was shipped or
-    /// cancelled. 24: no number is left. 25: the time isn't one. 26: the order's number isn't one.
-    /// 27: the source or the base isn't one. 28: the service has another source. 29: no such action.
+    /// 0: done. 1: out of memory. 11: no service is open. 15 to 19: what an opening or the
+    /// database refuses, as of a site over a file. 21: the order is there. 22: it isn't. 23: it
+    /// was shipped or cancelled. 24: no number is left. 25: the time isn't one. 26: the order's
+    /// number isn't one. 27: the source or the base isn't one. 28: the service has another source.
+    /// 29: no such action.
     pub status: u32,
     /// The number of the row that a command wrote, else 0.
     pub number: u64,
