@@ -21,7 +21,7 @@ sys.path.insert(0, f"{TOP}/tools")
 import build  # noqa: E402
 
 CRATE = "site_c"
-PARTS = ("site.c", "files.c", "heap.c", "errno.c")
+PARTS = ("site.c", "outbox.c", "files.c", "heap.c", "errno.c")
 COMPILE = ["-std=c11", "-Wall", "-Wextra", "-O2", "-fPIC", "-ffunction-sections", "-c"]
 SHARED = ["-shared", "-Wl,--whole-archive", "libjumbetai.a", "-Wl,--no-whole-archive"]
 

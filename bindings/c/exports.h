@@ -1,6 +1,6 @@
-/* What the proved library exports, as site.c calls it. A site lies in room of jumbetai_site_size()
- * bytes that the caller gives by pointer, aligned as malloc aligns; it isn't copied or moved while
- * the site is open. */
+/* What the proved library exports, as site.c and outbox.c call it. A site lies in room of
+ * jumbetai_site_size() bytes that the caller gives by pointer, aligned as malloc aligns; it isn't
+ * copied or moved while the site is open. */
 #ifndef JUMBETAI_EXPORTS_H
 #define JUMBETAI_EXPORTS_H
 
@@ -58,5 +58,31 @@ void jumbetai_file_tell(void *at, uint32_t what, const unsigned char *bytes, siz
                         uint64_t from, struct jumbetai_reply *reply);
 void jumbetai_file_read(void *at, uint32_t piece, struct jumbetai_piece *out);
 void jumbetai_file_close(void *at);
+
+/* status: that of the call. number: that of the row that a command wrote, else 0. listed: how many
+ * events the text has, where it is a page's, else 0. base: the number before that of the first row.
+ * last: that of the last row, the base where there is none. orders: how many orders there are.
+ * length: how many bytes the text has that lies there. Each call sets all of them. Where no service
+ * is open number, listed, base, last and orders are 0. */
+struct jumbetai_outbox_reply {
+    uint32_t status;
+    uint64_t number, listed, base, last, orders, length;
+};
+
+/* An outbox over files, in room of jumbetai_outbox_size() bytes. Where opening it is refused an
+ * outbox that isn't open lies there, which is closed too. The source is looked at where has_source
+ * isn't 0; else it is whatever is there, and "/orders" where one is made. The base is of one that
+ * is made. */
+size_t jumbetai_outbox_size(void);
+void jumbetai_outbox_open(void *at, struct jumbetai_files *files, uint32_t has_source,
+                          const unsigned char *source, size_t length, uint64_t base,
+                          struct jumbetai_outbox_reply *reply);
+/* action: 1 places the order, 2 ships it, 3 cancels it. The text is the line of the event. */
+void jumbetai_outbox_order(void *at, uint32_t action, uint64_t order, const unsigned char *time,
+                           size_t length, struct jumbetai_outbox_reply *reply);
+/* The text is the line of the batch of the rows with a greater number, at most 100. */
+void jumbetai_outbox_rows(void *at, uint64_t after, struct jumbetai_outbox_reply *reply);
+void jumbetai_outbox_read(void *at, uint32_t piece, struct jumbetai_piece *out);
+void jumbetai_outbox_close(void *at);
 
 #endif

@@ -1,5 +1,5 @@
 /* Opens the two files of a database and hands them to the library. Nothing of this file is proved,
- * and what it owes is said at jumbetai_file_open in exports.h: that nobody else has the files. */
+ * and what it owes is said at struct jumbetai_files in exports.h: that nobody else has the files. */
 #define _GNU_SOURCE /* F_OFD_SETLK, getentropy */
 #include "site.h"
 #include <errno.h>
@@ -162,35 +162,14 @@ void jumbetai_unlock(int locks[2]) {
     }
 }
 
-int jumbetai_open_file(const char *path, uint32_t cache_mib, jumbetai_site **site) {
-    struct jumbetai_files files = {.cache_mib = cache_mib};
-    struct jumbetai_reply reply;
+int jumbetai_open_files(const char *path, struct jumbetai_files *files, int locks[2]) {
     char *real;
-    if (site) *site = NULL;
-    if (!site || !path) return JUMBETAI_BAD_ARGUMENT;
-    jumbetai_site *made = malloc(sizeof *made + jumbetai_file_size());
-    if (!made) return JUMBETAI_OUT_OF_MEMORY;
     int status = resolve(path, &real);
-    if (!status) {
-        status = open_both(real, &files);
-        free(real);
-    }
-    if (!status) {
-        made->locks[0] = fcntl(files.log, F_DUPFD_CLOEXEC, 3);
-        made->locks[1] = fcntl(files.db, F_DUPFD_CLOEXEC, 3);
-        jumbetai_file_open(made->room, &files, &reply);
-        status = (int)reply.status;
-        if (status) {
-            jumbetai_file_close(made->room);
-            jumbetai_unlock(made->locks);
-        }
-    }
-    if (status) {
-        free(made);
-        return status;
-    }
-    made->events = reply.events;
-    made->is_file = 1;
-    *site = made;
+    if (status) return status;
+    status = open_both(real, files);
+    free(real);
+    if (status) return status;
+    locks[0] = fcntl(files->log, F_DUPFD_CLOEXEC, 3);
+    locks[1] = fcntl(files->db, F_DUPFD_CLOEXEC, 3);
     return JUMBETAI_DONE;
 }

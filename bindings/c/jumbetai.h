@@ -1,9 +1,11 @@
-/* A site in a process of one's own: a set of CloudEvents in memory, its answers, its summary, and
- * what another site lacks of it. Link with libjumbetai.a: cc program.c -ljumbetai
+/* A site in a process of one's own: a set of CloudEvents in memory or over a database file, its
+ * answers, its summary, and what another site lacks of it; and an outbox: the orders of a service
+ * in a database file, with the events that tell of them. Link with libjumbetai.a:
+ * cc program.c -ljumbetai
  *
- * A call answers a status, 0 where it is done. None prints or aborts, and only a site over a file
- * touches one. A site may go from thread to thread, as by a lock, but one thread at a time uses it;
- * two sites have nothing in common. No call is to be made from a signal handler. */
+ * A call answers a status, 0 where it is done. None prints or aborts, and only what is over a file
+ * touches one. A site or an outbox may go from thread to thread, as by a lock, but one thread at a
+ * time uses it; two of them have nothing in common. No call is to be made from a signal handler. */
 #ifndef JUMBETAI_H
 #define JUMBETAI_H
 
@@ -42,7 +44,16 @@ enum jumbetai_status {
     JUMBETAI_DAMAGED = 17,     /* a page of it isn't what SQLite writes */
     JUMBETAI_STORE = 18,       /* it has tables of others, or a statement was refused */
     JUMBETAI_FOREIGN = 19,     /* the table, or its rows, aren't those that are left here */
-    JUMBETAI_OWED = 20         /* the events are kept, and memory ran out before all were counted */
+    JUMBETAI_OWED = 20,        /* the events are kept, and memory ran out before all were counted */
+    JUMBETAI_ORDER_EXISTS = 21,   /* the order was placed before */
+    JUMBETAI_NO_ORDER = 22,       /* the order was never placed */
+    JUMBETAI_WRONG_STATE = 23,    /* the order was shipped or cancelled before */
+    JUMBETAI_FULL = 24,           /* no number is left for a row */
+    JUMBETAI_BAD_TIME = 25,       /* no moment of RFC 3339, or one of more than 64 bytes */
+    JUMBETAI_BAD_ORDER = 26,      /* an order has a number from 1 to 2^63-1 */
+    JUMBETAI_BAD_SOURCE = 27,     /* the source isn't one, or the base is above 2^63-1 */
+    JUMBETAI_ANOTHER_SOURCE = 28, /* the outbox that is there has another source than was given */
+    JUMBETAI_NO_SUCH_ACTION = 29
 };
 
 /* The seven questions, as `site` has them. */
@@ -56,6 +67,9 @@ enum jumbetai_question {
     JUMBETAI_GAPS
 };
 
+/* What is done with an order: it is placed, and then shipped or cancelled, which are final. */
+enum jumbetai_action { JUMBETAI_PLACE = 1, JUMBETAI_SHIP, JUMBETAI_CANCEL };
+
 /* What came of events that were given: how many were new, and how many were there, where all were
  * taken. */
 typedef struct jumbetai_counts {
@@ -63,10 +77,21 @@ typedef struct jumbetai_counts {
     uint64_t repeated;
 } jumbetai_counts;
 
-/* A text of a site: UTF-8, with a zero byte behind its last byte that `length` doesn't count. It
- * belongs to the caller, stays what it is whatever becomes of the site, and is given back by
- * jumbetai_free. `events` is how many events a page has, and 0 of other texts. Where a call isn't
- * done, all three are 0. */
+/* An outbox. Made by jumbetai_open_outbox and given back by jumbetai_close_outbox. */
+typedef struct jumbetai_outbox jumbetai_outbox;
+
+/* Of an outbox: the number before that of its first row, that of its last row, which is the base
+ * where there is none, and how many orders it has, whatever became of them. */
+typedef struct jumbetai_order_counts {
+    uint64_t base;
+    uint64_t last;
+    uint64_t orders;
+} jumbetai_order_counts;
+
+/* A text of a site or an outbox: UTF-8, with a zero byte behind its last byte that `length` doesn't
+ * count. It belongs to the caller, stays what it is whatever becomes of the other, and is given
+ * back by jumbetai_free. `events` is how many events a page has, and 0 of other texts. Where a call
+ * isn't done, all three are 0. */
 typedef struct jumbetai_text {
     char *bytes;
     size_t length;
@@ -83,8 +108,8 @@ jumbetai_site *jumbetai_open(void);
  * the disk, once the call is done. The file is one that `site` and sqlite3 open when it is closed;
  * until then they find it busy, and so does who opens it twice. `path` ends with a zero byte.
  * `cache_mib` is how many MiB of the file are kept in memory, 0 for as many as it has and 16 more,
- * at most 256. Time and memory in proportion to the events. A process that was forked while the site
- * is open neither uses nor closes it. `*site` is null where it isn't done. */
+ * at most 256. Time and memory in proportion to the events. A process that was forked while the
+ * site is open neither uses nor closes it. `*site` is null where it isn't done. */
 int jumbetai_open_file(const char *path, uint32_t cache_mib, jumbetai_site **site);
 
 /* Gives a site and its memory back. A null pointer is let through. */
@@ -127,6 +152,42 @@ int jumbetai_delta(jumbetai_site *site, const void *summary, size_t length, uint
 
 /* All events in key order, by pages of the same kind. */
 int jumbetai_page(jumbetai_site *site, uint64_t from, jumbetai_text *text);
+
+/* The outbox of a database file, or a new one where it has none. `source` is what all its events
+ * have as theirs, 1 to 1,024 bytes of UTF-8 without control characters, with a zero byte behind:
+ * one that is there has to have it; null takes any, and "/orders" for a new one. The rows of a new
+ * one are numbered from `base` + 1 on, with a base of 0 to 2^63-1; one that is there keeps its own.
+ *
+ * The file is made, opened and kept busy as by jumbetai_open_file, with a cache of the same kind.
+ * It may have the events of a site too; one of the two is open at a time. Time and memory in
+ * proportion to the rows, which are all tested; the memory is given back. `*outbox` is null where
+ * it isn't done; a file that was made then stays. */
+int jumbetai_open_outbox(const char *path, const char *source, uint64_t base, uint32_t cache_mib,
+                         jumbetai_outbox **outbox);
+
+/* Gives an outbox, its memory and its file back. A null pointer is let through. */
+void jumbetai_close_outbox(jumbetai_outbox *outbox);
+
+/* Does one of the three actions with the order of this number, 1 to 2^63-1. `time` is a moment as
+ * 2024-02-29T10:00:00Z, with a zero byte behind. The order and a row that tells of it are written
+ * in one transaction and synced: once the call is done no crash takes them back. Where it isn't,
+ * the outbox has what it had; a crash after JUMBETAI_STORE or want of memory may leave both all the
+ * same. The row has the number behind the last one. `event` is its event in a line, which
+ * `site order` prints too, and may be null. Time with the logarithm of the rows. */
+int jumbetai_order(jumbetai_outbox *outbox, int action, uint64_t order, const char *time,
+                   jumbetai_text *event);
+
+/* The events of the rows with a number above `after`, at most JUMBETAI_PAGE, as a batch that
+ * jumbetai_take takes. Rows are numbered without a gap, so the last of a page has the number
+ * `after` and `events` more, or the base and `events` more where `after` is below it: behind that
+ * number the next page begins. A page of no events is behind the last row. Who hands rows on keeps
+ * that number once a page was taken; from any number before, rows come again, which a site only
+ * counts as repeated. */
+int jumbetai_rows(jumbetai_outbox *outbox, uint64_t after, jumbetai_text *text);
+
+/* How many rows and orders there are, as the last call on the outbox left them; 0 of a null
+ * pointer. Constant time. `counts` may be null. */
+void jumbetai_outbox_counts(const jumbetai_outbox *outbox, jumbetai_order_counts *counts);
 
 /* Gives a text back, and sets it to no text. Texts of no bytes and a null pointer are let through.
  */

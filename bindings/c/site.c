@@ -1,14 +1,11 @@
-/* The functions of jumbetai.h over the library's exports. Nothing of this file is proved: it tests
- * what C lets a caller get wrong, keeps the room that a site lies in, and puts a text together of
- * its pieces. */
+/* The functions of jumbetai.h on sites and texts, over the library's exports. Nothing of this file
+ * is proved: it tests what C lets a caller get wrong, keeps the room that a site lies in, and puts
+ * a text together of its pieces. */
 #define _DEFAULT_SOURCE /* getentropy */
 #include "site.h"
 #include <stdlib.h>
 #include <string.h>
 #include <unistd.h>
-
-/* A text of more bytes isn't left in the site beside the caller's copy. */
-enum { LARGE = 65536 };
 
 static int is_range(const void *bytes, size_t length) {
     return (bytes || !length) && length <= PTRDIFF_MAX;
@@ -36,26 +33,30 @@ static void ask_page(jumbetai_site *site, uint64_t from, struct jumbetai_reply *
         jumbetai_site_page(site->room, from, reply);
 }
 
-/* The text that the site keeps since the call that replied so. */
-static int copy_text(jumbetai_site *site, const struct jumbetai_reply *reply, jumbetai_text *text) {
-    if (reply->status != JUMBETAI_DONE) return (int)reply->status;
-    char *bytes = reply->length < PTRDIFF_MAX ? malloc((size_t)reply->length + 1) : NULL;
+int jumbetai_copy(void *room, void (*read)(void *, uint32_t, struct jumbetai_piece *),
+                  uint64_t length, uint64_t listed, jumbetai_text *text) {
+    char *bytes = length < PTRDIFF_MAX ? malloc((size_t)length + 1) : NULL;
     if (!bytes) return JUMBETAI_OUT_OF_MEMORY;
     struct jumbetai_piece piece;
     size_t had = 0;
-    for (uint32_t i = 0; had < reply->length; i++, had += piece.length) {
-        if (site->is_file)
-            jumbetai_file_read(site->room, i, &piece);
-        else
-            jumbetai_site_read(site->room, i, &piece);
+    for (uint32_t i = 0; had < length; i++, had += piece.length) {
+        read(room, i, &piece);
         memcpy(bytes + had, piece.bytes, piece.length);
     }
     bytes[had] = 0;
-    *text = (jumbetai_text){bytes, had, reply->listed};
+    *text = (jumbetai_text){bytes, had, listed};
+    return JUMBETAI_DONE;
+}
+
+/* The text that the site keeps since the call that replied so. */
+static int copy_text(jumbetai_site *site, const struct jumbetai_reply *reply, jumbetai_text *text) {
+    if (reply->status != JUMBETAI_DONE) return (int)reply->status;
+    int status = jumbetai_copy(site->room, site->is_file ? jumbetai_file_read : jumbetai_site_read,
+                               reply->length, reply->listed, text);
     /* The site keeps its last text: a page without events is in place of a large one. */
     struct jumbetai_reply unread;
-    if (had > LARGE) ask_page(site, UINT64_MAX, &unread);
-    return JUMBETAI_DONE;
+    if (reply->length > JUMBETAI_LARGE) ask_page(site, UINT64_MAX, &unread);
+    return status;
 }
 
 jumbetai_site *jumbetai_open(void) {
@@ -65,6 +66,32 @@ jumbetai_site *jumbetai_open(void) {
     site->is_file = 0;
     jumbetai_site_open(site->room);
     return site;
+}
+
+int jumbetai_open_file(const char *path, uint32_t cache_mib, jumbetai_site **site) {
+    struct jumbetai_files files = {.cache_mib = cache_mib};
+    struct jumbetai_reply reply;
+    if (site) *site = NULL;
+    if (!site || !path) return JUMBETAI_BAD_ARGUMENT;
+    jumbetai_site *made = malloc(sizeof *made + jumbetai_file_size());
+    if (!made) return JUMBETAI_OUT_OF_MEMORY;
+    int status = jumbetai_open_files(path, &files, made->locks);
+    if (!status) {
+        jumbetai_file_open(made->room, &files, &reply);
+        status = (int)reply.status;
+        if (status) {
+            jumbetai_file_close(made->room);
+            jumbetai_unlock(made->locks);
+        }
+    }
+    if (status) {
+        free(made);
+        return status;
+    }
+    made->events = reply.events;
+    made->is_file = 1;
+    *site = made;
+    return JUMBETAI_DONE;
 }
 
 void jumbetai_close(jumbetai_site *site) {
@@ -187,6 +214,15 @@ const char *jumbetai_words(int status) {
         [JUMBETAI_STORE] = "the database refused, or has tables of others",
         [JUMBETAI_FOREIGN] = "the table isn't as jumbetai leaves it",
         [JUMBETAI_OWED] = "kept, and not all counted, since memory ran out",
+        [JUMBETAI_ORDER_EXISTS] = "the order was placed before",
+        [JUMBETAI_NO_ORDER] = "the order was never placed",
+        [JUMBETAI_WRONG_STATE] = "the order was shipped or cancelled before",
+        [JUMBETAI_FULL] = "no number is left for a row",
+        [JUMBETAI_BAD_TIME] = "the time is no moment of RFC 3339 in at most 64 bytes",
+        [JUMBETAI_BAD_ORDER] = "an order has a number from 1 to 9223372036854775807",
+        [JUMBETAI_BAD_SOURCE] = "the source, or the base, is none",
+        [JUMBETAI_ANOTHER_SOURCE] = "the outbox that is there has another source",
+        [JUMBETAI_NO_SUCH_ACTION] = "no such action",
     };
     int count = (int)(sizeof words / sizeof *words);
     return status >= 0 && status < count ? words[status] : "no such status";

@@ -1,4 +1,4 @@
-/* What a site is to the C of this folder. */
+/* What the C of this folder has in common. */
 #ifndef JUMBETAI_SITE_H
 #define JUMBETAI_SITE_H
 
@@ -12,7 +12,19 @@ struct jumbetai_site {
     _Alignas(16) unsigned char room[];
 };
 
+/* A text of more bytes isn't left in the library beside the caller's copy. */
+enum { JUMBETAI_LARGE = 65536 };
+
+/* Opens the two files of a database, alone and locked, of which `locks` gets copies. Where it isn't
+ * done, nothing is open. */
+int jumbetai_open_files(const char *path, struct jumbetai_files *files, int locks[2]);
+
 /* Lets go of what `locks` has. */
 void jumbetai_unlock(int locks[2]);
+
+/* The text of so many bytes that lies in the room, of which `listed` is told; it is read by `read`.
+ */
+int jumbetai_copy(void *room, void (*read)(void *, uint32_t, struct jumbetai_piece *),
+                  uint64_t length, uint64_t listed, jumbetai_text *text);
 
 #endif
