@@ -9,6 +9,12 @@ pub struct Site {
 }
 
 #[repr(C)]
+pub struct Outbox {
+    _private: [u8; 0],
+    _not_shared: std::marker::PhantomData<*mut u8>,
+}
+
+#[repr(C)]
 #[derive(Default)]
 pub struct Counts {
     pub fresh: u64,
@@ -20,6 +26,14 @@ pub struct Text {
     pub bytes: *mut c_char,
     pub length: usize,
     pub events: u64,
+}
+
+#[repr(C)]
+#[derive(Default)]
+pub struct OrderCounts {
+    pub base: u64,
+    pub last: u64,
+    pub orders: u64,
 }
 
 extern "C" {
@@ -50,6 +64,23 @@ extern "C" {
         text: *mut Text,
     ) -> c_int;
     pub fn jumbetai_page(site: *mut Site, from: u64, text: *mut Text) -> c_int;
+    pub fn jumbetai_open_outbox(
+        path: *const c_char,
+        source: *const c_char,
+        base: u64,
+        cache_mib: u32,
+        outbox: *mut *mut Outbox,
+    ) -> c_int;
+    pub fn jumbetai_close_outbox(outbox: *mut Outbox);
+    pub fn jumbetai_order(
+        outbox: *mut Outbox,
+        action: c_int,
+        order: u64,
+        time: *const c_char,
+        event: *mut Text,
+    ) -> c_int;
+    pub fn jumbetai_rows(outbox: *mut Outbox, after: u64, text: *mut Text) -> c_int;
+    pub fn jumbetai_outbox_counts(outbox: *const Outbox, counts: *mut OrderCounts);
     pub fn jumbetai_free(text: *mut Text);
     pub fn jumbetai_words(status: c_int) -> *const c_char;
     pub fn jumbetai_version() -> *const c_char;

@@ -41,8 +41,39 @@
 //! # std::fs::remove_dir_all(&folder).unwrap();
 //! # Ok::<(), Error>(())
 //! ```
+//!
+//! An [`Outbox`] has the orders of a service in a database file, each written with the event that tells of it in one
+//! transaction, and hands those events on:
+//!
+//! ```
+//! # let folder = std::env::temp_dir().join(format!("jumbetai-orders-{}", std::process::id()));
+//! # std::fs::create_dir_all(&folder).unwrap();
+//! # let file = folder.join("orders.db");
+//! use jumbetai::{Error, Outbox, Question, Site};
+//!
+//! let mut orders = Outbox::open_as(&file, "/north", 0)?;
+//! let event = orders.place(7, "2024-02-29T10:00:00Z")?;
+//! assert!(event.contains(r#""subject":"7""#) && event.contains(r#""type":"order.placed""#));
+//! orders.ship(7, "2024-02-29T11:00:00Z")?;
+//! assert_eq!(orders.cancel(7, "2024-02-29T12:00:00Z"), Err(Error::WrongState));
+//!
+//! // Whoever hands the rows on keeps the number of the last one that was taken.
+//! let (mut site, mut mark) = (Site::new()?, 0);
+//! for page in orders.rows(mark) {
+//!     let page = page?;
+//!     site.take(page.json.as_bytes())?;
+//!     mark = page.last;
+//! }
+//! assert_eq!(mark, 2);
+//! assert_eq!(site.ask(Question::Kinds)?, "[\"order.placed\",1]\n[\"order.shipped\",1]\n");
+//! # std::fs::remove_dir_all(&folder).unwrap();
+//! # Ok::<(), Error>(())
+//! ```
 
 mod ffi;
+mod outbox;
+
+pub use outbox::{OrderCounts, Outbox, RowPages, Rows};
 
 use std::ffi::{c_int, CStr, CString};
 use std::fmt;
@@ -71,9 +102,9 @@ pub enum Error {
     SummaryVersion,
     /// They aren't byte for byte as a summary is written.
     SummaryNotCanonical,
-    /// The system gave no random bytes for [`Site::keep_views`] or [`Site::open`].
+    /// The system gave no random bytes for [`Site::keep_views`], [`Site::open`] or [`Outbox::open`].
     NoRandom,
-    /// Somebody else has the file open, or this process by another site.
+    /// Somebody else has the file open, or this process by another site or outbox.
     Busy,
     /// SQLite left a rollback journal beside the file, which it plays back when sqlite3 opens it.
     Journal,
@@ -87,13 +118,29 @@ pub enum Error {
     /// A page of the file isn't what SQLite writes.
     Damaged,
     /// The file has tables of others; or a statement was refused, as where the disk is full, and
-    /// nothing was taken.
+    /// nothing was taken, and no order written.
     Store,
-    /// The table isn't the one that is made here, or its rows aren't those that are left here.
+    /// The tables aren't those that are made here, or their rows aren't those that are left here.
     Foreign,
     /// The events that a `take` was given are in the file, all of them, and memory ran out before
     /// all were counted: the next `take` counts the rest, and until then answers are without them.
     Owed,
+    /// The order was placed before.
+    OrderExists,
+    /// The order was never placed.
+    NoOrder,
+    /// The order was shipped or cancelled before.
+    WrongState,
+    /// The last row of the outbox has the number 2^63-1, so that no further one has any.
+    Full,
+    /// The time is no moment of RFC 3339, as `2024-02-29T10:00:00Z`, or has more than 64 bytes.
+    BadTime,
+    /// The number of an order isn't from 1 to 2^63-1.
+    BadOrder,
+    /// The source isn't 1 to 1,024 bytes without control characters, or the base is above 2^63-1.
+    BadSource,
+    /// The outbox that is there has another source than was given.
+    AnotherSource,
     /// A status that this crate doesn't know: the library that is linked is a later one.
     Other(i32),
 }
@@ -118,6 +165,14 @@ impl Error {
             18 => Error::Store,
             19 => Error::Foreign,
             20 => Error::Owed,
+            21 => Error::OrderExists,
+            22 => Error::NoOrder,
+            23 => Error::WrongState,
+            24 => Error::Full,
+            25 => Error::BadTime,
+            26 => Error::BadOrder,
+            27 => Error::BadSource,
+            28 => Error::AnotherSource,
             other => Error::Other(other),
         }
     }
@@ -142,6 +197,14 @@ impl Error {
             Error::Store => 18,
             Error::Foreign => 19,
             Error::Owed => 20,
+            Error::OrderExists => 21,
+            Error::NoOrder => 22,
+            Error::WrongState => 23,
+            Error::Full => 24,
+            Error::BadTime => 25,
+            Error::BadOrder => 26,
+            Error::BadSource => 27,
+            Error::AnotherSource => 28,
             Error::Other(status) => status,
         }
     }
@@ -198,7 +261,7 @@ pub struct Taken {
     pub repeated: u64,
 }
 
-/// A page of events.
+/// A page of a site's events.
 #[derive(Clone, PartialEq, Eq, Debug)]
 pub struct Page {
     /// At which place of the whole list its first event stands, counted from 0.
@@ -246,8 +309,7 @@ impl Site {
     /// The same, with so many MiB of the file in memory at most; 0 for as many as it has, and 16
     /// more, at most 256.
     pub fn open_with_cache(path: impl AsRef<Path>, mib: u32) -> Result<Site, Error> {
-        let path = path.as_ref().as_os_str().as_bytes();
-        let path = CString::new(path).map_err(|_| Error::NoFile)?;
+        let path = path_text(path.as_ref())?;
         let mut raw = null_mut();
         // SAFETY: the path ends with a zero byte, and is lent for the call.
         match unsafe { ffi::jumbetai_open_file(path.as_ptr(), mib, &mut raw) } {
@@ -368,22 +430,8 @@ impl Site {
         &mut self,
         call: impl FnOnce(*mut ffi::Site, *mut ffi::Text) -> c_int,
     ) -> Result<(String, u64), Error> {
-        let mut text = ffi::Text {
-            bytes: null_mut(),
-            length: 0,
-            events: 0,
-        };
-        let status = call(self.raw.as_ptr(), &mut text);
-        if status != 0 {
-            return Err(Error::of(status));
-        }
-        // SAFETY: where a call is done, so many bytes lie there.
-        let bytes = unsafe { std::slice::from_raw_parts(text.bytes.cast::<u8>(), text.length) };
-        let copied = String::from_utf8_lossy(bytes).into_owned();
-        let events = text.events;
-        // SAFETY: the text was made by the call, and isn't used again.
-        unsafe { ffi::jumbetai_free(&mut text) };
-        Ok((copied, events))
+        let raw = self.raw.as_ptr();
+        text_of(|text| call(raw, text))
     }
 }
 
@@ -420,6 +468,31 @@ impl Iterator for Pages<'_> {
         self.from = page.as_ref().ok().map(|page| from + page.events);
         Some(page)
     }
+}
+
+/// A path with a zero byte behind.
+fn path_text(path: &Path) -> Result<CString, Error> {
+    CString::new(path.as_os_str().as_bytes()).map_err(|_| Error::NoFile)
+}
+
+/// The text that a call answers, and how many events it has.
+fn text_of(call: impl FnOnce(*mut ffi::Text) -> c_int) -> Result<(String, u64), Error> {
+    let mut text = ffi::Text {
+        bytes: null_mut(),
+        length: 0,
+        events: 0,
+    };
+    let status = call(&mut text);
+    if status != 0 {
+        return Err(Error::of(status));
+    }
+    // SAFETY: where a call is done, so many bytes lie there.
+    let bytes = unsafe { std::slice::from_raw_parts(text.bytes.cast::<u8>(), text.length) };
+    let copied = String::from_utf8_lossy(bytes).into_owned();
+    let events = text.events;
+    // SAFETY: the text was made by the call, and isn't used again.
+    unsafe { ffi::jumbetai_free(&mut text) };
+    Ok((copied, events))
 }
 
 /// The version of the library that is linked.

@@ -3,8 +3,11 @@
 //! JUMBETAI_BATCH names a file of a batch of events, as tools/make_batch.py makes one of 30.6 MB; without it a batch
 //! of 500 is made here. JUMBETAI_SITE names the program `site`, whose answers are then compared byte for byte.
 
+mod common;
+
+use common::{printed, program, Folder};
 use jumbetai::{Error, Page, Question, Site, Taken};
-use std::path::{Path, PathBuf};
+use std::path::Path;
 use std::process::Command;
 use std::sync::{Arc, Mutex};
 
@@ -27,29 +30,6 @@ fn event(number: u64) -> String {
 fn batch(numbers: impl IntoIterator<Item = u64>) -> Vec<u8> {
     let events: Vec<String> = numbers.into_iter().map(event).collect();
     format!("[{}]", events.join(",")).into_bytes()
-}
-
-/// A folder of its own, which goes away in the end.
-struct Folder {
-    path: PathBuf,
-}
-
-impl Folder {
-    fn new(name: &str) -> Folder {
-        let path = std::env::temp_dir().join(format!("jumbetai-{}-{name}", std::process::id()));
-        std::fs::create_dir_all(&path).unwrap();
-        Folder { path }
-    }
-
-    fn file(&self, name: &str) -> PathBuf {
-        self.path.join(name)
-    }
-}
-
-impl Drop for Folder {
-    fn drop(&mut self) {
-        let _gone = std::fs::remove_dir_all(&self.path);
-    }
 }
 
 /// All that a site says.
@@ -362,6 +342,14 @@ fn each_error_has_its_status_and_its_words() {
         (18, Error::Store),
         (19, Error::Foreign),
         (20, Error::Owed),
+        (21, Error::OrderExists),
+        (22, Error::NoOrder),
+        (23, Error::WrongState),
+        (24, Error::Full),
+        (25, Error::BadTime),
+        (26, Error::BadOrder),
+        (27, Error::BadSource),
+        (28, Error::AnotherSource),
     ];
     let unknown = Error::Other(1_000_000).to_string();
     let mut words: Vec<String> = all.iter().map(|(_, it)| it.to_string()).collect();
@@ -401,25 +389,9 @@ fn the_order_in_which_events_come_changes_no_answer() {
     }
 }
 
-/// What the program prints for these words.
-fn printed(program: &Path, folder: &Path, words: &[&str]) -> String {
-    let out = Command::new(program)
-        .args(words)
-        .current_dir(folder)
-        .output()
-        .unwrap();
-    assert!(
-        out.status.success(),
-        "{words:?}: {}",
-        String::from_utf8_lossy(&out.stderr)
-    );
-    String::from_utf8(out.stdout).unwrap()
-}
-
 #[test]
 fn answers_are_those_of_the_program() {
-    let Some(program) = std::env::var_os("JUMBETAI_SITE").map(PathBuf::from) else {
-        eprintln!("skipped: JUMBETAI_SITE names no program");
+    let Some(program) = program() else {
         return;
     };
     let kept = Folder::new("program");
@@ -448,8 +420,7 @@ fn answers_are_those_of_the_program() {
 
 #[test]
 fn the_program_reads_what_a_site_leaves() {
-    let Some(program) = std::env::var_os("JUMBETAI_SITE").map(PathBuf::from) else {
-        eprintln!("skipped: JUMBETAI_SITE names no program");
+    let Some(program) = program() else {
         return;
     };
     let kept = Folder::new("left");
