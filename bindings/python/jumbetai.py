@@ -21,9 +21,28 @@ system's loader looks.
 Site(path) is over a database file: what it takes is in the file, and synced, before it is counted.
 Once it is closed the file is opened by Site(path), by the program `site` and by sqlite3.
 
+Outbox(path) has the orders of a service in a database file, each written with the event that tells of it in one
+transaction, and hands those events on:
+
+    >>> import tempfile
+    >>> folder = tempfile.TemporaryDirectory()
+    >>> with Outbox(folder.name + "/orders.db", source="/north") as orders:
+    ...     event = orders.place(7, "2024-02-29T10:00:00Z")
+    ...     event = orders.ship(7, "2024-02-29T11:00:00Z")
+    ...     mark = 0
+    ...     for page in orders.rows(after=mark):
+    ...         south.take(page.json)
+    ...         mark = page.last
+    Taken(fresh=2, repeated=0)
+    >>> mark
+    2
+    >>> south.ask("kinds")
+    b'["order.placed",1]\\n["order.shipped",1]\\n["sold",1]\\n'
+    >>> folder.cleanup()
+
 Sites that took the same events, in whatever order and however often, give the same bytes for every answer. That is
-proved of the library; this module, which calls it through C, is only tested. Threads may share a site: a call on it waits
-for the one before, while other threads of Python run.
+proved of the library; this module, which calls it through C, is only tested. Threads may share a site or an outbox: a
+call on it waits for the one before, while other threads of Python run.
 """
 import ctypes
 import enum
@@ -31,7 +50,7 @@ import os
 import threading
 from collections import namedtuple
 
-__all__ = ["PAGE", "QUESTIONS", "Error", "Page", "Site", "Status", "Taken", "version"]
+__all__ = ["PAGE", "QUESTIONS", "Error", "OrderCounts", "Outbox", "Page", "Rows", "Site", "Status", "Taken", "version"]
 
 # The questions, each at its number less one.
 QUESTIONS = ("cover", "shown", "conflicts", "latest", "kinds", "days", "gaps")
@@ -42,6 +61,11 @@ PAGE = 100
 Taken = namedtuple("Taken", "fresh repeated")
 # At which place of the whole list its first event stands, how many it has, and the events as a batch.
 Page = namedtuple("Page", "start events json")
+# The number of its last row, behind which the next page begins, how many rows it has, and their events as a batch.
+Rows = namedtuple("Rows", "last events json")
+# The number before that of the first row, that of the last, which is the base where there is none, and how many orders
+# there are, whatever became of them.
+OrderCounts = namedtuple("OrderCounts", "base last orders")
 
 
 class Status(enum.IntEnum):
@@ -55,19 +79,31 @@ class Status(enum.IntEnum):
     SUMMARY_VERSION = 7  # of a version that isn't known
     SUMMARY_NOT_CANONICAL = 8  # not byte for byte as a summary is written
     NO_RANDOM = 10  # the system gave no random bytes
-    BUSY = 12  # somebody else has the file open, or this process by another site
+    BUSY = 12  # somebody else has the file open, or this process by another site or outbox
     JOURNAL = 13  # SQLite left a rollback journal: open the file once with sqlite3
     NO_FILE = 14  # a folder, a device, a file that has a second name, a log that is a link
     SYSTEM = 15  # the system refuses to open, to lock, to read or to write a file
     NO_DATABASE = 16  # no database of SQLite, or one with what isn't read here
     DAMAGED = 17  # a page of the file isn't what SQLite writes
     STORE = 18  # it has tables of others; or a statement was refused, and nothing taken: a full disk
-    FOREIGN = 19  # the table isn't the one that is made here, or its rows those that are left here
+    FOREIGN = 19  # the tables aren't those that are made here, or their rows those that are left here
     OWED = 20  # all are in the file, and memory ran out: the next `take` counts the rest
+    ORDER_EXISTS = 21  # the order was placed before
+    NO_ORDER = 22  # the order was never placed
+    WRONG_STATE = 23  # the order was shipped or cancelled before
+    FULL = 24  # the last row has the number 2**63 - 1
+    BAD_TIME = 25  # no moment of RFC 3339, or one of more than 64 bytes
+    BAD_ORDER = 26  # an order has a number from 1 to 2**63 - 1
+    BAD_SOURCE = 27  # not 1 to 1,024 bytes without control characters; or the base isn't 0 to 2**63 - 1
+    ANOTHER_SOURCE = 28  # the outbox that is there has another source than was given
 
 
 class _Counts(ctypes.Structure):
     _fields_ = [("fresh", ctypes.c_uint64), ("repeated", ctypes.c_uint64)]
+
+
+class _OrderCounts(ctypes.Structure):
+    _fields_ = [(name, ctypes.c_uint64) for name in OrderCounts._fields]
 
 
 class _Text(ctypes.Structure):
@@ -78,20 +114,26 @@ def _loaded():
     name = "libjumbetai.so"
     beside = os.path.join(os.path.dirname(os.path.abspath(__file__)), name)
     library = ctypes.CDLL(os.environ.get("JUMBETAI_LIB") or (beside if os.path.exists(beside) else name))
-    site, text, counts = ctypes.c_void_p, ctypes.POINTER(_Text), ctypes.POINTER(_Counts)
+    raw, text, counts = ctypes.c_void_p, ctypes.POINTER(_Text), ctypes.POINTER(_Counts)
     given, size, number, status = ctypes.c_char_p, ctypes.c_size_t, ctypes.c_uint64, ctypes.c_int
+    made, order_counts = ctypes.POINTER(raw), ctypes.POINTER(_OrderCounts)
     calls = {
-        "open": (site, []),
-        "open_file": (status, [given, ctypes.c_uint32, ctypes.POINTER(site)]),
-        "close": (None, [site]),
-        "count": (number, [site]),
-        "take": (status, [site, given, size, counts]),
-        "check": (status, [site, given, size, text]),
-        "keep_views": (status, [site]),
-        "ask": (status, [site, status, text]),
-        "summary": (status, [site, text]),
-        "delta": (status, [site, given, size, number, text]),
-        "page": (status, [site, number, text]),
+        "open": (raw, []),
+        "open_file": (status, [given, ctypes.c_uint32, made]),
+        "close": (None, [raw]),
+        "count": (number, [raw]),
+        "take": (status, [raw, given, size, counts]),
+        "check": (status, [raw, given, size, text]),
+        "keep_views": (status, [raw]),
+        "ask": (status, [raw, status, text]),
+        "summary": (status, [raw, text]),
+        "delta": (status, [raw, given, size, number, text]),
+        "page": (status, [raw, number, text]),
+        "open_outbox": (status, [given, given, number, ctypes.c_uint32, made]),
+        "close_outbox": (None, [raw]),
+        "order": (status, [raw, status, number, given, text]),
+        "rows": (status, [raw, number, text]),
+        "outbox_counts": (None, [raw, order_counts]),
         "free": (None, [text]),
         "words": (ctypes.c_char_p, [status]),
         "version": (ctypes.c_char_p, []),
@@ -118,7 +160,54 @@ def version():
     return _library.jumbetai_version().decode()
 
 
-class Site:
+class _Open:
+    """What is opened and closed: one call at a time."""
+
+    def __init__(self, opened, close, owner):
+        self._lock = threading.Lock()
+        self._raw, self._close, self._owner = opened, close, owner
+        if not opened:
+            raise MemoryError("jumbetai")
+
+    def close(self):
+        """Gives its memory back, and its file. No other call is possible then."""
+        with self._lock:
+            raw, self._raw = self._raw, None
+            if raw and self._is_ours():
+                self._close(raw)
+
+    def __enter__(self):
+        return self
+
+    def __exit__(self, *_):
+        self.close()
+
+    def __del__(self):
+        if getattr(self, "_raw", None):
+            self.close()
+
+    def _is_ours(self):
+        # What two processes wrote to one file by their copies would garble it.
+        return self._owner is None or self._owner == os.getpid()
+
+    def _call(self, function, *arguments):
+        with self._lock:
+            if not self._raw:
+                raise ValueError(f"the {type(self).__name__.lower()} is closed")
+            if not self._is_ours():
+                raise ValueError(f"the {type(self).__name__.lower()} is over a file, and another process's")
+            return function(self._raw, *arguments)
+
+    def _text(self, call, *arguments):
+        text = _Text()
+        _judge(self._call(call, *arguments, ctypes.byref(text)))
+        try:
+            return ctypes.string_at(text.bytes, text.length), text.events
+        finally:
+            _library.jumbetai_free(ctypes.byref(text))
+
+
+class Site(_Open):
     """A site in memory, without events; or, by a path, one over a database file, which is made where
     there is none. It is closed by `close`, by `with`, or when nothing refers to it.
 
@@ -133,28 +222,11 @@ class Site:
     most 256; beside the events, which all are. To open takes time in proportion to the events."""
 
     def __init__(self, path=None, cache_mib=0):
-        self._lock = threading.Lock()
-        self._owner = None if path is None else os.getpid()
-        self._site = _library.jumbetai_open() if path is None else _opened(path, cache_mib)
-        if not self._site:
-            raise MemoryError("jumbetai")
-
-    def close(self):
-        """Gives the site's memory back, and its file. No other call is possible then."""
-        with self._lock:
-            site, self._site = self._site, None
-            if site and self._is_ours():
-                _library.jumbetai_close(site)
-
-    def __enter__(self):
-        return self
-
-    def __exit__(self, *_):
-        self.close()
-
-    def __del__(self):
-        if getattr(self, "_site", None):
-            self.close()
+        if path is None:
+            opened, owner = _library.jumbetai_open(), None
+        else:
+            opened, owner = _opened(_library.jumbetai_open_file, path, cache_mib), os.getpid()
+        super().__init__(opened, _library.jumbetai_close, owner)
 
     def __len__(self):
         """How many events the site has, each counted once."""
@@ -206,34 +278,90 @@ class Site:
             yield Page(start, events, json)
             start += events
 
-    def _text(self, call, *arguments):
-        text = _Text()
-        _judge(self._call(call, *arguments, ctypes.byref(text)))
-        try:
-            return ctypes.string_at(text.bytes, text.length), text.events
-        finally:
-            _library.jumbetai_free(ctypes.byref(text))
 
-    def _is_ours(self):
-        # What two processes wrote to one file by their copies of a site would garble it.
-        return self._owner is None or self._owner == os.getpid()
+class Outbox(_Open):
+    """The outbox of a database file, which is made where there is none: the orders of a service, and a row for whatever
+    was done with one. It is closed by `close`, by `with`, or when nothing refers to it.
 
-    def _call(self, function, *arguments):
-        with self._lock:
-            if not self._site:
-                raise ValueError("the site is closed")
-            if not self._is_ours():
-                raise ValueError("the site is over a file, and another process's")
-            return function(self._site, *arguments)
+    Each row is an event of the source, as the program `site` prints it. `source` is a text of 1 to 1,024 bytes, or None
+    for that of the outbox that is there, and "/orders" for a new one; one that is there has to have the source that is
+    given (Status.ANOTHER_SOURCE). Rows are numbered without a gap, those of a new outbox from `base` + 1 on.
+
+    An order is placed, and then shipped or cancelled. The order and its row are written in one transaction and synced:
+    once a call is done no crash takes them back. Where it isn't, the outbox has what it had; a crash after Status.STORE
+    or want of memory (MemoryError) may leave both all the same.
+
+    Until the outbox is closed the file is busy for everybody else, as that of a site is, and `cache_mib` is what it is
+    there; the events of a site may lie in the same file. A process made by os.fork can't use the outbox: it raises
+    ValueError there. To open takes time and memory in proportion to the rows, which are all tested."""
+
+    def __init__(self, path, source=None, base=0, cache_mib=0):
+        if source is not None:
+            source = _text_of(source, Status.BAD_SOURCE)
+        base = _number(base, Status.BAD_SOURCE)
+        opened = _opened(_library.jumbetai_open_outbox, path, source, base, cache_mib)
+        super().__init__(opened, _library.jumbetai_close_outbox, os.getpid())
+
+    def place(self, order, time):
+        """Places an order of this number, 1 to 2**63 - 1, at this moment, as "2024-02-29T10:00:00Z". Answers the line of
+        its event, with its line end."""
+        return self._order(1, order, time)
+
+    def ship(self, order, time):
+        """Ships an order that was placed."""
+        return self._order(2, order, time)
+
+    def cancel(self, order, time):
+        """Cancels an order that was placed."""
+        return self._order(3, order, time)
+
+    def rows(self, after=0):
+        """The rows with a number above this one, a page of Rows at a time. Who hands them on keeps the number of the
+        last one that was taken; from any number before, rows come again, which a site only counts as repeated."""
+        while True:
+            json, events = self._text(_library.jumbetai_rows, min(max(after, 0), _MOST))
+            if not events:
+                return
+            after = max(after, self.counts().base) + events
+            yield Rows(after, events, json)
+
+    def counts(self):
+        """How many rows and orders there are, as OrderCounts."""
+        counts = _OrderCounts()
+        self._call(_library.jumbetai_outbox_counts, ctypes.byref(counts))
+        return OrderCounts(counts.base, counts.last, counts.orders)
+
+    def _order(self, action, order, time):
+        order, time = _number(order, Status.BAD_ORDER), _text_of(time, Status.BAD_TIME)
+        return self._text(_library.jumbetai_order, action, order, time)[0]
 
 
-def _opened(path, cache_mib):
+# The largest number that a call takes.
+_MOST = (1 << 64) - 1
+
+
+def _number(given, fault):
+    """A number as C has it, which would cut off what doesn't fit."""
+    if not 0 <= given <= _MOST:
+        raise Error(fault)
+    return given
+
+
+def _text_of(given, fault):
+    """A text as C has it, which would end at a zero byte."""
+    given = _bytes(given)
+    if b"\0" in given:
+        raise Error(fault)
+    return given
+
+
+def _opened(call, path, *more):
     name, made = os.fsencode(path), ctypes.c_void_p()
     if b"\0" in name:
         raise ValueError("embedded null byte")
-    if not 0 <= cache_mib < 1 << 32:
-        raise ValueError(f"no such cache: {cache_mib!r}")
-    _judge(_library.jumbetai_open_file(name, cache_mib, ctypes.byref(made)))
+    if not 0 <= more[-1] < 1 << 32:
+        raise ValueError(f"no such cache: {more[-1]!r}")
+    _judge(call(name, *more, ctypes.byref(made)))
     return made.value
 
 

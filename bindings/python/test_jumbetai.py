@@ -8,6 +8,7 @@ import doctest
 import json
 import os
 import resource
+import shutil
 import socket
 import subprocess
 import sys
@@ -19,7 +20,7 @@ import urllib.error
 import urllib.request
 
 import jumbetai
-from jumbetai import QUESTIONS, Error, Page, Site, Status, Taken
+from jumbetai import QUESTIONS, Error, OrderCounts, Outbox, Page, Site, Status, Taken
 
 
 HERE = os.path.dirname(os.path.abspath(__file__))
@@ -303,6 +304,220 @@ class Files(unittest.TestCase):
         for word, answer in (("kinds", kinds), ("summary", summary)):
             found = subprocess.run([program, word, "--db", self.file], capture_output=True, check=True)
             self.assertTrue(found.stdout == answer, word)
+
+
+NOON = "2024-02-29T12:00:00Z"
+LARGEST = 2**63 - 1
+ACTIONS = {"place": Outbox.place, "ship": Outbox.ship, "cancel": Outbox.cancel}
+OPENING_OUTBOX = OPENING.replace("len(jumbetai.Site(sys.argv[1]))", "*jumbetai.Outbox(sys.argv[1]).counts()")
+PLACING = """
+import jumbetai, os, sys
+outbox = jumbetai.Outbox(sys.argv[1])
+for order in range(1, 51):
+    outbox.place(order, "2024-02-29T12:00:00Z")
+os.abort()
+"""
+
+
+def row(number, order, kind, source="/orders"):
+    """The event of a row, without a line end."""
+    digits = f"{number:020d}"
+    made = {"id": digits, "sequence": digits, "source": source, "specversion": "1.0", "subject": str(order)}
+    return json.dumps({**made, "time": NOON, "type": f"order.{kind}"}, separators=(",", ":")).encode()
+
+
+class Outboxes(unittest.TestCase):
+    def setUp(self):
+        folder = tempfile.TemporaryDirectory()
+        self.addCleanup(folder.cleanup)
+        self.folder, self.file = folder.name, os.path.join(folder.name, "orders.db")
+
+    def is_refused(self, status, call, *arguments):
+        with self.assertRaises(Error) as caught:
+            call(*arguments)
+        self.assertIs(caught.exception.status, status, arguments)
+
+    def test_orders_tell_their_events(self):
+        with Outbox(self.file) as outbox:
+            self.assertEqual(outbox.counts(), OrderCounts(0, 0, 0))
+            self.assertEqual(list(outbox.rows()), [])
+            self.assertEqual(outbox.place(7, NOON), row(1, 7, "placed") + b"\n")
+            self.assertEqual(outbox.place(LARGEST, NOON.encode()), row(2, LARGEST, "placed") + b"\n")
+            self.assertEqual(outbox.ship(7, NOON), row(3, 7, "shipped") + b"\n")
+            self.assertEqual(outbox.cancel(LARGEST, NOON), row(4, LARGEST, "cancelled") + b"\n")
+            self.assertEqual(outbox.counts(), OrderCounts(0, 4, 2))
+            last = b"[" + row(3, 7, "shipped") + b"," + row(4, LARGEST, "cancelled") + b"]\n"
+            self.assertEqual(list(outbox.rows(after=2)), [(4, 2, last)])
+        with self.assertRaises(ValueError):
+            outbox.counts()
+        with Outbox(path=os.fsencode(self.file), cache_mib=1) as outbox:
+            self.assertEqual(outbox.counts(), OrderCounts(0, 4, 2))
+
+    def test_what_is_refused_leaves_the_outbox(self):
+        with Outbox(self.file) as outbox:
+            outbox.place(7, NOON)
+            outbox.place(8, NOON)
+            outbox.ship(7, NOON)
+            before, rows = outbox.counts(), list(outbox.rows())
+            self.is_refused(Status.ORDER_EXISTS, outbox.place, 8, NOON)
+            self.is_refused(Status.NO_ORDER, outbox.ship, 9, NOON)
+            self.is_refused(Status.WRONG_STATE, outbox.cancel, 7, NOON)
+            for order in (0, -1, LARGEST + 1, 2**64 - 1, 2**64 + 8):
+                self.is_refused(Status.BAD_ORDER, outbox.ship, order, NOON)
+            for moment in ("", "noon", "2024-02-30T12:00:00Z", f"{NOON}\0", "2024-02-29T12:00:00." + "0" * 45 + "Z"):
+                self.is_refused(Status.BAD_TIME, outbox.ship, 8, moment)
+            with self.assertRaises(TypeError):
+                outbox.ship("8", NOON)
+            self.assertEqual((outbox.counts(), list(outbox.rows())), (before, rows))
+            outbox.ship(8, NOON)
+
+    def test_rows_come_in_turn_from_any_number_on(self):
+        with Outbox(self.file, "/west", 1000) as outbox, Site() as site:
+            for order in range(1, 251):
+                outbox.place(order, NOON)
+            pages = list(outbox.rows())
+            self.assertEqual([(it.last, it.events) for it in pages], [(1100, 100), (1200, 100), (1250, 50)])
+            for after in (-1, 1, 1000):
+                self.assertEqual(list(outbox.rows(after)), pages)
+            self.assertEqual(list(outbox.rows(1200)), pages[2:])
+            for after in (1250, 2**64 - 1, 2**64):
+                self.assertEqual(list(outbox.rows(after)), [])
+            self.assertEqual([site.take(it.json).fresh for it in pages], [100, 100, 50])
+            self.assertEqual([site.take(it.json).fresh for it in outbox.rows(1100)], [0, 0])
+            self.assertEqual(site.ask("cover"), b'{"sources":{"/west":[[1001,1250]]},"version":1}\n')
+
+    def test_a_file_keeps_its_source_and_its_base(self):
+        for source in ("", "a\0b", "a\7b", b"\xff", "a" * 1025):
+            self.is_refused(Status.BAD_SOURCE, Outbox, self.file, source)
+        for base in (-1, 2**63, 2**64):
+            self.is_refused(Status.BAD_SOURCE, Outbox, self.file, "/west", base)
+        with Outbox(self.file, "\u00e9" * 512, LARGEST - 1) as outbox:
+            self.assertEqual(json.loads(outbox.place(1, NOON))["source"], "\u00e9" * 512)
+            self.is_refused(Status.FULL, outbox.place, 2, NOON)
+        self.is_refused(Status.ANOTHER_SOURCE, Outbox, self.file, "/orders")
+        with Outbox(self.file, base=3) as outbox:
+            self.assertEqual(outbox.counts(), OrderCounts(LARGEST - 1, LARGEST, 1))
+            self.assertEqual([it.last for it in outbox.rows()], [LARGEST])
+
+    def test_a_file_is_busy_while_it_is_open(self):
+        with Outbox(self.file) as outbox:
+            outbox.place(1, NOON)
+            self.assertEqual(elsewhere(OPENING_OUTBOX, self.file).split()[0], "BUSY")
+            self.assertEqual(elsewhere(OPENING, self.file).split()[0], "BUSY")
+            self.is_refused(Status.BUSY, Outbox, self.file)
+            outbox.place(2, NOON)
+        self.assertEqual(elsewhere(OPENING_OUTBOX, self.file), "done 0 2 2")
+
+    def test_an_aborted_process_loses_nothing(self):
+        self.assertEqual(elsewhere(PLACING, self.file), "")
+        with Outbox(self.file) as outbox:
+            self.assertEqual(outbox.counts(), OrderCounts(0, 50, 50))
+
+    def test_what_is_no_database_is_refused(self):
+        for path in (f"{self.file}\0", b"a\0b"):
+            with self.assertRaises(ValueError):
+                Outbox(path)
+        for cache in (-1, 1 << 32):
+            with self.assertRaises(ValueError):
+                Outbox(self.file, cache_mib=cache)
+        self.assertEqual(os.listdir(self.folder), [])
+        text = os.path.join(self.folder, "text.db")
+        with open(text, "wb") as out:
+            out.write(b"a" * 200)
+        self.is_refused(Status.NO_DATABASE, Outbox, text)
+        self.is_refused(Status.NO_FILE, Outbox, self.folder)
+        self.is_refused(Status.SYSTEM, Outbox, f"{self.folder}/none/orders.db")
+
+    def test_a_forked_process_leaves_the_file(self):
+        with Outbox(self.file) as outbox:
+            outbox.place(1, NOON)
+            child = os.fork()
+            if child == 0:
+                ended = 1
+                try:
+                    outbox.place(2, NOON)
+                except ValueError:
+                    outbox.close()
+                    ended = 0
+                finally:
+                    os._exit(ended)
+            self.assertEqual(os.waitpid(child, 0)[1], 0)
+            outbox.place(3, NOON)
+        with Outbox(self.file) as outbox:
+            self.assertEqual(outbox.counts(), OrderCounts(0, 2, 2))
+
+    def test_a_full_disk_takes_no_order(self):
+        with Outbox(self.file) as outbox:
+            outbox.place(1, NOON)
+            before, limits = list(outbox.rows()), resource.getrlimit(resource.RLIMIT_FSIZE)
+            largest = os.path.getsize(f"{self.file}-wal")
+            resource.setrlimit(resource.RLIMIT_FSIZE, (largest, limits[1]))
+            try:
+                self.is_refused(Status.STORE, outbox.place, 2, NOON)
+            finally:
+                resource.setrlimit(resource.RLIMIT_FSIZE, limits)
+            self.assertEqual((list(outbox.rows()), outbox.counts()), (before, OrderCounts(0, 1, 1)))
+            outbox.place(2, NOON)
+        with Outbox(self.file) as outbox:
+            self.assertEqual(outbox.counts(), OrderCounts(0, 2, 2))
+
+    def test_threads_share_an_outbox(self):
+        with Outbox(self.file) as outbox:
+
+            def work(first):
+                for order in range(first, first + 5):
+                    outbox.place(order, NOON)
+
+            threads = [threading.Thread(target=work, args=(1 + 5 * it,)) for it in range(4)]
+            for it in threads:
+                it.start()
+            for it in threads:
+                it.join()
+            self.assertEqual(outbox.counts(), OrderCounts(0, 20, 20))
+
+    def test_what_lies_beside_an_outbox_stays(self):
+        with Site(self.file) as site:
+            site.take(FEW)
+            before = said(site)
+        with Outbox(self.file, "/north") as outbox:
+            outbox.place(1, NOON)
+            rows = list(outbox.rows())
+        with Site(self.file) as site:
+            self.assertEqual(said(site), before)
+            self.assertEqual(site.take(rows[0].json), Taken(1, 0))
+        with Outbox(self.file, "/north") as outbox:
+            self.assertEqual(list(outbox.rows()), rows)
+
+    def test_a_file_goes_from_the_program_to_an_outbox_and_back(self):
+        program = os.environ.get("JUMBETAI_SITE")
+        if not program:
+            self.skipTest("JUMBETAI_SITE names no program")
+
+        def run(*words):
+            return subprocess.run([program, *words], cwd=self.folder, capture_output=True, check=True).stdout
+
+        with Outbox(self.file, '"\\\u00e9', 40) as outbox:
+            run("service", "--db", "theirs.db", "--source", '"\\\u00e9', "--base", "40")
+            for action, order in (("place", 7), ("place", LARGEST), ("ship", 7)):
+                told = run("order", "--db", "theirs.db", "--source", '"\\\u00e9', "--at", NOON, action, str(order))
+                self.assertEqual(ACTIONS[action](outbox, order, NOON), told, (action, order))
+            held = subprocess.run([program, "service", "--db", self.file], capture_output=True, check=False)
+            self.assertEqual((held.returncode, held.stdout), (1, b""))
+            rows = list(outbox.rows())
+        for file in (self.file, "theirs.db"):
+            self.assertEqual(run("relay", "--db", file, "--after", "0"), rows[0].json, file)
+            line = json.loads(run("service", "--db", file))
+            self.assertEqual(line, {"base": 40, "orders": 2, "rows": 3, "source": '"\\\u00e9'}, file)
+        with Outbox(os.path.join(self.folder, "theirs.db")) as outbox:
+            self.assertEqual((outbox.counts(), list(outbox.rows())), (OrderCounts(40, 43, 2), rows))
+            self.is_refused(Status.WRONG_STATE, outbox.cancel, 7, NOON)
+            told = run("order", "--db", self.file, "--source", '"\\\u00e9', "--at", NOON, "cancel", str(LARGEST))
+            self.assertEqual(outbox.cancel(LARGEST, NOON), told)
+            last = list(outbox.rows())
+        self.assertEqual(run("relay", "--db", self.file, "--after", "0"), last[0].json)
+        copy = os.path.join(self.folder, "copy.db")
+        shutil.copy(os.path.join(self.folder, "theirs.db"), copy)
+        self.assertEqual(json.loads(run("service", "--db", copy))["rows"], 4)
 
 
 class Services(unittest.TestCase):
