@@ -1,12 +1,14 @@
 #!/usr/bin/env python3
 """Makes libjumbetai.a and tries it as its users do: from C, under valgrind too, from Rust and from Python.
 
-    tools/try_bindings.py [--after-ci] [--program FILE] [--library FOLDER] [--events N]
+    tools/try_bindings.py [--after-ci] [--program FILE] [--library FOLDER] [--events N] [--orders N]
 
 From C the answers about examples/orders.json have to be those that were worked out by hand. From Rust and Python a
 batch of 120,000 events, 30.6 MB, is taken, also page by page in another order, and all answers have to be the same,
-and those of the program, byte for byte; from C it is one of 2,000. With --events the batch has N events. With --library
-the library of that folder is tried, and none is made. It also looks whether the version is the same wherever it stands.
+and those of the program, byte for byte; from C it is one of 2,000. With --events the batch has N events. In an outbox 300
+orders are placed, or N by --orders, and what became of them has to be handed on to a site, each once; the events, the
+rows and the files have to be those of the program. With --library the library of that folder is tried, and none is made.
+It also looks whether the version is the same wherever it stands.
 What is left out since a tool isn't there is told. The last line is 'N of M tries of the library were right'.
 """
 import argparse
@@ -26,6 +28,16 @@ import version  # noqa: E402
 
 QUESTIONS = ("cover", "shown", "conflicts", "latest", "kinds", "days", "gaps")
 STRICT = ["-std=c11", "-Wall", "-Wextra", "-Werror", "-pedantic", "-O1", "-g"]
+# The programs in C, and with what else each is linked.
+PROGRAMS = {
+    "bindings/c/test_site.c": [],
+    "bindings/c/test_file.c": [],
+    "bindings/c/test_outbox.c": [],
+    "bindings/c/try_want.c": [],
+    "bindings/c/try_want_outbox.c": ["-Wl,--wrap=malloc,--wrap=realloc"],
+    "examples/c/ask.c": [],
+    "examples/c/orders.c": [],
+}
 VALGRIND = ["valgrind", "-q", "--error-exitcode=9", "--leak-check=full"]
 DONE = re.compile(rb"(\d+) passed, 0 failed|([1-9]\d*) requests refused")
 
@@ -74,16 +86,17 @@ def made_batch(tries, name, events):
 
 def try_c(tries):
     """The programs in C, each linked as a user links it, and once more under valgrind."""
-    for source in ("bindings/c/test_site.c", "bindings/c/test_file.c", "bindings/c/try_want.c", "examples/c/ask.c"):
+    for source, more in PROGRAMS.items():
         name = os.path.basename(source).removesuffix(".c")
-        words = [library.compiler(), *STRICT, "-Ilibrary", f"{TOP}/{source}", "-Llibrary", "-ljumbetai", "-o", name]
-        if tries.passes(f"{source} is compiled", words) and name != "ask":
+        words = [library.compiler(), *STRICT, "-Ilibrary", f"{TOP}/{source}", "-Llibrary", "-ljumbetai", *more, "-o", name]
+        if tries.passes(f"{source} is compiled", words) and not source.startswith("examples/"):
             tries.passes(source, [f"./{name}"], DONE)
     if tries.has("c++", "the header in C++"):
         tries.passes("the header in C++", ["c++", "-x", "c++", "-Wall", "-Wextra", "-Werror", "-fsyntax-only", "library/jumbetai.h"])
     batch = made_batch(tries, "small.json", 2000)
     if tries.has("valgrind", "C under valgrind"):
-        for words in (["./test_site"], ["./test_file"], ["./try_want"], ["./ask", "delta", batch]):
+        tested = [[f"./{os.path.basename(it).removesuffix('.c')}"] for it in PROGRAMS if not it.startswith("examples/")]
+        for words in (*tested, ["./ask", "delta", batch]):
             tries.passes(f"{words[0]} under valgrind", [*VALGRIND, *words])
     worked = worked_answers()
     for question in QUESTIONS:
@@ -105,6 +118,51 @@ def try_c(tries):
         tries.judge(f"C: {word}", got == want and got[0] == 0, f"{got[1][:200]!r}, not {want[1][:200]!r}")
 
 
+def try_orders(tries):
+    """The example in C that writes orders and hands their rows on, beside the program where it is there."""
+    done = ("place 7 10", "place 8 11", "ship 7 12", "cancel 8 13", "ship 8 14", "place 0 15", "place 9 25")
+    event = '{{"id":"{0:020d}","sequence":"{0:020d}","source":"/orders","specversion":"1.0","subject":"{1}","time":"{2}","type":"order.{3}"}}\n'
+    past, number = {"place": "placed", "ship": "shipped", "cancel": "cancelled"}, 0
+    for line in done:
+        action, order, hour = line.split()
+        time, number = f"2024-02-29T{hour}:00:00Z", number + 1
+        status, out = tries.run(["./orders", action, order, time, "orders.db"])
+        if number <= 4:
+            tries.judge(f"C: {line}", (status, out.decode()) == (0, event.format(number, order, time, past[action])), out)
+        else:
+            tries.judge(f"C: {line} is refused", status == 1 and out.startswith(b"orders: "), out)
+        if tries.program:
+            other = tries.run([tries.program, "order", "--db", "theirs.db", "--at", time, action, order])
+            tries.judge(f"C: {line}, beside the program", status == (other[0] > 0) and (status > 0 or out == other[1]), other)
+    for mark in (0, 4, 1):
+        status, out = tries.run(["./orders", "relay", str(mark), "orders.db", "took.db"])
+        tries.judge(f"C: rows behind {mark}", (status, out) == (0, b"4\n"), out)
+    if tries.program:
+        said = [tries.run([tries.program, *it, "--db", db]) for it in (["relay", "--after", "0"], ["service"]) for db in ("orders.db", "theirs.db")]
+        tries.judge("C: the rows of the program", said[0] == said[1] and said[0][0] == 0, said[0][1])
+        tries.judge("C: the service of the program", said[2] == said[3] == (0, b'{"base":0,"orders":2,"rows":4,"source":"/orders"}\n'), said[2][1])
+        with open(f"{tries.folder}/rows.json", "wb") as out:
+            out.write(said[0][1])
+        kinds = [tries.run([tries.program, "cover", *it]) for it in (["--db", "took.db"], ["rows.json"])]
+        tries.judge("C: the site has each row", kinds[0] == kinds[1] and kinds[0][0] == 0, kinds[0][1])
+
+
+def try_placing(tries, orders):
+    """The example in Rust, which places and ships so many orders and hands their rows to a site."""
+    said = re.compile(rb"(?:[a-z ]+: \d+ us\n){6}\Z")
+    status, out = tries.run(["cargo/debug/examples/orders", "placed.db", "handed.db", str(orders)])
+    tries.judge("Rust: examples/orders.rs", status == 0 and said.search(out) is not None, out.decode(errors="replace"))
+    if orders > 1000:
+        print(out.decode(), end="")
+    if tries.program:
+        status, out = tries.run([tries.program, "service", "--db", "placed.db"])
+        line = f'{{"base":0,"orders":{orders},"rows":{2 * orders},"source":"/shop"}}\n'
+        tries.judge("Rust: the service that examples/orders.rs leaves", (status, out.decode()) == (0, line), out)
+        status, out = tries.run([tries.program, "kinds", "--db", "handed.db"])
+        line = f'["order.placed",{orders}]\n["order.shipped",{orders}]\n'
+        tries.judge("Rust: the site that examples/orders.rs leaves", (status, out.decode()) == (0, line), out)
+
+
 def try_hold(tries):
     """The example in Rust, which takes 1,100 events into a file, told by the program where it is there."""
     events = [
@@ -123,15 +181,16 @@ def try_hold(tries):
         tries.judge("Rust: what examples/hold.rs leaves", (status, out) == (0, b'["t",1100]\n'), out)
 
 
-def try_rust(tries, batch):
+def try_rust(tries, batch, orders):
     if not tries.has("cargo", "Rust"):
         return
     words = ["cargo", "test", "--offline", "--quiet", "--manifest-path", f"{TOP}/bindings/rust/Cargo.toml"]
-    more = {"JUMBETAI_BATCH": batch, "CARGO_TARGET_DIR": f"{tries.folder}/cargo"}
+    more = {"JUMBETAI_BATCH": batch, "JUMBETAI_ORDERS": str(orders), "CARGO_TARGET_DIR": f"{tries.folder}/cargo"}
     status, out = tries.run(words, f"{TOP}/bindings/rust", **more)
     passed = [int(it) for it in re.findall(rb"test result: ok\. (\d+) passed; 0 failed", out)]
-    tries.judge("Rust: tests and the examples of its page", status == 0 and sum(passed) >= 20, out.decode(errors="replace"))
+    tries.judge("Rust: tests and the examples of its page", status == 0 and sum(passed) >= 31, out.decode(errors="replace"))
     try_hold(tries)
+    try_placing(tries, orders)
     with contextlib.suppress(FileNotFoundError):
         os.remove(f"{TOP}/bindings/rust/Cargo.lock")
 
@@ -141,7 +200,7 @@ def try_python(tries, batch):
     words = [sys.executable, "-m", "unittest", "-v", "test_jumbetai"]
     status, out = tries.run(words, f"{TOP}/bindings/python", JUMBETAI_LIB=where, JUMBETAI_BATCH=batch)
     passed = len(re.findall(rb"\.\.\. ok$", out, re.M))
-    tries.judge("Python: tests and the example of its page", status == 0 and passed >= 17, out.decode(errors="replace"))
+    tries.judge("Python: tests and the example of its page", status == 0 and passed >= 28, out.decode(errors="replace"))
 
 
 def main():
@@ -150,6 +209,7 @@ def main():
     words.add_argument("--program", default=f"{TOP}/crates/site_cli/out/site_cli")
     words.add_argument("--library")
     words.add_argument("--events", type=int, default=120_000)
+    words.add_argument("--orders", type=int, default=300)
     given = words.parse_args()
     if not library.compiler():
         print("skipped: all, since no C compiler is here\n0 of 0 tries of the library were right")
@@ -174,8 +234,9 @@ def main():
         words = [library.compiler(), "-o", "../shared/libjumbetai.so", *library.SHARED]
         tries.passes("the shared object", words, folder=f"{folder}/library")
         try_c(tries)
+        try_orders(tries)
         batch = made_batch(tries, "batch.json", given.events)
-        try_rust(tries, batch)
+        try_rust(tries, batch, given.orders)
         try_python(tries, batch)
         print(f"{tries.right} of {tries.all} tries of the library were right")
         return 0 if tries.right == tries.all else 1
