@@ -158,10 +158,10 @@ int jumbetai_page(jumbetai_site *site, uint64_t from, jumbetai_text *text);
  * one that is there has to have it; null takes any, and "/orders" for a new one. The rows of a new
  * one are numbered from `base` + 1 on, with a base of 0 to 2^63-1; one that is there keeps its own.
  *
- * The file is made, opened and kept busy as by jumbetai_open_file, with a cache of the same kind.
- * It may have the events of a site too; one of the two is open at a time. Time and memory in
- * proportion to the rows, which are all tested; the memory is given back. `*outbox` is null where
- * it isn't done; a file that was made then stays. */
+ * The file is made, opened and kept busy as by jumbetai_open_file, with a cache of the same kind; a
+ * process that was forked leaves it alone. It may have the events of a site too; one of the two is
+ * open at a time. Time and memory in proportion to the rows, which are all tested; the memory is
+ * given back. `*outbox` is null where it isn't done; a file that was made then stays. */
 int jumbetai_open_outbox(const char *path, const char *source, uint64_t base, uint32_t cache_mib,
                          jumbetai_outbox **outbox);
 

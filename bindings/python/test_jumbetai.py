@@ -4,12 +4,15 @@ JUMBETAI_BATCH names a file of a batch of events, as tools/make_batch.py makes o
 is made here. JUMBETAI_SITE names the program `site`, whose answers are then compared byte for byte; without it that is
 skipped, and said.
 """
+import contextlib
 import doctest
 import json
 import os
+import random
 import resource
 import shutil
 import socket
+import sqlite3
 import subprocess
 import sys
 import tempfile
@@ -371,6 +374,34 @@ class Outboxes(unittest.TestCase):
             self.assertEqual((outbox.counts(), list(outbox.rows())), (before, rows))
             outbox.ship(8, NOON)
 
+    def test_any_turn_of_commands(self):
+        draw, states, told = random.Random(7), {}, []
+        outbox = Outbox(self.file)
+        for _ in range(400):
+            action, order = draw.choice(list(ACTIONS)), draw.randint(1, 60)
+            had = states.get(order)
+            if action == "place":
+                fault = Status.ORDER_EXISTS if had else None
+            else:
+                fault = {None: Status.NO_ORDER, "place": None}.get(had, Status.WRONG_STATE)
+            if fault:
+                self.is_refused(fault, ACTIONS[action], outbox, order, NOON)
+            else:
+                states[order] = action
+                told.append(ACTIONS[action](outbox, order, NOON).rstrip(b"\n"))
+                kind = {"place": "placed", "ship": "shipped", "cancel": "cancelled"}[action]
+                self.assertEqual(told[-1], row(len(told), order, kind))
+            self.assertEqual(outbox.counts(), OrderCounts(0, len(told), len(states)))
+            if draw.random() < 0.05:
+                outbox.close()
+                outbox = Outbox(self.file)
+        self.assertGreater(len(told), 100)
+        after = draw.randrange(len(told))
+        rows = b"".join(it.json for it in outbox.rows(after))
+        pages = [told[first : first + 100] for first in range(after, len(told), 100)]
+        self.assertEqual(rows, b"".join(b"[" + b",".join(it) + b"]\n" for it in pages))
+        outbox.close()
+
     def test_rows_come_in_turn_from_any_number_on(self):
         with Outbox(self.file, "/west", 1000) as outbox, Site() as site:
             for order in range(1, 251):
@@ -410,6 +441,14 @@ class Outboxes(unittest.TestCase):
 
     def test_an_aborted_process_loses_nothing(self):
         self.assertEqual(elsewhere(PLACING, self.file), "")
+        self.assertGreater(os.path.getsize(f"{self.file}-wal"), 0)
+        program = os.environ.get("JUMBETAI_SITE")
+        if program:
+            for more in ("", "-wal"):
+                shutil.copy(f"{self.file}{more}", os.path.join(self.folder, f"copy.db{more}"))
+            command = [program, "service", "--db", os.path.join(self.folder, "copy.db")]
+            found = subprocess.run(command, capture_output=True, check=True)
+            self.assertEqual(json.loads(found.stdout)["rows"], 50)
         with Outbox(self.file) as outbox:
             self.assertEqual(outbox.counts(), OrderCounts(0, 50, 50))
 
@@ -427,6 +466,33 @@ class Outboxes(unittest.TestCase):
         self.is_refused(Status.NO_DATABASE, Outbox, text)
         self.is_refused(Status.NO_FILE, Outbox, self.folder)
         self.is_refused(Status.SYSTEM, Outbox, f"{self.folder}/none/orders.db")
+
+    def ask_sqlite(self, statement):
+        with contextlib.closing(sqlite3.connect(self.file)) as database, database:
+            return database.execute(statement).fetchall()
+
+    def test_what_is_changed_by_hand_is_refused(self):
+        with Outbox(self.file, "/north") as outbox:
+            outbox.place(7, NOON)
+            outbox.place(8, NOON)
+            outbox.ship(7, NOON)
+        self.assertEqual(self.ask_sqlite("SELECT number, state FROM orders"), [(7, 2), (8, 1)])
+        rows = [(1, 1, 7, NOON), (2, 1, 8, NOON), (3, 2, 7, NOON)]
+        self.assertEqual(self.ask_sqlite("SELECT number, kind, order_number, at FROM outbox"), rows)
+        for change, back in (
+            ("UPDATE orders SET state = 3 WHERE number = 8", "UPDATE orders SET state = 1 WHERE number = 8"),
+            ("UPDATE outbox SET number = 4 WHERE number = 3", "UPDATE outbox SET number = 3 WHERE number = 4"),
+            ("UPDATE outbox SET at = 'noon' WHERE number = 2", f"UPDATE outbox SET at = '{NOON}' WHERE number = 2"),
+            ("DELETE FROM orders WHERE number = 8", "INSERT INTO orders VALUES (8, 1)"),
+        ):
+            self.ask_sqlite(change)
+            self.is_refused(Status.FOREIGN, Outbox, self.file)
+            self.ask_sqlite(back)
+        self.ask_sqlite("CREATE TABLE other (a INTEGER)")
+        self.is_refused(Status.STORE, Outbox, self.file)
+        self.ask_sqlite("DROP TABLE other")
+        with Outbox(self.file) as outbox:
+            self.assertEqual(outbox.counts(), OrderCounts(0, 3, 2))
 
     def test_a_forked_process_leaves_the_file(self):
         with Outbox(self.file) as outbox:
