@@ -104,6 +104,12 @@ def main():
         if tries.passes("the example in C", words, cwd=unpacked):
             said = [subprocess.run([it, "kinds", "examples/batch.json"], cwd=unpacked, capture_output=True).stdout for it in ("./ask", "bin/site")]
             tries.judge("the example in C answers as the program", said[0] == said[1] != b"", said)
+        words = [library.compiler(), "examples/c/orders.c", "-Ilibrary", "-Llibrary", "-ljumbetai", "-o", "orders"]
+        if tries.passes("the example in C of orders", words, cwd=unpacked):
+            time = "2024-02-29T10:00:00Z"
+            orders = (["./orders", "place", "7", time, "ours.db"], ["bin/site", "order", "--db", "theirs.db", "--at", time, "place", "7"])
+            said = [subprocess.run(it, cwd=unpacked, capture_output=True).stdout for it in orders]
+            tries.judge("the example in C of orders says what the program says", said[0] == said[1] != b"", said)
     print(f"{tries.right} of {tries.all} tries of the archive were right")
     return 0 if tries.right == tries.all else 1
 

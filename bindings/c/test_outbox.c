@@ -407,15 +407,24 @@ static void try_kills(void) {
     IS(answered > 100, 1);
 }
 
+/* The least number that no open file has. */
+static int free_number(void) {
+    int number = dup(STDOUT_FILENO);
+    close(number);
+    return number;
+}
+
 int main(void) {
     char folder[] = "test-outbox-XXXXXX";
     if (!mkdtemp(folder) || chdir(folder)) return 2;
+    int number = free_number();
     try_orders();
     try_rows();
     try_sources();
     try_files();
     try_sites();
     try_kills();
+    IS(free_number(), number);
     printf("%d passed, %d failed\n", passed, failed);
     return failed > 0;
 }
