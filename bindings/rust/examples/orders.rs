@@ -49,7 +49,10 @@ fn main() -> Result<(), Box<dyn Error>> {
         }
         Ok(())
     })?;
-    time("close", 1, || Ok(drop(outbox)))?;
+    time("close", 1, || {
+        drop(outbox);
+        Ok(())
+    })?;
     let mut outbox = time("open", 1, || Ok(Outbox::open(file)?))?;
     let mut site = Site::open(to)?;
     let mark = outbox.counts().last;
