@@ -9,8 +9,6 @@ use Rattle.line_intake.specs.Acknowledged.{AreTold, TellsAll, TellsPart, TellsSo
 use Rattle.line_intake.specs.Judged.{TakesLines}
 use Rattle.line_intake.specs.Lines.{IsPlain}
 use Rattle.line_intake.specs.declared.answer.Told.{Told}
-use Rattle.line_intake.specs.declared.line.LineFault.{LineFault}
-use Rattle.line_intake.specs.declared.line.LineFault.TheVariants as line
 use Rattle.database_commands.specs.Streams.{AcknowledgesUntil}
 use Rattle.database_commands.specs.declared.stream.StreamFault.{StreamFault}
 use Rattle.database_commands.specs.declared.stream.StreamFault.TheVariants as stream
@@ -85,8 +83,7 @@ module _ (C : List ℕ → List ℕ → Type 0) (U : List ℕ → Unread → Typ
   ends_all (suc n) told = (some_of n, follows_all (suc n) told)
 
   ends_until : (why : StreamFault) → AcknowledgesUntil why known out out' → EndsSo C U file (end_at why) out out'
-  ends_until (stream.Input line.OutOfMemory) told = (refl, inr (follows_some told))
-  ends_until (stream.Input line.CannotRead) told = (refl, inr (follows_some told))
+  ends_until (stream.Input why) told = inr (why, refl, follows_some told)
   ends_until (stream.Database why) told = follows_some told
   ends_until stream.Unwritten told = follows_part told
 

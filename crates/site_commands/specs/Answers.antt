@@ -40,13 +40,15 @@ use Rattle.site_commands.specs.Checks.{FindsNone, RefusesCheck}
 use Rattle.site_commands.specs.declared.line.Refusal.{Refusal}
 use Rattle.site_commands.specs.declared.line.Refusal.TheVariants as refusal
 
--- the text is the report of the files' contents, and of some events of the database where one is given
+-- the text is the report of the files' contents, and of some events of the database where one is
+-- given
 abbrev pub AnswersQuery : (List ℕ → List ℕ → Type 0) → Query → Option (List ℕ) → List (List ℕ)
     → List ℕ → Type 0
 AnswersQuery C query None files text = (contents : List (List ℕ)) × AreContents C files contents
     × IsReport query contents text
 AnswersQuery C query (Some db) files text = (contents : List (List ℕ))
-    × AreContents C files contents × (held : List EventValue) × IsReportWith query held contents text
+    × AreContents C files contents
+    × (held : List EventValue) × IsReportWith query held contents text
 
 -- the first file that wasn't read, or, where all were, the first at fault, or, where none was, the
 -- database, if one is given
@@ -55,13 +57,10 @@ abbrev pub RefusesQuery : (List ℕ → List ℕ → Type 0) → (List ℕ → U
 RefusesQuery C U db files (refusal.Unread at) = IsUnreadAt C U files at
 RefusesQuery C U db files (refusal.File refused) =
     (contents : List (List ℕ)) × AreContents C files contents × IsRefusal contents refused
-RefusesQuery C U db files (refusal.Summary why) = ⊥
-RefusesQuery C U None files (refusal.Database why) = ⊥
 RefusesQuery C U (Some db) files (refusal.Database why) =
     (contents : List (List ℕ)) × AreContents C files contents
     × (lists : List (List EventValue)) × EachReads contents lists
-RefusesQuery C U db files refusal.NoThread = ⊥
-RefusesQuery C U db files (refusal.Lines faults) = ⊥
+RefusesQuery C U db files _ = ⊥
 
 -- the text is a page of rows behind a number, or all pages
 abbrev pub SaysRelay : ℕ → Bool → List ℕ → Type 0
@@ -79,8 +78,8 @@ abbrev pub AnswersOrder : Request → List ℕ → Type 0
 AnswersOrder r text = SaysOrder r.is_source_named r.source
     (record { status = status_of r.action; order = r.order; at = r.at }) text
 
--- what is asked of an order is within what a service allows: its source, the order's number, and the
--- length of the time
+-- what is asked of an order is within what a service allows: its source, the order's number, and
+-- the length of the time
 pub record IsAllowedRequest (r : Request) : Type 0 where
   pub filled : is_filled r.source ≡ true
   pub short : length r.source ≤ 1024
@@ -101,12 +100,10 @@ abbrev pub RefusesTake : (List ℕ → List ℕ → Type 0) → (List ℕ → Un
 RefusesTake C U files (refusal.Unread at) = IsUnreadAt C U files at
 RefusesTake C U files (refusal.File refused) =
     (contents : List (List ℕ)) × AreContents C files contents × IsRefusal contents refused
-RefusesTake C U files (refusal.Summary why) = ⊥
 RefusesTake C U files (refusal.Database why) =
     (contents : List (List ℕ)) × AreContents C files contents
     × (events : List EventValue) × SpellAll contents events
-RefusesTake C U files refusal.NoThread = ⊥
-RefusesTake C U files (refusal.Lines faults) = ⊥
+RefusesTake C U files _ = ⊥
 
 -- the file's bytes, but for one LF at their end, are the text of this summary
 abbrev pub HasSummary : (List ℕ → List ℕ → Type 0) → List ℕ → Sources → Type 0
@@ -122,7 +119,8 @@ SaysLacking s pages.All text =
 -- the text is the page of some events from a place on, or all pages
 abbrev pub SaysPages : Pages → List ℕ → Type 0
 SaysPages (pages.Behind n) text = SaysPage n text
-SaysPages pages.All text = (events : List EventValue) × HasEvents events × (text ≡ pages_text events)
+SaysPages pages.All text =
+    (events : List EventValue) × HasEvents events × (text ≡ pages_text events)
 
 -- the file has a summary, and the text has the pages that are asked for of what it lacks of some
 -- events
@@ -133,21 +131,15 @@ AnswersDelta C which file text = (s : Sources) × HasSummary C file s × SaysLac
 abbrev pub RefusesDelta : (List ℕ → List ℕ → Type 0) → (List ℕ → Unread → Type 0)
     → List ℕ → Refusal → Type 0
 RefusesDelta C U file (refusal.Unread at) = U file at.why
-RefusesDelta C U file (refusal.File refused) = ⊥
 RefusesDelta C U file (refusal.Summary why) = (bytes : List ℕ) × C file bytes
     × (words : List ℕ) × WithoutLineEnd bytes words × summaries.Refuses words why
 RefusesDelta C U file (refusal.Database why) = (s : Sources) × HasSummary C file s
-RefusesDelta C U file refusal.NoThread = ⊥
-RefusesDelta C U file (refusal.Lines faults) = ⊥
+RefusesDelta C U file _ = ⊥
 
 -- the database is the cause
 abbrev pub IsOfDatabase : Refusal → Type 0
-IsOfDatabase (refusal.Unread at) = ⊥
-IsOfDatabase (refusal.File refused) = ⊥
-IsOfDatabase (refusal.Summary why) = ⊥
 IsOfDatabase (refusal.Database why) = Unit {0}
-IsOfDatabase refusal.NoThread = ⊥
-IsOfDatabase (refusal.Lines faults) = ⊥
+IsOfDatabase _ = ⊥
 
 -- the first content is the peer's, where there is one, and spells events, all of them with numbers
 abbrev pub PeerSpells : Bool → List (List ℕ) → Type 0
@@ -159,7 +151,8 @@ abbrev pub feeds_in : Bool → List (List ℕ) → List (List ℕ)
 feeds_in false contents = contents
 feeds_in true contents = drop 1 contents
 
--- one of these feeds, the first of which is the file at this place, spells no events, and this is why
+-- one of these feeds, the first of which is the file at this place, spells no events, and this is
+-- why
 pub record RefusesFeed (first : ℕ) (feeds : List (List ℕ)) (refused : Refused) : Type 0 where
   pub feed : ℕ
   pub at : refused.file ≡ first + feed
@@ -182,12 +175,10 @@ AnswersJobs has_peer contents text = PeerSpells has_peer contents
 
 -- the peer's content or a feed is at fault; or, where the peer's is not, the database or a thread
 abbrev pub RefusesJobs : Bool → List (List ℕ) → Refusal → Type 0
-RefusesJobs has_peer contents (refusal.Unread at) = ⊥
 RefusesJobs has_peer contents (refusal.File refused) = RefusesFile has_peer contents refused
-RefusesJobs has_peer contents (refusal.Summary why) = ⊥
 RefusesJobs has_peer contents (refusal.Database why) = PeerSpells has_peer contents
 RefusesJobs has_peer contents refusal.NoThread = PeerSpells has_peer contents
-RefusesJobs has_peer contents (refusal.Lines faults) = ⊥
+RefusesJobs has_peer contents _ = ⊥
 
 -- all files were read, and the text tells of a run of the feeds
 abbrev pub AnswersRun : (List ℕ → List ℕ → Type 0) → Option (List ℕ) → List (List ℕ) → List ℕ

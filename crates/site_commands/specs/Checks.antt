@@ -1,4 +1,5 @@
--- What a check of files and a database comes to. C says what a name is read as, U why a name isn't read.
+-- What a check of files and a database comes to. C says what a name is read as, U why a name isn't
+-- read.
 use Rattle.std.specs.Prelude.{◌≡◌, ◌≢◌, ◌⊎◌, ℕ, Bool, true, false, List, [], ◌∷◌, ◌++◌, Option, None, Some}
 use Rattle.command_words.specs.declared.request.Check.{Check}
 use Rattle.database_commands.specs.Described.{SaysDatabase}
@@ -15,7 +16,8 @@ use Rattle.site_commands.specs.declared.ending.Ending.TheVariants as ending
 use Rattle.site_commands.specs.declared.line.Refusal.{Refusal}
 use Rattle.site_commands.specs.declared.line.Refusal.TheVariants as refusal
 
--- the text has the lines of the events at fault in these contents, file by file, one content for each name
+-- the text has the lines of the events at fault in these contents, file by file, one content for
+-- each name
 abbrev pub AreFaultsOf : List (List ℕ) → List (List ℕ) → List ℕ → Type 0
 AreFaultsOf [] [] text = text ≡ []
 AreFaultsOf (file ∷ files) (bytes ∷ contents) text = (lines : List ℕ) × (rest : List ℕ)
@@ -31,11 +33,7 @@ TellsFaults C files text = (contents : List (List ℕ)) × AreContents C files c
 abbrev pub RefusesCheck : (List ℕ → List ℕ → Type 0) → (List ℕ → Unread → Type 0)
     → List (List ℕ) → Refusal → Type 0
 RefusesCheck C U files (refusal.Unread at) = IsUnreadAt C U files at
-RefusesCheck C U files (refusal.File refused) = ⊥
-RefusesCheck C U files (refusal.Summary why) = ⊥
-RefusesCheck C U files (refusal.Database why) = ⊥
-RefusesCheck C U files refusal.NoThread = ⊥
-RefusesCheck C U files (refusal.Lines faults) = ⊥
+RefusesCheck C U files _ = ⊥
 
 -- the text tells of the database of this name, and it is sound; or says what is the matter with it
 abbrev pub TellsDatabase : List ℕ → Bool → List ℕ → Type 0
@@ -47,8 +45,8 @@ abbrev pub TellsGiven : Option (List ℕ) → Bool → List ℕ → Type 0
 TellsGiven None sound text = (sound ≡ true) × (text ≡ [])
 TellsGiven (Some db) sound text = TellsDatabase db sound text
 
--- the text tells of the database, which is sound or isn't, and behind it has the lines of what is at
--- fault in the files
+-- the text tells of the database, which is sound or isn't, and behind it has the lines of what is
+-- at fault in the files
 pub record Checks (C : List ℕ → List ℕ → Type 0) (judged : Check) (sound : Bool)
     (told lines text : List ℕ) : Type 0 where
   pub database : TellsGiven judged.db sound told
@@ -74,10 +72,8 @@ pub record FindsSome (C : List ℕ → List ℕ → Type 0) (judged : Check) (te
 abbrev pub IsCheckEnding : (List ℕ → List ℕ → Type 0) → (List ℕ → Unread → Type 0)
     → Check → Ending → Type 0
 IsCheckEnding C U judged (ending.Answer text) = FindsNone C judged text
-IsCheckEnding C U judged (ending.Pages events) = ⊥
 IsCheckEnding C U judged (ending.Findings text) = FindsSome C judged text
-IsCheckEnding C U judged (ending.Help text) = ⊥
-IsCheckEnding C U judged (ending.Faulty text) = ⊥
 IsCheckEnding C U judged (ending.Refused text) = (why : Refusal)
     × RefusesCheck C U judged.files why × (text ≡ line_of (of_check judged) why)
 IsCheckEnding C U judged ending.NoMemory = Unit {0}
+IsCheckEnding C U judged _ = ⊥

@@ -19,13 +19,14 @@ abbrev pub Writes : ℕ → ℕ → Option (List ℕ) → Option (List ℕ) → 
 Writes result status old new text = ((result ≡ status) × Appends old new text)
     ⊎ ((result ≡ 1) × (rest : List ℕ) × Wrote old new text rest)
 
--- standard output grew by all pages, or, where the writing failed, by a front of them, and then nothing
--- was said; or memory ran out behind so many whole pages, and standard error says so
+-- standard output grew by all pages, or, where the writing failed, by a front of them, and then
+-- nothing was said; or memory ran out behind so many whole pages, and standard error says so
 abbrev pub EndsPages : List EventValue → ℕ → Option (List ℕ) → Option (List ℕ)
     → Option (List ℕ) → Option (List ℕ) → Type 0
 EndsPages events result out out' err err' =
     ((result ≡ 0) × Appends out out' (pages_text events) × Keeps err err')
-    ⊎ ((result ≡ 1) × ((((rest : List ℕ) × Wrote out out' (pages_text events) rest) × Keeps err err')
+    ⊎ ((result ≡ 1)
+    × ((((rest : List ℕ) × Wrote out out' (pages_text events) rest) × Keeps err err')
     ⊎ ((done : ℕ) × Appends out out' (pages_below done events)
     × Writes result 1 err err' memory_line)))
 
@@ -34,22 +35,23 @@ abbrev pub Ends : Ending → ℕ → Option (List ℕ) → Option (List ℕ)
     → Option (List ℕ) → Option (List ℕ) → Type 0
 Ends (ending.Answer text) result out out' err err' = Writes result 0 out out' text × Keeps err err'
 Ends (ending.Pages events) result out out' err err' = EndsPages events result out out' err err'
-Ends (ending.Findings text) result out out' err err' = Writes result 1 out out' text × Keeps err err'
+Ends (ending.Findings text) result out out' err err' =
+    Writes result 1 out out' text × Keeps err err'
 Ends (ending.Help text) result out out' err err' = Writes result 2 out out' text × Keeps err err'
 Ends (ending.Faulty text) result out out' err err' = Writes result 2 err err' text × Keeps out out'
 Ends (ending.Refused text) result out out' err err' = Writes result 1 err err' text × Keeps out out'
 Ends ending.NoMemory result out out' err err' =
     Writes result 1 err err' memory_line × Keeps out out'
 
--- standard error grew by the line of a refusal of a plan that names these, or, where memory was wanted
--- for it, by the line that says so; or by a front of it
+-- standard error grew by the line of a refusal of a plan that names these, or, where memory was
+-- wanted for it, by the line that says so; or by a front of it
 abbrev pub SaysRefusal : Names → Refusal → ℕ → Option (List ℕ) → Option (List ℕ) → Type 0
 SaysRefusal names refusal status err err' = Writes status 1 err err' (line_of names refusal)
     ⊎ Writes status 1 err err' memory_line
 
--- how a stream ends. The streams are standard output, then standard error, before and after: every line
--- of the file is acknowledged and none at fault, or it is refused and the line of the refusal said, or
--- an acknowledgement couldn't be written, and then nothing is said
+-- how a stream ends. The streams are standard output, then standard error, before and after: every
+-- line of the file is acknowledged and none at fault, or it is refused and the line of the refusal
+-- said, or an acknowledgement couldn't be written, and then nothing is said
 abbrev pub EndsStream : (List ℕ → List ℕ → Type 0) → (List ℕ → Unread → Type 0) → Follow → ℕ
     → Option (List ℕ) → Option (List ℕ) → Option (List ℕ) → Option (List ℕ) → Type 0
 EndsStream C U lines result out out' err err' =

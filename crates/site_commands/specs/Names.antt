@@ -59,4 +59,8 @@ first_of (Some first) files = first.now ∷ files
 
 -- what is lent
 abbrev pub lent : Lent → Names
-lent names = record { db = names.db.now; order = names.order; files = first_of names.first names.files.now }
+lent names = record {
+  db = names.db.now;
+  order = names.order;
+  files = first_of names.first names.files.now;
+}

@@ -48,25 +48,19 @@ pub record FindsWords (C : List ℕ → List ℕ → Type 0) (words : List (List
 
 -- the line of a refusal of a plan that names these, or want of memory for it
 abbrev pub IsLine : Names → Refusal → Ending → Type 0
-IsLine names refusal (ending.Answer text) = ⊥
-IsLine names refusal (ending.Pages events) = ⊥
-IsLine names refusal (ending.Findings text) = ⊥
-IsLine names refusal (ending.Help text) = ⊥
-IsLine names refusal (ending.Faulty text) = ⊥
 IsLine names refusal (ending.Refused text) = text ≡ line_of names refusal
 IsLine names refusal ending.NoMemory = Unit {0}
+IsLine names refusal _ = ⊥
 
--- what a plan comes to that names these, where the texts are its answers and the refusals why it has
--- none
+-- what a plan comes to that names these, where the texts are its answers and the refusals why it
+-- has none
 abbrev pub ComesTo : (List ℕ → Type 0) → (Refusal → Type 0) → Names → Ending → Type 0
 ComesTo Answers Refuses names (ending.Answer text) = Answers text
 ComesTo Answers Refuses names (ending.Pages events) = Answers (pages_text events)
-ComesTo Answers Refuses names (ending.Findings text) = ⊥
-ComesTo Answers Refuses names (ending.Help text) = ⊥
-ComesTo Answers Refuses names (ending.Faulty text) = ⊥
 ComesTo Answers Refuses names (ending.Refused text) =
     (refusal : Refusal) × Refuses refusal × (text ≡ line_of names refusal)
 ComesTo Answers Refuses names ending.NoMemory = Unit {0}
+ComesTo Answers Refuses names _ = ⊥
 
 -- what a plan with one answer comes to
 abbrev pub IsOnceEnding : (List ℕ → List ℕ → Type 0) → (List ℕ → Unread → Type 0)
@@ -113,8 +107,8 @@ abbrev pub RunsBeside : (List ℕ → List ℕ → Type 0) → (List ℕ → Unr
 RunsBeside C U run status out out' err err' =
     (ending : Ending) × IsRunEnding C U run ending × Ends ending status out out' err err'
 
--- the words come to an ending, and it is written; the streams are standard output, then standard error,
--- before and after
+-- the words come to an ending, and it is written; the streams are standard output, then standard
+-- error, before and after
 pub record EndsWords (C : List ℕ → List ℕ → Type 0) (U : List ℕ → Unread → Type 0)
     (words : List (List ℕ)) (status : ℕ) (out out' err err' : Option (List ℕ)) : Type 0 where
   pub ending : Ending
@@ -137,13 +131,9 @@ RunsWords C U words status out out' err err' = EndsWords C U words status out ou
 
 -- what is said where the words couldn't be had
 abbrev pub IsUnheard : Ending → Type 0
-IsUnheard (ending.Answer text) = ⊥
-IsUnheard (ending.Pages events) = ⊥
-IsUnheard (ending.Findings text) = ⊥
-IsUnheard (ending.Help text) = ⊥
 IsUnheard (ending.Faulty text) = text ≡ arguments_line
-IsUnheard (ending.Refused text) = ⊥
 IsUnheard ending.NoMemory = Unit {0}
+IsUnheard _ = ⊥
 
 -- the run ended without words
 abbrev pub EndsUnheard : ℕ → Option (List ℕ) → Option (List ℕ)

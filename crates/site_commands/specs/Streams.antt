@@ -1,5 +1,5 @@
--- A file whose lines are kept and acknowledged as they come. C says what a name is read as, U why a name
--- isn't read.
+-- A file whose lines are kept and acknowledged as they come. C says what a name is read as, U why a
+-- name isn't read.
 use Rattle.std.specs.Prelude.{◌≡◌, ◌≢◌, ◌⊎◌, ℕ, zero, suc, List, Option, Some}
 use Rattle.std.specs.Io.KnownBytes.{IsAtEnd, Keeps}
 use Rattle.file_reports.specs.declared.input.Unread.{Unread}
@@ -68,19 +68,18 @@ end_at (stream.Input why) = end.Refused (refusal.Unread (unread_of why))
 end_at (stream.Database why) = end.Refused (refusal.Database why)
 end_at stream.Unwritten = end.Unwritten
 
--- the file wasn't read, and nothing was written; or, where it was, it couldn't be read on, or the
--- database is the cause, and the lines before are acknowledged; or so many of its lines are at fault,
--- and every line is acknowledged
-abbrev pub RefusesFollow : (List ℕ → List ℕ → Type 0) → (List ℕ → Unread → Type 0) → List ℕ → Refusal
-    → Option (List ℕ) → Option (List ℕ) → Type 0
-RefusesFollow C U file (refusal.Unread at) out out' = (at.file ≡ 0)
-    × ((U file at.why × Keeps out out') ⊎ FollowsSome C file out out')
-RefusesFollow C U file (refusal.File refused) out out' = ⊥
-RefusesFollow C U file (refusal.Summary why) out out' = ⊥
+-- the file wasn't read, and nothing was written; or, where it was, memory ran out or a read failed,
+-- or the database is the cause, and the lines before are acknowledged; or so many of its lines are
+-- at fault, as one that is too large, and every line is acknowledged
+abbrev pub RefusesFollow : (List ℕ → List ℕ → Type 0) → (List ℕ → Unread → Type 0) → List ℕ
+    → Refusal → Option (List ℕ) → Option (List ℕ) → Type 0
+RefusesFollow C U file (refusal.Unread at) out out' =
+    ((at.file ≡ 0) × U file at.why × Keeps out out')
+    ⊎ ((why : LineFault) × (at ≡ unread_of why) × FollowsSome C file out out')
 RefusesFollow C U file (refusal.Database why) out out' = FollowsSome C file out out'
-RefusesFollow C U file refusal.NoThread out out' = ⊥
 RefusesFollow C U file (refusal.Lines faults) out out' =
     (faults ≢ 0) × FollowsAll C file out out' faults
+RefusesFollow C U file _ out out' = ⊥
 
 -- what is written where the stream ends so
 abbrev pub EndsSo : (List ℕ → List ℕ → Type 0) → (List ℕ → Unread → Type 0) → List ℕ → StreamEnd

@@ -18,9 +18,9 @@ use inbox_table::Watch;
 use std::alloc::Global;
 use std::mem;
 
-/// Adds the events of all files to a database, and answers how many were new. All files are read and
-/// judged before the database is opened. The memory of the events is left to the operating system,
-/// since the program ends next.
+/// Adds the events of all files to a database, and answers how many were new. All files are read
+/// and judged before the database is opened. The memory of the events is left to the operating
+/// system, since the program ends next.
 pub fn take<S: Shelf, D: Databases, W: Watch>(
     alloc: Global,
     shelf: &S,
@@ -64,8 +64,8 @@ fn summary_in<S: Shelf>(alloc: Global, shelf: &S, file: &str) -> Result<Summary,
     }
 }
 
-/// The pages that are asked for of the events of a database that the summary in a file lacks. The file
-/// is read and judged before the database is opened.
+/// The pages that are asked for of the events of a database that the summary in a file lacks. The
+/// file is read and judged before the database is opened.
 pub fn delta<S: Shelf, D: Databases>(
     alloc: Global,
     shelf: &S,
@@ -74,7 +74,8 @@ pub fn delta<S: Shelf, D: Databases>(
     pages: Pages,
     file: &str,
 ) -> Result<Printed, Refusal>
-    ensures ok { IfOk result (λ p. AnswersDelta (S.is_content shelf.now) pages file.now (printed p)) }
+    ensures ok { IfOk result (λ p.
+        AnswersDelta (S.is_content shelf.now) pages file.now (printed p)) }
     ensures err { IfErr result
         (RefusesDelta (S.is_content shelf.now) (S.is_unread shelf.now) file.now) }
 {
@@ -194,8 +195,8 @@ pub fn order<D: Databases>(alloc: Global, databases: &D, request: &Request) -> R
     }
 }
 
-/// The rows of a database's outbox with a greater number: the next page of at most 100, or all pages,
-/// each as a line.
+/// The rows of a database's outbox with a greater number: the next page of at most 100, or all
+/// pages, each as a line.
 pub fn relay<D: Databases>(
     alloc: Global,
     databases: &D,

@@ -27,8 +27,9 @@ const NO_MEMORY: &str = "site: out of memory\n";
 pub enum Ending {
     /// The answer, for standard output: status 0.
     Answer(Text),
-    /// The answer in pages, each a line that is made when it is written, for standard output: status
-    /// 0. Memory that runs out between two pages ends it with 1 and a line on standard error.
+    /// The answer in pages, each a line that is made when it is written, for standard output:
+    /// status 0. Memory that runs out between two pages ends it with 1 and a line on
+    /// standard error.
     Pages(EventPages),
     /// What a check found to be at fault, for standard output: status 1.
     Findings(Text),

@@ -1,6 +1,6 @@
 //! The files of the operating system, by their names.
 ghost use Rattle.std.specs.Prelude.{IfErr, IfOk, List, ℕ};
-ghost use Rattle.site_commands.specs.Inputs.{MayGive};
+ghost use Rattle.site_commands.specs.Inputs.{MayBeRead, MayBeUnread, MayGive};
 
 use crate::progress::Progress;
 use attributes::Octets;
@@ -35,9 +35,9 @@ pub struct SystemFiles<'a, R, P> {
 }
 
 impl<'a, R: AllocGlobal + Files, P: Progress> Shelf for SystemFiles<'a, R, P> {
-    ghost is_content = { λ _ _ _. Unit {0} };
+    ghost is_content = { λ _. MayBeRead };
 
-    ghost is_unread = { λ _ _ _. Unit {0} };
+    ghost is_unread = { λ _. MayBeUnread };
 
     fn content(&self, alloc: Global, name: &str) -> Result<Octets, Unread> {
         let left = self.left.get();

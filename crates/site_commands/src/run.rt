@@ -4,6 +4,7 @@ ghost use Rattle.std.specs.Option.{is_some};
 ghost use Rattle.std.specs.Process.{exit_status};
 ghost use Rattle.command_words.specs.Plans.{AreFaulty, AreFew};
 ghost use Rattle.site_commands.specs.Answers.{AnswersOnce, IsAllowed, IsAllowedAlone, RefusesOnce};
+ghost use Rattle.site_commands.specs.Inputs.{MayBeRead, MayBeUnread};
 ghost use Rattle.site_commands.specs.Printed.{printed};
 ghost use Rattle.site_commands.specs.declared.printed.Printed.TheVariants as Printed;
 ghost use Rattle.site_commands.specs.Runs.{EndsUnheard, IsOnceEnding, IsRunEnding, IsUnheard, PrintsAnswer, RunsAlone, RunsBeside, RunsWords, said};
@@ -42,7 +43,7 @@ pub fn exit<
     P: Progress,
 >(rt: &R, words: io::Result<Vec<Text>>, out: &mut O, err: &mut E, progress: &P) -> ExitCode
     ensures { MatchResult words
-        (λ words. RunsWords (λ _ _. Unit {0}) (λ _ _. Unit {0}) words.items (exit_status result)
+        (λ words. RunsWords MayBeRead MayBeUnread words.items (exit_status result)
         (O.contents out.old) (O.contents out.new) (E.contents err.old) (E.contents err.new))
         (λ _. EndsUnheard (exit_status result)
         (O.contents out.old) (O.contents out.new) (E.contents err.old) (E.contents err.new)) }
@@ -72,9 +73,9 @@ pub fn perform<
 >(rt: &R, words: &[Text], out: &mut O, err: &mut E, progress: &P) -> u8
     ensures status { result ≤ 2 }
     ensures answer { result ≡ 0
-        → PrintsAnswer (λ _ _. Unit {0}) words.now (O.contents out.old) (O.contents out.new) }
+        → PrintsAnswer MayBeRead words.now (O.contents out.old) (O.contents out.new) }
     ensures faulty { result ≡ 2 → AreFaulty words.now }
-    ensures runs { RunsWords (λ _ _. Unit {0}) (λ _ _. Unit {0}) words.now result
+    ensures runs { RunsWords MayBeRead MayBeUnread words.now result
         (O.contents out.old) (O.contents out.new) (E.contents err.old) (E.contents err.new) }
 {
     match plan(rt.alloc(), words) {
@@ -111,7 +112,7 @@ pub fn perform_alone<R: AllocGlobal + Files + Databases, O: Write, E: Write, P: 
     progress: &P,
 ) -> u8
     requires { IsAllowedAlone plan.now }
-    ensures { RunsAlone (λ _ _. Unit {0}) (λ _ _. Unit {0}) plan.now result
+    ensures { RunsAlone MayBeRead MayBeUnread plan.now result
         (O.contents out.old) (O.contents out.new) (E.contents err.old) (E.contents err.new) }
 {
     match plan {
@@ -145,7 +146,7 @@ fn perform_run<
     P: Progress,
 >(rt: &R, plan: &Run, out: &mut O, err: &mut E, progress: &P) -> u8
     requires { AreFew (is_some plan.now.peer) (length plan.now.files) }
-    ensures { RunsBeside (λ _ _. Unit {0}) (λ _ _. Unit {0}) plan.now result
+    ensures { RunsBeside MayBeRead MayBeUnread plan.now result
         (O.contents out.old) (O.contents out.new) (E.contents err.old) (E.contents err.new) }
 {
     let left = Cell::new(plan.files.len().saturating_add(plan.peer.is_some() as u64));

@@ -57,8 +57,8 @@ pub fn follow<S: Streams, D: Databases, O: Write, E: Write, P: Progress>(
     }
 }
 
-/// Keeps the lines of a file in a database, and acknowledges each on `out`. The file is opened before
-/// the database is.
+/// Keeps the lines of a file in a database, and acknowledges each on `out`. The file is opened
+/// before the database is.
 fn kept<S: Streams, D: Databases, O: Write>(
     alloc: Global,
     shelf: &S,

@@ -6,9 +6,7 @@ use Rattle.site_commands.specs.declared.line.Refusal.TheVariants as refusal
 
 -- one of these feeds, the first of which is the file at this place; or the database or a thread
 abbrev pub RefusesFeeds : ℕ → List (List ℕ) → Refusal → Type 0
-RefusesFeeds first feeds (refusal.Unread at) = ⊥
 RefusesFeeds first feeds (refusal.File refused) = RefusesFeed first feeds refused
-RefusesFeeds first feeds (refusal.Summary why) = ⊥
 RefusesFeeds first feeds (refusal.Database why) = Unit {0}
 RefusesFeeds first feeds refusal.NoThread = Unit {0}
-RefusesFeeds first feeds (refusal.Lines faults) = ⊥
+RefusesFeeds first feeds _ = ⊥
