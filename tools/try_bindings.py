@@ -95,7 +95,9 @@ def try_c(tries):
         tries.passes("the header in C++", ["c++", "-x", "c++", "-Wall", "-Wextra", "-Werror", "-fsyntax-only", "library/jumbetai.h"])
     batch = made_batch(tries, "small.json", 2000)
     if tries.has("valgrind", "C under valgrind"):
-        tested = [[f"./{os.path.basename(it).removesuffix('.c')}"] for it in PROGRAMS if not it.startswith("examples/")]
+        # Every request of an outbox over a file in turn would take minutes there.
+        left_out = ("bindings/c/try_want_outbox.c", "examples/c/ask.c", "examples/c/orders.c")
+        tested = [[f"./{os.path.basename(it).removesuffix('.c')}"] for it in PROGRAMS if it not in left_out]
         for words in (*tested, ["./ask", "delta", batch]):
             tries.passes(f"{words[0]} under valgrind", [*VALGRIND, *words])
     worked = worked_answers()
