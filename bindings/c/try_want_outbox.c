@@ -50,7 +50,8 @@ static int has(const jumbetai_outbox *outbox, uint64_t last, uint64_t orders) {
 
 static int opened(const char *path, long requests, jumbetai_outbox **outbox) {
     granted = requests;
-    int status = jumbetai_open_outbox(path, "/shop", 0, 0, outbox);
+    /* The pages of the cache are asked for one by one: 1 MiB of them is enough. */
+    int status = jumbetai_open_outbox(path, "/shop", 0, 1, outbox);
     must((status == JUMBETAI_DONE) == (*outbox != NULL), "an outbox without an answer", requests);
     granted = ENOUGH;
     return status;
