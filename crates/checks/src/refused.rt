@@ -89,8 +89,8 @@ fn a_question_is_answered_whole_or_wants_memory(rt: HostRuntime) {
     }
 }
 
-/// Whether an inbox merges another, with these counts; none where memory is refused at an event that
-/// it hasn't, behind one that it has.
+/// Whether an inbox merges another, with these counts; none where memory is refused at an event
+/// that it hasn't, behind one that it has.
 fn is_merged(inbox: &mut Inbox, other: &Inbox, wanted: Counts) -> Option<bool> {
     match inbox.merge(other) {
         Ok(counts) => Some(counts == wanted),

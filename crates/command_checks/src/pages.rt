@@ -109,8 +109,8 @@ fn told<R: AllocGlobal + Abort>(rt: &R, other: u64) -> Summary {
     }
 }
 
-/// Whether the command came to pages, which are the batches of the events with the numbers from each
-/// of these up to the next.
+/// Whether the command came to pages, which are the batches of the events with the numbers from
+/// each of these up to the next.
 fn come<R: AllocGlobal + Abort>(
     rt: &R,
     pages: Result<EventPages, CommandFault>,
@@ -208,8 +208,8 @@ fn is_none(events: &Result<Batch, CommandFault>) -> bool {
     }
 }
 
-/// Whether a database without an inbox holds no events and has a summary that says so, and it has so
-/// many names behind that.
+/// Whether a database without an inbox holds no events and has a summary that says so, and it has
+/// so many names behind that.
 fn holds_nothing<R: AllocGlobal + Abort>(rt: &R, statements: &str, count: usize) -> bool {
     let Contents { conn, events } = held(rt.alloc(), database(rt, statements));
     let CommandEnd { mut conn, outcome } = summary(rt.alloc(), conn);

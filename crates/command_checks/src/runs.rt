@@ -1,5 +1,6 @@
 //! What no contract says of runs: that with ample memory and a good disk they come to an answer,
-//! that what workers handed over is kept beside a feed at fault, and that it is kept while they work.
+//! that what workers handed over is kept beside a feed at fault, and that it is kept while they
+//! work.
 
 ghost use Rattle.std.specs.Prelude.{⊤, ◌≤◌, ◌+◌, length};
 
@@ -58,7 +59,8 @@ fn rows_after<R: AllocGlobal + Abort>(
     }
 }
 
-/// How many events the inbox has where a run over two feeds and a new database ends with this fault.
+/// How many events the inbox has where a run over two feeds and a new database ends with this
+/// fault.
 fn rows_beside<R: AllocGlobal + Threads + Wait + Abort + Sync>(
     rt: &R,
     first: Octets,

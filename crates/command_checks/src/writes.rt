@@ -67,7 +67,8 @@ fn ends_with_one<R: AllocGlobal + Files + Databases + Runs + Threads + Wait + Ab
     answer == 1 && refusal == 1 && other.is_empty() && closed.written == lengths
 }
 
-/// Whether one thread answers `cover` of the file `numbers` with its numbers, on standard output alone.
+/// Whether one thread answers `cover` of the file `numbers` with its numbers, on standard output
+/// alone.
 fn covers_alone<R: AllocGlobal + Files + Databases + Abort>(rt: &R) -> bool {
     let words = covering(rt, "numbers");
     let plan = plan(rt.alloc(), words.as_slice());

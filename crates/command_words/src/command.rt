@@ -245,8 +245,9 @@ fn with_request<'a>(
     alloc: Global,
     begun: clap::Command<'a>,
 ) -> Result<clap::Command<'a>, AllocError>
-    ensures { IfOk result (λ parser. app_of parser ≡ with_rule (with_rule (with_rule (app_of begun.entry)
-        (needed_rule (codes "at"))) (place_rule (codes "action"))) (place_rule (codes "order"))) }
+    ensures { IfOk result (λ parser. app_of parser
+        ≡ with_rule (with_rule (with_rule (app_of begun.entry) (needed_rule (codes "at")))
+        (place_rule (codes "action"))) (place_rule (codes "order"))) }
 {
     begun.arg(at(alloc))?.arg(action(alloc))?.arg(order(alloc))
 }

@@ -56,8 +56,8 @@ abbrev pub SaysSomeService : List ℕ → Type 0
 SaysSomeService text = (text ≡ []) ⊎ ((source : List ℕ) × (base : ℕ) × (orders : ℕ) × (rows : ℕ)
     × (text ≡ service_line source base orders rows))
 
--- so many events may be told with a version of this number: it is that of a version, or 0, where there
--- is no inbox, and then there are none
+-- so many events may be told with a version of this number: it is that of a version, or 0, where
+-- there is no inbox, and then there are none
 abbrev pub IsToldVersion : ℕ → ℕ → Type 0
 IsToldVersion events n = ((n ≡ 0) × (events ≡ 0)) ⊎ ((v : Version) × (n ≡ version_number v))
 

@@ -1,5 +1,6 @@
--- What a command does to a database, where it answers and where it is refused. `old` is the connection
--- before the command and `new` the one behind it; `outcome` is what it answers or its fault.
+-- What a command does to a database, where it answers and where it is refused. `old` is the
+-- connection before the command and `new` the one behind it; `outcome` is what it answers or its
+-- fault.
 use Rattle.std.specs.Prelude.{◌≡◌, ◌≢◌, ◌⊎◌, ℕ, List, [], length, Bool, Option, unwrap_or, true, false, Result, Ok, IfErr, IfOk, IsOk, IsTrue, OnErr, OnOk}
 use Rattle.sqlite.specs.Effect.{Database}
 use Rattle.sqlite.specs.State.{State, HasCleanDisk}

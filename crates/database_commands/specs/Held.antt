@@ -70,8 +70,8 @@ pub record IsTaken (L held : List EventValue) (new : Database) (text : List ℕ)
 abbrev pub TakesInto : List EventValue → Database → Database → List ℕ → Type 0
 TakesInto L old new text = (held : List EventValue) → Holds old held → IsTaken L held new text
 
--- whatever events it held, it holds them, or has taken L too and the fault is want of memory for the
--- line that says so
+-- whatever events it held, it holds them, or has taken L too and the fault is want of memory for
+-- the line that says so
 abbrev pub KeepsOrTakes : List EventValue → CommandFault → Database → Database → Type 0
 KeepsOrTakes L f old new = (held : List EventValue) → Holds old held
     → Holds new held ⊎ ((f ≡ command.OutOfMemory) × Holds new (append_new key_cmp held L))
@@ -129,8 +129,8 @@ abbrev pub Serves : Database → List ℕ → List ℕ → ℕ → List Accepted
 Serves db given source base commands = IsService db source base commands
     ⊎ ((has_name db.schema ≡ false) × IsNew given source base commands)
 
--- this is the source and the base of the service that the database had, or would have with the source
--- that is given, and the new database is that of this service
+-- this is the source and the base of the service that the database had, or would have with the
+-- source that is given, and the new database is that of this service
 abbrev pub IsServed : List ℕ → Database → List ℕ → ℕ → Database → Type 0
 IsServed given old source base new = (s : List ℕ) (b : ℕ) (commands : List Accepted)
     → Serves old given s b commands → (source ≡ s) × (base ≡ b) × IsService new s b commands
@@ -165,7 +165,8 @@ pub record IsOrdered (source : List ℕ) (base : ℕ) (commands : List Accepted)
   pub line : text ≡ event_line (row_event source (suc (base + length commands)) c)
 
 -- the text is the event of a row with this command; where the source was named, it is that one
-pub record SaysOrder (is_named : Bool) (given : List ℕ) (c : Accepted) (text : List ℕ) : Type 0 where
+pub record SaysOrder (is_named : Bool) (given : List ℕ) (c : Accepted) (text : List ℕ)
+    : Type 0 where
   pub source : List ℕ
   pub number : ℕ
   pub meant : IsTrue is_named → source ≡ given
@@ -227,4 +228,5 @@ KeepsRows old new = (source : List ℕ) (base : ℕ) (commands : List Accepted)
 -- where the database had an inbox of version 1, what looks on was told, after each thousand of its
 -- events, how many of them were in the one that took its place
 abbrev pub TellsUpgrade : (ℕ → ℕ → Type 0) → Database → Type 0
-TellsUpgrade tells db = (events : List EventValue) → IsOldInbox db events → IsTold tells (length events)
+TellsUpgrade tells db = (events : List EventValue) → IsOldInbox db events
+    → IsTold tells (length events)

@@ -8,8 +8,8 @@ use Rattle.sqlite.specs.Files.{IsOpened, file_state}
 use Rattle.sqlite.specs.Start.{FindsIn}
 
 module _ {D : Type 0} {g : disk.Ghosts D} where
-  -- the connection was opened over files that held this: while the disk gives back what was written,
-  -- it is open and shows the database that they held, where they held one
+  -- the connection was opened over files that held this: while the disk gives back what was
+  -- written, it is open and shows the database that they held, where they held one
   abbrev pub IsOver : Image → Held (FileStore D g) → Type 0
   IsOver image c = HasCleanDisk (file_state c) → IsOpened c × FindsIn image (file_state c)
 

@@ -41,13 +41,14 @@ database_data db events sources version =
     (member (codes "sources") (number (unsigned sources))
     (member (codes "version") (number (unsigned version)) no_members))))
 
--- what the inbox of a database is: its name, how many events it has, of how many sources, and in which
--- version; JSON without white space, as one line
+-- what the inbox of a database is: its name, how many events it has, of how many sources, and in
+-- which version; JSON without white space, as one line
 unfoldable pub database_line : List ℕ → ℕ → ℕ → ℕ → List ℕ
 database_line db events sources version =
     compact_text (database_data db events sources version) ++ 10 ∷ []
 
--- the text is the rest of these bytes before one LF at their end, or all of them where none is there
+-- the text is the rest of these bytes before one LF at their end, or all of them where none is
+-- there
 abbrev pub WithoutLineEnd : List ℕ → List ℕ → Type 0
 WithoutLineEnd bytes text = (bytes ≡ text ++ 10 ∷ [])
     ⊎ ((bytes ≡ text) × ((front : List ℕ) → bytes ≢ front ++ 10 ∷ []))

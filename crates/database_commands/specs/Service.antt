@@ -20,8 +20,8 @@ abbrev pub HasOrFounds : Database → List ℕ → ℕ → List ℕ → ℕ → 
 HasOrFounds db given start source base commands = IsService db source base commands
     ⊎ ((has_name db.schema ≡ false) × (source ≡ given) × (base ≡ start) × (commands ≡ []))
 
--- the service that the database had, or that was to be made, is in the new one, and the text tells of
--- it
+-- the service that the database had, or that was to be made, is in the new one, and the text tells
+-- of it
 abbrev pub TellsOrFounds : List ℕ → ℕ → Database → Database → List ℕ → Type 0
 TellsOrFounds given start old new text = (source : List ℕ) (base : ℕ) (commands : List Accepted)
     → HasOrFounds old given start source base commands
@@ -51,8 +51,8 @@ pub record HasOtherBase (is_named : Bool) (given : List ℕ) (start : Option ℕ
   pub meant : IsTrue is_named → source ≡ given
   pub other : IsOtherBase start base
 
--- the text tells of some service; where the source was named, it is that one, and so is the base that
--- is given
+-- the text tells of some service; where the source was named, it is that one, and so is the base
+-- that is given
 pub record SaysService (is_named : Bool) (given : List ℕ) (start : Option ℕ) (text : List ℕ)
     : Type 0 where
   pub source : List ℕ

@@ -15,7 +15,8 @@ use Rattle.database_commands.specs.Held.{Holds, KeepsRows}
 use Rattle.database_commands.specs.declared.stream.StreamFault.{StreamFault}
 use Rattle.database_commands.specs.declared.stream.StreamFault.TheVariants as stream
 
--- the database has what the old one held, and behind it the events of turns, of each line so many new
+-- the database has what the old one held, and behind it the events of turns, of each line so many
+-- new
 abbrev pub HoldsTurns : List Turn → Database → Database → Type 0
 HoldsTurns turns old new = (held : List EventValue) → Holds old held
     → (events : List EventValue) × IsInbox new events × AreKept held turns events
@@ -29,8 +30,8 @@ pub record StaysUnread (left left' out out' : Option (List ℕ)) (old new : Stat
   pub unwritten : Keeps out out'
   pub same : IsAsItWas old new
 
--- the stream stopped for this fault: what the turns before it brought is in behind what the database
--- held
+-- the stream stopped for this fault: what the turns before it brought is in behind what the
+-- database held
 pub record StopsInto (start : Place) (out : Option (List ℕ)) (old new : State) (f : StreamFault)
     : Type 0 where
   pub why : FollowFault
@@ -45,8 +46,8 @@ AcknowledgesUntil (stream.Input why) old out out' = TellsSome old out out'
 AcknowledgesUntil (stream.Database why) old out out' = TellsSome old out out'
 AcknowledgesUntil stream.Unwritten old out out' = TellsPart old out out'
 
--- lines of an input went into a database, from one state to the other, and were acknowledged: to the
--- input's end where nothing refused them, else to where the stream stopped
+-- lines of an input went into a database, from one state to the other, and were acknowledged: to
+-- the input's end where nothing refused them, else to where the stream stopped
 pub record FollowsOver (input out out' : Option (List ℕ)) (outcome : Result ℕ StreamFault)
     (old new : State) : Type 0 where
   -- this was left of the input when the stream began, which is all of it

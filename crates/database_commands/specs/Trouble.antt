@@ -81,6 +81,7 @@ trouble_data db fault words =
     object (member (codes "db") (string db) (member (codes "fault") (string fault)
     (member (codes "hint") (string words) no_members)))
 
--- why nothing is told of the database of this name; JSON without white space (RFC 8259), as one line
+-- why nothing is told of the database of this name; JSON without white space (RFC 8259), as one
+-- line
 unfoldable pub trouble_line : List ℕ → Trouble → List ℕ
 trouble_line db why = compact_text (trouble_data db (name_of (fault_of why)) (hint why)) ++ 10 ∷ []

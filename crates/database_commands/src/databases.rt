@@ -32,10 +32,10 @@ use std::io::{Read, Write};
 
 /// The commands over databases, by the names of their files. Each opens the database, makes its
 /// file where there is none unless it says otherwise, and closes it in the end; what was committed
-/// stays, also where the closing fails. The clauses here say of which form an answer is, for some events
-/// or some service: the page from that place, what the summary lacks, the command that was given. What
-/// it is for what the file held, those of [`crate::take_named`] and its like say, which the program
-/// calls for files of which nothing is known.
+/// stays, also where the closing fails. The clauses here say of which form an answer is, for some
+/// events or some service: the page from that place, what the summary lacks, the command that was
+/// given. What it is for what the file held, those of [`crate::take_named`] and its like say, which
+/// the program calls for files of which nothing is known.
 pub trait Databases {
     /// As [`crate::take`].
     fn take<W: Watch>(
@@ -45,7 +45,8 @@ pub trait Databases {
         events: &Batch,
         watch: &W,
     ) -> Result<Text, CommandFault>
-        ensures { IfOk result (λ text. (fresh : ℕ) × (text ≡ counts_line (length events.now) fresh)) };
+        ensures { IfOk result (λ text. (fresh : ℕ)
+            × (text ≡ counts_line (length events.now) fresh)) };
 
     /// As [`crate::follow`].
     fn follow<R: Read, W: Write>(

@@ -25,10 +25,10 @@ use sqlite::{Alter, Connection};
 use std::alloc::{AllocError, Global};
 
 /// What a database is, in lines of JSON, the first of which begins with its name: how many events
-/// its inbox has, of how many sources, and its version, which is 0 where there is no inbox; and, where
-/// there is a service, the line that tells of it, as `service` prints it. Nothing is written: an inbox
-/// of version 1 stays what it is. `Foreign` where its tables aren't those that these commands leave.
-/// Time and memory in proportion to the events and rows.
+/// its inbox has, of how many sources, and its version, which is 0 where there is no inbox; and,
+/// where there is a service, the line that tells of it, as `service` prints it. Nothing is written:
+/// an inbox of version 1 stays what it is. `Foreign` where its tables aren't those that these
+/// commands leave. Time and memory in proportion to the events and rows.
 pub fn describe<S: Alter + Drop>(alloc: Global, conn: Connection<S>, name: &str) -> CommandEnd<S>
     ensures told { HasCleanDisk (state S.Store result.conn) → IfOk result.outcome
         (Describes name.now (state S.Store conn).now) }

@@ -88,8 +88,8 @@ pub fn of_outbox(fault: OutboxFault) -> CommandFault
     }
 }
 
-/// The fault that one of a relay's step is. A step in the program's own thread is refused by a route,
-/// by the database, or for want of memory.
+/// The fault that one of a relay's step is. A step in the program's own thread is refused by a
+/// route, by the database, or for want of memory.
 pub fn of_relay(fault: RelayFault) -> CommandFault
     ensures { result ≡ of_relay fault }
 {

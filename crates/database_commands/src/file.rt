@@ -29,12 +29,12 @@ const MOST_MIB: u64 = 1_048_576;
 /// The pages of a MiB.
 const MIB: u64 = 256;
 /// The most pages that are kept in memory where the variable isn't set, 256 MiB. The cache is made
-/// once the first page is found to be a database's, so a huge file that only begins like one may not
-/// ask for more; of a database past this size an open reads pages again.
+/// once the first page is found to be a database's, so a huge file that only begins like one may
+/// not ask for more; of a database past this size an open reads pages again.
 const MOST_PAGES: u64 = 65_536;
 
-/// Whether the name means no file of that name to SQLite: the empty one and `:memory:` are databases
-/// that go away there, and one that begins with `file:` is a URI.
+/// Whether the name means no file of that name to SQLite: the empty one and `:memory:` are
+/// databases that go away there, and one that begins with `file:` is a URI.
 fn is_no_file(name: &str) -> bool
     ensures some { IsTrue result → IsNoFile name.now }
     ensures none { IsNoFile name.now → IsTrue result }
@@ -85,8 +85,8 @@ pub(crate) fn found<T: Start>(
 }
 
 /// Opens the database of that name, and makes its file where there is none. `growth` is about how
-/// many bytes will be added, for the size of the cache alone. A name that means no file to SQLite is
-/// `Store`: who knows it would look for their events in vain.
+/// many bytes will be added, for the size of the cache alone. A name that means no file to SQLite
+/// is `Store`: who knows it would look for their events in vain.
 pub fn open(
     rt: &HostRuntime,
     name: &str,

@@ -43,9 +43,9 @@ pub fn loaded<S: Alter + Drop>(alloc: Global, conn: Connection<S>) -> Result<Loa
 /// Adds the events that a database doesn't have, each in its turn, and answers the line that says
 /// how many of them were new. The table is made where there is none. One transaction; the events
 /// that are there already are read once and not kept. The watch is told from time to time how many
-/// of the batch are in, and before that, where a table of version 1 gives way, how many of its events
-/// are. A refusal leaves what the database held; only where the memory for the line is wanted may the
-/// events be in. A service beside the inbox stays as it is.
+/// of the batch are in, and before that, where a table of version 1 gives way, how many of its
+/// events are. A refusal leaves what the database held; only where the memory for the line is
+/// wanted may the events be in. A service beside the inbox stays as it is.
 pub fn take<S: Alter + Drop, W: Watch>(
     alloc: Global,
     conn: Connection<S>,
@@ -80,8 +80,8 @@ pub fn take<S: Alter + Drop, W: Watch>(
     }
 }
 
-/// The table of a database, made where there is none. Its events are read once and not kept. Where a
-/// table of version 1 gives way, the watch is told how many of its events are in the new one.
+/// The table of a database, made where there is none. Its events are read once and not kept. Where
+/// a table of version 1 gives way, the watch is told how many of its events are in the new one.
 pub(crate) fn adopted<S: Alter + Drop, W: Watch>(
     alloc: Global,
     conn: Connection<S>,

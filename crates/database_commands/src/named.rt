@@ -63,8 +63,8 @@ pub fn take_named<T: Start, W: Watch>(
     }
 }
 
-/// [`follow`] into the file of that name, which is made where there is none, once the first bytes of
-/// the input are there.
+/// [`follow`] into the file of that name, which is made where there is none, once the first bytes
+/// of the input are there.
 pub fn follow_named<T: Start, R: Read, W: Write>(
     rt: &HostRuntime,
     alloc: Global,

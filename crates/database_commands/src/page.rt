@@ -70,15 +70,15 @@ fn own_contents<S: Alter + Drop>(alloc: Global, conn: Connection<S>) -> Contents
     }
 }
 
-/// The events that a database holds. Nothing is written: where there is no inbox, there are none, and
-/// one of version 1 stays what it is. Time in proportion to all events.
+/// The events that a database holds. Nothing is written: where there is no inbox, there are none,
+/// and one of version 1 stays what it is. Time in proportion to all events.
 pub fn held<S: Alter + Drop>(alloc: Global, conn: Connection<S>) -> Contents<S>
     ensures events { HasCleanDisk (state S.Store result.conn) → IfOk result.events
         (ShowsEvents (state S.Store conn).now) }
     ensures left { Leaves (state S.Store conn) (state S.Store result.conn) }
     ensures without { has_inbox (state S.Store conn).now.schema ≡ false
-        → ((state S.Store result.conn).now ≡ (state S.Store conn).now) × IfOk result.events (λ es. es ≡ [])
-        × IsOk result.events }
+        → ((state S.Store result.conn).now ≡ (state S.Store conn).now)
+        × IfOk result.events (λ es. es ≡ []) × IsOk result.events }
 {
     let mut conn = conn;
     if !has_inbox(conn.schema()) {
@@ -167,8 +167,8 @@ pub fn delta_pages<S: Alter + Drop>(
 }
 
 /// The page of what a summary lacks of all events of a database, at most 100 from a place on. The
-/// table is made where there is none, and the events stay, also where it is refused, as does a service
-/// beside them. Time in proportion to all events.
+/// table is made where there is none, and the events stay, also where it is refused, as does a
+/// service beside them. Time in proportion to all events.
 pub fn delta<S: Alter + Drop>(
     alloc: Global,
     conn: Connection<S>,
@@ -193,8 +193,8 @@ pub fn delta<S: Alter + Drop>(
 }
 
 /// The page of all events of a database in key order, at most 100 from a place on. The table is
-/// made where there is none, and the events stay, also where it is refused, as does a service beside
-/// them. Time in proportion to all events.
+/// made where there is none, and the events stay, also where it is refused, as does a service
+/// beside them. Time in proportion to all events.
 pub fn scrub<S: Alter + Drop>(alloc: Global, conn: Connection<S>, from: u64) -> CommandEnd<S>
     ensures did { PageEffect (ShowsPage from) result.outcome (state S.Store conn)
         (state S.Store result.conn) }

@@ -82,8 +82,8 @@ impl EventPages {
         self.site.len()
     }
 
-    /// The next events, 100 of them or all that are left, as the line of a batch; none where nothing
-    /// is left. Time in proportion to the events that are passed, and to the page.
+    /// The next events, 100 of them or all that are left, as the line of a batch; none where
+    /// nothing is left. Time in proportion to the events that are passed, and to the page.
     pub fn next_line(&mut self) -> Result<Option<Text>, AllocError>
         ensures line { IfOk result (λ line. line ≡ first_page self.old) }
         ensures rest { OnOk result (self.new ≡ drop max_page self.old) }

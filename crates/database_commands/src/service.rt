@@ -313,9 +313,9 @@ fn are_behind(events: &Batch, after: u64) -> bool
     true
 }
 
-/// All rows of a database's service with a greater number than `after`, in pages of 100, each as the
-/// line of a batch; nothing where there are none. Nothing is made: where there is no service, there
-/// are no rows. Time and memory in proportion to all rows, for the opening, and to the text.
+/// All rows of a database's service with a greater number than `after`, in pages of 100, each as
+/// the line of a batch; nothing where there are none. Nothing is made: where there is no service,
+/// there are no rows. Time and memory in proportion to all rows, for the opening, and to the text.
 pub fn relay_all<S: Alter + Drop>(alloc: Global, conn: Connection<S>, after: u64) -> CommandEnd<S>
     ensures shown { HasCleanDisk (state S.Store result.conn) → IfOk result.outcome
         (ShowsAllRows after (state S.Store conn).now) }

@@ -66,8 +66,8 @@ fn outcome_of(ended: Result<u64, FollowFault>) -> Result<u64, StreamFault>
     }
 }
 
-/// Waits for the first bytes of an input, or for its end. Nothing is lost: what is read of the answer is
-/// what the input had.
+/// Waits for the first bytes of an input, or for its end. Nothing is lost: what is read of the
+/// answer is what the input had.
 pub(crate) fn begun<'a, R: Read>(
     alloc: Global,
     input: &'a mut R,
@@ -86,10 +86,10 @@ pub(crate) fn begun<'a, R: Read>(
     Ok(lines)
 }
 
-/// Takes the lines of an input into a database to the input's end, and acknowledges each on `out` once
-/// its events are kept, as [`line_intake::follow`]. The table is made where there is none, before
-/// anything is read; where it isn't to be had, nothing is read or written. A service beside the
-/// inbox stays as it is, also where the stream stops. Memory for the lines of one transaction.
+/// Takes the lines of an input into a database to the input's end, and acknowledges each on `out`
+/// once its events are kept, as [`line_intake::follow`]. The table is made where there is none,
+/// before anything is read; where it isn't to be had, nothing is read or written. A service beside
+/// the inbox stays as it is, also where the stream stops. Memory for the lines of one transaction.
 pub fn follow<S: Alter + Drop, R: Read, W: Write>(
     alloc: Global,
     conn: Connection<S>,

@@ -24,14 +24,14 @@ use outbox::{NotMade, Service};
 use sqlite::{Alter, Connection};
 use std::alloc::Global;
 
-/// Tells of the service of a database, as the line `{"base":B,"orders":N,"rows":N,"source":S}`; where
-/// there is none, makes it with this source and base, 0 where no base is given.
+/// Tells of the service of a database, as the line `{"base":B,"orders":N,"rows":N,"source":S}`;
+/// where there is none, makes it with this source and base, 0 where no base is given.
 ///
 /// A service that is there is only told: where the source was named it has to have it,
-/// `AnotherSource` else, and then the base that is given, `Foreign` else. `Foreign` are tables, too,
-/// that no calls of a service leave. Of a refusal the database is as it was; the line is made before
-/// anything is written. What lies beside the service, as an inbox, stays. Reads all rows once; time
-/// and memory in proportion to them.
+/// `AnotherSource` else, and then the base that is given, `Foreign` else. `Foreign` are tables,
+/// too, that no calls of a service leave. Of a refusal the database is as it was; the line is made
+/// before anything is written. What lies beside the service, as an inbox, stays. Reads all rows
+/// once; time and memory in proportion to them.
 pub fn tell_service<S: Alter + Drop>(
     alloc: Global,
     conn: Connection<S>,
@@ -140,7 +140,8 @@ pub(crate) fn told<S: Alter + Drop>(
     }
 }
 
-/// The line of a service; where the source was named and the base is given, they have to be its own.
+/// The line of a service; where the source was named and the base is given, they have to be its
+/// own.
 fn line_of<S: Alter>(
     alloc: Global,
     service: &Service<S>,

@@ -42,7 +42,8 @@ pub struct GivenFiles {
     /// Drawn at random, for the log's salts.
     pub seed: u64,
     /// How many MiB of the database are kept in memory, which is taken at once; at 0 as much as the
-    /// file has now, a tenth and 16 MiB, at most 256 MiB. Of a database past it pages are read again.
+    /// file has now, a tenth and 16 MiB, at most 256 MiB. Of a database past it pages are read
+    /// again.
     pub cache_mib: u64,
 }
 

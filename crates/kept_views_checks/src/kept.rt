@@ -295,8 +295,8 @@ const DAYS_LESS: &str =
 const DAYS_MORE: &str =
     "[\"t.a\",\"2024-03-01\",1]\n[\"t.b\",\"2024-02-28\",1]\n[\"t.b\",\"2024-03-01\",2]\n";
 
-/// Events, and the days after each: one of another day, one without a time, one that is hidden as it
-/// comes, one that is there, and two more of one day, of which the second hides the first.
+/// Events, and the days after each: one of another day, one without a time, one that is hidden as
+/// it comes, one that is there, and two more of one day, of which the second hides the first.
 const HIDING: [(Row<'static>, &str); 6] = [
     (("b4", 4, "t.b", "v", "2024-03-01T00:00:00Z"), DAYS_APART),
     (("b1", 1, "t.b", "a", ""), DAYS_LESS),

@@ -1,5 +1,5 @@
-//! What the tests stand on: events, and tables in memory. Want of memory and what can't be had end a
-//! test at once: so nothing is let go half-way, which would be dear to prove.
+//! What the tests stand on: events, and tables in memory. Want of memory and what can't be had end
+//! a test at once: so nothing is let go half-way, which would be dear to prove.
 
 use attributes::{Batch, Sequenced};
 use event_json::read_events;

@@ -1,5 +1,5 @@
-//! What no contract says of streams of lines: that they succeed with ample memory, what their lines and
-//! acknowledgements look like, and that lines that stand whole in what was read share a turn.
+//! What no contract says of streams of lines: that they succeed with ample memory, what their lines
+//! and acknowledgements look like, and that lines that stand whole in what was read share a turn.
 
 use crate::fixture::{E1, E2, E3, F1, batch, created, holds};
 use attributes::{Batch, List};
@@ -162,8 +162,8 @@ fn an_input_that_fails_is_told(rt: HostRuntime) {
     assert!(rt; matches!(next, Err(LineFault::CannotRead)));
 }
 
-/// The lines of a stream: an event, two at fault, an empty one, a batch, one that is no JSON, and an
-/// event that no LF ends.
+/// The lines of a stream: an event, two at fault, an empty one, a batch, one that is no JSON, and
+/// an event that no LF ends.
 fn stream<R: AllocGlobal + Abort>(rt: &R) -> String<Global> {
     let plain = r#"{"id":"1","source":"/a","specversion":"1.0","type":"t"}"#;
     let text = format!(in rt.alloc();

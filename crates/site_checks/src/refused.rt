@@ -1,6 +1,6 @@
 //! What a site holds where an allocation is refused: what it held, with a front of what it was
-//! given, and the same as ever once there is memory. tools/try_refusals.py runs these tests with each
-//! allocation refused; with ample memory they compare the whole answers.
+//! given, and the same as ever once there is memory. tools/try_refusals.py runs these tests with
+//! each allocation refused; with ample memory they compare the whole answers.
 
 use crate::event::{A1, A2, A3, Row, add_numbers, fill, has, take};
 use crate::keeping::keep;
@@ -157,8 +157,8 @@ fn tells(site: &mut Site, peer: &Summary, asked: Asked, rows: &[Row<'_>]) -> boo
     }
 }
 
-/// Whether a site that took the numbers 2, 1 and 3 tells a peer with the number 2 what it lacks, and
-/// its pages, and stays as it is.
+/// Whether a site that took the numbers 2, 1 and 3 tells a peer with the number 2 what it lacks,
+/// and its pages, and stays as it is.
 fn tells_all(site: &mut Site, peer: &Summary) -> bool {
     tells(site, peer, Asked::Delta, &[A1, A3])
         && tells(site, peer, Asked::DeltaPage, &[A3])

@@ -1,7 +1,7 @@
-//! What a schedule leaves where memory is refused: the sites stand after the steps that are named as
-//! done and so many events of the next one, and once there is memory it ends whole. With ample memory
-//! it does at once; tools/try_refusals.py runs these tests, but the last one, with each allocation
-//! refused.
+//! What a schedule leaves where memory is refused: the sites stand after the steps that are named
+//! as done and so many events of the next one, and once there is memory it ends whole. With ample
+//! memory it does at once; tools/try_refusals.py runs these tests, but the last one, with each
+//! allocation refused.
 
 use crate::event::{A1, A2, A3};
 use crate::refused::came;

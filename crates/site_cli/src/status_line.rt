@@ -22,8 +22,8 @@ pub struct StatusLine<E> {
 }
 
 impl<E: Print + IsTerminal> StatusLine<E> {
-    /// An empty line on the stream. Where answers go to a terminal too, nothing is shown of a stream
-    /// of lines, each of which has its answer there.
+    /// An empty line on the stream. Where answers go to a terminal too, nothing is shown of a
+    /// stream of lines, each of which has its answer there.
     pub fn on(to: E, is_out_terminal: bool, alloc: Global) -> StatusLine<E> {
         let is_terminal = to.is_terminal();
         StatusLine {

@@ -32,15 +32,16 @@ pub(crate) struct Tried<S: Alter + Drop> {
     pub(crate) is_done: bool,
 }
 
-/// What an act leaves of a connection: it, to be closed, or its store, which isn't to be closed, and
-/// whether what was done is done.
+/// What an act leaves of a connection: it, to be closed, or its store, which isn't to be closed,
+/// and whether what was done is done.
 #[derive(Drop)]
 enum Left<S: Alter + Drop> {
     Open(Connection<S>),
     Store { store: S, is_done: bool },
 }
 
-/// The files after a run, whether what was done is done, and whether they were closed without a stop.
+/// The files after a run, whether what was done is done, and whether they were closed without a
+/// stop.
 #[derive(Drop)]
 pub(crate) struct Run {
     pub(crate) files: Files<Fuse<Memory>>,
@@ -69,8 +70,8 @@ fn acted<R: AllocGlobal + Wait + Abort, S: Alter + Drop>(
     }
 }
 
-/// Does it. What isn't done isn't to be closed, and neither is what makes it ready for a call: so what
-/// is read again of the log is tried too.
+/// Does it. What isn't done isn't to be closed, and neither is what makes it ready for a call: so
+/// what is read again of the log is tried too.
 fn left_by<R: AllocGlobal + Wait + Abort, S: Alter + Drop>(
     rt: &R,
     conn: Connection<S>,

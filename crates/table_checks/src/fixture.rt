@@ -47,8 +47,8 @@ pub(crate) const INBOX2: &str =
 pub(crate) const OUTBOX: &str =
     "CREATE TABLE service (one INTEGER PRIMARY KEY CHECK (one = 1), source TEXT NOT NULL, base INTEGER NOT NULL CHECK (base >= 0)) STRICT; CREATE TABLE orders (number INTEGER PRIMARY KEY, state INTEGER NOT NULL CHECK (state >= 1 AND state <= 3)) STRICT; CREATE TABLE outbox (number INTEGER PRIMARY KEY, kind INTEGER NOT NULL CHECK (kind >= 1 AND kind <= 3), order_number INTEGER NOT NULL, at TEXT NOT NULL) STRICT;";
 
-/// The statement that puts a row with these values into a table, whose columns stand behind its name.
-/// The text of the event comes last.
+/// The statement that puts a row with these values into a table, whose columns stand behind its
+/// name. The text of the event comes last.
 pub(crate) fn insertion<R: AllocGlobal + Abort>(
     rt: &R,
     table: &str,

@@ -238,7 +238,8 @@ static ROWS_SHIPPED: [(u64, &[&str]); 4] = [
     (u64::MAX, &[]),
 ];
 
-/// Whether these commands are then refused for their faults, and these rows come after these numbers.
+/// Whether these commands are then refused for their faults, and these rows come after these
+/// numbers.
 fn stands<R: AllocGlobal + Abort>(
     rt: &R,
     service: &mut Service<MemStore>,

@@ -454,8 +454,8 @@ fn copy<R: AllocGlobal + Abort>(rt: &R, bytes: &[u8]) -> Vec<u8> {
     copy
 }
 
-/// The byte at a place of a mixture: the written one, or at an odd place the one that was synced, or
-/// another behind the end of those.
+/// The byte at a place of a mixture: the written one, or at an odd place the one that was synced,
+/// or another behind the end of those.
 fn mixed(written: u8, synced: &[u8], place: usize) -> u8 {
     if place % 2 == 0 {
         return written;

@@ -1,5 +1,5 @@
-//! The taking of a table of version 1: what is taken is of version 2 then, and what is refused leaves
-//! the database as it was.
+//! The taking of a table of version 1: what is taken is of version 2 then, and what is refused
+//! leaves the database as it was.
 
 use crate::fixture::{
     C1, E1, E2, INBOX, INBOX2, OLD_C1, OLD_E1, OLD_E2, OUTBOX, after, database, executes, has,

@@ -168,8 +168,8 @@ fn sixteen_threads_take_turns(rt: HostRuntime) {
     assert!(rt; counts == (0, 100_001, 0));
 }
 
-/// With ample memory it says less than the two above. Run with each allocation refused in turn, some
-/// within a turn, it says that a refused call has its turn and adds nothing but what it took.
+/// With ample memory it says less than the two above. Run with each allocation refused in turn,
+/// some within a turn, it says that a refused call has its turn and adds nothing but what it took.
 #[test]
 fn what_was_refused_is_not_there(rt: HostRuntime) {
     if let Some((shown, turns, arrived)) = after_work(&rt, rt.alloc(), 1, Work::Take(5)) {
