@@ -1,6 +1,6 @@
 -- What parts without a fault are.
 use Rattle.std.proofs.Common.{◌≡◌, ◌∙◌, ◌≤◌, ℕ, Bool, true, false, ◌&&◌, List, [], ◌∷◌, length, Option, Some, None, refl, ap, ap₂, sym, subst, arith}
-use Rattle.std.specs.Prelude.{if◌then◌else◌, nat_lt, nat_le, bytes_eq, unwrap_or}
+use Rattle.std.specs.Prelude.{if◌then◌else◌, nat_lt, nat_le, bytes_eq, codes, unwrap_or}
 use Rattle.std.specs.List.{list_all, AllByRecursion}
 use Rattle.std.proofs.lemmas.Bool.Decides.{nat_tests}
 use Rattle.serde_json.specs.Data.{Data, null, boolean, number, string, array, object, depth}
@@ -8,9 +8,9 @@ use Rattle.serde_json.specs.Written.{has_float}
 use Rattle.std.specs.Map.{keys_of}
 use Rattle.attributes.specs.Members.{value_at}
 use Rattle.attributes.specs.steps.Given.{given_words, is_allowed_value}
-use Rattle.attributes.specs.Character.{is_name}
+use Rattle.attributes.specs.Character.{is_filled, is_name}
 use Rattle.attributes.specs.Event.{OfferValue, content_of, event_of, given_member, scalars_of, text, words_of, words_or_empty}
-use Rattle.attributes.specs.Fault.{is_attribute, is_shallow, has_whole_numbers, first_failed, member_tests, member_fault, payload_tests, payload_fault, max_text, fault, given_all, offered_of, parts_of}
+use Rattle.attributes.specs.Fault.{is_attribute, is_required, is_shallow, has_whole_numbers, first_failed, member_tests, member_fault, payload_tests, payload_fault, max_text, fault, given_all, offered_of, parts_of}
 use Rattle.std.specs.Option.{option_or}
 use Rattle.attributes.specs.declared.fault.Fault.{Fault}
 use Rattle.attributes.specs.declared.scalar.Scalar.{Scalar}
@@ -151,6 +151,19 @@ or_empty (Some (scalar.Words t)) = refl
 
 pub given_words-or_empty : (name : List ℕ) (ms : List (List ℕ × Given)) → list_all (λ m. is_attribute m.1) ms ≡ true → unwrap_or (given_words (value_at name ms)) [] ≡ words_or_empty (value_at name (scalars_of ms))
 given_words-or_empty name ms h = ap (λ (o : Option (List ℕ)). unwrap_or o []) (given_words-words_of name ms h) ∙ or_empty (value_at name (scalars_of ms))
+
+-- the type is filled
+filled_words : (o : Option Given) → is_required is_filled o ≡ true → is_filled (unwrap_or (given_words o) []) ≡ true
+filled_words None h = cc
+filled_words (Some (given.Flag b)) h = cc
+filled_words (Some (given.Whole z)) h = cc
+filled_words (Some (given.Words t)) h = h
+filled_words (Some given.Other) h = cc
+
+pub kind_passes : (ms : List (List ℕ × Given)) → member_fault ms ≡ None → is_filled (words_or_empty (value_at (codes "type") (scalars_of ms))) ≡ true
+kind_passes ms h =
+    sym (ap is_filled (given_words-or_empty (codes "type") ms (values_pass ms h)))
+    ∙ filled_words (value_at (codes "type") ms) (first_failed-None (member_tests ms) h).1.1.1.0
 
 -- where the values of all members pass, so does that of each name
 pub value_at-passes : (name : List ℕ) (ms : List (List ℕ × Given)) → list_all (λ m. is_attribute m.1) ms ≡ true → is_allowed_value (value_at name ms) ≡ true

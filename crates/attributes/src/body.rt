@@ -1,9 +1,10 @@
 //! What an event keeps: its canonical text, the places of its attributes in it, and its key.
 
-ghost use Rattle.std.specs.Prelude.{◌≡◌, ◌+◌, ◌-◌, ◌<◌, ◌≤◌, bytes_eq, length, option_map, string_bytes, IfOk};
+ghost use Rattle.std.specs.Prelude.{◌≡◌, ◌+◌, ◌-◌, ◌<◌, ◌≤◌, ◌++◌, ◌^◌, bytes_eq, length, option_map, string_bytes, true, IfOk, IfSome, Some};
+ghost use Rattle.attributes.specs.Character.{is_filled};
 ghost use Rattle.attributes.specs.Members.{value_at};
-ghost use Rattle.attributes.specs.steps.Place.{ArePlaces, IsPlace, IsBody, IsSpan, aside_of, attributes_in, id_in, in_span, payload_in, place_name, place_value, shown, source_in, text_of};
-ghost use Rattle.attributes.specs.Event.{scalar_of};
+ghost use Rattle.attributes.specs.steps.Place.{ArePlaces, HasPlaces, IsPlace, IsBody, IsSpan, aside_of, attributes_in, drafted, id_in, in_span, kind_in, payload_in, place_name, place_value, shown, source_in, text_of};
+ghost use Rattle.attributes.specs.Event.{scalar_of, words_or_empty};
 
 use std::alloc::AllocError;
 
@@ -58,13 +59,15 @@ pub(crate) struct Draft {
 
 /// The canonical text and behind it, in one string, what stands aside of it and the key: `"`, the
 /// source, `"`, the id, `"`. So two events are compared by their keys with one look into memory
-/// each. The payload is the value of the payload member; without one, it is empty.
+/// each. The kind is the value of `type`, which stands in the canonical text or, where it is escaped
+/// there, aside of it. The payload is the value of the payload member; without one, it is empty.
 #[derive(Drop)]
 pub(crate) struct Body {
     pub(crate) all: String,
     pub(crate) places: Vec<Place>,
     pub(crate) text_end: u32,
     pub(crate) source: Span,
+    pub(crate) kind: Span,
     pub(crate) payload: Stretch,
 }
 
@@ -116,18 +119,76 @@ fn value_of<'a>(text: &'a str, aside: &'a str, place: Place) -> Attribute<'a>
     }
 }
 
+/// The place of the attribute of this name.
+fn place_in(text: &str, aside: &str, places: &[Place], name: &str) -> Option<Place>
+    requires { ArePlaces text.now aside.now places.now }
+    ensures stands { IfSome result (λ p. IsPlace text.now aside.now p) }
+    ensures value { option_map (λ p. place_value text.now aside.now p) result
+        ≡ value_at name.now (shown text.now aside.now places.now) }
+{
+    for place in places {
+        if is_same(name, name_at(text, aside, *place)) {
+            return Some(*place);
+        }
+    }
+    None
+}
+
 /// The value of the attribute of this name, by its place.
 fn find_in<'a>(text: &'a str, aside: &'a str, places: &[Place], name: &str) -> Option<Attribute<'a>>
     requires { ArePlaces text.now aside.now places.now }
     ensures { option_map scalar_of result
         ≡ value_at name.now (shown text.now aside.now places.now) }
 {
-    for place in places {
-        if is_same(name, name_at(text, aside, *place)) {
-            return Some(value_of(text, aside, *place));
-        }
+    match place_in(text, aside, places, name) {
+        Some(place) => Some(value_of(text, aside, place)),
+        None => None,
     }
-    None
+}
+
+/// Where the words of a place stand once what is aside stands behind the text.
+fn joined_span(text: &str, aside: &str, place: Place) -> Span
+    requires short { length text.now + length aside.now < 2 ^ 32 }
+    requires place { IsPlace text.now aside.now place }
+    requires words { is_filled (words_or_empty
+        (Some (place_value text.now aside.now place))) ≡ true }
+    ensures span { IsSpan (text.now ++ aside.now) result }
+    ensures words { in_span (text.now ++ aside.now) result
+        ≡ words_or_empty (Some (place_value text.now aside.now place)) }
+{
+    let name = place.name;
+    match place.value {
+        Kind::Words(end) => Span {
+            start: name.end + 3,
+            end,
+        },
+        Kind::Escaped(end) => {
+            let before = text.len() as u32;
+            Span {
+                start: before + (name.end + 3),
+                end: before + end,
+            }
+        }
+        Kind::Flag(_) | Kind::Whole(_) => unreachable!(),
+    }
+}
+
+/// Where the words of the attribute of this name stand once what is aside stands behind the text.
+pub(crate) fn words_in(draft: &Draft, name: &str) -> Span
+    requires short { length (string_bytes draft.now.text) + length (string_bytes draft.now.aside)
+        < 2 ^ 32 }
+    requires places { HasPlaces draft.now }
+    requires words { is_filled (words_or_empty (value_at name.now (drafted draft.now))) ≡ true }
+    ensures span { IsSpan (string_bytes draft.now.text ++ string_bytes draft.now.aside) result }
+    ensures words { in_span (string_bytes draft.now.text ++ string_bytes draft.now.aside) result
+        ≡ words_or_empty (value_at name.now (drafted draft.now)) }
+{
+    let text = draft.text.as_str();
+    let aside = draft.aside.as_str();
+    match place_in(text, aside, draft.places.as_slice(), name) {
+        Some(place) => joined_span(text, aside, place),
+        None => unreachable!(),
+    }
 }
 
 impl Body {
@@ -175,6 +236,14 @@ impl Body {
         )
     }
 
+    /// The attribute `type`.
+    pub(crate) fn kind(&self) -> &str
+        requires { IsBody self.now }
+        ensures { result.now ≡ kind_in self.now }
+    {
+        spanned(self.all.as_str(), self.kind)
+    }
+
     /// The value of the attribute of this name. Goes over the names.
     pub(crate) fn find(&self, name: &str) -> Option<Attribute<'_>>
         requires { IsBody self.now }
@@ -189,6 +258,7 @@ impl Body {
         ensures places { IfOk result (λ s. s.places.items ≡ self.now.places.items) }
         ensures text_end { IfOk result (λ s. s.text_end ≡ self.now.text_end) }
         ensures source { IfOk result (λ s. s.source ≡ self.now.source) }
+        ensures kind { IfOk result (λ s. s.kind ≡ self.now.kind) }
         ensures payload { IfOk result (λ s. s.payload ≡ self.now.payload) }
     {
         let alloc = *self.all.allocator();
@@ -199,6 +269,7 @@ impl Body {
             places,
             text_end: self.text_end,
             source: self.source,
+            kind: self.kind,
             payload: self.payload,
         })
     }

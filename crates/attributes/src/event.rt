@@ -9,7 +9,7 @@ ghost use Rattle.std.specs.Str.{IsUtf8};
 ghost use Rattle.attributes.specs.Members.{InOrder, named, value_at};
 ghost use Rattle.attributes.specs.steps.Content.{HoldsExact};
 ghost use Rattle.attributes.specs.steps.Kept.{TellsTree};
-ghost use Rattle.attributes.specs.steps.Place.{IsBody, attributes_in, id_in, payload_in, source_in, text_of};
+ghost use Rattle.attributes.specs.steps.Place.{IsBody, attributes_in, id_in, kind_in, payload_in, source_in, text_of};
 ghost use Rattle.attributes.specs.Event.{Lends, scalar_of, attribute_of, content_of, day_of, event_of, id_of, kind_of, scalars_of, source_of, subject_of, text, time_of, view_of, words_of, words_or_empty};
 ghost use Rattle.attributes.specs.Time.{time_day};
 ghost use Rattle.attributes.specs.Fault.{IsEvent, fault, has_whole_numbers, is_shallow, max_text, member_fault, offered_of, payload_fault};
@@ -58,16 +58,6 @@ impl Model for Event {
 
 /// Events in an order.
 pub type Events = List<Event>;
-
-/// The text of an attribute, or else the empty one.
-fn words_or_empty<'a>(attribute: Option<Attribute<'a>>) -> &'a str
-    ensures { result.now ≡ words_or_empty (option_map scalar_of attribute.entry) }
-{
-    match attribute {
-        Some(Attribute::Words(text)) => text,
-        _ => "",
-    }
-}
 
 /// The text of an attribute, where it is one.
 fn words_of<'a>(attribute: Option<Attribute<'a>>) -> Option<&'a str>
@@ -141,6 +131,8 @@ fn body_of(
         (value_at (codes "source") (scalars_of (named members.now.entries)))) }
     ensures id { IfOk result (λ b. id_in b ≡ words_or_empty
         (value_at (codes "id") (scalars_of (named members.now.entries)))) }
+    ensures kind { IfOk result (λ b. kind_in b ≡ words_or_empty
+        (value_at (codes "type") (scalars_of (named members.now.entries)))) }
     ensures refused { IfErr result (λ f. f ≢ OutOfMemory → (f ≡ TooLarge) × (nat_lt max_text
         (length (text (view_of (scalars_of (named members.now.entries)) content.now))) ≡ true)) }
 {
@@ -213,12 +205,12 @@ impl Event {
         self.body.source()
     }
 
-    /// The attribute `type`: what happened.
+    /// The attribute `type`: what happened. Takes no time.
     pub fn kind(&self) -> &str
         ensures value { result.now ≡ kind_of self.now }
         ensures allowed { is_filled result.now ≡ true }
     {
-        words_or_empty(self.body.find("type"))
+        self.body.kind()
     }
 
     /// The attribute `subject`, where it is there: what the event is about.

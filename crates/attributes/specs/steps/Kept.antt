@@ -3,9 +3,9 @@ use Rattle.std.specs.Prelude.{◌≡◌, ℕ, ℤ, List, Option, Some, None, ⊤
 use Rattle.serde_json.specs.Data.{Data, null}
 use Rattle.serde_json.specs.Read.{read}
 use Rattle.serde_json.specs.Written.{compact_text}
-use Rattle.attributes.specs.Event.{EventValue, day_of, id_of, source_of, text, view_of}
+use Rattle.attributes.specs.Event.{EventValue, day_of, id_of, kind_of, source_of, text, view_of}
 use Rattle.attributes.specs.Fault.{IsEvent}
-use Rattle.attributes.specs.steps.Place.{IsBody, attributes_in, id_in, payload_in, source_in, text_of}
+use Rattle.attributes.specs.steps.Place.{IsBody, attributes_in, id_in, kind_in, payload_in, source_in, text_of}
 use Rattle.attributes.specs.declared.content.Content.{Content}
 use Rattle.attributes.specs.declared.content.Content.TheVariants as content
 use Rattle.attributes.specs.declared.content.Kept.{Kept}
@@ -48,11 +48,12 @@ event_with b c = view_of (attributes_in b) c
 abbrev pub event_kept : Body → Kept → EventValue
 event_kept b k = event_with b (content_in (payload_in b) k)
 
--- its text, places in it, its key, and the day of its time
+-- its text, places in it, its key, its type, and the day of its time
 pub record IsKept (b : Body) (c : Content) (day : Option ℤ) : Type 0 where
   pub text : KeepsText (event_with b c) (text_of b)
   pub body : IsBody b
   pub is_source : source_in b ≡ source_of (event_with b c)
   pub is_id : id_in b ≡ id_of (event_with b c)
+  pub is_kind : kind_in b ≡ kind_of (event_with b c)
   pub is_payload : TellsTree (payload_in b) c
   pub is_day : day ≡ day_of (event_with b c)

@@ -120,6 +120,10 @@ source_in b = in_span (string_bytes b.all) b.source
 abbrev pub id_in : Body → List ℕ
 id_in b = in_span (string_bytes b.all) (id_span (string_bytes b.all) b.source)
 
+-- the type, in the canonical text or aside of it
+abbrev pub kind_in : Body → List ℕ
+kind_in b = in_span (string_bytes b.all) b.kind
+
 -- the attributes whose places are kept
 abbrev pub attributes_in : Body → List (List ℕ × Scalar)
 attributes_in b = shown (text_of b) (aside_of b) b.places.items
@@ -141,3 +145,4 @@ pub record IsBody (b : Body) : Type 0 where
   pub payload : StandsIn (text_of b) b.payload (payload_in b)
   pub source : IsSpan (string_bytes b.all) b.source
   pub id : IsSpan (string_bytes b.all) (id_span (string_bytes b.all) b.source)
+  pub kind : IsSpan (string_bytes b.all) b.kind

@@ -1,10 +1,13 @@
-use Rattle.std.proofs.Common.{◌∙◌, ℕ, List, length, ap, sym, subst, arith, IsUtf8}
+use Rattle.std.proofs.Common.{◌∙◌, ℕ, List, ◌≡◌, true, length, ap, sym, subst, arith, IsUtf8}
 use Rattle.std.proofs.lemmas.Str.{IsUtf8-string_bytes}
 use Rattle.std.specs.Prelude.{codes}
-use Rattle.attributes.specs.Members.{named}
+use Rattle.attributes.specs.Character.{is_filled}
+use Rattle.attributes.specs.Event.{words_or_empty}
+use Rattle.attributes.specs.Members.{named, value_at}
+use Rattle.attributes.specs.declared.scalar.Scalar.{Scalar}
 use Rattle.attributes.specs.steps.Kept.{TellsTree}
 use Rattle.attributes.proofs.BuildLemmas.{ordered_scalars}
-use Rattle.attributes.proofs.FaultLemmas.{given_words-or_empty, names_pass, values_pass}
+use Rattle.attributes.proofs.FaultLemmas.{given_words-or_empty, kind_passes, names_pass, values_pass}
 use Rattle.attributes.proofs.event.body_of.Goals as goal
 
 pub canonical-requires-clause-ordered : goal.canonical-requires-clause-ordered
@@ -34,6 +37,14 @@ pub returns-clause-id : goal.returns-clause-id
 returns-clause-id c =
     let ms = named c.args.members.now.entries in
     c.in_ok-sealed.ensures.id ∙ (c.words_or_empty_at-id.ensures ∙ given_words-or_empty (codes "id") ms (values_pass ms c.requires.members))
+
+pub returns-clause-kind : goal.returns-clause-kind
+returns-clause-kind c = c.in_ok-sealed.ensures.kind ∙ ap (λ (a : List (List ℕ × Scalar)). words_or_empty (value_at (codes "type") a)) c.in_ok-draft.ensures.shows
+
+pub sealed-requires-clause-kind : goal.sealed-requires-clause-kind
+sealed-requires-clause-kind c =
+    subst (λ (a : List (List ℕ × Scalar)). is_filled (words_or_empty (value_at (codes "type") a)) ≡ true) (sym c.in_ok-draft.ensures.shows)
+    (kind_passes (named c.args.members.now.entries) c.requires.members)
 
 pub sealed-requires-clause-payload : goal.sealed-requires-clause-payload
 sealed-requires-clause-payload c = let held = c.in_ok-draft.ensures.payload in (held.0, held.1.0)

@@ -89,6 +89,7 @@ invariant_of-result c =
       body = c.in_ok-body.ensures.body;
       is_source = c.in_ok-body.ensures.source ∙ ap (λ (a : List (List ℕ × Scalar)). words_or_empty (value_at (codes "source") a)) (sym given);
       is_id = c.in_ok-body.ensures.id ∙ ap (λ (a : List (List ℕ × Scalar)). words_or_empty (value_at (codes "id") a)) (sym given);
+      is_kind = c.in_ok-body.ensures.kind ∙ ap (λ (a : List (List ℕ × Scalar)). words_or_empty (value_at (codes "type") a)) (sym given);
       is_payload = c.in_ok-body.ensures.tells;
       is_day = c.time_day-day.ensures ∙ ap (option_and_then time_day) (c.words_at.ensures ∙ (given_words-words_of (codes "time") ms values ∙ ap (λ (a : List (List ℕ × Scalar)). words_of (value_at (codes "time") a)) (sym given)));
     } in

@@ -1,7 +1,7 @@
 use Rattle.std.proofs.Common.{◌≡◌, drop}
 use Rattle.attributes.specs.Members.{value_at}
 use Rattle.attributes.specs.steps.Place.{ArePlaces, shown}
-use Rattle.attributes.proofs.body.find_in.Given as goal
+use Rattle.attributes.proofs.body.place_in.Given as goal
 
 abbrev pub invariant-loop-place : goal.invariant-loop-place
 invariant-loop-place l =
