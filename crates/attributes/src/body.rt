@@ -59,8 +59,8 @@ pub(crate) struct Draft {
 
 /// The canonical text and behind it, in one string, what stands aside of it and the key: `"`, the
 /// source, `"`, the id, `"`. So two events are compared by their keys with one look into memory
-/// each. The kind is the value of `type`, which stands in the canonical text or, where it is escaped
-/// there, aside of it. The payload is the value of the payload member; without one, it is empty.
+/// each. The kind is the value of `type`: in the canonical text, or aside of it where it is escaped
+/// there. The payload is the value of the payload member; without one, it is empty.
 #[derive(Drop)]
 pub(crate) struct Body {
     pub(crate) all: String,
