@@ -1,5 +1,5 @@
 -- Tables with a value at each key: what one more item changes.
-use Rattle.std.proofs.Common.{◌≡◌, ℕ, ◌+◌, ◌≤◌, List, [], ◌∷◌, ◌++◌, true, false, ◌||◌, length, map, if◌then◌else◌, refl, sym, ap, ◌∙◌, arith, Option, Some, None}
+use Rattle.std.proofs.Common.{◌≡◌, ℕ, ◌+◌, ◌≤◌, List, [], ◌∷◌, ◌++◌, true, false, ◌||◌, length, map, if◌then◌else◌, refl, sym, ap, ◌∙◌, arith, subst, Option, Some, None, IsSome}
 use Rattle.std.specs.Prelude.{count_by, cond}
 use Rattle.std.proofs.lemmas.List.Sums.{sum_by-append, sum_by-cons, count_by-le-length}
 use mathlib.Core.Bool.{true≢false}
@@ -7,7 +7,7 @@ use Rattle.std.specs.declared.cmp.Ordering.{Ordering}
 use Rattle.std.specs.declared.cmp.Ordering.TheVariants.{Less, Equal, Greater}
 use Rattle.std.specs.Ordering.{is_eq, match_ordering, ordering_reverse}
 use Rattle.std.specs.Cmp.{IsTotalOrder}
-use Rattle.std.specs.Map.{lookup}
+use Rattle.std.specs.Map.{keys_of, lookup, set_value}
 use Rattle.std.specs.List.{AllByRecursion}
 use Rattle.std.specs.List.Sorted.{IsStrictlySortedBy}
 use Rattle.std.specs.Option.{option_map, option_map_or}
@@ -80,6 +80,24 @@ look_up R k w f at (y ∷ ys) =
       | Equal ↦ λ e. ap (λ x. Some x) (at y e)
       | Greater ↦ λ e. look_up R k w f at ys
     ] refl
+
+-- ---- to set the value at a key that is there is to insert it
+module _ {K V : Type 0} {R : K → K → Ordering} (o : IsTotalOrder R) (k : K) where
+  none_beyond : (es : List (K × V)) → AllByRecursion (λ z. R k z ≡ Less) (keys_of es) → lookup (is_at (R k)) es ≡ None
+  none_beyond [] a = refl
+  none_beyond (e ∷ es) a = ap (λ r. cond (is_eq r) (Some e.1) (lookup (is_at (R k)) es)) a.0 ∙ none_beyond es a.1
+
+  pub set_is_insert : (w : V) (es : List (K × V)) → IsStrictlySortedBy R (keys_of es) → IsSome (lookup (is_at (R k)) es)
+      → set_value (is_at (R k)) es w ≡ insert_entry R es k w
+  unfolding IsStrictlySortedBy
+  set_is_insert w [] s h = absurd (true≢false (sym h))
+  set_is_insert w (e ∷ es) s h =
+      elim (R k e.0) as (λ r. R k e.0 ≡ r → IsSome (cond (is_eq r) (Some e.1) (lookup (is_at (R k)) es)) → cond (is_eq r) ((e.0, w) ∷ es) (e ∷ set_value (is_at (R k)) es w)
+      ≡ match_ordering r ((k, w) ∷ e ∷ es) ((e.0, w) ∷ es) (e ∷ insert_entry R es k w)) [
+        | Less ↦ λ is some. absurd (true≢false (sym (subst IsSome (none_beyond es (all_beyond o k e.0 is (keys_of es) s.0)) some)))
+        | Equal ↦ λ is some. refl
+        | Greater ↦ λ is some. ap (λ l. e ∷ l) (set_is_insert w es s.1 some)
+      ] refl h
 
 -- ---- counts
 module _ {K : Type 0} {R : K → K → Ordering} (o : IsTotalOrder R) where

@@ -2,6 +2,7 @@
 
 ghost use Rattle.std.specs.Prelude.{◌≡◌, ◌+◌, ◌<◌, ◌^◌, IfOk, OnOk, filter_map, map, Some};
 ghost use Rattle.std.specs.BTreeMap.{get, insert_entry};
+ghost use Rattle.std.specs.Cmp.{IsTotalOrder};
 ghost use Rattle.std.specs.Option.{option_copied, option_map_or};
 ghost use Rattle.std.specs.Ordering.{is_lt};
 ghost use Rattle.attributes.specs.Bytes.{byte_cmp};
@@ -18,17 +19,18 @@ use inbox::Inbox;
 use std::alloc::{AllocError, Global};
 use std::collections::BTreeMap;
 
-/// Counts the key once more. Time logarithmic in the keys.
+/// Counts the key once more. Time logarithmic in the keys; one search where the key is there.
 fn count<K: Ord + Drop>(table: &mut BTreeMap<K, u64>, key: K) -> Result<(), AllocError>
-    requires { option_map_or (λ n. n) (get K.cmp table.old key) 0 + 1 < 2 ^ 64 }
+    requires ordered { IsTotalOrder K.cmp }
+    requires fits { option_map_or (λ n. n) (get K.cmp table.old key) 0 + 1 < 2 ^ 64 }
     ensures { OnOk result (table.new.entries ≡ insert_entry K.cmp table.old.entries key
         (option_map_or (λ n. n) (get K.cmp table.old key) 0 + 1)) }
 {
-    let before = match table.get(&key) {
-        Some(count) => *count,
-        None => 0,
-    };
-    table.insert(key, before + 1)?;
+    if let Some(count) = table.get_mut(&key) {
+        *count = *count + 1;
+        return Ok(());
+    }
+    table.insert(key, 1)?;
     Ok(())
 }
 

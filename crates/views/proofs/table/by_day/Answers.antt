@@ -2,6 +2,7 @@ use Rattle.std.proofs.Common.{◌≡◌, ◌^◌, rules, ◌<◌, ◌++◌, [], 
 use Rattle.std.specs.Prelude.{filter_map, Some, None}
 use Rattle.std.specs.List.{cons_option}
 use Rattle.std.specs.Option.{option_map}
+use Rattle.std.proofs.lemmas.Cmp.{on_total}
 use Rattle.std.proofs.lemmas.List.{append-nil}
 use Rattle.std.proofs.lemmas.List.Elements.{filter_map-append}
 use Rattle.attributes.specs.Event.{kind_of}
@@ -14,8 +15,11 @@ use Rattle.views.proofs.StepLemmas.{filter_kept, filter_left_out, item_at, lengt
 use Rattle.views.proofs.table.by_day.Goals.{then-is_shown+in-Some+in_ok-count-in-Some, then-is_shown+in-None, else-is_shown}
 use Rattle.views.proofs.table.by_day.Goals as goal
 
-pub count-requires : goal.count-requires
-count-requires c =
+pub count-requires-clause-ordered : goal.count-requires-clause-ordered
+count-requires-clause-ordered c = on_total (λ k. (k.0.now, k.1)) day_cmp_total
+
+pub count-requires-clause-fits : goal.count-requires-clause-fits
+count-requires-clause-fits c =
     let E = events c.args.inbox.now in
     let i = c.loop-i.i in
     let room : c.len-i-end.result < 2 ^ 64 = search rules in

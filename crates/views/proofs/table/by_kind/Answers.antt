@@ -1,5 +1,5 @@
 use Rattle.std.proofs.Common.{◌^◌, rules, ◌<◌, ◌++◌, [], ◌∷◌, filter, map, take, sym, ap, ◌∙◌, arith, subst}
-use Rattle.std.proofs.lemmas.Cmp.{nat_list_cmp_total}
+use Rattle.std.proofs.lemmas.Cmp.{nat_list_cmp_total, on_total}
 use Rattle.std.proofs.lemmas.List.{map-append}
 use Rattle.attributes.specs.Event.{kind_of}
 use Rattle.attributes.specs.Bytes.{byte_cmp}
@@ -11,8 +11,11 @@ use Rattle.views.proofs.StepLemmas.{filter_kept, filter_left_out, item_at, lengt
 use Rattle.views.proofs.table.by_kind.Goals.{then-is_shown+in_ok-count, else-is_shown}
 use Rattle.views.proofs.table.by_kind.Goals as goal
 
-pub count-requires : goal.count-requires
-count-requires c =
+pub count-requires-clause-ordered : goal.count-requires-clause-ordered
+count-requires-clause-ordered c = on_total (λ b. b.now) nat_list_cmp_total
+
+pub count-requires-clause-fits : goal.count-requires-clause-fits
+count-requires-clause-fits c =
     let E = events c.args.inbox.now in
     let i = c.loop-i.i in
     let room : c.len-i-end.result < 2 ^ 64 = search rules in
