@@ -1,6 +1,6 @@
 //! Tables of what events have, by key. Keys are lent by the events.
 
-ghost use Rattle.std.specs.Prelude.{◌≡◌, ◌+◌, ◌<◌, ◌^◌, IfOk, OnOk, filter_map, map, Some};
+ghost use Rattle.std.specs.Prelude.{◌≡◌, ◌+◌, ◌<◌, ◌^◌, IfOk, OnOk, filter_map, map, option_map, slice_get, Some};
 ghost use Rattle.std.specs.BTreeMap.{get, insert_entry};
 ghost use Rattle.std.specs.Cmp.{IsTotalOrder};
 ghost use Rattle.std.specs.Option.{option_copied, option_map_or};
@@ -34,6 +34,17 @@ fn count<K: Ord + Drop>(table: &mut BTreeMap<K, u64>, key: K) -> Result<(), Allo
     Ok(())
 }
 
+/// The type of the event at a place of key order, where there is one.
+fn kind_at(inbox: &Inbox, i: u64) -> Option<&str>
+    ensures { option_copied result ≡ option_map kind_of (slice_get (events inbox.now) i) }
+{
+    if i < inbox.len() {
+        Some(inbox.at(i).event().kind())
+    } else {
+        None
+    }
+}
+
 /// How many of the shown events have each type. Goes over the events once.
 pub(crate) fn by_kind<'a>(
     alloc: Global,
@@ -43,9 +54,15 @@ pub(crate) fn by_kind<'a>(
         ≡ tally byte_cmp (map kind_of (shown (events inbox.now)))) }
 {
     let mut table = BTreeMap::new(alloc);
+    let mut ahead = kind_at(inbox, 0);
     for i in 0..inbox.len() {
-        if inbox.is_shown(i) {
-            count(&mut table, inbox.at(i).event().kind())?;
+        // The next event is found before this one's text is read: memory is asked for both at once.
+        let found = ahead;
+        ahead = kind_at(inbox, i + 1);
+        if let Some(kind) = found {
+            if inbox.is_shown(i) {
+                count(&mut table, kind)?;
+            }
         }
     }
     Ok(table)

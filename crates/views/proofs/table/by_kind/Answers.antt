@@ -1,6 +1,8 @@
-use Rattle.std.proofs.Common.{◌^◌, rules, ◌<◌, ◌++◌, [], ◌∷◌, filter, map, take, sym, ap, ◌∙◌, arith, subst}
+use Rattle.std.proofs.Common.{◌≡◌, ◌+◌, ◌^◌, rules, ◌<◌, ◌++◌, [], ◌∷◌, filter, map, take, sym, ap, ◌∙◌, arith, subst, unwrap_or, Some, None, is_some}
+use Rattle.std.specs.Option.{option_copied, option_map}
 use Rattle.std.proofs.lemmas.Cmp.{nat_list_cmp_total, on_total}
 use Rattle.std.proofs.lemmas.List.{map-append}
+use mathlib.Core.Bool.{true≢false}
 use Rattle.attributes.specs.Event.{kind_of}
 use Rattle.attributes.specs.Bytes.{byte_cmp}
 use Rattle.inbox.specs.Kept.{events}
@@ -8,7 +10,7 @@ use Rattle.inbox.specs.Shown.{is_shown}
 use Rattle.views.specs.Tally.{tally}
 use Rattle.views.proofs.TableLemmas.{before-le, count_step}
 use Rattle.views.proofs.StepLemmas.{filter_kept, filter_left_out, item_at, length_map_filter_take}
-use Rattle.views.proofs.table.by_kind.Goals.{then-is_shown+in_ok-count, else-is_shown}
+use Rattle.views.proofs.table.by_kind.Goals.{in-Some+then-is_shown+in_ok-count, in-Some+else-is_shown, in_default}
 use Rattle.views.proofs.table.by_kind.Goals as goal
 
 pub count-requires-clause-ordered : goal.count-requires-clause-ordered
@@ -21,7 +23,7 @@ count-requires-clause-fits c =
     let room : c.len-i-end.result < 2 ^ 64 = search rules in
     omega (
       arith,
-      before-le nat_list_cmp_total (λ b. b.now) c.loop-i.table.entries c.kind.result (map kind_of (filter (is_shown E) (take i E))) c.loop-i.invariant,
+      before-le nat_list_cmp_total (λ b. b.now) c.loop-i.table.entries c.in-Some.kind (map kind_of (filter (is_shown E) (take i E))) c.loop-i.invariant.0,
       length_map_filter_take kind_of (is_shown E) E i,
       c.loop-i-test.true,
       room,
@@ -32,16 +34,19 @@ loop-i-preserved c =
     let E = events c.args.inbox.now in
     let i = c.loop-i.i in
     let before = filter (is_shown E) (take i E) in
-    elim c.if-is_shown.branch [
-      | then-is_shown+in_ok-count w ↦
-          let kept = filter_kept (is_shown E) E i w.at.result.now w.at.ensures (sym (c.is_shown.ensures _ w.at.ensures) ∙ w.if-is_shown.true) in
+    let here = item_at E i (subst (λ n. i < n) c.len-i-end.ensures c.loop-i-test.true) in
+    let kind : option_copied c.loop-i.ahead ≡ Some (kind_of here.0) = c.loop-i.invariant.1 ∙ ap (option_map kind_of) here.1 in
+    let table = elim c.match-found.branch as (λ _. map (λ e. (e.0.now, e.1)) c.match-found.table.entries ≡ tally byte_cmp (map kind_of (filter (is_shown E) (take (i + 1) E)))) [
+      | in-Some+then-is_shown+in_ok-count w ↦
+          let kept = filter_kept (is_shown E) E i here.0 here.1 (sym (w.is_shown.ensures here.0 here.1) ∙ w.if-is_shown.true) in
           ap (λ t. map (λ e. (e.0.now, e.1)) t.entries) w.table-is
           ∙ ap (map (λ e. (e.0.now, e.1))) w.in_ok-count.ensures
-          ∙ count_step nat_list_cmp_total (λ b. b.now) c.loop-i.table.entries w.kind.result (map kind_of before) c.loop-i.invariant
-          ∙ ap (λ k. tally byte_cmp (map kind_of before ++ k ∷ [])) (w.kind.ensures.value ∙ ap kind_of w.event.ensures)
-          ∙ ap (tally byte_cmp) (sym (ap (map kind_of) kept ∙ map-append kind_of before (w.at.result.now ∷ [])))
-      | else-is_shown w ↦
-          let here = item_at E i (subst (λ n. c.loop-i.i < n) c.len-i-end.ensures c.loop-i-test.true) in
-          ap (λ t. map (λ e. (e.0.now, e.1)) t.entries) w.table-is ∙ c.loop-i.invariant
-          ∙ ap (λ es. tally byte_cmp (map kind_of es)) (sym (filter_left_out (is_shown E) E i here.0 here.1 (sym (c.is_shown.ensures here.0 here.1) ∙ w.if-is_shown.false)))
-    ]
+          ∙ count_step nat_list_cmp_total (λ b. b.now) c.loop-i.table.entries w.in-Some.kind (map kind_of before) c.loop-i.invariant.0
+          ∙ ap (λ k. tally byte_cmp (map kind_of before ++ k ∷ [])) (ap (λ o. unwrap_or o []) (sym (ap option_copied w.in-Some.is) ∙ kind))
+          ∙ ap (tally byte_cmp) (sym (ap (map kind_of) kept ∙ map-append kind_of before (here.0 ∷ [])))
+      | in-Some+else-is_shown w ↦
+          ap (λ t. map (λ e. (e.0.now, e.1)) t.entries) w.table-is ∙ c.loop-i.invariant.0
+          ∙ ap (λ es. tally byte_cmp (map kind_of es)) (sym (filter_left_out (is_shown E) E i here.0 here.1 (sym (w.is_shown.ensures here.0 here.1) ∙ w.if-is_shown.false)))
+      | in_default w ↦ absurd (true≢false (sym (ap is_some kind) ∙ ap (λ o. is_some (option_copied o)) w.in_default.is))
+    ] in
+    (table, c.kind_at-ahead-in-loop-i.ensures)
