@@ -3,7 +3,7 @@
 ghost use Rattle.std.specs.Prelude.{◌≡◌, ◌+◌, ◌<◌, ◌^◌, IfOk, OnOk, filter_map, map, option_map, slice_get, Some};
 ghost use Rattle.std.specs.BTreeMap.{get, insert_entry};
 ghost use Rattle.std.specs.Cmp.{IsTotalOrder};
-ghost use Rattle.std.specs.Option.{option_copied, option_map_or};
+ghost use Rattle.std.specs.Option.{option_and_then, option_copied, option_map_or};
 ghost use Rattle.std.specs.Ordering.{is_lt};
 ghost use Rattle.attributes.specs.Bytes.{byte_cmp};
 ghost use Rattle.attributes.specs.Event.{kind_of};
@@ -68,6 +68,21 @@ pub(crate) fn by_kind<'a>(
     Ok(table)
 }
 
+/// The type and the day of the event at a place of key order, where there is one with a time.
+fn kind_and_day_at(inbox: &Inbox, i: u64) -> Option<(&str, Day)>
+    ensures { option_map (λ k. (k.0.now, k.1)) result
+        ≡ option_and_then kind_and_day (slice_get (events inbox.now) i) }
+{
+    if i >= inbox.len() {
+        return None;
+    }
+    let event = inbox.at(i).event();
+    match Day::of_event(event) {
+        Some(day) => Some((event.kind(), day)),
+        None => None,
+    }
+}
+
 /// How many of the shown events that have a time have each type and day. Goes over the events once.
 pub(crate) fn by_day<'a>(
     alloc: Global,
@@ -77,12 +92,14 @@ pub(crate) fn by_day<'a>(
         ≡ tally day_cmp (filter_map kind_and_day (shown (events inbox.now)))) }
 {
     let mut table = BTreeMap::new(alloc);
+    let mut ahead = kind_and_day_at(inbox, 0);
     for i in 0..inbox.len() {
-        if inbox.is_shown(i) {
-            let event = inbox.at(i).event();
-            match Day::of_event(event) {
-                Some(day) => count(&mut table, (event.kind(), day))?,
-                None => {}
+        // As for types.
+        let found = ahead;
+        ahead = kind_and_day_at(inbox, i + 1);
+        if let Some(key) = found {
+            if inbox.is_shown(i) {
+                count(&mut table, key)?;
             }
         }
     }
