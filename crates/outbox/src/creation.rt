@@ -73,8 +73,7 @@ fn found<S: Alter>(
     let mut tx = conn.transaction();
     make_service(&mut tx)?;
     fill(&mut tx, 1, source, signed(base))?;
-    tx.commit()?;
-    Ok(())
+    tx.commit()
 }
 
 /// Makes the tables where there is room for them; `Store` where the file has other tables than an

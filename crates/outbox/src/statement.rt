@@ -95,8 +95,7 @@ pub(crate) fn write<S: Alter>(
     let mut tx = conn.transaction();
     note(&mut tx, signed(order), status.code())?;
     append(&mut tx, signed(number), status.code(), signed(order), at)?;
-    tx.commit()?;
-    Ok(())
+    tx.commit()
 }
 
 /// The status of an order, asked.
