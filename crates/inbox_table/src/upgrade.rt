@@ -78,8 +78,7 @@ fn copy<S: Alter, W: Watch>(
     }
     let mut tx = conn.transaction();
     refill(&mut tx, layout, events, watch)?;
-    tx.commit()?;
-    Ok(())
+    tx.commit()
 }
 
 /// Tests each row of a table of version 1, and then puts one of version 2 with its events in its
