@@ -16,7 +16,7 @@
 extern "C" {
 #endif
 
-#define JUMBETAI_VERSION "0.2.0"
+#define JUMBETAI_VERSION "0.2.1"
 
 /* A site. Made by jumbetai_open and given back by jumbetai_close. */
 typedef struct jumbetai_site jumbetai_site;

@@ -16,7 +16,7 @@ use std::alloc::{AllocError, Global};
 fn program<'a>(alloc: Global) -> Result<clap::Command<'a>, AllocError> {
     let mut program = clap::Command::new(alloc, "site")
         .bin_name("site")?
-        .version("0.2.0")
+        .version("0.2.1")
         .about("Keeps the CloudEvents of several regions in step, and answers questions about them")
         .no_binary_name(true)
         .subcommand_required(true)
