@@ -110,7 +110,7 @@ makes sets old new w step i L whole part (Ok _) g s = subst (Stands new) (sym wh
 makes sets old new w step i L whole part (Err n) g s = subst (Stands new) (sym (part n)) (gives_stands sets old new w i (take n L) g s)
 
 -- a site that is taken out and put back with events
-pub given_twice : (hosts : List Hosted) (to : ℕ) (h again : Hosted) (empty site L : List EventValue) → to < length hosts → h ≡ get_or hosts to h → again ≡ get_or (set hosts to (record { site = empty; kept = h.kept })) to again
+given_twice : (hosts : List Hosted) (to : ℕ) (h again : Hosted) (empty site L : List EventValue) → to < length hosts → h ≡ get_or hosts to h → again ≡ get_or (set hosts to (record { site = empty; kept = h.kept })) to again
     → site ≡ append_new key_cmp h.site L → set_of site ≡ union (set_of h.site) L → GivesTo hosts (set (set hosts to (record { site = empty; kept = h.kept })) to (record { site = site; kept = again.kept })) to L
 given_twice hosts to h again empty site L l e f arrivals is =
     let out : Hosted = record { site = empty; kept = h.kept } in
@@ -128,8 +128,29 @@ pub own_site : (hosts : List Hosted) (i : ℕ) (h : Hosted) → i < length hosts
 own_site hosts i h l e = ap (λ x. x.site) (e ∙ get_or_default hosts i h (record { site = []; kept = 0 }) l)
 
 -- another site than the one that is taken out
-pub other_site : (hosts : List Hosted) (from to : ℕ) (h out : Hosted) → from < length hosts → from ≢ to → h ≡ get_or (set hosts to out) from h → h.site ≡ site_at hosts from
+other_site : (hosts : List Hosted) (from to : ℕ) (h out : Hosted) → from < length hosts → from ≢ to → h ≡ get_or (set hosts to out) from h → h.site ≡ site_at hosts from
 other_site hosts from to h out l other e = own_site hosts from h l (e ∙ get_or-set_other hosts to from out h other)
+
+-- a site that is taken out and another, and what the first comes to by a rule over both
+pub record Between (hosts : List Hosted) (from to : ℕ) (h giver : Hosted) (empty taken : List EventValue) : Type 0 where
+  pub other : giver.site ≡ site_at hosts from
+  pub named : taken ≡ site_at hosts to
+  pub given : (again : Hosted) (site : List EventValue) (rule : List EventValue → List EventValue → List EventValue) → again ≡ get_or (set hosts to (record { site = empty; kept = h.kept })) to again
+      → site ≡ append_new key_cmp taken (rule giver.site taken) → set_of site ≡ union (set_of taken) (rule giver.site taken)
+      → GivesTo hosts (set (set hosts to (record { site = empty; kept = h.kept })) to (record { site = site; kept = again.kept })) to (rule (site_at hosts from) (site_at hosts to))
+
+pub between : (hosts : List Hosted) (from to n : ℕ) (h giver : Hosted) (empty taken : List EventValue) → n ≡ length hosts → from < n → to < n → from ≢ to
+    → h ≡ get_or hosts to h → giver ≡ get_or (set hosts to (record { site = empty; kept = h.kept })) from giver → taken ≡ h.site → Between hosts from to h giver empty taken
+between hosts from to n h giver empty taken long from_in to_in others is is_giver own =
+    let within : to < length hosts = subst (λ k. to < k) long to_in in
+    let named = own ∙ own_site hosts to h within is in
+    let other = other_site hosts from to giver (record { site = empty; kept = h.kept }) (subst (λ k. from < k) long from_in) others is_giver in
+    record {
+      other = other;
+      named = named;
+      given = λ again site rule is_again arrivals united. given_twice hosts to h again empty site (rule (site_at hosts from) (site_at hosts to)) within is is_again
+          (arrivals ∙ (λ k. append_new key_cmp (own k) (rule (other k) (named k)))) (united ∙ (λ k. union (set_of (own k)) (rule (other k) (named k))));
+    }
 
 -- a flush
 pub flush_at : (hosts : List Hosted) (w : List Place) (i : ℕ) (h : Hosted) (n : ℕ) → i < length hosts → h ≡ get_or hosts i h → n ≡ length h.site → Stands hosts w

@@ -1,48 +1,24 @@
-use Rattle.std.proofs.Common.{rules, ◌≢◌, ◌<◌, [], length, take, ◌∙◌, subst}
-use Rattle.inbox.specs.KeyOrder.{key_cmp}
-use Rattle.inbox.specs.Ordered.{append_new}
-use Rattle.inbox.specs.Sets.{set_of, union}
+use Rattle.std.proofs.Common.{rules, ◌≢◌, [], take, subst}
+use Rattle.inbox.specs.Sets.{set_of}
 use Rattle.exchange.specs.Lacking.{lacking}
 use Rattle.exchange.specs.Schedule.{IsCutShort}
-use Rattle.exchange.specs.declared.world.Hosted.{Hosted}
-use Rattle.exchange.specs.steps.Given.{site_at}
-use Rattle.exchange.proofs.StandingLemmas.{given_twice, other_site, own_site}
+use Rattle.exchange.proofs.StandingLemmas.{between}
 use Rattle.exchange.proofs.machine.gossip_between.Goals as goal
 
 pub returns-in-Ok-clause-gives : goal.returns-in-Ok-clause-gives
 returns-in-Ok-clause-gives c =
-    let hosts = c.args.hosts.now.items in
-    let from = c.args.from in
-    let to = c.args.to in
-    let h = c.index_mut.result.now in
-    let from_in : from < length hosts = subst (λ n. from < n) c.args.hosts.now.ok.0 c.requires.giver in
-    let to_in : to < length hosts = subst (λ n. to < n) c.args.hosts.now.ok.0 c.requires.taker in
-    let out : Hosted = record { site = c.replace-site.new.dest; kept = h.kept } in
-    let own = c.replace-site.ensures.value in
-    let named = own_site hosts to h to_in c.index_mut.ensures.value in
-    let other = other_site hosts from to c.index.result.now out from_in c.requires.others c.index.ensures in
-    given_twice hosts to h c.index_mut-2.result.now c.replace-site.new.dest c.gossip-done.new.to (lacking (set_of (site_at hosts from)) (set_of (site_at hosts to))) to_in c.index_mut.ensures.value c.index_mut-2.ensures.value
-    (c.in-Ok.ensures.brings.arrivals ∙ (λ k. append_new key_cmp (own k) (lacking (set_of (other k)) (set_of ((own ∙ named) k)))))
-    (c.in-Ok.ensures.brings.set ∙ (λ k. union (set_of (own k)) (lacking (set_of (other k)) (set_of ((own ∙ named) k)))))
+    let at = between c.args.hosts.now.items c.args.from c.args.to _ c.index_mut.result.now c.index.result.now c.replace-site.new.dest c.replace-site.result c.args.hosts.now.ok.0
+    c.requires.giver c.requires.taker c.requires.others c.index_mut.ensures.value c.index.ensures c.replace-site.ensures.value in
+    at.given c.index_mut-2.result.now c.gossip-done.new.to (λ A B. lacking (set_of A) (set_of B)) c.index_mut-2.ensures.value c.in-Ok.ensures.brings.arrivals c.in-Ok.ensures.brings.set
 
 pub returns-in-Err : goal.returns-in-Err
 returns-in-Err c =
-    let hosts = c.args.hosts.now.items in
-    let from = c.args.from in
-    let to = c.args.to in
-    let h = c.index_mut.result.now in
-    let from_in : from < length hosts = subst (λ n. from < n) c.args.hosts.now.ok.0 c.requires.giver in
-    let to_in : to < length hosts = subst (λ n. to < n) c.args.hosts.now.ok.0 c.requires.taker in
-    let out : Hosted = record { site = c.replace-site.new.dest; kept = h.kept } in
-    let own = c.replace-site.ensures.value in
-    let named = own_site hosts to h to_in c.index_mut.ensures.value in
-    let other = other_site hosts from to c.index.result.now out from_in c.requires.others c.index.ensures in
+    let at = between c.args.hosts.now.items c.args.from c.args.to _ c.index_mut.result.now c.index.result.now c.replace-site.new.dest c.replace-site.result c.args.hosts.now.ok.0
+    c.requires.giver c.requires.taker c.requires.others c.index_mut.ensures.value c.index.ensures c.replace-site.ensures.value in
     let n = c.in-Err.short.taken in
     record {
       sites = search rules;
-      gives = given_twice hosts to h c.index_mut-2.result.now c.replace-site.new.dest c.gossip-done.new.to (take n (lacking (set_of (site_at hosts from)) (set_of (site_at hosts to)))) to_in c.index_mut.ensures.value c.index_mut-2.ensures.value
-          (c.in-Err.ensures.brings.short ∙ (λ k. append_new key_cmp (own k) (take n (lacking (set_of (other k)) (set_of ((own ∙ named) k))))))
-          (c.in-Err.ensures.brings.short_set ∙ (λ k. union (set_of (own k)) (take n (lacking (set_of (other k)) (set_of ((own ∙ named) k))))));
-      short = subst (IsCutShort c.in-Err.short.taken) (λ k. lacking (set_of (other k)) (set_of ((own ∙ named) k))) c.in-Err.ensures.short_taken;
-      giver = subst (λ A. set_of A ≢ []) other c.in-Err.ensures.short_of_events;
+      gives = at.given c.index_mut-2.result.now c.gossip-done.new.to (λ A B. take n (lacking (set_of A) (set_of B))) c.index_mut-2.ensures.value c.in-Err.ensures.brings.short c.in-Err.ensures.brings.short_set;
+      short = subst (IsCutShort n) (λ k. lacking (set_of (at.other k)) (set_of (at.named k))) c.in-Err.ensures.short_taken;
+      giver = subst (λ A. set_of A ≢ []) at.other c.in-Err.ensures.short_of_events;
     }
