@@ -1,18 +1,22 @@
 -- What a service that wasn't asked does, and the source of one that is made where none is given.
-use Rattle.std.proofs.Common.{◌≡◌, ◌≢◌, ◌⊎◌, ◌≤◌, ℕ, Bool, true, false, if◌then◌else◌, nat_eq, List, [], Err, refl, ap, arith, inl, inr}
+use Rattle.std.proofs.Common.{◌≡◌, ◌≢◌, ◌⊎◌, ◌≤◌, ℕ, Bool, true, false, if◌then◌else◌, nat_eq, List, [], Err, Ok, Result, refl, ap, sym, ◌∙◌, arith, inl, inr}
 use Rattle.std.specs.Prelude.{codes}
 use Rattle.std.specs.Str.{chars, is_utf8}
 use Rattle.std.proofs.lemmas.Bool.Decides.{nat_tests}
 use Rattle.std.proofs.lemmas.Str.{IsUtf8-from_is_utf8}
 use Rattle.sqlite_disk.specs.declared.Disk as disk
 use Rattle.sqlite_store.specs.declared.store.FileStore.{FileStore}
+use Rattle.sqlite.specs.Files.{file_state, over_files}
+use Rattle.sqlite.specs.Held.{Held}
 use Rattle.attributes.specs.Character.{is_filled}
 use Rattle.attributes.specs.Sequence.{max_sequence}
 use Rattle.outbox.specs.Order.{Accepted}
 use Rattle.outbox.specs.Shown.{IsAllowed, Shown}
 use Rattle.outbox.specs.declared.fault.OutboxFault.{OutboxFault}
 use Rattle.outbox.specs.declared.fault.OutboxFault.TheVariants.{OutOfMemory, Store}
-use Rattle.site_c.specs.Outboxes.{Carries, outbox_status, source_of}
+use Rattle.durable_site.specs.Files.{IsOver}
+use Rattle.site_c.specs.Files.{untold}
+use Rattle.site_c.specs.Outboxes.{Carries, Finds, IsGiven, Serves, outbox_status, source_of}
 
 module _ {D : Type 0} {g : disk.Ghosts D} where
   -- a service that wasn't asked is as it was, and so is its database
@@ -63,3 +67,27 @@ pub named : (has_source : ℕ) (source : List ℕ) → has_source ≢ 0 → sour
 named has_source source given =
     let test : nat_eq has_source 0 ≡ false = grind (arith, nat_tests, given) in
     ap (λ (b : Bool). if b then codes "/orders" else source) test
+
+-- what was found in the database of the files is what is served
+module _ {D : Type 0} {g : disk.Ghosts D} where
+  pub serves : (has_source : ℕ) (source : List ℕ) (base : ℕ) (first : Held (FileStore D g))
+      (r : Result (Shown (FileStore D g)) ℕ) → IsGiven has_source source base → IsOver untold first
+      → Finds over_files has_source (source_of has_source source) base (file_state first) r
+      → Serves has_source source base r
+  serves has_source source base first (Ok s) given over found = record {
+    given = given;
+    first = first;
+    over = over;
+    opens = found.opens;
+    meant = λ asked. found.meant asked ∙ named has_source source asked;
+  }
+  serves has_source source base first (Err status) given over found = inr (inr (given, inr (elim found [
+    | inl r ↦ inl (r.0, r.1.0, r.1.1.0, record { first = first; over = over; refused = r.1.1.1 })
+    | inr r ↦ inr (r.0, r.1.0, record {
+      first = first;
+      over = over;
+      opens = r.1.1.opens;
+      is_given = r.1.1.is_given;
+      other = λ is. r.1.1.other (is ∙ sym (named has_source source r.1.1.is_given));
+    })
+  ])))

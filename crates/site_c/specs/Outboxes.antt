@@ -3,8 +3,9 @@ use Rattle.std.specs.Prelude.{◌≡◌, ◌≢◌, ◌==◌, ◌≤◌, ◌⊎�
 use Rattle.sqlite_disk.specs.declared.Disk as disk
 use Rattle.sqlite_store.specs.declared.store.FileStore.{FileStore}
 use Rattle.sqlite.specs.Files.{file_state}
-use Rattle.sqlite.specs.Held.{Held}
-use Rattle.sqlite.specs.State.{HasCleanDisk}
+use Rattle.sqlite.specs.Held.{Held, state}
+use Rattle.sqlite.specs.State.{HasCleanDisk, State}
+use Rattle.sqlite_trees.specs.declared.store.Store.{Ghosts}
 use Rattle.attributes.specs.Event.{EventValue, text as event_text}
 use Rattle.attributes.specs.Sequence.{max_sequence}
 use Rattle.attributes.specs.Time.{time_day}
@@ -89,6 +90,30 @@ source_of has_source source = if has_source == 0 then codes "/orders" else sourc
 -- a service may have this source and this base
 abbrev pub IsGiven : ℕ → List ℕ → ℕ → Type 0
 IsGiven has_source source base = IsAllowed (source_of has_source source) base
+
+-- a database has this service, or it was made there with what was given; where the source was asked
+-- for, it has that
+pub record FindsMeant {S : Type 0} (has_source : ℕ) (source : List ℕ) (base : ℕ) (old : State)
+    (s : Shown S) (new : State) : Type 0 where
+  pub opens : Opens source base old s new
+  pub meant : has_source ≢ 0 → s.source ≡ source
+
+-- a source was asked for, and the service that the database has has another
+pub record FindsAnother {S : Type 0} (has_source : ℕ) (source : List ℕ) (base : ℕ) (old : State)
+    (s : Shown S) (new : State) : Type 0 where
+  pub opens : Opens source base old s new
+  pub is_given : has_source ≢ 0
+  pub other : s.source ≢ source
+
+-- the service of a database, or why there is none: no service can be opened in it, or the one that
+-- is there has another source
+abbrev pub Finds : {S : Type 0} → Ghosts S → ℕ → List ℕ → ℕ → State → Result (Shown S) ℕ → Type 0
+Finds g has_source source base old (Ok s) = FindsMeant has_source source base old s (state g s.conn)
+Finds {S} g has_source source base old (Err status) =
+    ((fault : OutboxFault) × (last : Held S) × (status ≡ outbox_status fault)
+    × IsRefused source base old (state g last) fault)
+    ⊎ ((s : Shown S) × (status ≡ 28)
+    × FindsAnother has_source source base old s (state g s.conn))
 
 module _ {D : Type 0} {g : disk.Ghosts D} where
   -- the reply tells of this service; its orders while the disk gives back what was written

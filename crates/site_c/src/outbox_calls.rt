@@ -2,6 +2,7 @@
 
 ghost use Rattle.std.specs.Prelude.{◌≡◌, ◌≢◌, ◌<◌, ◌≤◌, ◌↔◌, ◌⊎◌, suc, List, [], length, IfErr, IfNone, IfOk, IfSome, IsFalse, IsTrue};
 ghost use Rattle.sqlite.specs.Files.{file_state};
+ghost use Rattle.sqlite.specs.Held.{state};
 ghost use Rattle.sqlite.specs.State.{HasCleanDisk};
 ghost use Rattle.attributes.specs.Event.{EventValue};
 ghost use Rattle.attributes.specs.Sequence.{max_sequence};
@@ -11,7 +12,7 @@ ghost use Rattle.outbox.specs.Row.{row_event};
 ghost use Rattle.outbox.specs.Shown.{IsAllowed};
 ghost use Rattle.outbox.specs.declared.fault.OutboxFault.TheVariants.{OutOfMemory, Store};
 ghost use Rattle.site_c.specs.Calls.{IsPageLine, IsWant};
-ghost use Rattle.site_c.specs.Outboxes.{Carries, Commands, HasReadOutbox, IsAction, IsGiven, IsNextRows, IsTime, Names, NamesNone, OpenedOutbox, OrderedOutbox, Serves, ShownOutbox, ShowsRows, WantsTime, action_number, event_line, outbox_status, source_of};
+ghost use Rattle.site_c.specs.Outboxes.{Carries, Commands, Finds, HasReadOutbox, IsAction, IsGiven, IsNextRows, IsTime, Names, NamesNone, OpenedOutbox, OrderedOutbox, Serves, ShownOutbox, ShowsRows, WantsTime, action_number, event_line, outbox_status, source_of};
 
 use crate::calls::{Answered, DONE, MAX_PAGE, OUT_OF_MEMORY, Piece, copied, page_line};
 use crate::file_calls::{NOT_OPEN, open_status};
@@ -19,6 +20,7 @@ use crate::outbox_held::{FileService, OutboxHeld};
 use attributes::{Fault, MAX_SEQUENCE, Moment, Sequenced, Text};
 use durable_site::{GivenFiles, Unknown, connect};
 use outbox::{OutboxFault, Service, Status};
+use sqlite::{Alter, Connection};
 use std::alloc::{AllocError, Global};
 
 /// What a call on an outbox answers: a status, and counts.
@@ -167,6 +169,27 @@ fn is_meant(has_source: u32, own: &Text, source: &Text) -> bool
     has_source == 0 || is_same(own, source)
 }
 
+/// The service of a database, made where there is none, or the status.
+fn service_of<S: Alter + Drop>(
+    alloc: Global,
+    conn: Connection<S>,
+    has_source: u32,
+    source: &Text,
+    base: u64,
+) -> Result<Service<S>, u32>
+    requires { IsAllowed source.now base }
+    ensures { Finds S.Store has_source source.now base (state S.Store conn) result }
+{
+    let service = match Service::open(alloc, conn, source, base) {
+        Ok(service) => service,
+        Err(refused) => return Err(outbox_status(refused.fault)),
+    };
+    if is_meant(has_source, service.source(), source) {
+        return Ok(service);
+    }
+    Err(ANOTHER_SOURCE)
+}
+
 /// The service of the database that the files hold, made where there is none, or the status.
 fn served(
     alloc: Global,
@@ -185,14 +208,7 @@ fn served(
         Ok(conn) => conn,
         Err(fault) => return Err(open_status(fault)),
     };
-    let service = match Service::open(alloc, conn, &text, base) {
-        Ok(service) => service,
-        Err(refused) => return Err(outbox_status(refused.fault)),
-    };
-    if is_meant(has_source, service.source(), &text) {
-        return Ok(service);
-    }
-    Err(ANOTHER_SOURCE)
+    service_of(alloc, conn, has_source, &text, base)
 }
 
 /// Opens an outbox over the files.
