@@ -4,8 +4,9 @@
  * cc program.c -ljumbetai
  *
  * A call answers a status, 0 where it is done. None prints or aborts, and only what is over a file
- * touches one. A site or an outbox may go from thread to thread, as by a lock, but one thread at a
- * time uses it; two of them have nothing in common. No call is to be made from a signal handler. */
+ * touches one. A site, in memory or over a file, or an outbox may go from thread to thread, as by a
+ * lock, which is a law of the library, proved; but one thread at a time uses it. Two of them have
+ * nothing in common. No call is to be made from a signal handler. */
 #ifndef JUMBETAI_H
 #define JUMBETAI_H
 

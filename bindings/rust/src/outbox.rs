@@ -48,8 +48,9 @@ pub struct Outbox {
     raw: NonNull<ffi::Outbox>,
 }
 
-// SAFETY: it is memory of its own and two open files, which belong to no thread, and has nothing in
-// common with another one.
+// SAFETY: an outbox has nothing in common with another one, and it is a law of the library that it
+// may change thread (`outboxes_may_go`). What C keeps beside it, numbers and copies of its files'
+// descriptors, belongs to no thread.
 unsafe impl Send for Outbox {}
 
 impl Outbox {
