@@ -1,12 +1,10 @@
--- What a database over files holds may go to another thread: each of its parts, found one by one.
-use mathlib.Core.List.{[], ◌∷◌}
+-- What a database over files holds may go to another thread: each of its parts, found by what it has
+-- in turn. A search meets a struct or an enum in a field as `the_field`, so the lemmas speak of that.
 use denote.RattleType.{RattleType}
-use denote.Builtin.{usize}
 use denote.Exit.{Exit, unchanged, leaves, hidden, under}
 use denote.Struct.Owning as owning
 use denote.Struct.Struct.{exits_of}
-use denote.Enum.Declared as enums
-use denote.Param.Send.{AllSend, IsSend, Quiet, enum_send, owning_send, sendable, struct_send}
+use denote.Param.Send.{AllSend, IsSend, Quiet, owning_send, sendable, struct_send}
 use Rattle.std.proofs.Crossing as heap
 use Rattle.std.proofs.MapsCrossing as maps
 use Rattle.attributes.specs.contracts.batch.Batch as events
@@ -79,6 +77,7 @@ use Rattle.sqlite_wal.specs.contracts.log.Log as log
 both : {A B : Type 0} → A → B → A × B
 both a b = (a, b)
 
+-- a list of what may go
 items_send : (T : RattleType) → IsSend T → IsSend (items.the_field T).row
 items_send T s = search (heap.Vec-send, both, sendable) depth 20
 
@@ -149,22 +148,7 @@ returning_send : IsSend (returning.the_field).row
 returning_send = search (bytes_send, source_send, plain) depth 40 fits 20000
 
 command_send : IsSend (command.the_field).row
-command_send =
-    let n : IsSend usize = search sendable in
-    let names : IsSend (items.the_row bytes.the_row) = search (bytes_send, plain) depth 30 in
-    let queried : AllSend (usize ∷ (program.the_field).row ∷ []) = (n, (program_send, tt)) in
-    let named : AllSend ((bytes.the_field).row ∷ []) = (bytes_send, tt) in
-    enum_send (enums.shape command.the_type) (
-      (program_send, (names, tt)),
-      (
-        (n, (source_send, tt)),
-        (
-          (n, (search sendable, (source_send, (search (upsert_send, plain) depth 30, tt)))),
-          (queried, (queried, (tt, ((n, tt), (tt, ((n, tt), ((n, tt), ((n, tt),
-          ((search (value_send, plain) depth 30, (n, (names, tt))), (tt, (tt, (tt, (named, (named, (named, (tt, tt)))))))))))))))),
-        ),
-      ),
-    )
+command_send = search (bytes_send, value_send, source_send, program_send, upsert_send, plain) depth 80 fits 20000
 
 compiled_send : IsSend (compiled.the_field).row
 compiled_send = search (bytes_send, command_send, returning_send, plain) depth 60 fits 20000
@@ -200,7 +184,7 @@ reading_send = search (row_send, stream_send, plain) depth 60 fits 20000
 workspace_send : IsSend (workspace.the_field).row
 workspace_send = search (row_send, plain) depth 60 fits 20000
 
--- ---- the pages of a file
+-- ---- the pages of a file, and the store over them
 page_index_send : IsSend (page_index.the_field).row
 page_index_send = search plain depth 30
 
@@ -279,6 +263,7 @@ quiet : {D X : Type 0} (to : D → X) (e : Exit X) → Quiet e → Quiet (hidden
 quiet to unchanged q = λ x w. tt
 quiet to (leaves L l S s r₀) q = λ d. q (to d)
 
+-- what was asked of it, which clauses alone read
 calls_send : IsSend (calls.the_field).row
 calls_send = let O = calls.the_type in let all : AllSend (owning.fields O) = (search sendable, tt) in
     owning_send O all (λ d. tt) (λ k. quiet (owning.to O) (exits_of k (owning.fields O)) ((struct_send (owning.shape O) all).leaving k))
