@@ -31,12 +31,12 @@ keeping lives n params τ lent α k others = record {
   params = n;
   locals = local ty_unit value_local ∷ local ty_ptr value_local ∷ (params ++ (local ty_ptr value_local ∷ local τ value_local ∷ local τ value_local ∷ local lent value_local ∷ []));
   body =
-    seq (assign (place (n + 1) []) (rv_opd (copy (place 1 [])))) (
-    seq (assign (place (n + 3) []) (rv_opd (copy (place (n + 1) (deref τ ∷ []))))) (
-    seq (assign (place (n + 4) []) (addr_of (place n (deref α ∷ [])))) (
-    seq (call k (copy (place (n + 3) []) ∷ (others ++ (copy (place (n + 4) []) ∷ []))) (place (n + 2) [])) (
-    seq (assign (place (n + 1) (deref τ ∷ [])) (rv_opd (copy (place (n + 2) [])))) (
-    seq (assign (place 0 []) (rv_opd opd_unit)) return)))));
+      seq (assign (place (n + 1) []) (rv_opd (copy (place 1 [])))) (
+      seq (assign (place (n + 3) []) (rv_opd (copy (place (n + 1) (deref τ ∷ []))))) (
+      seq (assign (place (n + 4) []) (addr_of (place n (deref α ∷ [])))) (
+      seq (call k (copy (place (n + 3) []) ∷ (others ++ (copy (place (n + 4) []) ∷ []))) (place (n + 2) [])) (
+      seq (assign (place (n + 1) (deref τ ∷ [])) (rv_opd (copy (place (n + 2) [])))) (
+      seq (assign (place 0 []) (rv_opd opd_unit)) return)))));
 }
 
 -- the same of one that gives nothing back
@@ -49,10 +49,10 @@ letting_go τ k = record {
   params = 1;
   locals = local ty_unit value_local ∷ local ty_ptr value_local ∷ local ty_unit value_local ∷ local ty_ptr value_local ∷ local τ value_local ∷ [];
   body =
-    seq (assign (place 3 []) (rv_opd (copy (place 1 [])))) (
-    seq (assign (place 4 []) (rv_opd (copy (place 3 (deref τ ∷ []))))) (
-    seq (call k (copy (place 4 []) ∷ []) (place 2 [])) (
-    seq (assign (place 0 []) (rv_opd opd_unit)) return)));
+      seq (assign (place 3 []) (rv_opd (copy (place 1 [])))) (
+      seq (assign (place 4 []) (rv_opd (copy (place 3 (deref τ ∷ []))))) (
+      seq (call k (copy (place 4 []) ∷ []) (place 2 [])) (
+      seq (assign (place 0 []) (rv_opd opd_unit)) return)));
 }
 
 -- the one machine value of a type that has one

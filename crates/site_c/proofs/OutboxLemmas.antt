@@ -81,13 +81,20 @@ module _ {D : Type 0} {g : disk.Ghosts D} where
     opens = found.opens;
     meant = λ asked. found.meant asked ∙ named has_source source asked;
   }
-  serves has_source source base first (Err status) given over found = inr (inr (given, inr (elim found [
-    | inl r ↦ inl (r.0, r.1, r.2, record { first = first; over = over; refused = r.3 })
-    | inr r ↦ inr (r.0, r.1, record {
-      first = first;
-      over = over;
-      opens = r.2.opens;
-      is_given = r.2.is_given;
-      other = λ is. r.2.other (is ∙ sym (named has_source source r.2.is_given));
-    })
-  ])))
+  serves has_source source base first (Err status) given over found = inr (inr (
+    given,
+    inr (elim found [
+      | inl r ↦ inl (r.0, r.1, r.2, record { first = first; over = over; refused = r.3 })
+      | inr r ↦ inr (
+        r.0,
+        r.1,
+        record {
+          first = first;
+          over = over;
+          opens = r.2.opens;
+          is_given = r.2.is_given;
+          other = λ is. r.2.other (is ∙ sym (named has_source source r.2.is_given));
+        },
+      )
+    ]),
+  ))
