@@ -131,10 +131,7 @@ pub(crate) static ASKED: [(&str, Query, &str); 29] = [
 
 /// Takes the event of a row, and answers whether it did.
 pub(crate) fn take(alloc: Global, inbox: &mut Inbox, row: Row<'_>) -> bool {
-    match event(alloc, row) {
-        Some(event) => inbox.take(event).is_ok(),
-        None => false,
-    }
+    event(alloc, row).is_some_and(|event| inbox.take(event).is_ok())
 }
 
 /// The row of the event of that name.
@@ -149,10 +146,7 @@ fn row_of(name: &str) -> Option<Row<'static>> {
 
 /// Takes the event of that name, and answers whether it did.
 pub(crate) fn take_named(alloc: Global, inbox: &mut Inbox, name: &str) -> bool {
-    match row_of(name) {
-        Some(row) => take(alloc, inbox, row),
-        None => false,
-    }
+    row_of(name).is_some_and(|row| take(alloc, inbox, row))
 }
 
 /// Takes the events of names, and answers whether it did.
@@ -202,10 +196,7 @@ fn first_of(answer: &Answer) -> Option<i32> {
 
 /// The day number of the first row of the answer to `Days`.
 fn first_day(alloc: Global, inbox: &Inbox) -> Option<i32> {
-    match answer(alloc, inbox, Query::Days) {
-        Ok(answer) => first_of(&answer),
-        Err(_) => None,
-    }
+    first_of(&answer(alloc, inbox, Query::Days).ok()?)
 }
 
 /// Calls the laws of answers.

@@ -12,10 +12,7 @@ use std::collections::BTreeMap;
 
 /// Pushes the event of a row, and answers whether it did.
 fn push(alloc: Global, batch: &mut Batch, row: Row<'_>) -> bool {
-    match event(alloc, row) {
-        Some(event) => batch.push(event).is_ok(),
-        None => false,
-    }
+    event(alloc, row).is_some_and(|event| batch.push(event).is_ok())
 }
 
 /// Pushes the events of rows, and answers whether it did.
@@ -30,26 +27,19 @@ fn push_all(alloc: Global, batch: &mut Batch, rows: &[Row<'_>]) -> bool {
 
 /// Whether there is a digest, and it is this one in hexadecimal digits.
 fn is_hex(alloc: Global, digest: Option<&[u8; 32]>, wanted: &str) -> bool {
-    match digest {
-        Some(digest) => is_written(hex::encode(alloc, *digest), wanted),
-        None => false,
-    }
+    digest.is_some_and(|digest| is_written(hex::encode(alloc, *digest), wanted))
 }
 
 /// Whether a block of the source has the digest.
 fn has_digest(alloc: Global, batch: &Batch, k: u64, wanted: &str) -> bool {
-    match digest_of_block(alloc, batch, "/orders", k) {
-        Ok(digest) => is_hex(alloc, digest.as_ref(), wanted),
-        Err(_) => false,
-    }
+    digest_of_block(alloc, batch, "/orders", k).is_ok_and(|digest| {
+        is_hex(alloc, digest.as_ref(), wanted)
+    })
 }
 
 /// Whether a block has no digest.
 fn has_none(alloc: Global, batch: &Batch, source: &str, k: u64) -> bool {
-    match digest_of_block(alloc, batch, source, k) {
-        Ok(digest) => digest.is_none(),
-        Err(_) => false,
-    }
+    digest_of_block(alloc, batch, source, k).is_ok_and(|digest| digest.is_none())
 }
 
 /// Events of one source: three in its first block, of which one comes twice and two have one
@@ -92,10 +82,7 @@ fn blocks_have_the_digests_of_their_texts(rt: HostRuntime) {
 
 /// Whether a number stands in the block.
 fn stands_in(number: u64, k: u64) -> bool {
-    match Sequence::of_u64(number) {
-        Some(number) => block_of(number) == k,
-        None => false,
-    }
+    Sequence::of_u64(number).is_some_and(|number| block_of(number) == k)
 }
 
 // Numbers, and the block of each.
@@ -138,10 +125,7 @@ fn take_all(alloc: Global, inbox: &mut Inbox, rows: &[Row<'_>]) -> bool {
 /// The summary of the inbox's events, which stand in key order.
 fn summary_of(alloc: Global, inbox: &Inbox) -> Option<Summary> {
     sets_are_members();
-    match inbox.events() {
-        Ok(events) => Summary::of_events(alloc, &events).ok(),
-        Err(_) => None,
-    }
+    Summary::of_events(alloc, &inbox.events().ok()?).ok()
 }
 
 /// Takes the rows' events, and answers whether their summary has the digests.
@@ -149,10 +133,7 @@ fn is_summed(alloc: Global, inbox: &mut Inbox) -> bool {
     if !take_all(alloc, inbox, &ROWS) {
         return false;
     }
-    match summary_of(alloc, inbox) {
-        Some(summary) => has_digests(alloc, &summary, FIRST),
-        None => false,
-    }
+    summary_of(alloc, inbox).is_some_and(|summary| has_digests(alloc, &summary, FIRST))
 }
 
 #[test]
@@ -162,10 +143,9 @@ fn summaries_of_events_have_the_digests_of_their_blocks(rt: HostRuntime) {
 
 /// Whether the summary of the inbox's events is of version 2 and has the text.
 fn is_told(alloc: Global, inbox: &Inbox, wanted: &str) -> bool {
-    match summary_of(alloc, inbox) {
-        Some(summary) => summary.version() == 2 && is_text(summary.to_text(), wanted),
-        None => false,
-    }
+    summary_of(alloc, inbox).is_some_and(|summary| {
+        summary.version() == 2 && is_text(summary.to_text(), wanted)
+    })
 }
 
 #[test]
@@ -176,21 +156,15 @@ fn the_summary_of_no_events_says_so(rt: HostRuntime) {
 
 /// Notes the event of a row that comes behind those of the inbox, and answers whether it did.
 fn note(alloc: Global, blocks: &mut Blocks, inbox: &Inbox, row: Row<'_>) -> bool {
-    match event(alloc, row) {
-        Some(event) => blocks.note(&event, inbox.arrived()).is_ok(),
-        None => false,
-    }
+    event(alloc, row).is_some_and(|event| blocks.note(&event, inbox.arrived()).is_ok())
 }
 
 /// Takes back the note of the event of a row, and answers whether there is one.
 fn forget(alloc: Global, blocks: &mut Blocks, row: Row<'_>) -> bool {
-    match event(alloc, row) {
-        Some(event) => {
-            blocks.forget(&event);
-            true
-        }
-        None => false,
-    }
+    event(alloc, row).is_some_and(|event| {
+        blocks.forget(&event);
+        true
+    })
 }
 
 /// Whether the digest of the block is the one that is wanted.
@@ -200,22 +174,18 @@ fn is_kept(
     k: u64,
     wanted: &str,
 ) -> bool {
-    match digests.get("/orders") {
-        Some(own) => is_hex(alloc, own.get(&k), wanted),
-        None => false,
-    }
+    digests
+        .get("/orders")
+        .is_some_and(|own| is_hex(alloc, own.get(&k), wanted))
 }
 
 /// Whether the blocks of the rows have their digests, the first of them this one.
 fn are_kept(alloc: Global, blocks: &Blocks, inbox: &Inbox, first: &str) -> bool {
-    match blocks.digests(inbox) {
-        Ok(digests) => {
-            is_kept(alloc, &digests, 0, first)
-                && is_kept(alloc, &digests, 1, SECOND)
-                && is_kept(alloc, &digests, 9007199254740991, LAST)
-        }
-        Err(_) => false,
-    }
+    blocks.digests(inbox).is_ok_and(|digests| {
+        is_kept(alloc, &digests, 0, first)
+            && is_kept(alloc, &digests, 1, SECOND)
+            && is_kept(alloc, &digests, 9007199254740991, LAST)
+    })
 }
 
 /// Whether the blocks have their digests, and have them still once they are mended.

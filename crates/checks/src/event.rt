@@ -38,10 +38,7 @@ fn set_row(alloc: Global, parts: &mut Parts, row: Row<'_>) -> Result<(), AllocEr
 
 /// The event of parts that have no fault.
 fn built(parts: Parts) -> Option<Sequenced> {
-    match Event::build(parts) {
-        Ok(event) => Sequenced::of(event).ok(),
-        Err(_) => None,
-    }
+    Sequenced::of(Event::build(parts).ok()?).ok()
 }
 
 /// The event of a row.
@@ -69,16 +66,10 @@ pub fn wrapped(
 
 /// Whether there is a text, and it is this one.
 pub fn is_text(text: Result<Text, AllocError>, wanted: &str) -> bool {
-    match text {
-        Ok(text) => text.as_str() == wanted,
-        Err(_) => false,
-    }
+    text.is_ok_and(|text| text.as_str() == wanted)
 }
 
 /// Whether something was written, and it is this text.
 pub fn is_written(text: Result<String, AllocError>, wanted: &str) -> bool {
-    match text {
-        Ok(text) => text.as_str() == wanted,
-        Err(_) => false,
-    }
+    text.is_ok_and(|text| text.as_str() == wanted)
 }

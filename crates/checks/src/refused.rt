@@ -21,10 +21,7 @@ const CANONICAL: &str =
 
 /// Whether there is a text and it is this one; none where there is no memory for it.
 fn is_it(text: Result<Text, AllocError>, wanted: &str) -> Option<bool> {
-    match text {
-        Ok(text) => Some(text.as_str() == wanted),
-        Err(_) => None,
-    }
+    Some(text.ok()?.as_str() == wanted)
 }
 
 /// Whether the one event of a text has this canonical text; none where memory is wanted.
@@ -197,10 +194,7 @@ fn a_summary_is_judged_or_wants_memory(rt: HostRuntime) {
 
 /// Whether there is a set with just these intervals; none where memory is wanted.
 fn is_set(set: Result<Intervals, AllocError>, wanted: &[Interval]) -> Option<bool> {
-    match set {
-        Ok(set) => Some(has(&set, wanted)),
-        Err(_) => None,
-    }
+    Some(has(&set.ok()?, wanted))
 }
 
 /// Whether two sets unite to one of five numbers and stay what they were.

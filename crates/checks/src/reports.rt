@@ -28,26 +28,17 @@ fn add_events(alloc: Global, files: &mut Vec<Octets>, count: u64) -> bool {
 
 /// The text of the report of files.
 fn told(alloc: Global, query: Query, files: &[Octets]) -> Option<Text> {
-    match report(alloc, query, files) {
-        Ok(reported) => Some(reported.text),
-        Err(_) => None,
-    }
+    Some(report(alloc, query, files).ok()?.text)
 }
 
 /// Whether the report of files is this text.
 fn tells(alloc: Global, query: Query, files: &[Octets], wanted: &str) -> bool {
-    match told(alloc, query, files) {
-        Some(text) => text.as_str() == wanted,
-        None => false,
-    }
+    told(alloc, query, files).is_some_and(|text| text.as_str() == wanted)
 }
 
 /// How many bytes the report of files has.
 fn told_length(alloc: Global, query: Query, files: &[Octets]) -> Option<usize> {
-    match told(alloc, query, files) {
-        Some(text) => Some(text.as_str().len()),
-        None => None,
-    }
+    Some(told(alloc, query, files)?.as_str().len())
 }
 
 /// Whether a hundred files of one event have the report of one.

@@ -18,10 +18,7 @@ const OTHER: &str = "g3b0c44298fc1c149afbf4c8996fb92427ae41e4649b934ca495991b785
 
 /// A text with the digits in place of each `$`.
 fn with_digits(alloc: Global, text: &str, digits: &str) -> Option<String> {
-    match text.replace(alloc, "$", digits) {
-        Ok(text) => Some(text),
-        Err(_) => None,
-    }
+    text.replace(alloc, "$", digits).ok()
 }
 
 /// The text of version 2 with these blocks and sources.
@@ -46,10 +43,9 @@ fn is_read_back(alloc: Global, row: (&str, &str)) -> bool {
     let Some(text) = summary_text(alloc, row, DIGEST) else {
         return false;
     };
-    match Summary::of_text(alloc, text.as_str().as_bytes()) {
-        Ok(summary) => is_written_as(&summary, text.as_str()),
-        Err(_) => false,
-    }
+    Summary::of_text(alloc, text.as_str().as_bytes()).is_ok_and(|summary| {
+        is_written_as(&summary, text.as_str())
+    })
 }
 
 /// Whether the text is refused with the fault.
@@ -62,19 +58,16 @@ fn is_refused(alloc: Global, text: &str, wanted: SummaryFault) -> bool {
 
 /// Whether a row's text with the digits is no summary's.
 fn is_not_canonical(alloc: Global, row: (&str, &str), digits: &str) -> bool {
-    match summary_text(alloc, row, digits) {
-        Some(text) => is_refused(alloc, text.as_str(), SummaryFault::NotCanonical),
-        None => false,
-    }
+    summary_text(alloc, row, digits).is_some_and(|text| {
+        is_refused(alloc, text.as_str(), SummaryFault::NotCanonical)
+    })
 }
 
 /// Whether the summary of a row's text has a digest of the block of `/orders`.
 fn has_digest(alloc: Global, row: (&str, &str), k: u64) -> Option<bool> {
     let text = summary_text(alloc, row, DIGEST)?;
-    match Summary::of_text(alloc, text.as_str().as_bytes()) {
-        Ok(summary) => Some(summary.digest_of("/orders", k).is_some()),
-        Err(_) => None,
-    }
+    let summary = Summary::of_text(alloc, text.as_str().as_bytes()).ok()?;
+    Some(summary.digest_of("/orders", k).is_some())
 }
 
 /// Numbers 1, 1023, 1024 and the greatest.
