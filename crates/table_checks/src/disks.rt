@@ -32,6 +32,20 @@ pub(crate) struct Tried<S: Alter + Drop> {
     pub(crate) is_done: bool,
 }
 
+impl<S: Alter + Drop> Tried<S> {
+    /// What was to be done is done.
+    pub(crate) fn done(conn: Connection<S>) -> Tried<S> {
+        let is_done = true;
+        Tried { conn, is_done }
+    }
+
+    /// It isn't.
+    pub(crate) fn undone(conn: Connection<S>) -> Tried<S> {
+        let is_done = false;
+        Tried { conn, is_done }
+    }
+}
+
 /// What an act leaves of a connection: it, to be closed, or its store, which isn't to be closed,
 /// and whether what was done is done.
 #[derive(Drop)]
@@ -56,15 +70,9 @@ fn acted<R: AllocGlobal + Wait + Abort, S: Alter + Drop>(
     act: Act,
 ) -> Tried<S> {
     match act {
-        Act::Work(work) => Tried {
-            conn: worked(rt, conn, work),
-            is_done: true,
-        },
+        Act::Work(work) => Tried::done(worked(rt, conn, work)),
         Act::Find(work) => found(rt, conn, work),
-        Act::Prepare(call) => Tried {
-            conn: prepared(rt, conn, call),
-            is_done: true,
-        },
+        Act::Prepare(call) => Tried::done(prepared(rt, conn, call)),
         Act::Make(call) => call_made(rt, conn, call),
         Act::Look(call, is_done) => looked_over(rt, conn, call, is_done),
     }

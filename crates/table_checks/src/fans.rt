@@ -1,12 +1,10 @@
 //! What no contract says of a fan-out: that every row gets to every route, that routes are sent to
 //! at the same time, that the others go on where one fails, and that the gate is asked.
 
-ghost use Rattle.std.specs.Prelude.{◌≡◌, ◌⊎◌};
-
 use crate::orders::{accepts, create, time};
-use attributes::Batch;
+use crate::relays::{FailsOnce, failing};
 use outbox::Service;
-use relay::{End, FanOut, MemoryRoute, Relay, RelayFault, Route, RouteFailed, fan_out};
+use relay::{End, FanOut, Relay, RelayFault, fan_out};
 use site::{Gate, GateShut, Wide};
 use sqlite::MemStore;
 use std::process::Abort;
@@ -15,74 +13,48 @@ use std::sync::atomic::{AtomicU64, Ordering};
 use std::thread;
 use std::thread::Threads;
 
-/// A route that fails once, at the send with this number from 1 on, or never if it is 0.
-#[derive(Drop)]
-struct FailsAt {
-    route: MemoryRoute,
-    send: u64,
+/// What a gate waits for, or where it is shut.
+#[derive(Clone, Copy)]
+enum Rule {
+    /// Workers 0 and 1 wait for one another before their first calls.
+    Together,
+    /// It is shut before the second call of worker 1.
+    ShutAtSecond,
+    /// Worker 0 is held before its first call until the others have made so many calls in all.
+    FirstHeld(u64),
 }
 
-impl Route for FailsAt {
-    ghost use Rattle.std.specs.Prelude.{◌≡◌, ◌⊎◌, ◌++◌};
-    ghost use Rattle.relay.specs.Route.{CountRises};
+/// Follows a rule, and shuts where what it waits for doesn't come. It counts the workers that have
+/// come where they wait for one another, the calls that were made where it is shut, and those of
+/// the others where it holds one.
+#[derive(Drop)]
+struct Ruled {
+    rule: Rule,
+    counted: AtomicU64,
+}
 
-    ghost accepted = { λ r. r.route.events };
-
-    ghost has_failed = { λ old new. ((old.send ≡ 1) × (new.send ≡ 0))
-        ⊎ CountRises old.route.failures new.route.failures };
-
-    ghost takes = { λ old batch new.
-        new.route ≡ record old.route { events = old.route.events ++ batch } };
-
-    fn send(&mut self, batch: &Batch) -> Result<(), RouteFailed> {
-        if self.send == 1 {
-            self.send = 0;
-            return Err(RouteFailed);
+impl Ruled {
+    /// With nothing counted yet.
+    fn by(rule: Rule) -> Ruled {
+        Ruled {
+            rule,
+            counted: AtomicU64::new(0),
         }
-        self.send = self.send.saturating_sub(1);
-        self.route.send(batch)
     }
-}
 
-/// Workers 0 and 1 wait for one another before their first calls.
-#[derive(Drop)]
-struct Together {
-    entered: AtomicU64,
-}
-
-impl Gate for Together {
-    ghost use Rattle.std.specs.Prelude.{⊤};
-
-    ghost lets = { λ _ _ _. ⊤ };
-
-    ghost shuts = { λ _ _ _. ⊤ };
-
-    ghost heard = { λ _ _ _. ⊤ };
-
-    fn before(&self, worker: u64, call: u64) -> Result<(), GateShut> {
-        if worker > 1 || call != 1 {
-            return Ok(());
-        }
-        self.entered.fetch_add(1, Ordering::SeqCst);
+    /// Waits until so many were counted.
+    fn wait(&self, wanted: u64) -> Result<(), GateShut> {
         for _ in 0..100_000_000u64 {
-            if self.entered.load(Ordering::SeqCst) >= 2 {
+            if self.counted.load(Ordering::SeqCst) >= wanted {
                 return Ok(());
             }
             thread::yield_now();
         }
         Err(GateShut)
     }
-
-    fn after(&self, _worker: u64, _call: u64) {}
 }
 
-/// Shuts before the second call of worker 1, and counts the calls that were made.
-#[derive(Drop)]
-struct ShutsAtSecond {
-    made: AtomicU64,
-}
-
-impl Gate for ShutsAtSecond {
+impl Gate for Ruled {
     ghost use Rattle.std.specs.Prelude.{⊤};
 
     ghost lets = { λ _ _ _. ⊤ };
@@ -92,50 +64,25 @@ impl Gate for ShutsAtSecond {
     ghost heard = { λ _ _ _. ⊤ };
 
     fn before(&self, worker: u64, call: u64) -> Result<(), GateShut> {
-        if worker == 1 && call == 2 {
-            return Err(GateShut);
-        }
-        Ok(())
-    }
-
-    fn after(&self, _worker: u64, _call: u64) {
-        self.made.fetch_add(1, Ordering::SeqCst);
-    }
-}
-
-/// Holds worker 0 before its first call until the others have made so many calls in all, and shuts
-/// where they don't.
-#[derive(Drop)]
-struct HoldsFirst {
-    made: AtomicU64,
-    wanted: u64,
-}
-
-impl Gate for HoldsFirst {
-    ghost use Rattle.std.specs.Prelude.{⊤};
-
-    ghost lets = { λ _ _ _. ⊤ };
-
-    ghost shuts = { λ _ _ _. ⊤ };
-
-    ghost heard = { λ _ _ _. ⊤ };
-
-    fn before(&self, worker: u64, call: u64) -> Result<(), GateShut> {
-        if worker != 0 || call != 1 {
-            return Ok(());
-        }
-        for _ in 0..100_000_000u64 {
-            if self.made.load(Ordering::SeqCst) >= self.wanted {
-                return Ok(());
+        match self.rule {
+            Rule::Together if worker <= 1 && call == 1 => {
+                self.counted.fetch_add(1, Ordering::SeqCst);
+                self.wait(2)
             }
-            thread::yield_now();
+            Rule::ShutAtSecond if worker == 1 && call == 2 => Err(GateShut),
+            Rule::FirstHeld(wanted) if worker == 0 && call == 1 => self.wait(wanted),
+            _ => Ok(()),
         }
-        Err(GateShut)
     }
 
     fn after(&self, worker: u64, _call: u64) {
-        if worker != 0 {
-            self.made.fetch_add(1, Ordering::SeqCst);
+        let is_counted = match self.rule {
+            Rule::Together => false,
+            Rule::ShutAtSecond => true,
+            Rule::FirstHeld(_) => worker != 0,
+        };
+        if is_counted {
+            self.counted.fetch_add(1, Ordering::SeqCst);
         }
     }
 }
@@ -175,9 +122,7 @@ impl Heard {
             _ => None,
         }
     }
-}
 
-impl Heard {
     /// Whether the workers made so many calls, and none was strange.
     fn has_made(&self, first: u64, second: u64) -> bool {
         if self.strange.load(Ordering::SeqCst) != 0 {
@@ -234,7 +179,7 @@ pub(crate) fn placed<R: AllocGlobal + Abort>(rt: &R, count: u64) -> Service<MemS
 }
 
 /// Whether a fan-out ended so: the ends, and the marks and accepted rows after it.
-fn is_ended(out: &FanOut<FailsAt>, relays: &[Relay], want: &[(End, u64, u64)]) -> bool {
+fn is_ended(out: &FanOut<FailsOnce>, relays: &[Relay], want: &[(End, u64, u64)]) -> bool {
     if out.ends.len() != want.len()
         || relays.len() != want.len()
         || out.routes.len() != want.len()
@@ -261,11 +206,10 @@ fn relays_of<R: AllocGlobal + Abort>(rt: &R, from: &[(u64, u64)]) -> Vec<Relay> 
 }
 
 /// Routes that fail at the sends of these.
-fn routes_of<R: AllocGlobal + Abort>(rt: &R, from: &[(u64, u64)]) -> Vec<FailsAt> {
+fn routes_of<R: AllocGlobal + Abort>(rt: &R, from: &[(u64, u64)]) -> Vec<FailsOnce> {
     let mut routes = Vec::new(rt.alloc());
     for (_, send) in from {
-        let route = MemoryRoute::empty(rt.alloc());
-        assert!(rt; routes.push(FailsAt { route, send: *send }).is_ok());
+        assert!(rt; routes.push(failing(rt.alloc(), *send, false)).is_ok());
     }
     routes
 }
@@ -298,9 +242,7 @@ fn every_row_goes_to_both_routes(rt: HostRuntime) {
 #[test]
 fn two_routes_are_sent_to_at_the_same_time(rt: HostRuntime) {
     let mut service = placed(&rt, 150);
-    let gate = Together {
-        entered: AtomicU64::new(0),
-    };
+    let gate = Ruled::by(Rule::Together);
     let want = [(End::Done, 150, 150), (End::Done, 150, 150)];
     assert!(rt; ends_as(&rt, &mut service, &gate, &[(0, 0), (0, 0)], &want));
 }
@@ -309,10 +251,7 @@ fn two_routes_are_sent_to_at_the_same_time(rt: HostRuntime) {
 fn no_route_waits_for_another(rt: HostRuntime) {
     // The first route gets nothing before the others have every row, which are more than a window.
     let mut service = placed(&rt, 1_150);
-    let gate = HoldsFirst {
-        made: AtomicU64::new(0),
-        wanted: 36,
-    };
+    let gate = Ruled::by(Rule::FirstHeld(36));
     let all = (End::Done, 1_150, 1_150);
     let from = [(0, 0), (0, 0), (0, 0), (0, 0)];
     assert!(rt; ends_as(&rt, &mut service, &gate, &from, &[all, all, all, all]));
@@ -336,13 +275,11 @@ fn the_others_go_on_where_one_stops(rt: HostRuntime) {
             &want
         )
     );
-    let gate = ShutsAtSecond {
-        made: AtomicU64::new(0),
-    };
+    let gate = Ruled::by(Rule::ShutAtSecond);
     let shut = End::Failed(RelayFault::GateShut);
     let want = [(End::Done, 250, 250), (shut, 100, 100)];
     assert!(rt; ends_as(&rt, &mut service, &gate, &[(0, 0), (0, 0)], &want));
-    assert!(rt; gate.made.load(Ordering::SeqCst) == 4);
+    assert!(rt; gate.counted.load(Ordering::SeqCst) == 4);
 }
 
 #[test]

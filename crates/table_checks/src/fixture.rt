@@ -47,15 +47,57 @@ pub(crate) const INBOX2: &str =
 pub(crate) const OUTBOX: &str =
     "CREATE TABLE service (one INTEGER PRIMARY KEY CHECK (one = 1), source TEXT NOT NULL, base INTEGER NOT NULL CHECK (base >= 0)) STRICT; CREATE TABLE orders (number INTEGER PRIMARY KEY, state INTEGER NOT NULL CHECK (state >= 1 AND state <= 3)) STRICT; CREATE TABLE outbox (number INTEGER PRIMARY KEY, kind INTEGER NOT NULL CHECK (kind >= 1 AND kind <= 3), order_number INTEGER NOT NULL, at TEXT NOT NULL) STRICT;";
 
+/// The values of a row of an inbox that stand before its block and its text, the block as it stands
+/// behind them, the text, and the fault of a table with that row alone.
+pub(crate) type Row = (&'static str, &'static str, &'static str, u8);
+
+/// Rows of a table of either version, whose blocks are those of their numbers.
+pub(crate) static ROWS: [Row; 12] = [
+    // The columns of an event and its text are taken.
+    ("1, '/orders', 'a1', 1", ", 0", E1, 0),
+    ("1, '/orders', 'c', 1024", ", 1", C1, 0),
+    ("1, '/orders', 'a1', 1", ", 0", "{}", 3),
+    ("1, '/orders', 'a1', 1", ", 0", "x", 3),
+    // Places from 0, and from 2.
+    ("0, '/orders', 'a1', 1", ", 0", E1, 3),
+    ("2, '/orders', 'a1', 1", ", 0", E1, 3),
+    // Another source, id or number than the event has.
+    ("1, '/other', 'a1', 1", ", 0", E1, 3),
+    ("1, '/orders', 'a2', 1", ", 0", E1, 3),
+    ("1, '/orders', 'a1', 2", ", 0", E1, 3),
+    // The event, but not its canonical text; an event without a number; a batch of one event.
+    (
+        "1, '/orders', 'a1', 1",
+        ", 0",
+        r#"{"type":"t.a","id":"a1","sequence":"00000000000000000001","source":"/orders","specversion":"1.0","subject":"x"}"#,
+        3,
+    ),
+    (
+        "1, '/orders', 'a1', 1",
+        ", 0",
+        r#"{"id":"a1","source":"/orders","specversion":"1.0","subject":"x","type":"t.a"}"#,
+        3,
+    ),
+    (
+        "1, '/orders', 'a1', 1",
+        ", 0",
+        r#"[{"id":"a1","sequence":"00000000000000000001","source":"/orders","specversion":"1.0","subject":"x","type":"t.a"}]"#,
+        3,
+    ),
+];
+
 /// The statement that puts a row with these values into a table, whose columns stand behind its
-/// name. The text of the event comes last.
+/// name. The block, where there is one, stands behind the values, and the text comes last.
 pub(crate) fn insertion<R: AllocGlobal + Abort>(
     rt: &R,
     table: &str,
     values: &str,
+    block: &str,
     body: &str,
 ) -> String {
-    let statement = format!(in rt.alloc(); "INSERT INTO {table} VALUES ({values}, '{body}')");
+    let statement = format!(in rt.alloc();
+        "INSERT INTO {table} VALUES ({values}{block}, '{body}')"
+    );
     statement.expect(rt, "memory")
 }
 

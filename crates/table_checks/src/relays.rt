@@ -12,8 +12,8 @@ use std::alloc::Global;
 /// A route that fails once, at the send with this number from 1 on, or never if it is 0. If it is
 /// late, the rows of that send were accepted, and the answer is what got lost.
 #[derive(Drop)]
-struct FailsOnce {
-    route: MemoryRoute,
+pub(crate) struct FailsOnce {
+    pub(crate) route: MemoryRoute,
     send: u64,
     is_late: bool,
 }
@@ -44,7 +44,7 @@ impl Route for FailsOnce {
 }
 
 /// A route that accepted nothing, and fails once.
-fn failing(alloc: Global, send: u64, is_late: bool) -> FailsOnce {
+pub(crate) fn failing(alloc: Global, send: u64, is_late: bool) -> FailsOnce {
     FailsOnce {
         route: MemoryRoute::empty(alloc),
         send,

@@ -105,50 +105,37 @@ struct Image {
     db: Vec<u8>,
 }
 
+/// A list's first ones, so many, or no table of it.
+fn part(count: Option<u64>) -> Part {
+    match count {
+        Some(count) => Part::First(count),
+        None => Part::Absent,
+    }
+}
+
+/// A file with so many rows of the service and events of the inbox.
+fn held(rows: Option<u64>, events: Option<u64>) -> Held {
+    Held {
+        rows: part(rows),
+        events: part(events),
+    }
+}
+
 /// What the file has before the call, and what once it is committed.
 fn before_and_after(call: Call) -> (Held, Held) {
-    let (rows, events, new_rows, new_events) = match call {
-        Call::Place => (
-            Part::First(1),
-            Part::First(1),
-            Part::First(2),
-            Part::First(1),
-        ),
-        Call::Ship => (
-            Part::First(2),
-            Part::First(1),
-            Part::First(3),
-            Part::First(1),
-        ),
-        Call::Keep => (
-            Part::First(1),
-            Part::First(1),
-            Part::First(1),
-            Part::First(3),
-        ),
-        Call::Step => (
-            Part::First(1),
-            Part::First(1),
-            Part::First(1),
-            Part::First(3),
-        ),
-        Call::CreateService => (Part::Absent, Part::Absent, Part::First(0), Part::Absent),
-        Call::CreateInbox => (Part::Absent, Part::Absent, Part::Absent, Part::First(0)),
-        Call::AddService => (Part::Absent, Part::First(1), Part::First(0), Part::First(1)),
-        Call::AddInbox => (Part::First(1), Part::Absent, Part::First(1), Part::First(0)),
-        Call::Upgrade => (Part::Absent, Part::First(2), Part::Absent, Part::First(2)),
-        Call::UpgradeBefore | Call::UpgradeBehind => (
-            Part::First(1),
-            Part::First(2),
-            Part::First(1),
-            Part::First(2),
-        ),
-    };
-    let after = Held {
-        rows: new_rows,
-        events: new_events,
-    };
-    (Held { rows, events }, after)
+    match call {
+        Call::Place => (held(Some(1), Some(1)), held(Some(2), Some(1))),
+        Call::Ship => (held(Some(2), Some(1)), held(Some(3), Some(1))),
+        Call::Keep | Call::Step => (held(Some(1), Some(1)), held(Some(1), Some(3))),
+        Call::CreateService => (held(None, None), held(Some(0), None)),
+        Call::CreateInbox => (held(None, None), held(None, Some(0))),
+        Call::AddService => (held(None, Some(1)), held(Some(0), Some(1))),
+        Call::AddInbox => (held(Some(1), None), held(Some(1), Some(0))),
+        Call::Upgrade => (held(None, Some(2)), held(None, Some(2))),
+        Call::UpgradeBefore | Call::UpgradeBehind => {
+            (held(Some(1), Some(2)), held(Some(1), Some(2)))
+        }
+    }
 }
 
 /// Adds a service in which order 3 was placed.
@@ -206,10 +193,7 @@ fn commanded<R: AllocGlobal + Abort, S: Alter + Drop>(
             let conn = service.into_connection();
             Tried { conn, is_done }
         }
-        Err(NoService { conn, fault: _ }) => Tried {
-            conn,
-            is_done: false,
-        },
+        Err(NoService { conn, fault: _ }) => Tried::undone(conn),
     }
 }
 
@@ -221,10 +205,7 @@ fn kept<R: AllocGlobal + Abort, S: Alter + Drop>(rt: &R, conn: Connection<S>) ->
             let conn = table.into_connection();
             Tried { conn, is_done }
         }
-        Err(NoTable { conn, fault: _ }) => Tried {
-            conn,
-            is_done: false,
-        },
+        Err(NoTable { conn, fault: _ }) => Tried::undone(conn),
     }
 }
 
@@ -267,19 +248,11 @@ fn stepped<R: AllocGlobal + Wait + Abort, S: Alter + Drop>(
 ) -> Tried<S> {
     let table = match Table::adopt(rt.alloc(), conn) {
         Ok(table) => table,
-        Err(NoTable { conn, fault: _ }) => {
-            return Tried {
-                conn,
-                is_done: false,
-            };
-        }
+        Err(NoTable { conn, fault: _ }) => return Tried::undone(conn),
     };
     match Keeper::begin(rt.alloc(), table) {
         Ok(Kept { keeper, site }) => step_of(rt, keeper, site),
-        Err(NotKept { table, fault: _ }) => Tried {
-            conn: table.into_connection(),
-            is_done: false,
-        },
+        Err(NotKept { table, fault: _ }) => Tried::undone(table.into_connection()),
     }
 }
 
@@ -288,42 +261,16 @@ fn service_made<R: AllocGlobal + Abort, S: Alter + Drop>(rt: &R, conn: Connectio
     let source = Text::of(rt.alloc(), "/orders").expect(rt, "memory");
     assert!(rt; source.is_source() && source.as_str().len() <= 1024);
     match Service::create(rt.alloc(), conn, &source, 0) {
-        Ok(service) => Tried {
-            conn: service.into_connection(),
-            is_done: true,
-        },
-        Err(NoService { conn, fault: _ }) => Tried {
-            conn,
-            is_done: false,
-        },
+        Ok(service) => Tried::done(service.into_connection()),
+        Err(NoService { conn, fault: _ }) => Tried::undone(conn),
     }
 }
 
-/// Makes an inbox.
-fn inbox_made<R: AllocGlobal, S: Alter + Drop>(rt: &R, conn: Connection<S>) -> Tried<S> {
-    match Table::create(rt.alloc(), conn) {
-        Ok(table) => Tried {
-            conn: table.into_connection(),
-            is_done: true,
-        },
-        Err(NoTable { conn, fault: _ }) => Tried {
-            conn,
-            is_done: false,
-        },
-    }
-}
-
-/// Adopts the inbox, which is of version 1.
-fn upgraded<R: AllocGlobal, S: Alter + Drop>(rt: &R, conn: Connection<S>) -> Tried<S> {
-    match Table::adopt(rt.alloc(), conn) {
-        Ok(table) => Tried {
-            conn: table.into_connection(),
-            is_done: true,
-        },
-        Err(NoTable { conn, fault: _ }) => Tried {
-            conn,
-            is_done: false,
-        },
+/// What is left where an inbox was to be made or to be adopted.
+fn left_by<S: Alter + Drop>(made: Result<Table<S>, NoTable<S>>) -> Tried<S> {
+    match made {
+        Ok(table) => Tried::done(table.into_connection()),
+        Err(NoTable { conn, fault: _ }) => Tried::undone(conn),
     }
 }
 
@@ -339,8 +286,11 @@ pub(crate) fn call_made<R: AllocGlobal + Wait + Abort, S: Alter + Drop>(
         Call::Keep => kept(rt, conn),
         Call::Step => stepped(rt, conn),
         Call::CreateService | Call::AddService => service_made(rt, conn),
-        Call::CreateInbox | Call::AddInbox => inbox_made(rt, conn),
-        Call::Upgrade | Call::UpgradeBefore | Call::UpgradeBehind => upgraded(rt, conn),
+        Call::CreateInbox | Call::AddInbox => left_by(Table::create(rt.alloc(), conn)),
+        // The inbox is of version 1.
+        Call::Upgrade | Call::UpgradeBefore | Call::UpgradeBehind => {
+            left_by(Table::adopt(rt.alloc(), conn))
+        }
     }
 }
 
@@ -615,13 +565,8 @@ fn stops_of<R: AllocGlobal + Wait + Abort>(
 fn outlasts_stops<R: AllocGlobal + Wait + Abort>(rt: &R, call: Call) -> bool {
     let image = image_of(rt, call);
     for is_log in [false, true] {
-        match stops_of(rt, &image, is_log, call) {
-            Some(stops) => {
-                if stops == 0 {
-                    return false;
-                }
-            }
-            None => return false,
+        if !stops_of(rt, &image, is_log, call).is_some_and(|stops| stops > 0) {
+            return false;
         }
     }
     true

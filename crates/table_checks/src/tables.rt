@@ -3,7 +3,7 @@
 
 use crate::disks::Tried;
 use crate::fixture::{
-    C1, E1, E2, E3, F1, INBOX, INBOX2, OUTBOX, batch, database, executes, has, insertion,
+    C1, E1, E2, E3, F1, INBOX, INBOX2, OUTBOX, ROWS, Row, batch, database, executes, has, insertion,
 };
 use inbox_table::{Loaded, Table, TableFault, Unwatched};
 use sqlite::{Alter, Connection, MemStore};
@@ -58,10 +58,7 @@ fn keep<R: AllocGlobal + Abort, S: Alter>(
 
 /// Whether the table has the events of these texts, in this order.
 pub(crate) fn holds<S: Alter>(table: &mut Table<S>, texts: &[&str]) -> bool {
-    match table.load() {
-        Ok(events) => has(&events, texts),
-        Err(_) => false,
-    }
+    table.load().is_ok_and(|events| has(&events, texts))
 }
 
 /// Whether so many of the events of the texts are new to the table, which keeps them.
@@ -162,59 +159,26 @@ fn a_table_is_taken_as_it_was_left(rt: HostRuntime) {
     assert!(rt; goes_on(&rt, loaded));
 }
 
-// The values before the text of a row, the text, and the fault of a table of the format with it.
-static ROWS: [(&str, &str, u8); 18] = [
-    // The columns of an event and its text are taken.
-    ("1, '/orders', 'a1', 1, 0", E1, 0),
-    ("1, '/orders', 'a1', 1, 0", "{}", 3),
-    ("1, '/orders', 'a1', 1, 0", "x", 3),
-    // Places from 0, and from 2.
-    ("0, '/orders', 'a1', 1, 0", E1, 3),
-    ("2, '/orders', 'a1', 1, 0", E1, 3),
-    // Another source, id or number than the event has.
-    ("1, '/other', 'a1', 1, 0", E1, 3),
-    ("1, '/orders', 'a2', 1, 0", E1, 3),
-    ("1, '/orders', 'a1', 2, 0", E1, 3),
-    // The event, but not its canonical text; an event without a number; a batch of one event.
-    (
-        "1, '/orders', 'a1', 1, 0",
-        r#"{"type":"t.a","id":"a1","sequence":"00000000000000000001","source":"/orders","specversion":"1.0","subject":"x"}"#,
-        3,
-    ),
-    (
-        "1, '/orders', 'a1', 1, 0",
-        r#"{"id":"a1","source":"/orders","specversion":"1.0","subject":"x","type":"t.a"}"#,
-        3,
-    ),
-    (
-        "1, '/orders', 'a1', 1, 0",
-        r#"[{"id":"a1","sequence":"00000000000000000001","source":"/orders","specversion":"1.0","subject":"x","type":"t.a"}]"#,
-        3,
-    ),
-    // The block is the number divided by 1,024, and not another, and not the number itself.
-    ("1, '/orders', 'a1', 1, 1", E1, 3),
-    ("1, '/orders', 'a1', 1, -1", E1, 3),
-    ("1, '/orders', 'c', 1024, 1", C1, 0),
-    ("1, '/orders', 'c', 1024, 0", C1, 3),
-    ("1, '/orders', 'c', 1024, 2", C1, 3),
-    ("1, '/orders', 'c', 1024, 1024", C1, 3),
-    ("1, '/orders', 'a1', 1, 9007199254740991", E1, 3),
+// Rows whose blocks may be others: the block is the number divided by 1,024, and not another, and
+// not the number itself.
+static BLOCKS: [Row; 6] = [
+    ("1, '/orders', 'a1', 1", ", 1", E1, 3),
+    ("1, '/orders', 'a1', 1", ", -1", E1, 3),
+    ("1, '/orders', 'c', 1024", ", 0", C1, 3),
+    ("1, '/orders', 'c', 1024", ", 2", C1, 3),
+    ("1, '/orders', 'c', 1024", ", 1024", C1, 3),
+    ("1, '/orders', 'a1', 1", ", 9007199254740991", E1, 3),
 ];
 
 /// The table of the format, and its columns.
 const COLUMNS: &str = "inbox2 (place, source, id, number, block, body)";
 
-/// The fault of a table of the format with a row of these values.
-fn row_fault<R: AllocGlobal + Abort>(rt: &R, values: &str, body: &str) -> u8 {
-    let row = insertion(rt, COLUMNS, values, body);
-    adopt_fault(rt, database(rt, &[INBOX2, row.as_str()]))
-}
-
-/// How many of these rows, from the first on, have their faults.
-fn rows_judged<R: AllocGlobal + Abort>(rt: &R, rows: &[(&str, &str, u8)]) -> usize {
+/// How many of these rows, from the first on, have their faults in a table of the format.
+fn rows_judged<R: AllocGlobal + Abort>(rt: &R, rows: &[Row]) -> usize {
     for i in 0..rows.len() {
-        let (values, body, fault) = rows[i];
-        if row_fault(rt, values, body) != fault {
+        let (values, block, body, fault) = rows[i];
+        let row = insertion(rt, COLUMNS, values, block, body);
+        if adopt_fault(rt, database(rt, &[INBOX2, row.as_str()])) != fault {
             return i;
         }
     }
@@ -225,6 +189,8 @@ fn rows_judged<R: AllocGlobal + Abort>(rt: &R, rows: &[(&str, &str, u8)]) -> usi
 fn rows_that_no_call_leaves_are_foreign(rt: HostRuntime) {
     let row = rows_judged(&rt, &ROWS);
     assert!(rt; row == ROWS.len(), "row {row}");
+    let block = rows_judged(&rt, &BLOCKS);
+    assert!(rt; block == BLOCKS.len(), "block {block}");
 }
 
 #[test]

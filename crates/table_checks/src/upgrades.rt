@@ -2,8 +2,8 @@
 //! leaves the database as it was.
 
 use crate::fixture::{
-    C1, E1, E2, INBOX, INBOX2, OLD_C1, OLD_E1, OLD_E2, OUTBOX, after, database, executes, has,
-    insertion,
+    C1, E1, E2, INBOX, INBOX2, OLD_C1, OLD_E1, OLD_E2, OUTBOX, ROWS, Row, after, database,
+    executes, has, insertion,
 };
 use crate::orders::{self, PLACED, SHIPPED, accepts_now, has_after, placed};
 use crate::tables::{adopted, filled, has_all, holds, taken};
@@ -53,10 +53,7 @@ fn add_shown(
         Ok(rows) => format!(in alloc; "{rows:?}\n"),
         Err(_) => return text.push_str("refused\n").is_ok(),
     };
-    match line {
-        Ok(line) => text.push_str(line.as_str()).is_ok(),
-        Err(_) => false,
-    }
+    line.is_ok_and(|line| text.push_str(line.as_str()).is_ok())
 }
 
 /// What these queries answer, line by line.
@@ -74,10 +71,7 @@ fn shown<R: AllocGlobal + Abort>(
 
 /// How many rows the query answers, or none where it is refused.
 fn count<S: Alter>(conn: &mut Connection<S>, query: &str) -> Option<usize> {
-    match conn.query_all(query, &[]) {
-        Ok(rows) => Some(rows.len()),
-        Err(_) => None,
-    }
+    Some(conn.query_all(query, &[]).ok()?.len())
 }
 
 /// Whether a database that was taken has a table of version 2 and none of version 1, with as many
@@ -154,52 +148,15 @@ fn upgrade_fault<R: AllocGlobal + Abort>(rt: &R, conn: Connection<MemStore>) -> 
     Some(upgraded.fault)
 }
 
-// The values before the text of a row, the text, and the fault of a table of version 1 with it.
-static ROWS: [(&str, &str, u8); 12] = [
-    // The columns of an event and its text are taken.
-    ("1, '/orders', 'a1', 1", E1, 0),
-    ("1, '/orders', 'c', 1024", C1, 0),
-    ("1, '/orders', 'a1', 1", "{}", 3),
-    ("1, '/orders', 'a1', 1", "x", 3),
-    // Places from 0, and from 2.
-    ("0, '/orders', 'a1', 1", E1, 3),
-    ("2, '/orders', 'a1', 1", E1, 3),
-    // Another source, id or number than the event has.
-    ("1, '/other', 'a1', 1", E1, 3),
-    ("1, '/orders', 'a2', 1", E1, 3),
-    ("1, '/orders', 'a1', 2", E1, 3),
-    // The event, but not its canonical text; an event without a number; a batch of one event.
-    (
-        "1, '/orders', 'a1', 1",
-        r#"{"type":"t.a","id":"a1","sequence":"00000000000000000001","source":"/orders","specversion":"1.0","subject":"x"}"#,
-        3,
-    ),
-    (
-        "1, '/orders', 'a1', 1",
-        r#"{"id":"a1","source":"/orders","specversion":"1.0","subject":"x","type":"t.a"}"#,
-        3,
-    ),
-    (
-        "1, '/orders', 'a1', 1",
-        r#"[{"id":"a1","sequence":"00000000000000000001","source":"/orders","specversion":"1.0","subject":"x","type":"t.a"}]"#,
-        3,
-    ),
-];
-
 /// The table of version 1, and its columns.
 const COLUMNS: &str = "inbox (place, source, id, number, body)";
 
-/// The fault of a table of version 1 with a row of these values.
-fn row_fault<R: AllocGlobal + Abort>(rt: &R, values: &str, body: &str) -> Option<u8> {
-    let row = insertion(rt, COLUMNS, values, body);
-    upgrade_fault(rt, database(rt, &[INBOX, row.as_str()]))
-}
-
-/// How many of these rows, from the first on, have their faults.
-fn rows_judged<R: AllocGlobal + Abort>(rt: &R, rows: &[(&str, &str, u8)]) -> usize {
+/// How many of these rows, from the first on, have their faults in a table of version 1.
+fn rows_judged<R: AllocGlobal + Abort>(rt: &R, rows: &[Row]) -> usize {
     for i in 0..rows.len() {
-        let (values, body, fault) = rows[i];
-        if row_fault(rt, values, body) != Some(fault) {
+        let (values, _, body, fault) = rows[i];
+        let row = insertion(rt, COLUMNS, values, "", body);
+        if upgrade_fault(rt, database(rt, &[INBOX, row.as_str()])) != Some(fault) {
             return i;
         }
     }
@@ -265,10 +222,9 @@ fn one_of_each_version_is_foreign_with_its_rows(rt: HostRuntime) {
 
 /// Whether the block of this source has the events of these texts, in this order.
 fn has_block<S: Alter>(table: &mut Table<S>, source: &str, k: u64, texts: &[&str]) -> bool {
-    match table.block(source, k) {
-        Ok(events) => has(&events, texts),
-        Err(_) => false,
-    }
+    table
+        .block(source, k)
+        .is_ok_and(|events| has(&events, texts))
 }
 
 // Sources, numbers of blocks, and the two events that stand in them.
