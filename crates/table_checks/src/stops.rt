@@ -106,7 +106,7 @@ struct Image {
 }
 
 /// A list's first ones, so many, or no table of it.
-fn part(count: Option<u64>) -> Part {
+fn list_of(count: Option<u64>) -> Part {
     match count {
         Some(count) => Part::First(count),
         None => Part::Absent,
@@ -114,26 +114,26 @@ fn part(count: Option<u64>) -> Part {
 }
 
 /// A file with so many rows of the service and events of the inbox.
-fn held(rows: Option<u64>, events: Option<u64>) -> Held {
+fn file_with(rows: Option<u64>, events: Option<u64>) -> Held {
     Held {
-        rows: part(rows),
-        events: part(events),
+        rows: list_of(rows),
+        events: list_of(events),
     }
 }
 
 /// What the file has before the call, and what once it is committed.
 fn before_and_after(call: Call) -> (Held, Held) {
     match call {
-        Call::Place => (held(Some(1), Some(1)), held(Some(2), Some(1))),
-        Call::Ship => (held(Some(2), Some(1)), held(Some(3), Some(1))),
-        Call::Keep | Call::Step => (held(Some(1), Some(1)), held(Some(1), Some(3))),
-        Call::CreateService => (held(None, None), held(Some(0), None)),
-        Call::CreateInbox => (held(None, None), held(None, Some(0))),
-        Call::AddService => (held(None, Some(1)), held(Some(0), Some(1))),
-        Call::AddInbox => (held(Some(1), None), held(Some(1), Some(0))),
-        Call::Upgrade => (held(None, Some(2)), held(None, Some(2))),
+        Call::Place => (file_with(Some(1), Some(1)), file_with(Some(2), Some(1))),
+        Call::Ship => (file_with(Some(2), Some(1)), file_with(Some(3), Some(1))),
+        Call::Keep | Call::Step => (file_with(Some(1), Some(1)), file_with(Some(1), Some(3))),
+        Call::CreateService => (file_with(None, None), file_with(Some(0), None)),
+        Call::CreateInbox => (file_with(None, None), file_with(None, Some(0))),
+        Call::AddService => (file_with(None, Some(1)), file_with(Some(0), Some(1))),
+        Call::AddInbox => (file_with(Some(1), None), file_with(Some(1), Some(0))),
+        Call::Upgrade => (file_with(None, Some(2)), file_with(None, Some(2))),
         Call::UpgradeBefore | Call::UpgradeBehind => {
-            (held(Some(1), Some(2)), held(Some(1), Some(2)))
+            (file_with(Some(1), Some(2)), file_with(Some(1), Some(2)))
         }
     }
 }
