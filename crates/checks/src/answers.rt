@@ -131,7 +131,10 @@ pub(crate) static ASKED: [(&str, Query, &str); 29] = [
 
 /// Takes the event of a row, and answers whether it did.
 pub(crate) fn take(alloc: Global, inbox: &mut Inbox, row: Row<'_>) -> bool {
-    event(alloc, row).is_some_and(|event| inbox.take(event).is_ok())
+    match event(alloc, row) {
+        Some(event) => inbox.take(event).is_ok(),
+        None => false,
+    }
 }
 
 /// The row of the event of that name.
@@ -146,7 +149,10 @@ fn row_of(name: &str) -> Option<Row<'static>> {
 
 /// Takes the event of that name, and answers whether it did.
 pub(crate) fn take_named(alloc: Global, inbox: &mut Inbox, name: &str) -> bool {
-    row_of(name).is_some_and(|row| take(alloc, inbox, row))
+    match row_of(name) {
+        Some(row) => take(alloc, inbox, row),
+        None => false,
+    }
 }
 
 /// Takes the events of names, and answers whether it did.

@@ -12,7 +12,10 @@ use std::collections::BTreeMap;
 
 /// Pushes the event of a row, and answers whether it did.
 fn push(alloc: Global, batch: &mut Batch, row: Row<'_>) -> bool {
-    event(alloc, row).is_some_and(|event| batch.push(event).is_ok())
+    match event(alloc, row) {
+        Some(event) => batch.push(event).is_ok(),
+        None => false,
+    }
 }
 
 /// Pushes the events of rows, and answers whether it did.
@@ -27,19 +30,26 @@ fn push_all(alloc: Global, batch: &mut Batch, rows: &[Row<'_>]) -> bool {
 
 /// Whether there is a digest, and it is this one in hexadecimal digits.
 fn is_hex(alloc: Global, digest: Option<&[u8; 32]>, wanted: &str) -> bool {
-    digest.is_some_and(|digest| is_written(hex::encode(alloc, *digest), wanted))
+    match digest {
+        Some(digest) => is_written(hex::encode(alloc, *digest), wanted),
+        None => false,
+    }
 }
 
 /// Whether a block of the source has the digest.
 fn has_digest(alloc: Global, batch: &Batch, k: u64, wanted: &str) -> bool {
-    digest_of_block(alloc, batch, "/orders", k).is_ok_and(|digest| {
-        is_hex(alloc, digest.as_ref(), wanted)
-    })
+    match digest_of_block(alloc, batch, "/orders", k) {
+        Ok(digest) => is_hex(alloc, digest.as_ref(), wanted),
+        Err(_) => false,
+    }
 }
 
 /// Whether a block has no digest.
 fn has_none(alloc: Global, batch: &Batch, source: &str, k: u64) -> bool {
-    digest_of_block(alloc, batch, source, k).is_ok_and(|digest| digest.is_none())
+    match digest_of_block(alloc, batch, source, k) {
+        Ok(digest) => digest.is_none(),
+        Err(_) => false,
+    }
 }
 
 /// Events of one source: three in its first block, of which one comes twice and two have one
@@ -82,7 +92,10 @@ fn blocks_have_the_digests_of_their_texts(rt: HostRuntime) {
 
 /// Whether a number stands in the block.
 fn stands_in(number: u64, k: u64) -> bool {
-    Sequence::of_u64(number).is_some_and(|number| block_of(number) == k)
+    match Sequence::of_u64(number) {
+        Some(number) => block_of(number) == k,
+        None => false,
+    }
 }
 
 // Numbers, and the block of each.
@@ -133,7 +146,10 @@ fn is_summed(alloc: Global, inbox: &mut Inbox) -> bool {
     if !take_all(alloc, inbox, &ROWS) {
         return false;
     }
-    summary_of(alloc, inbox).is_some_and(|summary| has_digests(alloc, &summary, FIRST))
+    match summary_of(alloc, inbox) {
+        Some(summary) => has_digests(alloc, &summary, FIRST),
+        None => false,
+    }
 }
 
 #[test]
@@ -143,9 +159,10 @@ fn summaries_of_events_have_the_digests_of_their_blocks(rt: HostRuntime) {
 
 /// Whether the summary of the inbox's events is of version 2 and has the text.
 fn is_told(alloc: Global, inbox: &Inbox, wanted: &str) -> bool {
-    summary_of(alloc, inbox).is_some_and(|summary| {
-        summary.version() == 2 && is_text(summary.to_text(), wanted)
-    })
+    match summary_of(alloc, inbox) {
+        Some(summary) => summary.version() == 2 && is_text(summary.to_text(), wanted),
+        None => false,
+    }
 }
 
 #[test]
@@ -156,15 +173,21 @@ fn the_summary_of_no_events_says_so(rt: HostRuntime) {
 
 /// Notes the event of a row that comes behind those of the inbox, and answers whether it did.
 fn note(alloc: Global, blocks: &mut Blocks, inbox: &Inbox, row: Row<'_>) -> bool {
-    event(alloc, row).is_some_and(|event| blocks.note(&event, inbox.arrived()).is_ok())
+    match event(alloc, row) {
+        Some(event) => blocks.note(&event, inbox.arrived()).is_ok(),
+        None => false,
+    }
 }
 
 /// Takes back the note of the event of a row, and answers whether there is one.
 fn forget(alloc: Global, blocks: &mut Blocks, row: Row<'_>) -> bool {
-    event(alloc, row).is_some_and(|event| {
-        blocks.forget(&event);
-        true
-    })
+    match event(alloc, row) {
+        Some(event) => {
+            blocks.forget(&event);
+            true
+        }
+        None => false,
+    }
 }
 
 /// Whether the digest of the block is the one that is wanted.
@@ -174,18 +197,22 @@ fn is_kept(
     k: u64,
     wanted: &str,
 ) -> bool {
-    digests
-        .get("/orders")
-        .is_some_and(|own| is_hex(alloc, own.get(&k), wanted))
+    match digests.get("/orders") {
+        Some(own) => is_hex(alloc, own.get(&k), wanted),
+        None => false,
+    }
 }
 
 /// Whether the blocks of the rows have their digests, the first of them this one.
 fn are_kept(alloc: Global, blocks: &Blocks, inbox: &Inbox, first: &str) -> bool {
-    blocks.digests(inbox).is_ok_and(|digests| {
-        is_kept(alloc, &digests, 0, first)
-            && is_kept(alloc, &digests, 1, SECOND)
-            && is_kept(alloc, &digests, 9007199254740991, LAST)
-    })
+    match blocks.digests(inbox) {
+        Ok(digests) => {
+            is_kept(alloc, &digests, 0, first)
+                && is_kept(alloc, &digests, 1, SECOND)
+                && is_kept(alloc, &digests, 9007199254740991, LAST)
+        }
+        Err(_) => false,
+    }
 }
 
 /// Whether the blocks have their digests, and have them still once they are mended.

@@ -66,10 +66,16 @@ pub fn wrapped(
 
 /// Whether there is a text, and it is this one.
 pub fn is_text(text: Result<Text, AllocError>, wanted: &str) -> bool {
-    text.is_ok_and(|text| text.as_str() == wanted)
+    match text {
+        Ok(text) => text.as_str() == wanted,
+        Err(_) => false,
+    }
 }
 
 /// Whether something was written, and it is this text.
 pub fn is_written(text: Result<String, AllocError>, wanted: &str) -> bool {
-    text.is_ok_and(|text| text.as_str() == wanted)
+    match text {
+        Ok(text) => text.as_str() == wanted,
+        Err(_) => false,
+    }
 }

@@ -98,9 +98,10 @@ static LINES: [(&str, &str); 7] = [
 
 /// Whether these are the lines of a file of that name and text.
 fn are_lines(alloc: Global, text: &str, want: &str) -> bool {
-    Text::of(alloc, "a\"b").is_ok_and(|name| {
-        is_text(fault_lines(alloc, &name, text.as_bytes()), want)
-    })
+    match Text::of(alloc, "a\"b") {
+        Ok(name) => is_text(fault_lines(alloc, &name, text.as_bytes()), want),
+        Err(_) => false,
+    }
 }
 
 #[test]

@@ -158,7 +158,10 @@ fn answers(alloc: Global, bytes: &[u8], want: &str) -> bool {
 
 // Whether there is a text, and it has that answer.
 fn text_answers(alloc: Global, text: Result<String, AllocError>, want: &str) -> bool {
-    text.is_ok_and(|text| answers(alloc, text.as_str().as_bytes(), want))
+    match text {
+        Ok(text) => answers(alloc, text.as_str().as_bytes(), want),
+        Err(_) => false,
+    }
 }
 
 // Whether an event with these members has that answer.
@@ -236,7 +239,10 @@ fn long_event(alloc: Global, letters: usize) -> Result<String, AllocError> {
 
 // Whether so many spaces have that answer.
 fn spaces_answer(alloc: Global, count: usize, want: &str) -> bool {
-    vec![in alloc; b' '; count].is_ok_and(|bytes| answers(alloc, bytes.as_slice(), want))
+    match vec![in alloc; b' '; count] {
+        Ok(bytes) => answers(alloc, bytes.as_slice(), want),
+        Err(_) => false,
+    }
 }
 
 #[test]
@@ -277,16 +283,18 @@ fn refusals_are_numbered(rt: HostRuntime) {
 
 // Whether a text is of one event, with that canonical text.
 fn is_event_written(alloc: Global, text: &str, want: &str) -> bool {
-    read_events(alloc, text.as_bytes()).is_ok_and(|events| {
-        events.len() == 1 && is_text(write_event(alloc, events.at(0)), want)
-    })
+    match read_events(alloc, text.as_bytes()) {
+        Ok(events) => events.len() == 1 && is_text(write_event(alloc, events.at(0)), want),
+        Err(_) => false,
+    }
 }
 
 // Whether a text is the canonical one of its batch.
 fn is_batch_written(alloc: Global, text: &str) -> bool {
-    read_events(alloc, text.as_bytes()).is_ok_and(|events| {
-        is_text(write_batch(alloc, &events), text)
-    })
+    match read_events(alloc, text.as_bytes()) {
+        Ok(events) => is_text(write_batch(alloc, &events), text),
+        Err(_) => false,
+    }
 }
 
 #[test]
@@ -305,14 +313,18 @@ fn numbered(event: &Event) -> Option<Sequenced> {
 
 // Adds a copy of an event to a batch.
 fn add(batch: &mut Batch, event: &Event) -> bool {
-    numbered(event).is_some_and(|event| batch.push(event).is_ok())
+    match numbered(event) {
+        Some(event) => batch.push(event).is_ok(),
+        None => false,
+    }
 }
 
 // Adds the one event of a text to a batch.
 fn add_read(alloc: Global, batch: &mut Batch, text: &str) -> bool {
-    read_events(alloc, text.as_bytes()).is_ok_and(|events| {
-        events.len() == 1 && add(batch, events.at(0))
-    })
+    match read_events(alloc, text.as_bytes()) {
+        Ok(events) => events.len() == 1 && add(batch, events.at(0)),
+        Err(_) => false,
+    }
 }
 
 // Whether a batch is written as none, and then as two of the one event.
@@ -368,7 +380,10 @@ fn is_thousand_read(alloc: Global) -> bool {
     let Ok(text) = thousand(alloc) else {
         return false;
     };
-    read_events(alloc, text.as_str().as_bytes()).is_ok_and(|events| are_thousand(&events, "1"))
+    match read_events(alloc, text.as_str().as_bytes()) {
+        Ok(events) => are_thousand(&events, "1"),
+        Err(_) => false,
+    }
 }
 
 #[test]

@@ -33,7 +33,10 @@ fn told(alloc: Global, query: Query, files: &[Octets]) -> Option<Text> {
 
 /// Whether the report of files is this text.
 fn tells(alloc: Global, query: Query, files: &[Octets], wanted: &str) -> bool {
-    told(alloc, query, files).is_some_and(|text| text.as_str() == wanted)
+    match told(alloc, query, files) {
+        Some(text) => text.as_str() == wanted,
+        None => false,
+    }
 }
 
 /// How many bytes the report of files has.

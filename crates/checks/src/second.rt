@@ -43,9 +43,10 @@ fn is_read_back(alloc: Global, row: (&str, &str)) -> bool {
     let Some(text) = summary_text(alloc, row, DIGEST) else {
         return false;
     };
-    Summary::of_text(alloc, text.as_str().as_bytes()).is_ok_and(|summary| {
-        is_written_as(&summary, text.as_str())
-    })
+    match Summary::of_text(alloc, text.as_str().as_bytes()) {
+        Ok(summary) => is_written_as(&summary, text.as_str()),
+        Err(_) => false,
+    }
 }
 
 /// Whether the text is refused with the fault.
@@ -58,9 +59,10 @@ fn is_refused(alloc: Global, text: &str, wanted: SummaryFault) -> bool {
 
 /// Whether a row's text with the digits is no summary's.
 fn is_not_canonical(alloc: Global, row: (&str, &str), digits: &str) -> bool {
-    summary_text(alloc, row, digits).is_some_and(|text| {
-        is_refused(alloc, text.as_str(), SummaryFault::NotCanonical)
-    })
+    match summary_text(alloc, row, digits) {
+        Some(text) => is_refused(alloc, text.as_str(), SummaryFault::NotCanonical),
+        None => false,
+    }
 }
 
 /// Whether the summary of a row's text has a digest of the block of `/orders`.

@@ -45,12 +45,18 @@ pub(crate) fn has(set: &Intervals, wanted: &[Interval]) -> bool {
 
 /// Whether there is a set, with just these intervals.
 fn is_set(set: Result<Intervals, AllocError>, wanted: &[Interval]) -> bool {
-    set.is_ok_and(|set| has(&set, wanted))
+    match set {
+        Ok(set) => has(&set, wanted),
+        Err(_) => false,
+    }
 }
 
 /// Whether the union with the numbers of intervals has just these intervals.
 fn unites(alloc: Global, held: &Intervals, pairs: &[Interval], wanted: &[Interval]) -> bool {
-    set(alloc, pairs).is_some_and(|other| is_set(held.union(&other), wanted))
+    match set(alloc, pairs) {
+        Some(other) => is_set(held.union(&other), wanted),
+        None => false,
+    }
 }
 
 /// Whether a set is that of the numbers of intervals.
@@ -67,9 +73,13 @@ static UNIONS: [(&[Interval], &[Interval], &[Interval]); 3] = [
 
 /// Whether a row's sets have their union, which is the first alone where the second is empty.
 fn is_union_of(alloc: Global, row: &(&[Interval], &[Interval], &[Interval])) -> bool {
-    set(alloc, row.0).is_some_and(|held| {
-        unites(alloc, &held, row.1, row.2) && is_same(alloc, &held, row.2) == Some(row.1.is_empty())
-    })
+    match set(alloc, row.0) {
+        Some(held) => {
+            unites(alloc, &held, row.1, row.2)
+                && is_same(alloc, &held, row.2) == Some(row.1.is_empty())
+        }
+        None => false,
+    }
 }
 
 #[test]
@@ -93,8 +103,10 @@ fn is_own(alloc: Global, late: &mut Intervals, held: &mut Intervals) -> bool {
     if !(fill(late, &[(3, 4)]) && fill(held, &[(1, 2), (5, 5)])) {
         return false;
     }
-    late.union(held)
-        .is_ok_and(|all| is_whole(alloc, &all, held))
+    match late.union(held) {
+        Ok(all) => is_whole(alloc, &all, held),
+        Err(_) => false,
+    }
 }
 
 #[test]
@@ -111,7 +123,10 @@ fn a_union_is_a_set_of_its_own(rt: HostRuntime) {
 
 /// Whether the difference to the numbers of intervals has just these intervals.
 fn leaves(alloc: Global, held: &Intervals, pairs: &[Interval], wanted: &[Interval]) -> bool {
-    set(alloc, pairs).is_some_and(|other| is_set(held.minus(&other), wanted))
+    match set(alloc, pairs) {
+        Some(other) => is_set(held.minus(&other), wanted),
+        None => false,
+    }
 }
 
 /// Whether a set of five numbers leaves three of them.
@@ -249,7 +264,10 @@ fn has_plainly(pairs: &[Interval], n: u64) -> bool {
 
 /// Inserts a number into a set and into pairs, and answers whether both say the same of it.
 fn insert_both(set: &mut Intervals, pairs: &mut Vec<Interval>, n: u64) -> bool {
-    insert_plainly(pairs, n).is_ok_and(|is_new| insert(set, n) == Some(is_new))
+    match insert_plainly(pairs, n) {
+        Ok(is_new) => insert(set, n) == Some(is_new),
+        Err(_) => false,
+    }
 }
 
 /// A set and the pairs of the plain program.
@@ -341,14 +359,18 @@ fn add_all(summary: &mut Summary, source: &Text, numbers: &[u64]) -> bool {
 
 /// Adds a number of a source, and answers whether it did.
 fn add(summary: &mut Summary, source: &Text, number: u64) -> bool {
-    Sequence::of_u64(number).is_some_and(|number| {
-        source.is_source() && summary.insert(source, number).is_ok()
-    })
+    match Sequence::of_u64(number) {
+        Some(number) => source.is_source() && summary.insert(source, number).is_ok(),
+        None => false,
+    }
 }
 
 /// Adds numbers of a source, and answers whether it did.
 fn add_of(alloc: Global, summary: &mut Summary, name: &str, numbers: &[u64]) -> bool {
-    Text::of(alloc, name).is_ok_and(|source| add_all(summary, &source, numbers))
+    match Text::of(alloc, name) {
+        Ok(source) => add_all(summary, &source, numbers),
+        Err(_) => false,
+    }
 }
 
 /// Whether a summary contains a number of a source.
@@ -358,16 +380,18 @@ fn contains_of(summary: &Summary, name: &str, number: u64) -> Option<bool> {
 
 /// Whether a summary is the union's text and covers both.
 fn is_union(seen: &Summary, later: &Summary, wanted: &str) -> bool {
-    seen.union(later).is_ok_and(|all| {
-        is_text(all.to_text(), wanted) && all.covers(seen) && !seen.covers(&all)
-    })
+    match seen.union(later) {
+        Ok(all) => { is_text(all.to_text(), wanted) && all.covers(seen) && !seen.covers(&all) }
+        Err(_) => false,
+    }
 }
 
 /// Whether the copy of a summary is the same, and not the other one.
 fn is_copied(later: &Summary, seen: &Summary) -> bool {
-    later
-        .copy()
-        .is_ok_and(|copy| copy.same(later) && !copy.same(seen))
+    match later.copy() {
+        Ok(copy) => copy.same(later) && !copy.same(seen),
+        Err(_) => false,
+    }
 }
 
 const TWO: &str = r#"{"sources":{"/orders":[[1,2],[5,5]]},"version":1}"#;
@@ -426,7 +450,10 @@ pub(crate) fn fault_of(alloc: Global, text: &str) -> Option<SummaryFault> {
 
 /// Whether a text is that of the summary that is read from it.
 fn is_read_back(alloc: Global, text: &str) -> bool {
-    Summary::of_text(alloc, text.as_bytes()).is_ok_and(|summary| is_text(summary.to_text(), text))
+    match Summary::of_text(alloc, text.as_bytes()) {
+        Ok(summary) => is_text(summary.to_text(), text),
+        Err(_) => false,
+    }
 }
 
 static READ: [&str; 3] = [
@@ -518,7 +545,10 @@ fn name_at(alloc: Global, place: u64) -> Result<Text, AllocError> {
 
 /// Adds the number of a place to the source at it, and answers whether it did.
 fn add_at(alloc: Global, seen: &mut Summary, place: u64) -> bool {
-    name_at(alloc, place).is_ok_and(|source| add(seen, &source, place.saturating_add(1)))
+    match name_at(alloc, place) {
+        Ok(source) => add(seen, &source, place.saturating_add(1)),
+        Err(_) => false,
+    }
 }
 
 /// Adds 500 sources, each with the number of its place. The step is coprime to 500: 1 makes them
@@ -535,9 +565,10 @@ fn add_stepped(alloc: Global, seen: &mut Summary, step: u64) -> bool {
 /// Whether a source with its numbers is the one at a place, with just the number of it.
 fn is_at(alloc: Global, place: u64, source: &str, numbers: &Intervals) -> bool {
     let number = place.saturating_add(1);
-    name_at(alloc, place).is_ok_and(|name| {
-        source == name.as_str() && numbers.next_span(1) == Some((number, number))
-    })
+    match name_at(alloc, place) {
+        Ok(name) => source == name.as_str() && numbers.next_span(1) == Some((number, number)),
+        Err(_) => false,
+    }
 }
 
 /// Whether each source stands at its place, with just the number of it.
@@ -557,19 +588,26 @@ fn is_in_place(alloc: Global, seen: &Summary) -> bool {
 
 /// Whether the text of a summary is read as the same.
 fn is_same_by_text(alloc: Global, seen: &Summary) -> bool {
-    seen.to_text().is_ok_and(|text| {
-        is_summary(Summary::of_text(alloc, text.as_str().as_bytes()), seen)
-    })
+    match seen.to_text() {
+        Ok(text) => is_summary(Summary::of_text(alloc, text.as_str().as_bytes()), seen),
+        Err(_) => false,
+    }
 }
 
 /// Whether there is a summary, the same as another.
 fn is_summary(read: Result<Summary, SummaryFault>, wanted: &Summary) -> bool {
-    read.is_ok_and(|summary| summary.same(wanted))
+    match read {
+        Ok(summary) => summary.same(wanted),
+        Err(_) => false,
+    }
 }
 
 /// Whether the union with another summary adds nothing.
 fn is_union_with(seen: &Summary, other: &Summary) -> bool {
-    seen.union(other).is_ok_and(|all| all.same(seen))
+    match seen.union(other) {
+        Ok(all) => all.same(seen),
+        Err(_) => false,
+    }
 }
 
 /// Whether the sources, in the order of a step, give the same summary as another order.

@@ -156,7 +156,10 @@ fn gives<R: AllocGlobal + Abort>(
     order: u64,
     text: &str,
 ) -> bool {
-    command(service, word, order, &time(rt)).is_ok_and(|event| event.event().text() == text)
+    match command(service, word, order, &time(rt)) {
+        Ok(event) => event.event().text() == text,
+        Err(_) => false,
+    }
 }
 
 /// Whether the command is refused for this fault.
@@ -190,9 +193,10 @@ fn refused<R: AllocGlobal + Abort>(
 
 /// Whether these are the rows after a number.
 pub(crate) fn has_after(service: &mut Service<MemStore>, after: u64, texts: &[&str]) -> bool {
-    service
-        .rows_after(after, 100)
-        .is_ok_and(|rows| has(&rows, texts))
+    match service.rows_after(after, 100) {
+        Ok(rows) => has(&rows, texts),
+        Err(_) => false,
+    }
 }
 
 /// How many of these numbers, from the first on, have these rows after them.
@@ -370,9 +374,10 @@ pub(crate) fn has_rows<R: AllocGlobal + Abort, S: Alter + Drop>(
     count: u64,
 ) -> Tried<S> {
     let mut service = adopted(rt, conn);
-    let is_done = service
-        .rows_after(0, 100)
-        .is_ok_and(|rows| rows.len() == count);
+    let is_done = match service.rows_after(0, 100) {
+        Ok(rows) => rows.len() == count,
+        Err(_) => false,
+    };
     let conn = service.into_connection();
     Tried { conn, is_done }
 }
@@ -390,7 +395,10 @@ static FAULTS: [OutboxFault; 7] = [
 
 /// Whether the two names are so written.
 fn are_named(alloc: Global, one: OutboxFault, other: RelayFault, wanted: &str) -> bool {
-    format!(in alloc; "{one} {other}").is_ok_and(|names| names.as_str() == wanted)
+    match format!(in alloc; "{one} {other}") {
+        Ok(names) => names.as_str() == wanted,
+        Err(_) => false,
+    }
 }
 
 #[test]

@@ -565,8 +565,13 @@ fn stops_of<R: AllocGlobal + Wait + Abort>(
 fn outlasts_stops<R: AllocGlobal + Wait + Abort>(rt: &R, call: Call) -> bool {
     let image = image_of(rt, call);
     for is_log in [false, true] {
-        if !stops_of(rt, &image, is_log, call).is_some_and(|stops| stops > 0) {
-            return false;
+        match stops_of(rt, &image, is_log, call) {
+            Some(stops) => {
+                if stops == 0 {
+                    return false;
+                }
+            }
+            None => return false,
         }
     }
     true

@@ -58,7 +58,10 @@ fn keep<R: AllocGlobal + Abort, S: Alter>(
 
 /// Whether the table has the events of these texts, in this order.
 pub(crate) fn holds<S: Alter>(table: &mut Table<S>, texts: &[&str]) -> bool {
-    table.load().is_ok_and(|events| has(&events, texts))
+    match table.load() {
+        Ok(events) => has(&events, texts),
+        Err(_) => false,
+    }
 }
 
 /// Whether so many of the events of the texts are new to the table, which keeps them.

@@ -53,7 +53,10 @@ fn add_shown(
         Ok(rows) => format!(in alloc; "{rows:?}\n"),
         Err(_) => return text.push_str("refused\n").is_ok(),
     };
-    line.is_ok_and(|line| text.push_str(line.as_str()).is_ok())
+    match line {
+        Ok(line) => text.push_str(line.as_str()).is_ok(),
+        Err(_) => false,
+    }
 }
 
 /// What these queries answer, line by line.
@@ -222,9 +225,10 @@ fn one_of_each_version_is_foreign_with_its_rows(rt: HostRuntime) {
 
 /// Whether the block of this source has the events of these texts, in this order.
 fn has_block<S: Alter>(table: &mut Table<S>, source: &str, k: u64, texts: &[&str]) -> bool {
-    table
-        .block(source, k)
-        .is_ok_and(|events| has(&events, texts))
+    match table.block(source, k) {
+        Ok(events) => has(&events, texts),
+        Err(_) => false,
+    }
 }
 
 // Sources, numbers of blocks, and the two events that stand in them.
