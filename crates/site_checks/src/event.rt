@@ -6,26 +6,36 @@ use inbox::Counts;
 use site::Site;
 use std::alloc::{AllocError, Global};
 
-/// The id, the sequence number, the type and the subject of an event of the source `/orders`. An
-/// empty subject is none.
-pub type Row<'a> = (&'a str, u64, &'a str, &'a str);
+/// The id, the sequence number, the type, the subject and the time of an event of the source
+/// `/orders`. An empty subject or time is none.
+pub type Row<'a> = (&'a str, u64, &'a str, &'a str, &'a str);
 
-pub const A1: Row<'static> = ("a1", 1, "t.a", "x");
+pub const A1: Row<'static> = ("a1", 1, "t.a", "x", "");
 
-pub const A2: Row<'static> = ("a2", 2, "t.b", "x");
+pub const A2: Row<'static> = ("a2", 2, "t.b", "x", "");
 
-pub const A3: Row<'static> = ("a3", 3, "t.a", "y");
+pub const A3: Row<'static> = ("a3", 3, "t.a", "y", "");
 
-pub const A4: Row<'static> = ("a4", 4, "t.a", "y");
+pub const A4: Row<'static> = ("a4", 4, "t.a", "y", "");
 
 /// The first number of the second block.
-pub const B1: Row<'static> = ("b1", 1024, "t.a", "x");
+pub const B1: Row<'static> = ("b1", 1024, "t.a", "x", "");
 
-pub const OTHER_A1: Row<'static> = ("a1", 1, "t.b", "y");
+pub const OTHER_A1: Row<'static> = ("a1", 1, "t.b", "y", "");
 
-pub const P: Row<'static> = ("p", 1, "t.a", "x");
+pub const P: Row<'static> = ("p", 1, "t.a", "x", "");
 
-pub const Q: Row<'static> = ("q", 1, "t.a", "x");
+pub const Q: Row<'static> = ("q", 1, "t.a", "x", "");
+
+pub const F1: Row<'static> = ("b1", 1, "t.a", "x", "");
+
+pub const F2: Row<'static> = ("b2", 2, "t.b", "x", "");
+
+/// In the place of `F2`: its text is less.
+pub const G: Row<'static> = ("b2", 2, "t.c", "w", "");
+
+/// In the place of `F1`: its text is less.
+pub const H: Row<'static> = ("b1", 1, "t.c", "w", "");
 
 /// Sets an attribute.
 fn set(alloc: Global, parts: &mut Parts, name: &str, text: &str) -> Result<(), AllocError> {
@@ -48,21 +58,19 @@ fn set_some(alloc: Global, parts: &mut Parts, name: &str, text: &str) -> Result<
 
 /// Sets the attributes of a row.
 fn set_row(alloc: Global, parts: &mut Parts, row: Row<'_>) -> Result<(), AllocError> {
-    let (id, number, kind, subject) = row;
+    let (id, number, kind, subject, time) = row;
     set_number(alloc, parts, number)?;
     set(alloc, parts, "specversion", "1.0")?;
     set(alloc, parts, "source", "/orders")?;
     set_some(alloc, parts, "id", id)?;
     set_some(alloc, parts, "type", kind)?;
-    set_some(alloc, parts, "subject", subject)
+    set_some(alloc, parts, "subject", subject)?;
+    set_some(alloc, parts, "time", time)
 }
 
 /// The event of parts that have no fault.
 fn built(parts: Parts) -> Option<Sequenced> {
-    match Event::build(parts) {
-        Ok(event) => Sequenced::of(event).ok(),
-        Err(_) => None,
-    }
+    Sequenced::of(Event::build(parts).ok()?).ok()
 }
 
 /// The event of a row.
@@ -141,25 +149,6 @@ pub fn take(alloc: Global, site: &mut Site, rows: &[Row<'_>]) -> Option<Counts> 
         take_all(site, &mut batch)
     } else {
         None
-    }
-}
-
-/// The event of a row that has a time.
-fn timed_event(alloc: Global, row: Row<'_>, time: &str) -> Option<Sequenced> {
-    let mut parts = Parts::empty(alloc);
-    if set_row(alloc, &mut parts, row).is_ok() && set(alloc, &mut parts, "time", time).is_ok() {
-        built(parts)
-    } else {
-        None
-    }
-}
-
-/// A site takes the event of a row that has a time, and answers whether it did.
-pub fn take_timed(alloc: Global, site: &mut Site, row: Row<'_>, time: &str) -> bool {
-    let mut batch = Batch::empty(alloc);
-    match timed_event(alloc, row, time) {
-        Some(event) => batch.push(event).is_ok() && site.take_batch(&mut batch).is_ok(),
-        None => false,
     }
 }
 

@@ -1,7 +1,7 @@
 //! Sites that keep views: from the moment that they are asked to they answer as sites that keep
 //! none, whatever seed their tables have.
 
-use crate::event::{A1, A2, A3, P, Q, Row, take, take_timed};
+use crate::event::{A1, A2, A3, F1, F2, G, H, P, Q, Row, take};
 use crate::exchanges::scrub_one_number;
 use crate::sites::answers;
 use site::Site;
@@ -17,23 +17,13 @@ pub(crate) fn keep(rt: &HostRuntime, site: &mut Site) -> bool {
     }
 }
 
-const F1: Row<'static> = ("b1", 1, "t.a", "x");
-
-const F2: Row<'static> = ("b2", 2, "t.b", "x");
-
-/// In the place of `F2`: its text is less.
-const G: Row<'static> = ("b2", 2, "t.c", "w");
-
-/// In the place of `F1`: its text is less.
-const H: Row<'static> = ("b1", 1, "t.c", "w");
-
-const LINE_F2: &str =
+pub(crate) const LINE_F2: &str =
     "{\"id\":\"b2\",\"sequence\":\"00000000000000000002\",\"source\":\"/orders\",\"specversion\":\"1.0\",\"subject\":\"x\",\"type\":\"t.b\"}\n";
 
-const LINE_G: &str =
+pub(crate) const LINE_G: &str =
     "{\"id\":\"b2\",\"sequence\":\"00000000000000000002\",\"source\":\"/orders\",\"specversion\":\"1.0\",\"subject\":\"w\",\"type\":\"t.c\"}\n";
 
-const LINES_G_F1: &str = concat!(
+pub(crate) const LINES_G_F1: &str = concat!(
     "{\"id\":\"b2\",\"sequence\":\"00000000000000000002\",\"source\":\"/orders\",\"specversion\":\"1.0\",\"subject\":\"w\",\"type\":\"t.c\"}\n",
     "{\"id\":\"b1\",\"sequence\":\"00000000000000000001\",\"source\":\"/orders\",\"specversion\":\"1.0\",\"subject\":\"x\",\"type\":\"t.a\"}\n",
 );
@@ -121,24 +111,16 @@ fn tells_of_one_number(alloc: Global, site: &mut Site) -> bool {
 
 /// Whether two events of one UTC day count for one day, and one of the day behind for another.
 fn tells_days(alloc: Global, site: &mut Site) -> bool {
-    take_timed(
-        alloc,
-        site,
-        ("d1", 5, "t.a", ""),
-        "2024-02-29T23:59:60+00:00",
-    ) && take_timed(
-        alloc,
-        site,
-        ("d2", 6, "t.a", ""),
-        "2024-03-01T00:30:00+01:00",
-    ) && answers(alloc, site, Query::Days, "[\"t.a\",\"2024-02-29\",2]\n")
-        && take_timed(alloc, site, ("d3", 7, "t.a", ""), "2024-03-01T00:00:00Z")
-        && answers(
-            alloc,
-            site,
-            Query::Days,
-            "[\"t.a\",\"2024-02-29\",2]\n[\"t.a\",\"2024-03-01\",1]\n",
-        )
+    let one_day = [
+        ("d1", 5, "t.a", "", "2024-02-29T23:59:60+00:00"),
+        ("d2", 6, "t.a", "", "2024-03-01T00:30:00+01:00"),
+    ];
+    let behind = [("d3", 7, "t.a", "", "2024-03-01T00:00:00Z")];
+    let days = "[\"t.a\",\"2024-02-29\",2]\n[\"t.a\",\"2024-03-01\",1]\n";
+    take(alloc, site, &one_day).is_some()
+        && answers(alloc, site, Query::Days, "[\"t.a\",\"2024-02-29\",2]\n")
+        && take(alloc, site, &behind).is_some()
+        && answers(alloc, site, Query::Days, days)
 }
 
 #[test]
@@ -166,9 +148,9 @@ fn covers(alloc: Global, site: &Site, cover: &str, gaps: &str) -> bool {
 fn closes_gaps(alloc: Global, site: &mut Site) -> bool {
     let before = "{\"sources\":{\"/orders\":[[1,2],[5,5]]},\"version\":1}\n";
     let after = "{\"sources\":{\"/orders\":[[1,5]]},\"version\":1}\n";
-    take(alloc, site, &[A1, A2, ("a5", 5, "t.a", "")]).is_some()
+    take(alloc, site, &[A1, A2, ("a5", 5, "t.a", "", "")]).is_some()
         && covers(alloc, site, before, "[\"/orders\",[[3,4]]]\n")
-        && take(alloc, site, &[("a4", 4, "t.a", ""), A3]).is_some()
+        && take(alloc, site, &[("a4", 4, "t.a", "", ""), A3]).is_some()
         && covers(alloc, site, after, "")
 }
 

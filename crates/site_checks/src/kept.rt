@@ -5,7 +5,8 @@ ghost use Rattle.inbox.specs.KeyOrder.{key_cmp};
 ghost use Rattle.inbox.specs.Ordered.{append_new};
 ghost use Rattle.kept_views.specs.Tables.{StandsFor};
 
-use crate::event::{Row, event};
+use crate::event::{F1, F2, G, H, Row, event};
+use crate::keeping::{LINE_F2, LINE_G, LINES_G_F1};
 use attributes::Sequenced;
 use inbox::Inbox;
 use kept_views::Views;
@@ -72,10 +73,7 @@ fn views_of(alloc: Global, state: RandomState, inbox: &Inbox) -> Option<Views>
 {
     match Views::of(alloc, state, inbox) {
         Ok(views) => Some(views),
-        Err(_) => match Views::of(alloc, state, inbox) {
-            Ok(views) => Some(views),
-            Err(_) => None,
-        },
+        Err(_) => Views::of(alloc, state, inbox).ok(),
     }
 }
 
@@ -192,25 +190,8 @@ fn known(alloc: Global) -> Kept {
     }
 }
 
-const F1: Row<'static> = ("b1", 1, "t.a", "x", "");
-
-const F2: Row<'static> = ("b2", 2, "t.b", "x", "");
-
-const G: Row<'static> = ("b2", 2, "t.c", "w", "");
-
-const H: Row<'static> = ("b1", 1, "t.c", "w", "");
-
 const LINE_F1: &str =
     "{\"id\":\"b1\",\"sequence\":\"00000000000000000001\",\"source\":\"/orders\",\"specversion\":\"1.0\",\"subject\":\"x\",\"type\":\"t.a\"}\n";
-
-const LINE_F2: &str =
-    "{\"id\":\"b2\",\"sequence\":\"00000000000000000002\",\"source\":\"/orders\",\"specversion\":\"1.0\",\"subject\":\"x\",\"type\":\"t.b\"}\n";
-
-const LINE_G: &str =
-    "{\"id\":\"b2\",\"sequence\":\"00000000000000000002\",\"source\":\"/orders\",\"specversion\":\"1.0\",\"subject\":\"w\",\"type\":\"t.c\"}\n";
-
-const LINES_G_F1: &str =
-    "{\"id\":\"b2\",\"sequence\":\"00000000000000000002\",\"source\":\"/orders\",\"specversion\":\"1.0\",\"subject\":\"w\",\"type\":\"t.c\"}\n{\"id\":\"b1\",\"sequence\":\"00000000000000000001\",\"source\":\"/orders\",\"specversion\":\"1.0\",\"subject\":\"x\",\"type\":\"t.a\"}\n";
 
 /// Conflicts hide the latest of a subject, and its type, twice.
 fn hide(rt: &impl Abort, alloc: Global, kept: &mut Kept) {

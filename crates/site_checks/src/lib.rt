@@ -1,6 +1,6 @@
-//! What no contract says of sites and their exchange: that calls succeed with ample memory, and
-//! that the definitions mean what they are meant to. Only public calls are used, so that no library
-//! is proved a second time for its tests.
+//! What no contract says of sites, their exchange and the views that they keep: that calls succeed
+//! with ample memory, and again after a refusal, and that the definitions mean what they are meant
+//! to. Only public calls are used, so that no library is proved a second time for its tests.
 //!
 //! Each exit of a function proves the drops of all that it owns, and a site is dear to drop. So a
 //! test owns sites and asserts, and what it calls borrows them and answers whether all went well.
@@ -12,6 +12,8 @@ mod event;
 mod exchanges;
 #[cfg(test)]
 mod keeping;
+#[cfg(test)]
+mod kept;
 #[cfg(test)]
 mod refused;
 #[cfg(test)]

@@ -124,10 +124,7 @@ fn a_site_is_merged_or_its_front(rt: HostRuntime) {
 
 /// Whether there is a batch of these rows; none where memory is refused.
 fn is_batch(batch: Result<Batch, AllocError>, rows: &[Row<'_>]) -> Option<bool> {
-    match batch {
-        Ok(batch) => Some(has(&batch, rows)),
-        Err(_) => None,
-    }
+    Some(has(&batch.ok()?, rows))
 }
 
 /// What a site is asked for.

@@ -292,10 +292,7 @@ pub fn take_scattered(alloc: Global, site: &mut Site) -> bool {
 
 /// How many events there are, where there is a batch.
 fn length(batch: Result<Batch, AllocError>) -> Option<u64> {
-    match batch {
-        Ok(batch) => Some(batch.len()),
-        Err(_) => None,
-    }
+    Some(batch.ok()?.len())
 }
 
 /// Whether there is a batch, and its first event has this number.
@@ -342,7 +339,7 @@ fn count_pages(site: &mut Site, peer: &Summary) -> Option<u64> {
 }
 
 /// The first row in key order of the thousand and it.
-const BEFORE_ALL: Row<'static> = ("0", 5000, "t.a", "");
+const BEFORE_ALL: Row<'static> = ("0", 5000, "t.a", "", "");
 
 /// Asks for pages one after another, and again after an event came before them.
 fn go_on(rt: &impl Abort, alloc: Global, site: &mut Site, peer: &mut Summary) {

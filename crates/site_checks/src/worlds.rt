@@ -15,14 +15,14 @@ const WORLDS: u64 = 1_000;
 /// The events that come. The first two have one source and id, the first three one number. The last
 /// two stand in a block of their own.
 static ROWS: [Row<'static>; 8] = [
-    ("a1", 1, "t.a", "x"),
-    ("a1", 1, "t.b", "y"),
-    ("p", 1, "t.a", "x"),
-    ("a2", 2, "t.b", "x"),
-    ("a3", 3, "t.a", "y"),
-    ("a4", 4, "t.a", "y"),
-    ("b1", 1024, "t.c", "z"),
-    ("b2", 1029, "t.a", "z"),
+    ("a1", 1, "t.a", "x", ""),
+    ("a1", 1, "t.b", "y", ""),
+    ("p", 1, "t.a", "x", ""),
+    ("a2", 2, "t.b", "x", ""),
+    ("a3", 3, "t.a", "y", ""),
+    ("a4", 4, "t.a", "y", ""),
+    ("b1", 1024, "t.c", "z", ""),
+    ("b2", 1029, "t.a", "z", ""),
 ];
 
 /// The bits of the events of each block.
@@ -109,10 +109,8 @@ fn fill(dice: &mut Dice, events: &[Sequenced], batch: &mut Batch) -> Option<u8> 
 /// A batch of up to six events, and their set.
 fn delivered(alloc: Global, dice: &mut Dice, events: &[Sequenced]) -> Option<(Batch, u8)> {
     let mut batch = Batch::empty(alloc);
-    match fill(dice, events, &mut batch) {
-        Some(set) => Some((batch, set)),
-        None => None,
-    }
+    let set = fill(dice, events, &mut batch)?;
+    Some((batch, set))
 }
 
 /// The bit of a row.
