@@ -53,18 +53,12 @@ fn digits(batch: &Batch) -> u64 {
 
 /// The numbers of a page of what a peer lacks.
 fn delta_digits(site: &mut Site, peer: &Summary, from: u64) -> Option<u64> {
-    match Desk::delta_page(site, peer, from, 100) {
-        Ok(batch) => Some(digits(&batch)),
-        Err(_) => None,
-    }
+    Some(digits(&Desk::delta_page(site, peer, from, 100).ok()?))
 }
 
 /// The numbers of a page of two events.
 fn page_digits(site: &mut Site, from: u64) -> Option<u64> {
-    match Desk::page(site, from, 2) {
-        Ok(batch) => Some(digits(&batch)),
-        Err(_) => None,
-    }
+    Some(digits(&Desk::page(site, from, 2).ok()?))
 }
 
 /// Whether a desk answers the question how many events have each type so.

@@ -26,10 +26,7 @@ fn set_all(alloc: Global, parts: &mut Parts, id: &str, number: u64) -> Result<()
 
 /// The event of parts that have no fault.
 fn built(parts: Parts) -> Option<Sequenced> {
-    match Event::build(parts) {
-        Ok(event) => Sequenced::of(event).ok(),
-        Err(_) => None,
-    }
+    Sequenced::of(Event::build(parts).ok()?).ok()
 }
 
 /// An event of the source `/orders`, of type t.a and subject x.

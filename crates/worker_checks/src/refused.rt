@@ -55,10 +55,7 @@ fn takes<R: Wait>(rt: &R, shared: &SharedSite, pass: &mut Pass, batch: &mut Batc
 
 /// Whether an answer has these lines; none where memory is refused.
 fn is_printed(alloc: Global, answer: &Answer, wanted: &str) -> Option<bool> {
-    match print(alloc, answer) {
-        Ok(text) => Some(text.as_str() == wanted),
-        Err(_) => None,
-    }
+    Some(print(alloc, answer).ok()?.as_str() == wanted)
 }
 
 /// Whether a question has these lines; none where memory is refused.
@@ -73,10 +70,7 @@ fn has_lines<R: Wait>(
     requires { pass.old.table ≡ shared.now }
     ensures { pass.new.table ≡ pass.old.table }
 {
-    match shared.query(rt, pass, query) {
-        Ok(answer) => is_printed(alloc, &answer, wanted),
-        Err(_) => None,
-    }
+    is_printed(alloc, &shared.query(rt, pass, query).ok()?, wanted)
 }
 
 /// How many calls it took until a question had these lines, if it had.
@@ -131,10 +125,8 @@ fn learns<R: Wait>(
 
 /// Whether a site has the one event; none where memory is refused.
 fn covers_one(site: &Site) -> Option<bool> {
-    match site.lines(Query::Cover) {
-        Ok(text) => Some(site.arrived() == 1 && text.as_str() == COVER),
-        Err(_) => None,
-    }
+    let text = site.lines(Query::Cover).ok()?;
+    Some(site.arrived() == 1 && text.as_str() == COVER)
 }
 
 /// The same, at the second time where memory is refused.
@@ -194,10 +186,7 @@ fn takes_all<D: Desk>(desk: &mut D, batch: &mut Batch, fresh: u64, repeated: u64
 
 /// Whether a desk pages the events with these ids, in key order; none where memory is refused.
 fn is_paged<D: Desk>(desk: &mut D, ids: &[&str]) -> Option<bool> {
-    match desk.page(0, 100) {
-        Ok(batch) => Some(has(&batch, ids)),
-        Err(_) => None,
-    }
+    Some(has(&desk.page(0, 100).ok()?, ids))
 }
 
 /// Whether a desk that took so many events of the batch, of which so many were new, has those and

@@ -175,10 +175,8 @@ fn add_feed(alloc: Global, feeds: &mut List<Octets>, first: u64, count: u64) -> 
 
 /// The bytes of a batch of so many events.
 fn feed_of(alloc: Global, first: u64, count: u64) -> Option<Octets> {
-    match json_batch(alloc, first, count) {
-        Ok(text) => Octets::of(alloc, text.as_str().as_bytes()).ok(),
-        Err(_) => None,
-    }
+    let text = json_batch(alloc, first, count).ok()?;
+    Octets::of(alloc, text.as_str().as_bytes()).ok()
 }
 
 /// Adds a peer with so many events, and answers whether it did.

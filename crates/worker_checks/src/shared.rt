@@ -76,14 +76,10 @@ pub fn take<R: Wait>(
     ensures { pass.new.table ≡ pass.old.table }
 {
     let mut batch = Batch::empty(alloc);
-    if add_all(alloc, &mut batch, rows) {
-        match shared.take(rt, pass, &mut batch) {
-            Ok(counts) => Some(counts.fresh),
-            Err(_) => None,
-        }
-    } else {
-        None
+    if !add_all(alloc, &mut batch, rows) {
+        return None;
     }
+    Some(shared.take(rt, pass, &mut batch).ok()?.fresh)
 }
 
 /// Takes an event by the first pass, and shows it by the second once they met.
@@ -133,14 +129,11 @@ fn add_two(alloc: Global, peer: &mut Summary) -> bool {
 /// Takes events by a desk, and tells how many were new and how many were there.
 fn take_at<D: Desk>(alloc: Global, desk: &mut D, rows: &[(&str, u64)]) -> Option<(u64, u64)> {
     let mut batch = Batch::empty(alloc);
-    if add_all(alloc, &mut batch, rows) {
-        match desk.take(&mut batch) {
-            Ok(counts) => Some((counts.fresh, counts.repeated)),
-            Err(_) => None,
-        }
-    } else {
-        None
+    if !add_all(alloc, &mut batch, rows) {
+        return None;
     }
+    let counts = desk.take(&mut batch).ok()?;
+    Some((counts.fresh, counts.repeated))
 }
 
 /// Whether a desk that has a1 to a3 pages them, and tells a peer with the number 2 what it lacks.

@@ -54,10 +54,8 @@ fn fed<G: Gate>(
     first: u64,
     count: u64,
 ) -> Option<Report> {
-    match json_batch(alloc, first, count) {
-        Ok(text) => Some(fed_bytes(alloc, site, gate, worker, text.as_str().as_bytes())),
-        Err(_) => None,
-    }
+    let text = json_batch(alloc, first, count).ok()?;
+    Some(fed_bytes(alloc, site, gate, worker, text.as_str().as_bytes()))
 }
 
 /// A site takes so many events, with the numbers from `first` on; answers whether it did.
