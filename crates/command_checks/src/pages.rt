@@ -5,8 +5,7 @@ use crate::fixture::{add, batch, database, octets};
 use attributes::{Batch, Text};
 use coverage::Summary;
 use database_commands::{
-    CommandEnd, CommandFault, Contents, EventPages, Paged, delta_pages, held, scrub_pages, summary,
-    take,
+    CommandEnd, CommandFault, EventPages, delta_pages, held, scrub_pages, summary, take,
 };
 use event_json::write_sequenced;
 use file_reports::events_of;
@@ -124,13 +123,19 @@ fn come<R: AllocGlobal + Abort>(
 
 /// Whether so comes what the summary lacks of the 250 events.
 fn lacks<R: AllocGlobal + Abort>(rt: &R, peer: Summary, numbers: &[u64]) -> bool {
-    let Paged { conn: _, pages } = delta_pages(rt.alloc(), stocked(rt), peer);
+    let CommandEnd {
+        conn: _,
+        outcome: pages,
+    } = delta_pages(rt.alloc(), stocked(rt), peer);
     come(rt, pages, numbers)
 }
 
 #[test]
 fn all_events_come_page_after_page(rt: HostRuntime) {
-    let Paged { conn: _, pages } = scrub_pages(rt.alloc(), stocked(&rt));
+    let CommandEnd {
+        conn: _,
+        outcome: pages,
+    } = scrub_pages(rt.alloc(), stocked(&rt));
     assert!(rt; come(&rt, pages, &[900, 1000, 1100, 1150]));
 }
 
@@ -191,10 +196,8 @@ fn a_summary_is_that_of_a_site_with_the_events(rt: HostRuntime) {
 
 /// How many names the schema of a database has.
 fn names(conn: &mut Connection<MemStore>) -> Option<usize> {
-    match conn.query_all("SELECT name FROM sqlite_schema", &[]) {
-        Ok(rows) => Some(rows.len()),
-        Err(_) => None,
-    }
+    let rows = conn.query_all("SELECT name FROM sqlite_schema", &[]).ok()?;
+    Some(rows.len())
 }
 
 // Statements that ran on a database without an inbox, and how many names its schema has then.
@@ -211,7 +214,10 @@ fn is_none(events: &Result<Batch, CommandFault>) -> bool {
 /// Whether a database without an inbox holds no events and has a summary that says so, and it has
 /// so many names behind that.
 fn holds_nothing<R: AllocGlobal + Abort>(rt: &R, statements: &str, count: usize) -> bool {
-    let Contents { conn, events } = held(rt.alloc(), database(rt, statements));
+    let CommandEnd {
+        conn,
+        outcome: events,
+    } = held(rt.alloc(), database(rt, statements));
     let CommandEnd { mut conn, outcome } = summary(rt.alloc(), conn);
     is_none(&events) && prints(&outcome, NOTHING.trim_end()) && names(&mut conn) == Some(count)
 }
@@ -236,9 +242,15 @@ fn where_there_is_no_inbox_none_is_made(rt: HostRuntime) {
 /// Whether all pages of a database without an inbox, and what a summary lacks, are none, and it has
 /// so many names behind them.
 fn has_no_pages<R: AllocGlobal + Abort>(rt: &R, statements: &str, count: usize) -> bool {
-    let Paged { conn, pages } = scrub_pages(rt.alloc(), database(rt, statements));
+    let CommandEnd {
+        conn,
+        outcome: pages,
+    } = scrub_pages(rt.alloc(), database(rt, statements));
     let has_none = come(rt, pages, &[0]);
-    let Paged { mut conn, pages } = delta_pages(rt.alloc(), conn, told(rt, NONE));
+    let CommandEnd {
+        mut conn,
+        outcome: pages,
+    } = delta_pages(rt.alloc(), conn, told(rt, NONE));
     let lacks_none = come(rt, pages, &[0]);
     has_none && lacks_none && names(&mut conn) == Some(count)
 }
@@ -280,6 +292,9 @@ fn are<R: AllocGlobal + Abort>(
 fn an_old_inbox_is_held(rt: HostRuntime) {
     let mut old = database(&rt, INBOX);
     assert!(rt; old.execute(OLD_ROWS, &[]) == Ok(2));
-    let Contents { conn: _, events } = held(rt.alloc(), old);
+    let CommandEnd {
+        conn: _,
+        outcome: events,
+    } = held(rt.alloc(), old);
     assert!(rt; are(&rt, &events, 1023, 1025));
 }

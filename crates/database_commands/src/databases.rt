@@ -9,14 +9,13 @@ ghost use Rattle.database_commands.specs.Print.{counts_line};
 ghost use Rattle.database_commands.specs.Service.{SaysService};
 ghost use Rattle.database_commands.specs.Streams.{AcknowledgesUntil};
 
-use crate::CommandEnd;
-use crate::fault::CommandFault;
-use crate::named::{
-    delta_named, delta_pages_named, describe_named, follow_named, held_named, order_named,
-    relay_all_named, relay_named, scrub_named, scrub_pages_named, service_named, summary_named,
-    take_named,
+use crate::command::CommandEnd;
+use crate::commands::{
+    DeltaPage, DeltaPages, GiveOrder, HeldEvents, RelayAll, RelayPage, ScrubPage, ScrubPages,
+    SummaryLine, TakeEvents, TellService,
 };
-use crate::page::{Contents, Paged};
+use crate::fault::CommandFault;
+use crate::named::{describe_named, follow_named, perform_named, perform_there};
 use crate::pages::EventPages;
 use crate::stream::{StreamFault, Streamed};
 use crate::trouble::{Trouble, of_fault};
@@ -34,8 +33,8 @@ use std::io::{Read, Write};
 /// file where there is none unless it says otherwise, and closes it in the end; what was committed
 /// stays, also where the closing fails. The clauses here say of which form an answer is, for some
 /// events or some service: the page from that place, what the summary lacks, the command that was
-/// given. What it is for what the file held, those of [`crate::take_named`] and its like say, which
-/// the program calls for files of which nothing is known.
+/// given. What it is for what the file held, those of [`perform_named`] and its like say, which the
+/// program calls for files of which nothing is known.
 pub trait Databases {
     /// As [`crate::take`].
     fn take<W: Watch>(
@@ -154,7 +153,16 @@ impl Databases for HostRuntime {
         events: &Batch,
         watch: &W,
     ) -> Result<Text, CommandFault> {
-        closed(take_named(self, alloc, name, Unknown, events, watch))
+        // A row has some 100 bytes beside the event's text, and the index half a row.
+        let growth = events.len().saturating_mul(512);
+        closed(perform_named(
+            self,
+            alloc,
+            name,
+            growth,
+            Unknown,
+            TakeEvents { events, watch },
+        ))
     }
 
     fn follow<R: Read, W: Write>(
@@ -175,18 +183,11 @@ impl Databases for HostRuntime {
     }
 
     fn events(&self, alloc: Global, name: &str) -> Result<Batch, CommandFault> {
-        match held_named(self, alloc, name, Unknown) {
-            Ok(contents) => {
-                let Contents { conn, events } = contents;
-                let _closed = conn.close();
-                events
-            }
-            Err(fault) => Err(fault),
-        }
+        closed(perform_there(self, alloc, name, Unknown, HeldEvents))
     }
 
     fn summary(&self, alloc: Global, name: &str) -> Result<Text, CommandFault> {
-        closed(summary_named(self, alloc, name, Unknown))
+        closed(perform_there(self, alloc, name, Unknown, SummaryLine))
     }
 
     fn delta_pages(
@@ -195,11 +196,11 @@ impl Databases for HostRuntime {
         name: &str,
         summary: Summary,
     ) -> Result<EventPages, CommandFault> {
-        closed_pages(delta_pages_named(self, alloc, name, Unknown, summary))
+        closed(perform_there(self, alloc, name, Unknown, DeltaPages { summary }))
     }
 
     fn scrub_pages(&self, alloc: Global, name: &str) -> Result<EventPages, CommandFault> {
-        closed_pages(scrub_pages_named(self, alloc, name, Unknown))
+        closed(perform_there(self, alloc, name, Unknown, ScrubPages))
     }
 
     fn delta(
@@ -209,11 +210,11 @@ impl Databases for HostRuntime {
         summary: &Summary,
         from: u64,
     ) -> Result<Text, CommandFault> {
-        closed(delta_named(self, alloc, name, Unknown, summary, from))
+        closed(perform_named(self, alloc, name, 0, Unknown, DeltaPage { summary, from }))
     }
 
     fn scrub(&self, alloc: Global, name: &str, from: u64) -> Result<Text, CommandFault> {
-        closed(scrub_named(self, alloc, name, Unknown, from))
+        closed(perform_named(self, alloc, name, 0, Unknown, ScrubPage { from }))
     }
 
     fn order(
@@ -226,17 +227,14 @@ impl Databases for HostRuntime {
         number: u64,
         at: &Moment,
     ) -> Result<Text, CommandFault> {
-        closed(order_named(
-            self,
-            alloc,
-            name,
-            Unknown,
+        let order = GiveOrder {
             source,
             is_source_named,
             status,
             number,
             at,
-        ))
+        };
+        closed(perform_named(self, alloc, name, 0, Unknown, order))
     }
 
     fn service(
@@ -247,12 +245,17 @@ impl Databases for HostRuntime {
         is_source_named: bool,
         base: Option<u64>,
     ) -> Result<Text, CommandFault> {
-        closed(service_named(self, alloc, name, Unknown, source, is_source_named, base))
+        let told = TellService {
+            source,
+            is_source_named,
+            base,
+        };
+        closed(perform_named(self, alloc, name, 0, Unknown, told))
     }
 
     fn describe(&self, alloc: Global, name: &str) -> Result<Text, Trouble> {
         match describe_named(self, alloc, name, Unknown) {
-            Ok(ended) => match ended_text(ended) {
+            Ok(ended) => match answer_of(ended) {
                 Ok(text) => Ok(text),
                 Err(fault) => Err(of_fault(fault)),
             },
@@ -267,16 +270,16 @@ impl Databases for HostRuntime {
         source: &Text,
         after: u64,
     ) -> Result<Text, CommandFault> {
-        closed(relay_named(self, alloc, name, Unknown, source, after))
+        closed(perform_named(self, alloc, name, 0, Unknown, RelayPage { source, after }))
     }
 
     fn relay_all(&self, alloc: Global, name: &str, after: u64) -> Result<Text, CommandFault> {
-        closed(relay_all_named(self, alloc, name, Unknown, after))
+        closed(perform_there(self, alloc, name, Unknown, RelayAll { after }))
     }
 }
 
 /// Closes the database of a command, and answers what it came to.
-fn ended_text(ended: CommandEnd<FileStore<File>>) -> Result<Text, CommandFault>
+fn answer_of<A: Drop>(ended: CommandEnd<FileStore<File>, A>) -> Result<A, CommandFault>
     ensures { result ≡ ended.outcome }
 {
     let CommandEnd { conn, outcome } = ended;
@@ -285,27 +288,13 @@ fn ended_text(ended: CommandEnd<FileStore<File>>) -> Result<Text, CommandFault>
 }
 
 /// Closes the database of a command where it was opened, and answers what came of it.
-fn closed(ended: Result<CommandEnd<FileStore<File>>, CommandFault>) -> Result<Text, CommandFault>
+fn closed<A: Drop>(
+    ended: Result<CommandEnd<FileStore<File>, A>, CommandFault>,
+) -> Result<A, CommandFault>
     ensures { MatchResult ended (λ e. result ≡ e.outcome) (λ f. result ≡ Err f) }
 {
     match ended {
-        Ok(ended) => ended_text(ended),
-        Err(fault) => Err(fault),
-    }
-}
-
-/// Closes the database of a command where it was opened, and answers the pages that came of it.
-fn closed_pages(
-    paged: Result<Paged<FileStore<File>>, CommandFault>,
-) -> Result<EventPages, CommandFault>
-    ensures { MatchResult paged (λ p. result ≡ p.pages) (λ f. result ≡ Err f) }
-{
-    match paged {
-        Ok(paged) => {
-            let Paged { conn, pages } = paged;
-            let _closed = conn.close();
-            pages
-        }
+        Ok(ended) => answer_of(ended),
         Err(fault) => Err(fault),
     }
 }

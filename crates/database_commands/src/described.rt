@@ -13,7 +13,7 @@ ghost use Rattle.database_commands.specs.Held.{IsUntold};
 ghost use Rattle.database_commands.specs.steps.Told.{TellsEvents};
 ghost use Rattle.database_commands.specs.declared.fault.CommandFault.TheVariants as command;
 
-use crate::CommandEnd;
+use crate::command::CommandEnd;
 use crate::fault::{CommandFault, of_table};
 use crate::page::site_over;
 use crate::text::database_line;
@@ -29,7 +29,11 @@ use std::alloc::{AllocError, Global};
 /// where there is a service, the line that tells of it, as `service` prints it. Nothing is written:
 /// an inbox of version 1 stays what it is. `Foreign` where its tables aren't those that these
 /// commands leave. Time and memory in proportion to the events and rows.
-pub fn describe<S: Alter + Drop>(alloc: Global, conn: Connection<S>, name: &str) -> CommandEnd<S>
+pub fn describe<S: Alter + Drop>(
+    alloc: Global,
+    conn: Connection<S>,
+    name: &str,
+) -> CommandEnd<S, Text>
     ensures told { HasCleanDisk (state S.Store result.conn) → IfOk result.outcome
         (Describes name.now (state S.Store conn).now) }
     ensures left { Leaves (state S.Store conn) (state S.Store result.conn) }

@@ -9,7 +9,7 @@ ghost use Rattle.database_commands.specs.declared.fault.CommandFault.TheVariants
 ghost use Rattle.database_commands.specs.Held.{Holds, IsTaken, KeepsOrTakes, KeepsRows, MayHold, TakesInto, TellsUpgrade};
 ghost use Rattle.database_commands.specs.Print.{counts_line};
 
-use crate::CommandEnd;
+use crate::command::CommandEnd;
 use crate::fault::{CommandFault, of_table};
 use crate::text::counts_line;
 use attributes::{Batch, Text};
@@ -51,7 +51,7 @@ pub fn take<S: Alter + Drop, W: Watch>(
     conn: Connection<S>,
     events: &Batch,
     watch: &W,
-) -> CommandEnd<S>
+) -> CommandEnd<S, Text>
     ensures taken { HasCleanDisk (state S.Store result.conn) → IfOk result.outcome
         (TakesInto events.now (state S.Store conn).now (state S.Store result.conn).now) }
     ensures left { HasCleanDisk (state S.Store result.conn)

@@ -13,7 +13,7 @@ ghost use Rattle.database_commands.specs.Effect.{LookEffect, PageEffect};
 ghost use Rattle.database_commands.specs.Held.{HasDelta, HasEvents, KeepsEvents, KeepsRows, SaysDelta, SaysPage, SaysSummary, SaysSummaryOf, ShowsDelta, ShowsEvents, ShowsLacking, ShowsPage, ShowsSet, ShowsSummary};
 ghost use Rattle.database_commands.specs.Print.{batch_line};
 
-use crate::CommandEnd;
+use crate::command::CommandEnd;
 use crate::fault::{CommandFault, of_table};
 use crate::intake::loaded;
 use crate::pages::EventPages;
@@ -26,23 +26,9 @@ use site::{MAX_PAGE, Site};
 use sqlite::{Alter, Connection};
 use std::alloc::{AllocError, Global};
 
-/// The connection of a database, and the events that it holds, in the order of their places.
-#[derive(Drop)]
-pub struct Contents<S: Alter + Drop> {
-    pub conn: Connection<S>,
-    pub events: Result<Batch, CommandFault>,
-}
-
-/// The connection of a database, and events of it that are to be printed.
-#[derive(Drop)]
-pub struct Paged<S: Alter + Drop> {
-    pub conn: Connection<S>,
-    pub pages: Result<EventPages, CommandFault>,
-}
-
 /// What a database holds; the table is made where there is none.
-fn own_contents<S: Alter + Drop>(alloc: Global, conn: Connection<S>) -> Contents<S>
-    ensures events { HasCleanDisk (state S.Store result.conn) → IfOk result.events
+fn own_contents<S: Alter + Drop>(alloc: Global, conn: Connection<S>) -> CommandEnd<S, Batch>
+    ensures events { HasCleanDisk (state S.Store result.conn) → IfOk result.outcome
         (ShowsEvents (state S.Store conn).now) }
     ensures list { HasCleanDisk (state S.Store result.conn)
         → IsTrue (state S.Store result.conn).is_open
@@ -55,16 +41,16 @@ fn own_contents<S: Alter + Drop>(alloc: Global, conn: Connection<S>) -> Contents
         Ok(loaded) => {
             let Loaded { table, events } = loaded;
             let conn = table.into_connection();
-            Contents {
+            CommandEnd {
                 conn,
-                events: Ok(events),
+                outcome: Ok(events),
             }
         }
         Err(refused) => {
             let NotMade { conn, fault } = refused;
-            Contents {
+            CommandEnd {
                 conn,
-                events: Err(of_table(fault)),
+                outcome: Err(of_table(fault)),
             }
         }
     }
@@ -72,44 +58,47 @@ fn own_contents<S: Alter + Drop>(alloc: Global, conn: Connection<S>) -> Contents
 
 /// The events that a database holds. Nothing is written: where there is no inbox, there are none,
 /// and one of version 1 stays what it is. Time in proportion to all events.
-pub fn held<S: Alter + Drop>(alloc: Global, conn: Connection<S>) -> Contents<S>
-    ensures events { HasCleanDisk (state S.Store result.conn) → IfOk result.events
+pub fn held<S: Alter + Drop>(alloc: Global, conn: Connection<S>) -> CommandEnd<S, Batch>
+    ensures events { HasCleanDisk (state S.Store result.conn) → IfOk result.outcome
         (ShowsEvents (state S.Store conn).now) }
     ensures left { Leaves (state S.Store conn) (state S.Store result.conn) }
     ensures without { has_inbox (state S.Store conn).now.schema ≡ false
         → ((state S.Store result.conn).now ≡ (state S.Store conn).now)
-        × IfOk result.events (λ es. es ≡ []) × IsOk result.events }
+        × IfOk result.outcome (λ es. es ≡ []) × IsOk result.outcome }
 {
     let mut conn = conn;
     if !has_inbox(conn.schema()) {
-        return Contents {
+        return CommandEnd {
             conn,
-            events: Ok(Batch::empty(alloc)),
+            outcome: Ok(Batch::empty(alloc)),
         };
     }
     match inspect(alloc, &mut conn) {
         Ok(found) => {
             let Inspected { version: _, events } = found;
-            Contents {
+            CommandEnd {
                 conn,
-                events: Ok(events),
+                outcome: Ok(events),
             }
         }
-        Err(fault) => Contents {
+        Err(fault) => CommandEnd {
             conn,
-            events: Err(of_table(fault)),
+            outcome: Err(of_table(fault)),
         },
     }
 }
 
 /// Which events a database holds, as the line of its summary. Nothing is written, also where it is
 /// refused. Time in proportion to all events and their texts.
-pub fn summary<S: Alter + Drop>(alloc: Global, conn: Connection<S>) -> CommandEnd<S>
+pub fn summary<S: Alter + Drop>(alloc: Global, conn: Connection<S>) -> CommandEnd<S, Text>
     ensures did { LookEffect ShowsSummary result.outcome (state S.Store conn)
         (state S.Store result.conn) }
     ensures line { IfOk result.outcome SaysSummary }
 {
-    let Contents { conn, events } = held(alloc, conn);
+    let CommandEnd {
+        conn,
+        outcome: events,
+    } = held(alloc, conn);
     match events {
         Ok(events) => {
             let outcome = summary_line(alloc, events);
@@ -124,20 +113,23 @@ pub fn summary<S: Alter + Drop>(alloc: Global, conn: Connection<S>) -> CommandEn
 
 /// All events of a database in key order, to be printed page after page. Nothing is written, also
 /// where it is refused. Time in proportion to all events.
-pub fn scrub_pages<S: Alter + Drop>(alloc: Global, conn: Connection<S>) -> Paged<S>
-    ensures did { LookEffect ShowsSet result.pages (state S.Store conn)
+pub fn scrub_pages<S: Alter + Drop>(alloc: Global, conn: Connection<S>) -> CommandEnd<S, EventPages>
+    ensures did { LookEffect ShowsSet result.outcome (state S.Store conn)
         (state S.Store result.conn) }
-    ensures some { IfOk result.pages HasEvents }
+    ensures some { IfOk result.outcome HasEvents }
 {
-    let Contents { conn, events } = held(alloc, conn);
+    let CommandEnd {
+        conn,
+        outcome: events,
+    } = held(alloc, conn);
     match events {
         Ok(events) => {
-            let pages = all_pages(alloc, events);
-            Paged { conn, pages }
+            let outcome = all_pages(alloc, events);
+            CommandEnd { conn, outcome }
         }
-        Err(fault) => Paged {
+        Err(fault) => CommandEnd {
             conn,
-            pages: Err(fault),
+            outcome: Err(fault),
         },
     }
 }
@@ -148,20 +140,23 @@ pub fn delta_pages<S: Alter + Drop>(
     alloc: Global,
     conn: Connection<S>,
     summary: Summary,
-) -> Paged<S>
-    ensures did { LookEffect (ShowsLacking summary) result.pages (state S.Store conn)
+) -> CommandEnd<S, EventPages>
+    ensures did { LookEffect (ShowsLacking summary) result.outcome (state S.Store conn)
         (state S.Store result.conn) }
-    ensures some { IfOk result.pages (HasDelta summary) }
+    ensures some { IfOk result.outcome (HasDelta summary) }
 {
-    let Contents { conn, events } = held(alloc, conn);
+    let CommandEnd {
+        conn,
+        outcome: events,
+    } = held(alloc, conn);
     match events {
         Ok(events) => {
-            let pages = lacking_pages(alloc, events, summary);
-            Paged { conn, pages }
+            let outcome = lacking_pages(alloc, events, summary);
+            CommandEnd { conn, outcome }
         }
-        Err(fault) => Paged {
+        Err(fault) => CommandEnd {
             conn,
-            pages: Err(fault),
+            outcome: Err(fault),
         },
     }
 }
@@ -174,12 +169,15 @@ pub fn delta<S: Alter + Drop>(
     conn: Connection<S>,
     summary: &Summary,
     from: u64,
-) -> CommandEnd<S>
+) -> CommandEnd<S, Text>
     ensures did { PageEffect (ShowsDelta summary.now from) result.outcome (state S.Store conn)
         (state S.Store result.conn) }
     ensures line { IfOk result.outcome (SaysDelta summary.now from) }
 {
-    let Contents { conn, events } = own_contents(alloc, conn);
+    let CommandEnd {
+        conn,
+        outcome: events,
+    } = own_contents(alloc, conn);
     match events {
         Ok(events) => {
             let outcome = delta_line(alloc, events, summary, from);
@@ -195,12 +193,15 @@ pub fn delta<S: Alter + Drop>(
 /// The page of all events of a database in key order, at most 100 from a place on. The table is
 /// made where there is none, and the events stay, also where it is refused, as does a service
 /// beside them. Time in proportion to all events.
-pub fn scrub<S: Alter + Drop>(alloc: Global, conn: Connection<S>, from: u64) -> CommandEnd<S>
+pub fn scrub<S: Alter + Drop>(alloc: Global, conn: Connection<S>, from: u64) -> CommandEnd<S, Text>
     ensures did { PageEffect (ShowsPage from) result.outcome (state S.Store conn)
         (state S.Store result.conn) }
     ensures line { IfOk result.outcome (SaysPage from) }
 {
-    let Contents { conn, events } = own_contents(alloc, conn);
+    let CommandEnd {
+        conn,
+        outcome: events,
+    } = own_contents(alloc, conn);
     match events {
         Ok(events) => {
             let outcome = page_line(alloc, events, from);

@@ -22,7 +22,7 @@ ghost use Rattle.database_commands.specs.Pages.{max_page, pages_text};
 ghost use Rattle.database_commands.specs.Print.{batch_line, event_line};
 ghost use Rattle.database_commands.specs.steps.Left.{IsNextPage};
 
-use crate::CommandEnd;
+use crate::command::CommandEnd;
 use crate::fault::{CommandFault, of_outbox, of_relay};
 use crate::text::{batch_line, event_line};
 use attributes::{Batch, Moment, Sequenced, Text};
@@ -141,7 +141,7 @@ pub fn order<S: Alter + Drop>(
     status: Status,
     order: u64,
     at: &Moment,
-) -> CommandEnd<S>
+) -> CommandEnd<S, Text>
     requires source { (is_filled source.now ≡ true) × (length source.now ≤ 1024) }
     requires order { (1 ≤ order) × (order ≤ max_sequence) }
     requires short { length at.now ≤ 64 }
@@ -245,7 +245,7 @@ pub fn relay<S: Alter + Drop>(
     conn: Connection<S>,
     source: &Text,
     after: u64,
-) -> CommandEnd<S>
+) -> CommandEnd<S, Text>
     requires { (is_filled source.now ≡ true) × (length source.now ≤ 1024) }
     ensures shown { HasCleanDisk (state S.Store result.conn) → IfOk result.outcome
         (ShowsRows source.now after (state S.Store conn).now) }
@@ -316,7 +316,11 @@ fn are_behind(events: &Batch, after: u64) -> bool
 /// All rows of a database's service with a greater number than `after`, in pages of 100, each as
 /// the line of a batch; nothing where there are none. Nothing is made: where there is no service,
 /// there are no rows. Time and memory in proportion to all rows, for the opening, and to the text.
-pub fn relay_all<S: Alter + Drop>(alloc: Global, conn: Connection<S>, after: u64) -> CommandEnd<S>
+pub fn relay_all<S: Alter + Drop>(
+    alloc: Global,
+    conn: Connection<S>,
+    after: u64,
+) -> CommandEnd<S, Text>
     ensures shown { HasCleanDisk (state S.Store result.conn) → IfOk result.outcome
         (ShowsAllRows after (state S.Store conn).now) }
     ensures kept { HasCleanDisk (state S.Store result.conn)
@@ -338,7 +342,11 @@ pub fn relay_all<S: Alter + Drop>(alloc: Global, conn: Connection<S>, after: u64
 }
 
 /// All rows with a greater number of the service that is there.
-fn found_rows<S: Alter + Drop>(alloc: Global, conn: Connection<S>, after: u64) -> CommandEnd<S>
+fn found_rows<S: Alter + Drop>(
+    alloc: Global,
+    conn: Connection<S>,
+    after: u64,
+) -> CommandEnd<S, Text>
     ensures shown { HasCleanDisk (state S.Store result.conn) → IfOk result.outcome
         (ShowsAllRows after (state S.Store conn).now) }
     ensures kept { HasCleanDisk (state S.Store result.conn)

@@ -14,7 +14,7 @@ ghost use Rattle.database_commands.specs.Print.{service_line};
 ghost use Rattle.database_commands.specs.Service.{HasOtherBase, IsOtherBase, IsTold, LeavesOrFounds, SaysService};
 ghost use Rattle.database_commands.specs.steps.Told.{IsLineOf, TellsEach};
 
-use crate::CommandEnd;
+use crate::command::CommandEnd;
 use crate::fault::{CommandFault, of_outbox};
 use crate::service::{BASE, is_same};
 use crate::text::service_line;
@@ -38,7 +38,7 @@ pub fn tell_service<S: Alter + Drop>(
     source: &Text,
     is_source_named: bool,
     base: Option<u64>,
-) -> CommandEnd<S>
+) -> CommandEnd<S, Text>
     requires source { (is_filled source.now ≡ true) × (length source.now ≤ 1024) }
     requires base { IfSome base (λ n. n ≤ max_sequence) }
     ensures did { ServiceEffect is_source_named source.now base result.outcome
@@ -57,7 +57,7 @@ fn made<S: Alter + Drop>(
     conn: Connection<S>,
     source: &Text,
     base: u64,
-) -> CommandEnd<S>
+) -> CommandEnd<S, Text>
     requires source { (is_filled source.now ≡ true) × (length source.now ≤ 1024) }
     requires base { base ≤ max_sequence }
     requires none { has_name (state S.Store conn).now.schema ≡ false }
@@ -110,7 +110,7 @@ pub(crate) fn told<S: Alter + Drop>(
     source: &Text,
     is_named: bool,
     base: Option<u64>,
-) -> CommandEnd<S>
+) -> CommandEnd<S, Text>
     ensures left { Leaves (state S.Store conn) (state S.Store result.conn) }
     ensures told { HasCleanDisk (state S.Store result.conn) → IfOk result.outcome
         (λ text. IsTrue (state S.Store result.conn).is_open

@@ -1,0 +1,9 @@
+use Rattle.database_commands.proofs.commands.RelayPageCommand.perform.Goals as goal
+
+pub returns-clause-did : goal.returns-clause-did
+returns-clause-did g c = let it = c.relay.ensures in record {
+  shown = it.shown;
+  kept = it.kept;
+  beside = it.beside;
+  fault = it.fault;
+}
