@@ -249,7 +249,7 @@ fn a_site_answers_each_question(rt: HostRuntime) {
 /// Adds an event of a number, and answers whether it did.
 fn add_numbered(alloc: Global, batch: &mut Batch, number: u64) -> bool {
     match format!(in alloc; "{number:06}") {
-        Ok(id) => add(alloc, batch, (id.as_str(), number, "t.a", "")),
+        Ok(id) => add(alloc, batch, (id.as_str(), number, "t.a", "", "")),
         Err(_) => false,
     }
 }
