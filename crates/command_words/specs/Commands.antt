@@ -1,6 +1,7 @@
 -- The commands of the program, as clap's rule reads them.
-use Rattle.std.specs.Prelude.{List, ℕ, [], ◌∷◌, codes, true, Some}
-use Rattle.clap.specs.Words.{App, Rule, new_app, new_rule, with_rule}
+use Rattle.std.specs.Prelude.{List, ℕ, [], ◌∷◌, codes, true, Err, Ok, Result, Some}
+use Rattle.clap.specs.Words.{App, Rule, app_of, new_app, new_rule, with_rule}
+use Rattle.clap.specs.declared.builder.command.Command as clap
 use Rattle.clap.specs.declared.builder.action.ArgAction.TheVariants.{Append, SetTrue}
 use Rattle.command_words.specs.declared.command.Command.{Command}
 use Rattle.command_words.specs.declared.command.Command.TheVariants.{Ask, Check, Delta, Follow, Order, Relay, Run, Scrub, Service, Summary, Take}
@@ -65,6 +66,11 @@ abbrev pub from_rule : Rule
 from_rule = default_rule (codes "from") (codes "0")
 
 -- ---- the commands
+
+-- a command that was built, as clap's rule reads it; where none was, one without words
+abbrev pub app_in : {E : Type 0} → Result clap.Command E → App
+app_in (Ok built) = app_of built
+app_in (Err e) = new_app []
 
 -- the command's word, and `--db DB`
 abbrev pub with_db : Command → App

@@ -1,13 +1,14 @@
 //! The table of the commands: their words, their help lines and their arguments.
-ghost use Rattle.std.specs.Prelude.{◌≡◌, IfOk, IfSome, IsNone, codes, ◌≢◌};
-ghost use Rattle.clap.specs.Words.{app_of, new_app, with_rule};
-ghost use Rattle.command_words.specs.Commands.{app_for, needed_rule, place_rule, word_of};
+ghost use Rattle.std.specs.Prelude.{◌≡◌, IfOk, IfSome, IsNone, IsOk, codes, false, ◌≢◌};
+ghost use Rattle.clap.specs.Words.{app_of, new_app, rule_of, with_rule};
+ghost use Rattle.command_words.specs.Commands.{app_for, app_in, word_of};
 ghost use Rattle.command_words.specs.declared.command.Command.{Command};
 
 use crate::argument::{
     action, after, all, at, base, checked_db, checked_files, db, files, from, lines,
     numbered_files, order, paged_db, peer, question_db, question_files, read_db, source, summary,
 };
+use clap::Arg;
 use std::alloc::{AllocError, Global};
 use views::Query;
 
@@ -54,7 +55,7 @@ pub struct Row<'a> {
 }
 
 /// The words of all commands, in the order in which help lists them.
-pub const WORDS: [&str; 17] = [
+pub static WORDS: [&str; 17] = [
     "cover",
     "gaps",
     "shown",
@@ -203,51 +204,45 @@ impl<'a> Row<'a> {
         requires { self.word.now ≡ word_of self.command }
         ensures { IfOk result (λ parser. app_of parser ≡ app_for self.entry.command) }
     {
-        let bare = self.bare(alloc)?;
+        let bare = self.bare(alloc);
         match self.command {
-            Command::Ask(_) => bare.arg(question_db(alloc))?.arg(question_files(alloc)),
-            Command::Check => bare.arg(checked_db(alloc))?.arg(checked_files(alloc)),
-            Command::Summary => bare.arg(read_db(alloc)),
-            Command::Take => bare.arg(db(alloc))?.arg(numbered_files(alloc)),
-            Command::Follow => bare.arg(db(alloc))?.arg(lines(alloc)),
+            Command::Ask(_) => with(with(bare, question_db(alloc)), question_files(alloc)),
+            Command::Check => with(with(bare, checked_db(alloc)), checked_files(alloc)),
+            Command::Summary => with(bare, read_db(alloc)),
+            Command::Take => with(with(bare, db(alloc)), numbered_files(alloc)),
+            Command::Follow => with(with(bare, db(alloc)), lines(alloc)),
             Command::Delta => {
-                let begun = bare.arg(paged_db(alloc))?.arg(from(alloc))?;
-                begun.arg(all(alloc))?.arg(summary(alloc))
+                let begun = with(with(bare, paged_db(alloc)), from(alloc));
+                with(with(begun, all(alloc)), summary(alloc))
             }
-            Command::Scrub => bare.arg(paged_db(alloc))?.arg(from(alloc))?.arg(all(alloc)),
-            Command::Run => bare.arg(db(alloc))?.arg(peer(alloc))?.arg(files(alloc)),
-            Command::Service => {
-                let begun = bare.arg(db(alloc))?.arg(source(alloc))?;
-                begun.arg(base(alloc))
-            }
+            Command::Scrub => with(with(with(bare, paged_db(alloc)), from(alloc)), all(alloc)),
+            Command::Run => with(with(with(bare, db(alloc)), peer(alloc)), files(alloc)),
+            Command::Service => with(with(with(bare, db(alloc)), source(alloc)), base(alloc)),
             Command::Order => {
-                let begun = bare.arg(db(alloc))?.arg(source(alloc))?;
-                with_request(alloc, begun)
+                let begun = with(with(bare, db(alloc)), source(alloc));
+                with(with(with(begun, at(alloc)), action(alloc)), order(alloc))
             }
-            Command::Relay => bare
-                .arg(paged_db(alloc))?
-                .arg(after(alloc))?
-                .arg(all(alloc)),
+            Command::Relay => with(with(with(bare, paged_db(alloc)), after(alloc)), all(alloc)),
         }
     }
 
     /// The word with its help line, without arguments.
     fn bare(self, alloc: Global) -> Result<clap::Command<'a>, AllocError>
-        ensures { IfOk result (λ parser. app_of parser ≡ new_app self.entry.word.now) }
+        ensures { IsOk result → app_in result ≡ new_app self.entry.word.now }
     {
         let named = clap::Command::new(alloc, self.word).bin_name(self.full_name)?;
         Ok(named.about(self.about))
     }
 }
 
-/// The command with when, what and which order.
-fn with_request<'a>(
-    alloc: Global,
-    begun: clap::Command<'a>,
+/// The command with one more argument, if memory was left so far.
+fn with<'a>(
+    begun: Result<clap::Command<'a>, AllocError>,
+    arg: Arg<'a>,
 ) -> Result<clap::Command<'a>, AllocError>
-    ensures { IfOk result (λ parser. app_of parser
-        ≡ with_rule (with_rule (with_rule (app_of begun.entry) (needed_rule (codes "at")))
-        (place_rule (codes "action"))) (place_rule (codes "order"))) }
+    requires { arg.global ≡ false }
+    ensures { IsOk result → IsOk begun.entry
+        × (app_in result ≡ with_rule (app_in begun.entry) (rule_of arg.entry)) }
 {
-    begun.arg(at(alloc))?.arg(action(alloc))?.arg(order(alloc))
+    begun?.arg(arg)
 }

@@ -21,7 +21,7 @@ fn program<'a>(alloc: Global) -> Result<clap::Command<'a>, AllocError> {
         .no_binary_name(true)
         .subcommand_required(true)
         .arg_required_else_help(true);
-    for word in WORDS {
+    for word in &WORDS {
         if let Some(row) = row_of(word) {
             program = program.subcommand(row.parser(alloc)?)?;
         }
