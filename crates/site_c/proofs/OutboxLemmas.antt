@@ -8,6 +8,7 @@ use Rattle.sqlite_disk.specs.declared.Disk as disk
 use Rattle.sqlite_store.specs.declared.store.FileStore.{FileStore}
 use Rattle.sqlite.specs.Files.{file_state, over_files}
 use Rattle.sqlite.specs.Held.{Held}
+use Rattle.sqlite_trees.specs.declared.store.Store.{Ghosts}
 use Rattle.attributes.specs.Character.{is_filled}
 use Rattle.attributes.specs.Sequence.{max_sequence}
 use Rattle.outbox.specs.Order.{Accepted}
@@ -18,11 +19,11 @@ use Rattle.durable_site.specs.Files.{IsOver}
 use Rattle.site_c.specs.Files.{untold}
 use Rattle.site_c.specs.Outboxes.{Carries, Finds, IsGiven, Serves, outbox_status, source_of}
 
-module _ {D : Type 0} {g : disk.Ghosts D} where
+module _ {S : Type 0} (g : Ghosts S) where
   -- a service that wasn't asked is as it was, and so is its database
-  pub idle : (c : Accepted) (was : Shown (FileStore D g)) (text kept : List ℕ) (status number : ℕ) (f : OutboxFault)
+  pub idle : (c : Accepted) (was : Shown S) (text kept : List ℕ) (status number : ℕ) (f : OutboxFault)
       → (f ≡ OutOfMemory) ⊎ (f ≡ Store) → status ≡ outbox_status f → number ≡ 0 → kept ≡ text
-      → Carries c was was text kept status number
+      → Carries g c was was text kept status number
   idle c was text kept status number f why is none same = record {
     result = Err f;
     call = record {

@@ -2,7 +2,7 @@
 use Rattle.std.specs.Prelude.{◌≡◌, ◌≢◌, ◌==◌, ◌≤◌, ◌⊎◌, IsUtf8, ℕ, List, [], ◌∷◌, ◌++◌, codes, drop, length, take, if◌then◌else◌, IsTrue, Err, MatchResult, None, Ok, Option, Result, Some}
 use Rattle.sqlite_disk.specs.declared.Disk as disk
 use Rattle.sqlite_store.specs.declared.store.FileStore.{FileStore}
-use Rattle.sqlite.specs.Files.{file_state}
+use Rattle.sqlite.specs.Files.{file_state, over_files}
 use Rattle.sqlite.specs.Held.{Held, state}
 use Rattle.sqlite.specs.State.{HasCleanDisk, State}
 use Rattle.sqlite_trees.specs.declared.store.Store.{Ghosts}
@@ -115,14 +115,56 @@ Finds {S} g has_source source base old (Err status) =
     ⊎ ((s : Shown S) × (status ≡ 28)
     × FindsAnother has_source source base old s (state g s.conn))
 
-module _ {D : Type 0} {g : disk.Ghosts D} where
+module _ {S : Type 0} (g : Ghosts S) where
   -- the reply tells of this service; its orders while the disk gives back what was written
-  pub record TellsService (s : Shown (FileStore D g)) (reply : OutboxReply) : Type 0 where
+  pub record TellsService (s : Shown S) (reply : OutboxReply) : Type 0 where
     pub base : reply.base ≡ s.base
     pub last : reply.last ≡ s.last
-    pub orders : HasCleanDisk (file_state s.conn) → IsTrue (file_state s.conn).is_open
-        → CountsOrders (file_state s.conn).now s.source s.base reply.orders
+    pub orders : HasCleanDisk (state g s.conn) → IsTrue (state g s.conn).is_open
+        → CountsOrders (state g s.conn).now s.source s.base reply.orders
 
+  -- ---- commands
+
+  -- a service was given a command: accepted, its row is written and synced, and the text is the
+  -- line of its event; refused, the service is as it was, and the text
+  pub record Carries (c : Accepted) (was is : Shown S) (text kept : List ℕ) (status number : ℕ)
+      : Type 0 where
+    pub result : Result EventValue OutboxFault
+    pub call : CommandCall c was is result
+    pub effect : HasCleanDisk (state g is.conn)
+        → CommandEffect c was (state g was.conn) (state g is.conn) result
+    pub replies : MatchResult result
+        (λ e. (status ≡ 0) × (number ≡ is.last) × (kept ≡ event_line e))
+        (λ fault. (status ≡ outbox_status fault) × (number ≡ 0) × (kept ≡ text))
+
+  -- the arguments name a command, which it was given; or they name none, and nothing was asked of
+  -- it
+  abbrev pub Commands : ℕ → ℕ → List ℕ → Shown S → Shown S → List ℕ → List ℕ → ℕ → ℕ → Type 0
+  Commands action order time was is text kept status number =
+      ((c : Accepted) × Names action order time c × Carries c was is text kept status number)
+      ⊎ (NamesNone action order time status × (is ≡ was) × (kept ≡ text) × (number ≡ 0))
+
+  -- ---- rows shown
+
+  -- these are the next rows after a number, at most 100; a crash leaves what there is
+  pub record IsNextRows (after : ℕ) (was is : Shown S) (events : List EventValue) : Type 0 where
+    pub rows : ShowsAfter was.source was.base after 100 (state g was.conn).now events
+    pub was_open : IsTrue (state g was.conn).is_open
+    pub stays_open : IsTrue (state g is.conn).is_open
+    pub settled : IsSettled (state g is.conn)
+
+  -- a service was asked for them, and stays; the text is the line of their batch, or, at want of
+  -- memory or a fault of the database, that of before
+  pub record ShowsRows (after : ℕ) (was is : Shown S) (text kept : List ℕ) (status listed : ℕ)
+      : Type 0 where
+    pub stays : (is.source ≡ was.source) × (is.base ≡ was.base) × (is.last ≡ was.last)
+    pub same : IsSame (state g was.conn) (state g is.conn)
+    pub crash : LeavesAsBefore (state g was.conn) (state g is.conn)
+    pub shown : status ≡ 0 → (events : List EventValue) × IsPageLine events kept listed
+        × (HasCleanDisk (state g is.conn) → IsNextRows after was is events)
+    pub refused : status ≢ 0 → (IsWant status ⊎ (status ≡ 18)) × (kept ≡ text) × (listed ≡ 0)
+
+module _ {D : Type 0} {g : disk.Ghosts D} where
   -- ---- opening
 
   -- the files have a service, or one was made in them with what was given; where a source was
@@ -168,52 +210,9 @@ module _ {D : Type 0} {g : disk.Ghosts D} where
   -- the room has this service, if any, and the reply tells of it
   abbrev pub OpensAs : ℕ → List ℕ → ℕ → Option (Shown (FileStore D g)) → OutboxReply → Type 0
   OpensAs has_source source base (Some s) reply = (reply.status ≡ 0)
-      × Serves has_source source base (Ok s) × TellsService s reply
+      × Serves has_source source base (Ok s) × TellsService over_files s reply
   OpensAs has_source source base None reply = Serves has_source source base (Err reply.status)
       × (reply.base ≡ 0) × (reply.last ≡ 0) × (reply.orders ≡ 0)
-
-  -- ---- commands
-
-  -- a service was given a command: accepted, its row is written and synced, and the text is the
-  -- line of its event; refused, the service is as it was, and the text
-  pub record Carries (c : Accepted) (was is : Shown (FileStore D g)) (text kept : List ℕ)
-      (status number : ℕ) : Type 0 where
-    pub result : Result EventValue OutboxFault
-    pub call : CommandCall c was is result
-    pub effect : HasCleanDisk (file_state is.conn)
-        → CommandEffect c was (file_state was.conn) (file_state is.conn) result
-    pub replies : MatchResult result
-        (λ e. (status ≡ 0) × (number ≡ is.last) × (kept ≡ event_line e))
-        (λ fault. (status ≡ outbox_status fault) × (number ≡ 0) × (kept ≡ text))
-
-  -- the arguments name a command, which it was given; or they name none, and nothing was asked of
-  -- it
-  abbrev pub Commands : ℕ → ℕ → List ℕ → Shown (FileStore D g) → Shown (FileStore D g) → List ℕ
-      → List ℕ → ℕ → ℕ → Type 0
-  Commands action order time was is text kept status number =
-      ((c : Accepted) × Names action order time c × Carries c was is text kept status number)
-      ⊎ (NamesNone action order time status × (is ≡ was) × (kept ≡ text) × (number ≡ 0))
-
-  -- ---- rows shown
-
-  -- these are the next rows after a number, at most 100; a crash leaves what there is
-  pub record IsNextRows (after : ℕ) (was is : Shown (FileStore D g)) (events : List EventValue)
-      : Type 0 where
-    pub rows : ShowsAfter was.source was.base after 100 (file_state was.conn).now events
-    pub was_open : IsTrue (file_state was.conn).is_open
-    pub stays_open : IsTrue (file_state is.conn).is_open
-    pub settled : IsSettled (file_state is.conn)
-
-  -- a service was asked for them, and stays; the text is the line of their batch, or, at want of
-  -- memory or a fault of the database, that of before
-  pub record ShowsRows (after : ℕ) (was is : Shown (FileStore D g)) (text kept : List ℕ)
-      (status listed : ℕ) : Type 0 where
-    pub stays : (is.source ≡ was.source) × (is.base ≡ was.base) × (is.last ≡ was.last)
-    pub same : IsSame (file_state was.conn) (file_state is.conn)
-    pub crash : LeavesAsBefore (file_state was.conn) (file_state is.conn)
-    pub shown : status ≡ 0 → (events : List EventValue) × IsPageLine events kept listed
-        × (HasCleanDisk (file_state is.conn) → IsNextRows after was is events)
-    pub refused : status ≢ 0 → (IsWant status ⊎ (status ≡ 18)) × (kept ≡ text) × (listed ≡ 0)
 
 -- no service is open, and the reply says so; the text stays
 pub record IsShut (held kept : OutboxHeld) (reply : OutboxReply) : Type 0 where
@@ -240,16 +239,16 @@ pub record OpenedOutbox (has_source : ℕ) (source : List ℕ) (base : ℕ) (kep
 pub record OrderedOutbox (action order : ℕ) (time : List ℕ) (held kept : OutboxHeld)
     (reply : OutboxReply) : Type 0 where
   pub did : ((was : _) × (is : _) × (held.service ≡ Some was) × (kept.service ≡ Some is)
-      × Commands action order time was is held.text kept.text reply.status reply.number
-      × TellsService is reply) ⊎ IsShut held kept reply
+      × Commands over_files action order time was is held.text kept.text reply.status
+      reply.number × TellsService over_files is reply) ⊎ IsShut held kept reply
   pub listed : reply.listed ≡ 0
   pub length_is : reply.length ≡ length kept.text
 
 -- what `jumbetai_outbox_rows` leaves and replies
 pub record ShownOutbox (after : ℕ) (held kept : OutboxHeld) (reply : OutboxReply) : Type 0 where
   pub did : ((was : _) × (is : _) × (held.service ≡ Some was) × (kept.service ≡ Some is)
-      × ShowsRows after was is held.text kept.text reply.status reply.listed
-      × TellsService is reply) ⊎ IsShut held kept reply
+      × ShowsRows over_files after was is held.text kept.text reply.status reply.listed
+      × TellsService over_files is reply) ⊎ IsShut held kept reply
   pub number : reply.number ≡ 0
   pub length_is : reply.length ≡ length kept.text
 

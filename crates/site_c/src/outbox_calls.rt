@@ -1,7 +1,6 @@
 //! What each call does to the outbox over a file that lies in the room.
 
 ghost use Rattle.std.specs.Prelude.{◌≡◌, ◌≢◌, ◌<◌, ◌≤◌, ◌↔◌, ◌⊎◌, suc, List, [], length, IfErr, IfNone, IfOk, IfSome, IsFalse, IsTrue};
-ghost use Rattle.sqlite.specs.Files.{file_state};
 ghost use Rattle.sqlite.specs.Held.{state};
 ghost use Rattle.sqlite.specs.State.{HasCleanDisk};
 ghost use Rattle.attributes.specs.Event.{EventValue};
@@ -12,7 +11,7 @@ ghost use Rattle.outbox.specs.Row.{row_event};
 ghost use Rattle.outbox.specs.Shown.{IsAllowed};
 ghost use Rattle.outbox.specs.declared.fault.OutboxFault.TheVariants.{OutOfMemory, Store};
 ghost use Rattle.site_c.specs.Calls.{IsPageLine, IsWant};
-ghost use Rattle.site_c.specs.Outboxes.{Carries, Commands, Finds, HasReadOutbox, IsAction, IsGiven, IsNextRows, IsTime, Names, NamesNone, OpenedOutbox, OrderedOutbox, Serves, ShownOutbox, ShowsRows, WantsTime, action_number, event_line, outbox_status, source_of};
+ghost use Rattle.site_c.specs.Outboxes.{Carries, Commands, Finds, HasReadOutbox, IsAction, IsGiven, IsNextRows, IsTime, Names, NamesNone, OpenedOutbox, OrderedOutbox, Serves, ShownOutbox, ShowsRows, TellsService, WantsTime, action_number, event_line, outbox_status, source_of};
 
 use crate::calls::{Answered, DONE, MAX_PAGE, OUT_OF_MEMORY, Piece, copied, page_line};
 use crate::file_calls::{NOT_OPEN, open_status};
@@ -100,10 +99,21 @@ fn tell(status: u32, number: u64, listed: u64, length: u64, reply: &mut OutboxRe
 }
 
 /// The number of a service's last row, or its base.
-fn last_of(service: &FileService) -> u64
+fn last_of<S: Alter>(service: &Service<S>) -> u64
     ensures { result ≡ service.now.last }
 {
     service.base() + service.rows()
+}
+
+/// Tells of a service in a reply, beside what that tells of the call.
+fn tell_service<S: Alter>(service: &Service<S>, reply: &mut OutboxReply)
+    ensures tells { TellsService S.Store service.now reply.new }
+    ensures rest { (reply.new.status ≡ reply.old.status) × (reply.new.number ≡ reply.old.number)
+        × (reply.new.listed ≡ reply.old.listed) × (reply.new.length ≡ reply.old.length) }
+{
+    reply.base = service.base();
+    reply.last = last_of(service);
+    reply.orders = service.orders();
 }
 
 /// The source of a service that is made where none is given.
@@ -226,9 +236,7 @@ pub(crate) fn outbox_opened(
     match served(alloc, given, has_source, source, base) {
         Ok(service) => {
             tell(DONE, 0, 0, 0, reply);
-            reply.base = service.base();
-            reply.last = last_of(&service);
-            reply.orders = service.orders();
+            tell_service(&service, reply);
             OutboxHeld {
                 service: Some(service),
                 text,
@@ -316,8 +324,8 @@ fn command_of(alloc: Global, action: u32, order: u64, time: &[u8]) -> Result<Ord
 }
 
 /// Gives a service a command, and answers the event of its row.
-fn command(
-    service: &mut FileService,
+fn command<S: Alter>(
+    service: &mut Service<S>,
     status: Status,
     order: u64,
     at: &Moment,
@@ -326,9 +334,9 @@ fn command(
     requires short { length at.now ≤ 64 }
     ensures call { CommandCall (record { status = status; order = order; at = at.now })
         service.old service.new result }
-    ensures effect { HasCleanDisk (file_state service.new.conn) → CommandEffect
+    ensures effect { HasCleanDisk (state S.Store service.new.conn) → CommandEffect
         (record { status = status; order = order; at = at.now }) service.old
-        (file_state service.old.conn) (file_state service.new.conn) result }
+        (state S.Store service.old.conn) (state S.Store service.new.conn) result }
 {
     match status {
         Status::Placed => service.place(order, at),
@@ -338,9 +346,9 @@ fn command(
 }
 
 /// The line of the event that the command has where it is accepted.
-fn next_line(
+fn next_line<S: Alter>(
     alloc: Global,
-    service: &FileService,
+    service: &Service<S>,
     status: Status,
     order: u64,
     at: &Moment,
@@ -378,8 +386,8 @@ fn refuse(status: u32, text: Text, reply: &mut OutboxReply) -> Text
 }
 
 /// Gives a service a command, and answers the text that lies there then.
-fn carry_out(
-    service: &mut FileService,
+fn carry_out<S: Alter>(
+    service: &mut Service<S>,
     alloc: Global,
     text: Text,
     asked: &OrderCommand,
@@ -387,7 +395,7 @@ fn carry_out(
 ) -> Text
     requires order { (1 ≤ asked.now.order) × (asked.now.order ≤ max_sequence) }
     requires short { length asked.now.at ≤ 64 }
-    ensures did { Carries (record {
+    ensures did { Carries S.Store (record {
       status = asked.now.status;
       order = asked.now.order;
       at = asked.now.at;
@@ -409,8 +417,8 @@ fn carry_out(
 }
 
 /// Gives a service the command that the arguments name, and answers the text that lies there then.
-fn ordered(
-    service: &mut FileService,
+fn ordered<S: Alter>(
+    service: &mut Service<S>,
     alloc: Global,
     text: Text,
     action: u32,
@@ -418,7 +426,7 @@ fn ordered(
     time: &[u8],
     reply: &mut OutboxReply,
 ) -> Text
-    ensures did { Commands action order time.now service.old service.new text result
+    ensures did { Commands S.Store action order time.now service.old service.new text result
         reply.new.status reply.new.number }
     ensures listed { reply.new.listed ≡ 0 }
     ensures length { reply.new.length ≡ length result }
@@ -447,9 +455,7 @@ pub(crate) fn outbox_ordered(
     match service {
         Some(mut service) => {
             let text = ordered(&mut service, alloc, text, action, order, time, reply);
-            reply.base = service.base();
-            reply.last = last_of(&service);
-            reply.orders = service.orders();
+            tell_service(&service, reply);
             OutboxHeld {
                 service: Some(service),
                 text,
@@ -465,14 +471,15 @@ pub(crate) fn outbox_ordered(
 }
 
 /// The line of the batch of the next rows after a number, or the status.
-fn rows_line(service: &mut FileService, alloc: Global, after: u64) -> Result<Answered, u32>
+fn rows_line<S: Alter>(service: &mut Service<S>, alloc: Global, after: u64) -> Result<Answered, u32>
     ensures stays { (service.new.source ≡ service.old.source)
         × (service.new.base ≡ service.old.base) × (service.new.last ≡ service.old.last) }
-    ensures same { IsSame (file_state service.old.conn) (file_state service.new.conn) }
-    ensures crash { LeavesAsBefore (file_state service.old.conn) (file_state service.new.conn) }
+    ensures same { IsSame (state S.Store service.old.conn) (state S.Store service.new.conn) }
+    ensures crash { LeavesAsBefore (state S.Store service.old.conn)
+        (state S.Store service.new.conn) }
     ensures ok { IfOk result (λ m. (events : List EventValue) × IsPageLine events m.text m.listed
-        × (HasCleanDisk (file_state service.new.conn)
-        → IsNextRows after service.old service.new events)) }
+        × (HasCleanDisk (state S.Store service.new.conn)
+        → IsNextRows S.Store after service.old service.new events)) }
     ensures err { IfErr result (λ status. IsWant status ⊎ (status ≡ 18)) }
 {
     match service.rows_after(after, MAX_PAGE) {
@@ -482,14 +489,14 @@ fn rows_line(service: &mut FileService, alloc: Global, after: u64) -> Result<Ans
 }
 
 /// Shows a service's next rows after a number, and answers the text that lies there then.
-fn shown(
-    service: &mut FileService,
+fn shown<S: Alter>(
+    service: &mut Service<S>,
     alloc: Global,
     text: Text,
     after: u64,
     reply: &mut OutboxReply,
 ) -> Text
-    ensures did { ShowsRows after service.old service.new text result
+    ensures did { ShowsRows S.Store after service.old service.new text result
         reply.new.status reply.new.listed }
     ensures number { reply.new.number ≡ 0 }
     ensures length { reply.new.length ≡ length result }
@@ -515,9 +522,7 @@ pub(crate) fn outbox_shown(held: OutboxHeld, after: u64, reply: &mut OutboxReply
     match service {
         Some(mut service) => {
             let text = shown(&mut service, alloc, text, after, reply);
-            reply.base = service.base();
-            reply.last = last_of(&service);
-            reply.orders = service.orders();
+            tell_service(&service, reply);
             OutboxHeld {
                 service: Some(service),
                 text,

@@ -7,11 +7,7 @@ returns-in-Ok c = record {
   opened = (
     search rules,
     c.in-Ok.ensures,
-    record {
-      base = c.base-reply.ensures.base;
-      last = c.last_of-reply.ensures;
-      orders = c.orders-reply.ensures.orders;
-    },
+    c.tell_service.ensures.tells,
   );
   text = search rules;
   number = search rules;

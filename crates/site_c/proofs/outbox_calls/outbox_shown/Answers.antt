@@ -1,22 +1,21 @@
-use Rattle.std.proofs.Common.{inl, inr, refl}
+use Rattle.std.proofs.Common.{◌∙◌, inl, inr, refl, subst, sym}
+use Rattle.sqlite.specs.Files.{over_files}
+use Rattle.site_c.specs.Outboxes.{ShowsRows}
 use Rattle.site_c.proofs.outbox_calls.outbox_shown.Goals as goal
 
 pub returns-in-Some : goal.returns-in-Some
-returns-in-Some c = record {
+returns-in-Some c = let it = c.shown-text in let rest = c.tell_service.ensures.rest in record {
   did = inl (
     c.in-Some.service,
     c.shown-text.new.service,
     c.in-Some.is,
     refl,
-    c.shown-text.ensures.did,
-    record {
-      base = c.base-reply.ensures.base;
-      last = c.last_of-reply.ensures;
-      orders = c.orders-reply.ensures.orders;
-    },
+    subst (λ s. ShowsRows over_files c.args.after c.in-Some.service it.new.service c.args.held.text it.result s c.tell_service.new.reply.listed) (sym rest.0)
+        (subst (λ n. ShowsRows over_files c.args.after c.in-Some.service it.new.service c.args.held.text it.result it.new.reply.status n) (sym rest.2) it.ensures.did),
+    c.tell_service.ensures.tells,
   );
-  number = c.shown-text.ensures.number;
-  length_is = c.shown-text.ensures.length;
+  number = rest.1 ∙ it.ensures.number;
+  length_is = rest.3 ∙ it.ensures.length;
 }
 
 pub returns-in-None : goal.returns-in-None

@@ -4,7 +4,7 @@ use Rattle.site_c.specs.Outboxes.{outbox_status}
 use Rattle.site_c.proofs.outbox_calls.rows_line.Goals as goal
 
 pub returns-in-Ok-clause-ok : goal.returns-in-Ok-clause-ok
-returns-in-Ok-clause-ok c =
+returns-in-Ok-clause-ok g c =
     let read = c.in-Ok.ensures in
     IfOk-weaker c.page_line.result _ _ (λ m line. (
       c.in-Ok.events,
@@ -18,10 +18,10 @@ returns-in-Ok-clause-ok c =
     )) c.page_line.ensures.ok
 
 pub returns-in-Ok-clause-err : goal.returns-in-Ok-clause-err
-returns-in-Ok-clause-err c = IfErr-weaker c.page_line.result _ _ (λ status want. inl want) c.page_line.ensures.err
+returns-in-Ok-clause-err g c = IfErr-weaker c.page_line.result _ _ (λ status want. inl want) c.page_line.ensures.err
 
 pub returns-in-Err-clause-err : goal.returns-in-Err-clause-err
-returns-in-Err-clause-err c = elim c.in-Err.ensures.fault [
+returns-in-Err-clause-err g c = elim c.in-Err.ensures.fault [
   | inl is ↦ inl (c.outbox_status.ensures ∙ ap outbox_status is)
   | inr is ↦ inr (c.outbox_status.ensures ∙ ap outbox_status is)
 ]
