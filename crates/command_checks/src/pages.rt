@@ -123,20 +123,14 @@ fn come<R: AllocGlobal + Abort>(
 
 /// Whether so comes what the summary lacks of the 250 events.
 fn lacks<R: AllocGlobal + Abort>(rt: &R, peer: Summary, numbers: &[u64]) -> bool {
-    let CommandEnd {
-        conn: _,
-        outcome: pages,
-    } = delta_pages(rt.alloc(), stocked(rt), peer);
-    come(rt, pages, numbers)
+    let CommandEnd { conn: _, outcome } = delta_pages(rt.alloc(), stocked(rt), peer);
+    come(rt, outcome, numbers)
 }
 
 #[test]
 fn all_events_come_page_after_page(rt: HostRuntime) {
-    let CommandEnd {
-        conn: _,
-        outcome: pages,
-    } = scrub_pages(rt.alloc(), stocked(&rt));
-    assert!(rt; come(&rt, pages, &[900, 1000, 1100, 1150]));
+    let CommandEnd { conn: _, outcome } = scrub_pages(rt.alloc(), stocked(&rt));
+    assert!(rt; come(&rt, outcome, &[900, 1000, 1100, 1150]));
 }
 
 #[test]
@@ -161,10 +155,7 @@ fn a_block_with_another_event_comes_whole(rt: HostRuntime) {
 
 /// Whether a command printed this text and a line end.
 fn prints(outcome: &Result<Text, CommandFault>, text: &str) -> bool {
-    match outcome {
-        Ok(line) => line.as_str().strip_suffix("\n") == Some(text),
-        Err(_) => false,
-    }
+    matches!(outcome, Ok(line) if line.as_str().strip_suffix("\n") == Some(text))
 }
 
 /// Whether a command printed the summary of a site with the 250 events, of which one may be of
@@ -181,10 +172,7 @@ fn prints_summary<R: AllocGlobal + Abort>(
 /// Whether a command printed a summary of these numbers.
 fn prints_numbers(outcome: &Result<Text, CommandFault>) -> bool {
     let numbers = "\"sources\":{\"/orders\":[[900,1149]]},\"version\":2}\n";
-    match outcome {
-        Ok(line) => line.as_str().ends_with(numbers),
-        Err(_) => false,
-    }
+    matches!(outcome, Ok(line) if line.as_str().ends_with(numbers))
 }
 
 #[test]
@@ -205,21 +193,16 @@ static WITHOUT: [(&str, usize); 2] = [("", 0), (OUTBOX, 3)];
 
 /// Whether these are no events.
 fn is_none(events: &Result<Batch, CommandFault>) -> bool {
-    match events {
-        Ok(events) => events.is_empty(),
-        Err(_) => false,
-    }
+    matches!(events, Ok(events) if events.is_empty())
 }
 
 /// Whether a database without an inbox holds no events and has a summary that says so, and it has
 /// so many names behind that.
 fn holds_nothing<R: AllocGlobal + Abort>(rt: &R, statements: &str, count: usize) -> bool {
-    let CommandEnd {
-        conn,
-        outcome: events,
-    } = held(rt.alloc(), database(rt, statements));
+    let CommandEnd { conn, outcome } = held(rt.alloc(), database(rt, statements));
+    let has_none = is_none(&outcome);
     let CommandEnd { mut conn, outcome } = summary(rt.alloc(), conn);
-    is_none(&events) && prints(&outcome, NOTHING.trim_end()) && names(&mut conn) == Some(count)
+    has_none && prints(&outcome, NOTHING.trim_end()) && names(&mut conn) == Some(count)
 }
 
 /// How many of these databases without an inbox, from the first on, hold nothing.
@@ -242,16 +225,10 @@ fn where_there_is_no_inbox_none_is_made(rt: HostRuntime) {
 /// Whether all pages of a database without an inbox, and what a summary lacks, are none, and it has
 /// so many names behind them.
 fn has_no_pages<R: AllocGlobal + Abort>(rt: &R, statements: &str, count: usize) -> bool {
-    let CommandEnd {
-        conn,
-        outcome: pages,
-    } = scrub_pages(rt.alloc(), database(rt, statements));
-    let has_none = come(rt, pages, &[0]);
-    let CommandEnd {
-        mut conn,
-        outcome: pages,
-    } = delta_pages(rt.alloc(), conn, told(rt, NONE));
-    let lacks_none = come(rt, pages, &[0]);
+    let CommandEnd { conn, outcome } = scrub_pages(rt.alloc(), database(rt, statements));
+    let has_none = come(rt, outcome, &[0]);
+    let CommandEnd { mut conn, outcome } = delta_pages(rt.alloc(), conn, told(rt, NONE));
+    let lacks_none = come(rt, outcome, &[0]);
     has_none && lacks_none && names(&mut conn) == Some(count)
 }
 
@@ -292,9 +269,6 @@ fn are<R: AllocGlobal + Abort>(
 fn an_old_inbox_is_held(rt: HostRuntime) {
     let mut old = database(&rt, INBOX);
     assert!(rt; old.execute(OLD_ROWS, &[]) == Ok(2));
-    let CommandEnd {
-        conn: _,
-        outcome: events,
-    } = held(rt.alloc(), old);
-    assert!(rt; are(&rt, &events, 1023, 1025));
+    let CommandEnd { conn: _, outcome } = held(rt.alloc(), old);
+    assert!(rt; are(&rt, &outcome, 1023, 1025));
 }

@@ -22,10 +22,7 @@ fn first_three(alloc: Global) -> Option<Batch> {
 
 /// Whether a desk takes all of a batch, with these counts.
 fn takes(site: &mut Site, batch: &mut Batch, wanted: Counts) -> bool {
-    match Desk::take(site, batch) {
-        Ok(counts) => counts == wanted && batch.is_empty(),
-        Err(_) => false,
-    }
+    matches!(Desk::take(site, batch), Ok(counts) if counts == wanted && batch.is_empty())
 }
 
 /// Whether a desk that has the first takes the events with the numbers 1 to 3.
@@ -63,10 +60,7 @@ fn page_digits(site: &mut Site, from: u64) -> Option<u64> {
 
 /// Whether a desk answers the question how many events have each type so.
 fn are_kinds(alloc: Global, site: &mut Site, lines: &str) -> bool {
-    match Desk::query(site, Query::Kinds) {
-        Ok(answer) => is_text(print(alloc, &answer), lines),
-        Err(_) => false,
-    }
+    matches!(Desk::query(site, Query::Kinds), Ok(it) if is_text(print(alloc, &it), lines))
 }
 
 /// The summary of a site that has the first event.

@@ -81,8 +81,5 @@ pub fn json_batch(alloc: Global, first: u64, count: u64) -> Result<Text, AllocEr
 
 /// Whether there is a text, and it is this one.
 pub fn is_text(text: Result<Text, AllocError>, wanted: &str) -> bool {
-    match text {
-        Ok(text) => text.as_str() == wanted,
-        Err(_) => false,
-    }
+    matches!(text, Ok(text) if text.as_str() == wanted)
 }

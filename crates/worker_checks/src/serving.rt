@@ -242,10 +242,7 @@ fn covers<R: Wait>(rt: &R, alloc: Global, shared: &SharedSite, pass: &mut Pass, 
     requires { pass.old.table ≡ shared.now }
     ensures { pass.new.table ≡ pass.old.table }
 {
-    match shared.query(rt, pass, Query::Cover) {
-        Ok(answer) => is_text(print(alloc, &answer), lines),
-        Err(_) => false,
-    }
+    matches!(shared.query(rt, pass, Query::Cover), Ok(it) if is_text(print(alloc, &it), lines))
 }
 
 #[test]

@@ -33,10 +33,7 @@ pub fn has(batch: &Batch, ids: &[&str]) -> bool {
 
 /// Whether there is a batch, with events with these ids in their order.
 fn is_of(batch: Result<Batch, DeskFault>, ids: &[&str]) -> bool {
-    match batch {
-        Ok(batch) => has(&batch, ids),
-        Err(_) => false,
-    }
+    matches!(batch, Ok(batch) if has(&batch, ids))
 }
 
 /// A shared site without events, and its first pass.
@@ -58,10 +55,7 @@ fn answers<R: Wait>(
     requires { pass.old.table ≡ shared.now }
     ensures { pass.new.table ≡ pass.old.table }
 {
-    match shared.query(rt, pass, query) {
-        Ok(answer) => is_text(print(alloc, &answer), wanted),
-        Err(_) => false,
-    }
+    matches!(shared.query(rt, pass, query), Ok(it) if is_text(print(alloc, &it), wanted))
 }
 
 /// Takes events with these ids and numbers, and tells how many were new.
@@ -154,18 +148,12 @@ const THREE: &str = concat!(
 
 /// Whether the summary of a desk has this text.
 fn sums_up<D: Desk>(desk: &mut D, wanted: &str) -> bool {
-    match desk.summary() {
-        Ok(summary) => is_text(summary.to_text(), wanted),
-        Err(_) => false,
-    }
+    matches!(desk.summary(), Ok(summary) if is_text(summary.to_text(), wanted))
 }
 
 /// Whether a desk has these lines of kinds.
 fn are_kinds<D: Desk>(alloc: Global, desk: &mut D, wanted: &str) -> bool {
-    match desk.query(Query::Kinds) {
-        Ok(answer) => is_text(print(alloc, &answer), wanted),
-        Err(_) => false,
-    }
+    matches!(desk.query(Query::Kinds), Ok(it) if is_text(print(alloc, &it), wanted))
 }
 
 /// Whether a desk without events takes a1 to a3, of which one comes twice, and tells of them.
