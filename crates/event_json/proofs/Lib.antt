@@ -4,6 +4,8 @@ pub mod PayloadLemmas
 pub mod Laws
 pub mod PartsLemmas
 pub mod WalkLemmas
+pub mod PieceLemmas
+pub mod OutcomeLemmas
 pub mod FaultyLemmas
 pub mod FaultLemmas
 pub mod WriteLemmas

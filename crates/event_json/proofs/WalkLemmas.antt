@@ -44,6 +44,10 @@ ends_at : (n : ℕ) (ds : List Data) (f : ReadFault) → first_bad n ds ≡ Some
 ends_at n [] f h = absurd (cc)
 ends_at n (d ∷ ds) f h = ends_next n (fault_in d) d ds f refl (λ e. ends_at (suc n) ds f e) h
 
+-- what the walk ends at is the refusal of a value
+pub is_bad : (n : ℕ) (ds : List Data) (f : ReadFault) → first_bad n ds ≡ Some f → (i : ℕ) × (g : Fault) × (f ≡ bad i g)
+is_bad n ds f h = let r = ends_at n ds f h in (n + r.i, r.g, r.is)
+
 -- ---- of a value's candidates
 
 pub spells : (value : Data) (ds : List Data) (es : List EventValue) → candidates value ≡ Some ds → first_bad 0 ds ≡ None → es ≡ map event_in ds → Spells value es

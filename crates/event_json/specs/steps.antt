@@ -2,3 +2,5 @@
 pub mod Walk
 pub mod Joined
 pub mod Told
+pub mod Pieces
+pub mod Outcome

@@ -1,5 +1,5 @@
 //! Events read from JSON: one alone, or a batch.
-ghost use Rattle.std.specs.Prelude.{◌≡◌, ◌≢◌, ◌<◌, ℕ, List, [], ◌∷◌, length, map, option_map, Err, IfOk, IfErr};
+ghost use Rattle.std.specs.Prelude.{◌≡◌, ◌≢◌, ◌<◌, ℕ, List, [], ◌∷◌, ◌++◌, length, map, option_map, Err, IfOk, IfErr, IfSome, OnOk};
 ghost use Rattle.base64.specs.Engines.{standard};
 ghost use Rattle.base64.specs.GeneralPurpose.{decode_of};
 ghost use Rattle.serde_json.specs.Data.{Data, object};
@@ -10,9 +10,12 @@ ghost use Rattle.attributes.specs.JsonText.{IsJsonText};
 ghost use Rattle.event_json.specs.Payload.{unless_null, payload, bytes_in, decoded};
 ghost use Rattle.event_json.specs.Spelling.{given_whole, given_in, spelled, offer_in, fault_in, event_in};
 ghost use Rattle.event_json.specs.Reading.{Spells, IsNoSpelling, Reads, Refuses, max_input};
+ghost use Rattle.event_json.specs.Parts.{SpellsSome, part_text};
+ghost use Rattle.event_json.specs.steps.Outcome.{IsOutcome, ok_of, result_of};
 ghost use Rattle.event_json.specs.steps.Walk.{bad, bad_or, first_bad};
 
 use crate::fault::ReadFault;
+use crate::pieces::{Gather, read_batch_text, read_part};
 use attributes::{Event, Events, Fault, Given, Octets, Offered, Parts, Text, Tree};
 use base64::DecodeAllocError;
 use base64::engine::general_purpose::STANDARD;
@@ -28,9 +31,12 @@ pub const MAX_INPUT: u64 = 33_554_432;
 ///
 /// The refusals are tested in the order that [`ReadFault`] gives, and the first member of a batch
 /// that is no event is named. Too much is refused before any memory is asked for, and want of
-/// memory is never the fault of a member. Time and memory are proportional to the length of the
-/// input: for a moment usual events take about nine times its length, and the tree of `[0,0,..]`
-/// twenty times.
+/// memory is never the fault of a member.
+///
+/// Time and memory are proportional to the length of the input. A batch is read member by member,
+/// and the tree of each is given back before the next is read. What no such reading finds to be a
+/// batch (one event alone, no JSON) is read once more, as one tree: that of `[0,0,..` without its
+/// bracket takes about twenty times the length of the input.
 pub fn read_events(alloc: Global, bytes: &[u8]) -> Result<Events, ReadFault>
     ensures ok { IfOk result (λ l. Reads bytes.now l) }
     ensures refused { IfErr result (λ f. f ≢ ReadFault.OutOfMemory → Refuses bytes.now f) }
@@ -41,8 +47,99 @@ pub fn read_events(alloc: Global, bytes: &[u8]) -> Result<Events, ReadFault>
     if bytes.len() as u64 > MAX_INPUT {
         return Err(ReadFault::InputTooLarge);
     }
+    if let Some(outcome) = read_batch_text(alloc, bytes, Outcome::empty(alloc))? {
+        return outcome.result();
+    }
     let value = parse(alloc, bytes)?;
     read_value(alloc, value)
+}
+
+/// The events that a part of a batch spells, which stands between two commas unless it begins or
+/// ends the batch (CloudEvents JSON Event Format 1.0.2, section 4). `None` says nothing of the
+/// bytes: they may spell events all the same. For readers that read parts side by side.
+pub fn read_part_events(
+    alloc: Global,
+    bytes: &[u8],
+    opened: bool,
+    closed: bool,
+) -> Result<Option<Events>, AllocError>
+    ensures { IfOk result (λ o. IfSome o (λ l. SpellsSome (part_text opened bytes.now closed) l)) }
+{
+    match read_part(alloc, bytes, opened, closed, Outcome::empty(alloc))? {
+        Some(outcome) => Ok(outcome.events_alone()),
+        None => Ok(None),
+    }
+}
+
+/// What the members of a batch that were read come to: their events, or the first that is none.
+#[derive(Drop)]
+struct Outcome {
+    /// The events of the members before the first that is none.
+    events: Events,
+    /// The refusal of the first that is none.
+    refusal: Option<ReadFault>,
+}
+
+impl Outcome {
+    /// That of no members.
+    fn empty(alloc: Global) -> Outcome
+        ensures { IsOutcome result [] }
+    {
+        Outcome {
+            events: Events::empty(alloc),
+            refusal: None,
+        }
+    }
+
+    /// The events, or the refusal.
+    fn result(self) -> Result<Events, ReadFault>
+        ensures { result ≡ result_of self }
+    {
+        match self.refusal {
+            None => Ok(self.events),
+            Some(refusal) => Err(refusal),
+        }
+    }
+
+    /// The events, where no member is refused.
+    fn events_alone(self) -> Option<Events>
+        ensures { result ≡ ok_of (result_of self) }
+    {
+        match self.refusal {
+            None => Some(self.events),
+            Some(_) => None,
+        }
+    }
+}
+
+impl Gather for Outcome {
+    ghost is_of = { IsOutcome };
+
+    fn add(self, alloc: Global, _text: &[u8], members: Vec<Value>) -> Result<Outcome, AllocError> {
+        let Outcome {
+            mut events,
+            refusal,
+        } = self;
+        if let Some(refusal) = refusal {
+            return Ok(Outcome {
+                events,
+                refusal: Some(refusal),
+            });
+        }
+        match push_events(alloc, &mut events, members) {
+            Ok(()) => Ok(Outcome {
+                events,
+                refusal: None,
+            }),
+            Err(refusal) => match refusal {
+                ReadFault::OutOfMemory => Err(AllocError),
+                _ => Ok(Outcome {
+                    events,
+                    refusal: Some(refusal),
+                }),
+            },
+        }
+    }
 }
 
 /// Bytes spell at most one list of events, and are refused only where they spell none.
@@ -104,13 +201,25 @@ fn read_batch(alloc: Global, items: Vec<Value>) -> Result<Events, ReadFault>
         → first_bad 0 (map view items.items) ≡ Some f) }
 {
     let mut events = Events::empty(alloc);
+    push_events(alloc, &mut events, items)?;
+    Ok(events)
+}
+
+/// Puts the events of items behind those that are there, each of an item; the index of one that is
+/// refused counts those too.
+fn push_events(alloc: Global, events: &mut Events, items: Vec<Value>) -> Result<(), ReadFault>
+    ensures ok { OnOk result ((first_bad (length events.old) (map view items.items) ≡ None)
+        × (events.new ≡ events.old ++ map event_in (map view items.items))) }
+    ensures refused { IfErr result (λ f. f ≢ ReadFault.OutOfMemory
+        → first_bad (length events.old) (map view items.items) ≡ Some f) }
+{
     for item in items {
         match read_item(alloc, item) {
             Ok(event) => events.push(event)?,
             Err(fault) => return Err(refusal(events.len(), fault)),
         }
     }
-    Ok(events)
+    Ok(())
 }
 
 /// The refusal of the value at the index, for its fault.

@@ -1,0 +1,21 @@
+-- Two texts of arrays, joined at a comma (RFC 8259, section 5).
+use Rattle.std.specs.Prelude.{◌≡◌, ℕ, List, [], ◌∷◌, ◌++◌, Some, ⊤}
+use Rattle.serde_json.specs.Data.{Items, no_items, item, array}
+use Rattle.serde_json.specs.Read.{read}
+
+-- the items of two arrays, one behind the other
+abbrev pub append_items : Items → Items → Items
+append_items no_items ys = ys
+append_items (item d xs) ys = item d (append_items xs ys)
+
+-- there is one at least
+abbrev pub AreSome : Items → Type 0
+AreSome no_items = ⊥
+AreSome (item d ds) = ⊤
+
+-- a front that reads as an array once it is closed, a comma, and a rest that reads as an array once
+-- it is opened, neither of them empty, read as the array of both
+abbrev pub JoinTexts : Type 0
+JoinTexts = (f t : List ℕ) (xs ys : Items) → read (f ++ 93 ∷ []) ≡ Some (array xs)
+    → read (91 ∷ t) ≡ Some (array ys) → AreSome xs → AreSome ys
+    → read (f ++ 44 ∷ t) ≡ Some (array (append_items xs ys))

@@ -1,0 +1,124 @@
+-- What the members of a batch come to, piece by piece.
+use Rattle.std.proofs.Common.{◌≡◌, ℕ, suc, ◌+◌, ◌≤◌, List, [], ◌∷◌, ◌++◌, map, length, Option, Some, None, Result, IfOk, IfErr, IfSome, ◌≢◌, refl, sym, ap, ap₂, ◌∙◌, subst, arith, append-nil}
+use Rattle.std.specs.Option.{option_or}
+use Rattle.std.proofs.lemmas.List.{map-append}
+use Rattle.serde_json.specs.Data.{Data, array}
+use Rattle.attributes.specs.Event.{EventValue}
+use Rattle.attributes.specs.declared.fault.Fault.{Fault}
+use Rattle.event_json.specs.Spelling.{fault_in, event_in, list_of}
+use Rattle.event_json.specs.Reading.{AreFaultless, IsNoSpelling, Reads, Refuses, max_input}
+use Rattle.event_json.specs.Parts.{HoldsSome, SpellsSome}
+use Rattle.event_json.specs.steps.Pieces.{Gathers, GoesOn}
+use Rattle.event_json.specs.steps.Walk.{bad, bad_or, first_bad}
+use Rattle.event_json.specs.steps.Outcome.{IsOutcome, ok_of, result_of, unless_refused}
+use Rattle.event_json.specs.declared.fault.ReadFault.{ReadFault}
+use Rattle.event_json.specs.declared.read.Outcome.{Outcome}
+use Rattle.event_json.specs.declared.fault.ReadFault.TheVariants.{OutOfMemory, BadEvent}
+use Rattle.attributes.specs.declared.fault.Fault.TheVariants as fault
+use Rattle.event_json.proofs.FaultLemmas.{unnamed}
+use Rattle.event_json.proofs.WalkLemmas.{faultless_all, is_bad, no_spelling}
+
+-- ---- the first value with a fault
+
+or_later : (n : ℕ) (o : Option Fault) (x y : Option ReadFault) → bad_or n o (option_or x y) ≡ option_or (bad_or n o x) y
+or_later n None x y = refl
+or_later n (Some f) x y = refl
+
+-- the first bad one of all stands in the first piece that has one
+pub first_bad-append : (n : ℕ) (ds es : List Data) → first_bad n (ds ++ es) ≡ option_or (first_bad n ds) (first_bad (n + length ds) es)
+first_bad-append n [] es = let here : n ≡ n + 0 = omega arith in ap (λ k. first_bad k es) here
+first_bad-append n (d ∷ ds) es =
+    let on : suc n + length ds ≡ n + suc (length ds) = omega arith in
+    ap (bad_or n (fault_in d)) (first_bad-append (suc n) ds es ∙ ap (λ k. option_or (first_bad (suc n) ds) (first_bad k es)) on)
+    ∙ or_later n (fault_in d) (first_bad (suc n) ds) (first_bad (n + suc (length ds)) es)
+
+length_events : (ds : List Data) → length (map event_in ds) ≡ length ds
+length_events [] = refl
+length_events (d ∷ ds) = ap suc (length_events ds)
+
+-- ---- members more
+
+-- the first bad one stays the first
+pub stays_refused : (o n : Outcome) (f : ReadFault) (es : List Data) → o.refusal ≡ Some f → n.refusal ≡ Some f → GoesOn (IsOutcome o) (IsOutcome n) es
+stays_refused o n f es is new ds h =
+    let first : first_bad 0 ds ≡ Some f = sym h.0 ∙ is in (
+      new ∙ sym (first_bad-append 0 ds es ∙ ap (λ x. option_or x (first_bad (0 + length ds) es)) first),
+      λ none. absurd (let no = sym new ∙ none in cc),
+    )
+
+-- where none was bad, those that come are walked from where they stand
+walked_on : (o : Outcome) (ds es : List Data) → o.refusal ≡ None → IsOutcome o ds → first_bad 0 (ds ++ es) ≡ first_bad (length o.events) es
+walked_on o ds es was h =
+    let none : first_bad 0 ds ≡ None = sym h.0 ∙ was in
+    let place : length o.events ≡ length ds = ap length (h.1 was) ∙ length_events ds in
+    let here : 0 + length ds ≡ length o.events = omega (arith, place) in
+    first_bad-append 0 ds es ∙ ap (λ x. option_or x (first_bad (0 + length ds) es)) none ∙ ap (λ k. first_bad k es) here
+
+pub none_refused : (o n : Outcome) (es : List Data) → o.refusal ≡ None → n.refusal ≡ None → first_bad (length o.events) es ≡ None → n.events ≡ o.events ++ map event_in es → GoesOn (IsOutcome o) (IsOutcome n) es
+none_refused o n es was is none are ds h = (
+  is ∙ sym (walked_on o ds es was h ∙ none),
+  λ _. are ∙ ap (λ x. x ++ map event_in es) (h.1 was) ∙ sym (map-append event_in ds es),
+)
+
+pub one_refused : (o n : Outcome) (f : ReadFault) (es : List Data) → o.refusal ≡ None → n.refusal ≡ Some f → first_bad (length o.events) es ≡ Some f → GoesOn (IsOutcome o) (IsOutcome n) es
+one_refused o n f es was is bad_one ds h = (
+  is ∙ sym (walked_on o ds es was h ∙ bad_one),
+  λ none. absurd (let no = sym is ∙ none in cc),
+)
+
+-- ---- the whole
+
+-- the outcome of a text's members
+record Comes (b : List ℕ) (ds : List Data) (r : Option ReadFault) (es : List EventValue) : Type 0 where
+  holds : HoldsSome b ds
+  is : r ≡ first_bad 0 ds
+  are : r ≡ None → es ≡ map event_in ds
+
+spelled_ok : (b : List ℕ) (ds : List Data) (r : Option ReadFault) (es : List EventValue) → Comes b ds r es → IfSome (ok_of (unless_refused r es)) (λ l. SpellsSome b l)
+spelled_ok b ds None es c = record { members = ds; holds = c.holds; faultless = faultless_all 0 ds (sym c.is); are_events = c.are refl }
+spelled_ok b ds (Some f) es c = tt
+
+pub reads_all : (b : List ℕ) (es : List EventValue) → SpellsSome b es → length b ≤ max_input → Reads b es
+reads_all b es h fits =
+    record {
+      value = array h.holds.items;
+      is_text = record { fits = fits; is_json = (h.holds.utf8, h.holds.reads) };
+      spells = record { found = list_of h.holds.items; are_found = refl; faultless = subst AreFaultless h.holds.are h.faultless; are_events = h.are_events ∙ ap (map event_in) h.holds.are };
+    }
+
+read_ok : (b : List ℕ) (ds : List Data) (r : Option ReadFault) (es : List EventValue) → Comes b ds r es → length b ≤ max_input → IfOk (unless_refused r es) (λ l. Reads b l)
+read_ok b ds None es c fits = reads_all b es (spelled_ok b ds None es c) fits
+read_ok b ds (Some f) es c fits = tt
+
+refused_first : (b : List ℕ) (ds : List Data) (f : ReadFault) → HoldsSome b ds → first_bad 0 ds ≡ Some f → length b ≤ max_input → Refuses b f
+refused_first b ds f h is fits =
+    let bad_one = is_bad 0 ds f is in
+    subst (Refuses b) (sym bad_one.2)
+    (
+      array h.items,
+      record { fits = fits; is_json = (h.utf8, h.reads) },
+      subst (λ x. IsNoSpelling (array h.items) x) bad_one.2 (no_spelling (array h.items) (list_of h.items) f refl (ap (first_bad 0) (sym h.are) ∙ is)),
+    )
+
+read_refused : (b : List ℕ) (ds : List Data) (r : Option ReadFault) (es : List EventValue) → Comes b ds r es → length b ≤ max_input → IfErr (unless_refused r es) (λ f. f ≢ OutOfMemory → Refuses b f)
+read_refused b ds None es c fits = tt
+read_refused b ds (Some f) es c fits = λ _. refused_first b ds f c.holds (sym c.is) fits
+
+read_named : (b : List ℕ) (ds : List Data) (r : Option ReadFault) (es : List EventValue) → Comes b ds r es → IfErr (unless_refused r es) (λ f. (i : ℕ) → f ≢ BadEvent i fault.OutOfMemory)
+read_named b ds None es c = tt
+read_named b ds (Some f) es c = λ i is. unnamed (array c.holds.items) f i (λ _. no_spelling (array c.holds.items) (list_of c.holds.items) f refl (ap (first_bad 0) (sym c.holds.are) ∙ sym c.is)) is
+
+comes : (b : List ℕ) (o : Outcome) (g : Gathers b (IsOutcome o)) → Comes b g.members o.refusal o.events
+comes b o g = record { holds = g.holds; is = g.is.0; are = g.is.1 }
+
+pub part_spells : (b : List ℕ) (o : Outcome) → Gathers b (IsOutcome o) → IfSome (ok_of (result_of o)) (λ l. SpellsSome b l)
+part_spells b o g = spelled_ok b g.members o.refusal o.events (comes b o g)
+
+pub whole_reads : (b : List ℕ) (o : Outcome) → Gathers (b ++ []) (IsOutcome o) → length b ≤ max_input → IfOk (result_of o) (λ l. Reads b l)
+whole_reads b o h fits = let g = subst (λ x. Gathers x (IsOutcome o)) (append-nil b) h in read_ok b g.members o.refusal o.events (comes b o g) fits
+
+pub whole_refuses : (b : List ℕ) (o : Outcome) → Gathers (b ++ []) (IsOutcome o) → length b ≤ max_input → IfErr (result_of o) (λ f. f ≢ OutOfMemory → Refuses b f)
+whole_refuses b o h fits = let g = subst (λ x. Gathers x (IsOutcome o)) (append-nil b) h in read_refused b g.members o.refusal o.events (comes b o g) fits
+
+pub whole_names : (b : List ℕ) (o : Outcome) → Gathers (b ++ []) (IsOutcome o) → IfErr (result_of o) (λ f. (i : ℕ) → f ≢ BadEvent i fault.OutOfMemory)
+whole_names b o h = let g = subst (λ x. Gathers x (IsOutcome o)) (append-nil b) h in read_named b g.members o.refusal o.events (comes b o g)
