@@ -1,7 +1,10 @@
 -- No event's fault is want of memory.
-use Rattle.std.proofs.Common.{◌≡◌, ℕ, List, [], ◌∷◌, Bool, true, false, cond, Option, Some, None, option_and_then, slice_get, nat_lt, length, subst}
+use Rattle.std.proofs.Common.{◌≡◌, ℕ, List, [], ◌∷◌, Bool, true, false, cond, Option, Some, None, option_and_then, slice_get, nat_lt, length, ◌<◌, sym, refl, ◌∙◌, arith, subst}
 use Rattle.std.specs.List.{AllByRecursion}
 use Rattle.serde_json.specs.Data.{Data, null, boolean, number, string, array, object}
+use Rattle.serde_json.specs.Read.{read}
+use Rattle.serde_json.proofs.OnLiterals.{serde_json_on_literals}
+use Rattle.attributes.specs.JsonText.{IsJsonText}
 use Rattle.attributes.specs.Event.{OfferValue, event_of, text}
 use Rattle.attributes.specs.Fault.{first_failed, member_tests, payload_tests, member_fault, payload_fault, max_text, fault}
 use Rattle.std.specs.Option.{option_or}
@@ -66,3 +69,13 @@ pub unnamed : (value : Data) (f : ReadFault) (i : ℕ) → ((f ≡ refusal.OutOf
 unnamed value f i refused is =
     let other : f ≡ refusal.OutOfMemory → ⊥ = λ e. (cc) in
     IsNoSpelling-memory value i (subst (IsNoSpelling value) is (refused other))
+
+-- ---- a JSON text has bytes
+
+nothing_read : (d : Data) → read [] ≡ Some d → ⊥
+unfolding serde_json_on_literals
+nothing_read d h = let none : read [] ≡ None = refl in let no = sym none ∙ h in cc
+
+pub has_bytes : (b : List ℕ) (d : Data) → IsJsonText b d → 0 < length b
+has_bytes [] d h = absurd (nothing_read d h.1)
+has_bytes (x ∷ b) d h = omega arith

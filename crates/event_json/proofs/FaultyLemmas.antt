@@ -1,9 +1,9 @@
 -- A step of the walk that tells the members at fault; no fault of theirs is want of memory.
-use Rattle.std.proofs.Common.{◌≡◌, ◌≢◌, ℕ, suc, ◌+◌, List, [], ◌∷◌, ◌++◌, map, Option, Some, None, String, BTreeMap, Global, ◌<◌, ◌≤◌, length, IsSome, option_to_list, refl, sym, ap, ◌∙◌, subst, append_assoc, add-one, codes, arith}
+use Rattle.std.proofs.Common.{◌≡◌, ◌≢◌, ℕ, suc, ◌+◌, List, [], ◌∷◌, ◌++◌, map, Option, Some, None, String, BTreeMap, Global, ◌<◌, ◌≤◌, length, IsSome, option_to_list, refl, sym, ap, ◌∙◌, subst, append_assoc, append-nil, length-append, add-one, codes, arith}
 use Rattle.std.specs.Option.{option_flatten}
 use Rattle.std.proofs.lemmas.List.{map-append}
 use Rattle.std.specs.List.{AllByRecursion}
-use Rattle.serde_json.specs.Data.{Data}
+use Rattle.serde_json.specs.Data.{Data, array}
 use Rattle.serde_json.specs.View.{view}
 use Rattle.serde_json.specs.declared.value.Value.{Value, Object}
 use Rattle.serde_json.proofs.Views.{view-Object}
@@ -14,7 +14,10 @@ use Rattle.attributes.specs.declared.fault.Fault.{Fault}
 use Rattle.attributes.specs.declared.fault.Fault.TheVariants.{OutOfMemory}
 use Rattle.attributes.specs.JsonText.{IsJsonText}
 use Rattle.event_json.specs.Reading.{IsTextOf, max_input}
-use Rattle.event_json.specs.Spelling.{candidates, event_in, fault_in}
+use Rattle.event_json.specs.Spelling.{candidates, event_in, fault_in, list_of}
+use Rattle.event_json.specs.declared.faulty.FaultyMembers.{FaultyMembers}
+use Rattle.event_json.specs.steps.FaultyMembers.{AreFaultyOf, HasMembers}
+use Rattle.event_json.specs.steps.Pieces.{Gathers, GoesOn}
 use Rattle.event_json.specs.Faulty.{FaultyMember, TellsFaulty, fault_unless, faulty, member_fault, member_of, number_fault, with_fault}
 use Rattle.event_json.specs.declared.faulty.Faulty.{Faulty}
 use Rattle.event_json.specs.steps.Told.{AllAreNone}
@@ -63,16 +66,46 @@ none_faulty n [] h = refl
 none_faulty n (d ∷ ds) h = ap (λ o. with_fault n d o (faulty (suc n) ds)) h.0 ∙ none_faulty (suc n) ds h.1
 
 -- where none is at fault nothing is told
-pub tells_nothing : (b : List ℕ) (value : Data) (ds : List Data) (fs : List (Option Fault)) → length b ≤ max_input → IsJsonText b value → candidates value ≡ Some ds → fs ≡ map member_fault ds → AllAreNone fs → TellsFaulty b []
-tells_nothing b value ds fs fits is_json found are none =
-    record { value = value; is_text = record { fits = fits; is_json = is_json }; found = ds; are_found = found; are_faulty = sym (none_faulty 0 ds (subst AllAreNone are none)) }
+pub quiet : (told : List FaultyMember) (n : ℕ) (ds : List Data) (fs : List (Option Fault)) → fs ≡ map member_fault ds → AllAreNone fs → told ≡ told ++ faulty n ds
+quiet told n ds fs are none = sym (append-nil told) ∙ ap (λ l. told ++ l) (sym (none_faulty n ds (subst AllAreNone are none)))
 
 same_candidates : (v w : Data) (ds es : List Data) → Some v ≡ Some w → candidates v ≡ Some ds → candidates w ≡ Some es → ds ≡ es
 same_candidates v w ds es same found again = cc
 
--- the same bytes read once more have the same faults
-pub same_faults : (b : List ℕ) (v w : Data) (ds es : List Data) (fs : List (Option Fault)) → IsJsonText b v → IsJsonText b w → candidates v ≡ Some ds → candidates w ≡ Some es → fs ≡ map member_fault ds → fs ≡ map member_fault es
-same_faults b v w ds es fs is_v is_w found again are = are ∙ ap (map member_fault) (same_candidates v w ds es (sym is_v.1 ∙ is_w.1) found again)
+-- the same bytes read once more have the same members
+pub same_members : (b : List ℕ) (ds es : List Data) → HasMembers b ds → HasMembers b es → ds ≡ es
+same_members b ds es h g = same_candidates h.0 g.0 ds es (sym h.1.1 ∙ g.1.1) h.2 g.2
+
+-- ---- piece by piece
+
+with_fault-append : (n : ℕ) (d : Data) (o : Option Fault) (xs ys : List FaultyMember) → with_fault n d o (xs ++ ys) ≡ with_fault n d o xs ++ ys
+with_fault-append n d None xs ys = refl
+with_fault-append n d (Some f) xs ys = refl
+
+faulty-append : (n : ℕ) (ds es : List Data) → faulty n (ds ++ es) ≡ faulty n ds ++ faulty (n + length ds) es
+faulty-append n [] es = let here : n ≡ n + 0 = omega arith in ap (λ k. faulty k es) here
+faulty-append n (d ∷ ds) es =
+    let on : suc n + length ds ≡ n + suc (length ds) = omega arith in
+    ap (with_fault n d (member_fault d)) (faulty-append (suc n) ds es ∙ ap (λ k. faulty (suc n) ds ++ faulty k es) on)
+    ∙ with_fault-append n d (member_fault d) (faulty (suc n) ds) (faulty (n + suc (length ds)) es)
+
+pub more_told : (o n : FaultyMembers) (es : List Data) → map member_of n.told.items ≡ map member_of o.told.items ++ faulty o.count es → n.count ≡ o.count + length es → GoesOn (AreFaultyOf o) (AreFaultyOf n) es
+more_told o n es told count ds h =
+    let place : o.count ≡ 0 + length ds = omega (arith, h.1) in (
+      told ∙ ap (λ x. x ++ faulty o.count es) h.0 ∙ ap (λ k. faulty 0 ds ++ faulty k es) place ∙ sym (faulty-append 0 ds es),
+      count ∙ ap (λ k. k + length es) h.1 ∙ sym (length-append ds es),
+    )
+
+pub tells_whole : (b : List ℕ) (o : FaultyMembers) → Gathers (b ++ []) (AreFaultyOf o) → length b ≤ max_input → TellsFaulty b (map member_of o.told.items)
+tells_whole b o h fits =
+    let g = subst (λ x. Gathers x (AreFaultyOf o)) (append-nil b) h in
+    record {
+      value = array g.holds.items;
+      is_text = record { fits = fits; is_json = (g.holds.utf8, g.holds.reads) };
+      found = list_of g.holds.items;
+      are_found = refl;
+      are_faulty = g.is.0 ∙ ap (faulty 0) g.holds.are;
+    }
 
 pub candidates-alone : (m : BTreeMap (String Global) Value) → candidates (view (Object m)) ≡ Some (view (Object m) ∷ [])
 candidates-alone m = candidates-Object m ∙ ap (λ d. Some (d ∷ [])) (sym (view-Object m))

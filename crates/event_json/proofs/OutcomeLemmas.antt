@@ -1,5 +1,5 @@
 -- What the members of a batch come to, piece by piece.
-use Rattle.std.proofs.Common.{◌≡◌, ℕ, suc, ◌+◌, ◌≤◌, List, [], ◌∷◌, ◌++◌, map, length, Option, Some, None, Result, IfOk, IfErr, IfSome, ◌≢◌, refl, sym, ap, ap₂, ◌∙◌, subst, arith, append-nil}
+use Rattle.std.proofs.Common.{◌≡◌, ℕ, suc, ◌+◌, ◌≤◌, List, [], ◌∷◌, ◌++◌, map, length, Option, Some, None, ◌<◌, Result, Ok, Err, IfOk, IfErr, IfSome, ◌≢◌, refl, sym, ap, ap₂, ◌∙◌, subst, arith, append-nil}
 use Rattle.std.specs.Option.{option_or}
 use Rattle.std.proofs.lemmas.List.{map-append}
 use Rattle.serde_json.specs.Data.{Data, array}
@@ -15,7 +15,7 @@ use Rattle.event_json.specs.declared.fault.ReadFault.{ReadFault}
 use Rattle.event_json.specs.declared.read.Outcome.{Outcome}
 use Rattle.event_json.specs.declared.fault.ReadFault.TheVariants.{OutOfMemory, BadEvent}
 use Rattle.attributes.specs.declared.fault.Fault.TheVariants as fault
-use Rattle.event_json.proofs.FaultLemmas.{unnamed}
+use Rattle.event_json.proofs.FaultLemmas.{unnamed, has_bytes}
 use Rattle.event_json.proofs.WalkLemmas.{faultless_all, is_bad, no_spelling}
 
 -- ---- the first value with a fault
@@ -122,3 +122,12 @@ whole_refuses b o h fits = let g = subst (λ x. Gathers x (IsOutcome o)) (append
 
 pub whole_names : (b : List ℕ) (o : Outcome) → Gathers (b ++ []) (IsOutcome o) → IfErr (result_of o) (λ f. (i : ℕ) → f ≢ BadEvent i fault.OutOfMemory)
 whole_names b o h = let g = subst (λ x. Gathers x (IsOutcome o)) (append-nil b) h in read_named b g.members o.refusal o.events (comes b o g)
+
+if_refused : {T E : Type 0} (P : E → Type 0) (Q : Type 0) (r : Result T E) → Q → IfErr r (λ e. P e → Q)
+if_refused P Q (Ok t) q = tt
+if_refused P Q (Err e) q = λ _. q
+
+pub whole_has_bytes : (b : List ℕ) (o : Outcome) → Gathers (b ++ []) (IsOutcome o) → IfErr (result_of o) (λ f. f ≡ OutOfMemory → 0 < length b)
+whole_has_bytes b o h =
+    let g = subst (λ x. Gathers x (IsOutcome o)) (append-nil b) h in
+    if_refused (λ f. f ≡ OutOfMemory) (0 < length b) (result_of o) (has_bytes b (array g.holds.items) (g.holds.utf8, g.holds.reads))

@@ -4,3 +4,4 @@ pub mod Joined
 pub mod Told
 pub mod Pieces
 pub mod Outcome
+pub mod FaultyMembers

@@ -1,15 +1,17 @@
 //! All members of an input that are no events with a number.
 
-ghost use Rattle.std.specs.Prelude.{◌≡◌, ◌≢◌, ◌<◌, [], Err, IfErr, IfOk, List, Some, None, length, map, true};
+ghost use Rattle.std.specs.Prelude.{◌≡◌, ◌≢◌, ◌<◌, ◌+◌, ◌^◌, ◌++◌, [], Err, IfErr, IfOk, List, OnOk, Some, None, length, map, true};
 ghost use Rattle.std.specs.List.{AllByRecursion};
 ghost use Rattle.serde_json.specs.Data.{Data};
 ghost use Rattle.serde_json.specs.View.{view};
 ghost use Rattle.event_json.specs.Spelling.{candidates};
 ghost use Rattle.event_json.specs.Reading.{max_input};
 ghost use Rattle.event_json.specs.Faulty.{RefusesWhole, TellsFaulty, faulty, member_fault, member_of, number_fault};
+ghost use Rattle.event_json.specs.steps.FaultyMembers.{AreFaultyOf, HasMembers};
 ghost use Rattle.event_json.specs.steps.Told.{AllAreNone, IsNoMember};
 
 use crate::fault::ReadFault;
+use crate::pieces::{Gather, read_batch_text};
 use crate::read::{MAX_INPUT, parse, read_item};
 use attributes::{Event, Fault, Sequenced};
 use serde_json::Value;
@@ -31,25 +33,104 @@ pub struct Faulty {
 /// as a whole is refused as there, and a fault of a member is no refusal.
 ///
 /// Too much is refused before any memory is asked for. Time and memory are proportional to the
-/// length of the input. Nothing is copied: where a member is at fault, the input is read once more
-/// for the trees that are told.
+/// length of the input; a batch is read member by member, as there. Nothing is copied: a member at
+/// fault is read once more for the tree that is told.
 pub fn read_faulty(alloc: Global, bytes: &[u8]) -> Result<Vec<Faulty>, ReadFault>
     ensures ok { IfOk result (λ told. TellsFaulty bytes.now (map member_of told.items)) }
     ensures refused { IfErr result (λ f. f ≢ ReadFault.OutOfMemory → RefusesWhole bytes.now f) }
     ensures too_large { max_input < length bytes.now → result ≡ Err ReadFault.InputTooLarge }
     ensures named { IfOk result (λ told.
         AllByRecursion (λ m. m.fault ≢ Fault.OutOfMemory) told.items) }
+    ensures memory { IfErr result (λ f. f ≡ ReadFault.OutOfMemory → 0 < length bytes.now) }
 {
     if bytes.len() as u64 > MAX_INPUT {
         return Err(ReadFault::InputTooLarge);
     }
-    let read = parse(alloc, bytes)?;
-    let faults = faults_of(alloc, members(alloc, read)?)?;
-    if all_are_none(&faults) {
-        return Ok(Vec::new(alloc));
+    if let Some(found) = read_batch_text(alloc, bytes, FaultyMembers::empty(alloc))? {
+        return Ok(found.told);
     }
-    let again = parse(alloc, bytes)?;
-    Ok(told(alloc, members(alloc, again)?, faults)?)
+    let value = parse(alloc, bytes)?;
+    let members = members(alloc, value)?;
+    let mut told = Vec::new(alloc);
+    tell_faulty(alloc, bytes, members, 0, &mut told)?;
+    Ok(told)
+}
+
+/// Those of the members of a batch so far that are at fault.
+#[derive(Drop)]
+struct FaultyMembers {
+    told: Vec<Faulty>,
+    /// How many members there were.
+    count: u64,
+}
+
+impl FaultyMembers {
+    /// Those of no members.
+    fn empty(alloc: Global) -> FaultyMembers
+        ensures { AreFaultyOf result [] }
+    {
+        FaultyMembers {
+            told: Vec::new(alloc),
+            count: 0,
+        }
+    }
+}
+
+impl Gather for FaultyMembers {
+    ghost is_of = { AreFaultyOf };
+
+    fn add(
+        self,
+        alloc: Global,
+        text: &[u8],
+        members: Vec<Value>,
+    ) -> Result<FaultyMembers, AllocError> {
+        let FaultyMembers { mut told, count } = self;
+        let more = members.len() as u64;
+        if more > u64::MAX - count {
+            return Err(AllocError);
+        }
+        tell_faulty(alloc, text, members, count, &mut told)?;
+        Ok(FaultyMembers {
+            told,
+            count: count + more,
+        })
+    }
+}
+
+/// Tells those of the members of a text that are at fault, of which the first stands at a place. The
+/// text is read once more for their trees, where there are some.
+fn tell_faulty(
+    alloc: Global,
+    text: &[u8],
+    members: Vec<Value>,
+    first: u64,
+    told: &mut Vec<Faulty>,
+) -> Result<(), AllocError>
+    requires text { HasMembers text.now (map view members.items) }
+    requires places { first + length members.items < 2 ^ 64 }
+    ensures { OnOk result (map member_of told.new.items
+        ≡ map member_of told.old.items ++ faulty first (map view members.items)) }
+{
+    let faults = faults_of(alloc, members)?;
+    if all_are_none(&faults) {
+        return Ok(());
+    }
+    let trees = members_again(alloc, text)?;
+    tell(trees, faults, first, told)
+}
+
+/// The members of a text that was read before.
+fn members_again(alloc: Global, text: &[u8]) -> Result<Vec<Value>, AllocError>
+    ensures { IfOk result (λ found. HasMembers text.now (map view found.items)) }
+{
+    let Ok(value) = parse(alloc, text) else {
+        return Err(AllocError);
+    };
+    match members(alloc, value) {
+        Ok(found) => Ok(found),
+        Err(_) => Err(AllocError),
+    }
 }
 
 /// What a value has as members: the items of an array, or the object that it is.
@@ -112,22 +193,24 @@ fn all_are_none(faults: &[Option<Fault>]) -> bool
     true
 }
 
-/// The trees that have a fault.
-fn told(
-    alloc: Global,
+/// Tells the trees that have a fault, of which the first stands at a place.
+fn tell(
     trees: Vec<Value>,
     faults: Vec<Option<Fault>>,
-) -> Result<Vec<Faulty>, AllocError>
+    first: u64,
+    told: &mut Vec<Faulty>,
+) -> Result<(), AllocError>
+    requires { first + length trees.items < 2 ^ 64 }
     ensures { faults.items ≡ map member_fault (map view trees.items)
-        → IfOk result (λ told. map member_of told.items ≡ faulty 0 (map view trees.items)) }
+        → OnOk result (map member_of told.new.items
+        ≡ map member_of told.old.items ++ faulty first (map view trees.items)) }
 {
-    let mut told = Vec::new(alloc);
     let mut faults = faults.into_iter();
-    for (index, tree) in trees.into_iter().enumerate() {
+    for (place, tree) in trees.into_iter().enumerate() {
         if let Some(fault) = faults.next().flatten() {
-            let index = index as u64;
+            let index = first + place as u64;
             told.push(Faulty { index, fault, tree })?;
         }
     }
-    Ok(told)
+    Ok(())
 }

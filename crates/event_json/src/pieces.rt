@@ -1,5 +1,5 @@
 //! Batches, read member by member: the tree of each is given back before the next is made.
-ghost use Rattle.std.specs.Prelude.{◌≡◌, ◌≢◌, ◌+◌, ◌<◌, ◌≤◌, List, [], length, map, slice_get, Some, IfOk, IfSome, OnOk, IsUtf8, true};
+ghost use Rattle.std.specs.Prelude.{◌≡◌, ◌≢◌, ◌+◌, ◌<◌, ◌≤◌, List, [], length, map, slice_get, Some, IfErr, IfOk, IfSome, OnOk, IsUtf8, true};
 ghost use Rattle.serde_json.specs.Data.{Data, array};
 ghost use Rattle.serde_json.specs.Read.{read};
 ghost use Rattle.serde_json.specs.View.{items_view, view};
@@ -17,7 +17,7 @@ pub trait Gather {
     /// What is gathered once these members stand behind the others. The text is that of an array of
     /// these members.
     fn add(self, alloc: Global, text: &[u8], members: Vec<Value>) -> Result<Self, AllocError>
-        requires { read text.now ≡ Some (array (items_view members.items)) }
+        requires { IsUtf8 text.now × (read text.now ≡ Some (array (items_view members.items))) }
         ensures { IfOk result (λ more.
             GoesOn (is_of self) (is_of more) (map view members.items)) };
 }
@@ -30,8 +30,9 @@ pub fn read_batch_text<G: Gather + Drop>(
     start: G,
 ) -> Result<Option<G>, AllocError>
     requires { G.is_of start [] }
-    ensures { IfOk result (λ o. IfSome o (λ g.
+    ensures gathers { IfOk result (λ o. IfSome o (λ g.
         Gathers (part_text true bytes.now true) (G.is_of g))) }
+    ensures memory { IfErr result (λ _. 0 < length bytes.now) }
 {
     if !begins_array(bytes) {
         return Ok(None);
@@ -40,7 +41,9 @@ pub fn read_batch_text<G: Gather + Drop>(
 }
 
 /// Whether the first byte that is no white space opens an array.
-fn begins_array(bytes: &[u8]) -> bool {
+fn begins_array(bytes: &[u8]) -> bool
+    ensures { result ≡ true → 0 < length bytes.now }
+{
     for byte in bytes {
         match *byte {
             b' ' | b'\t' | b'\n' | b'\r' => {}

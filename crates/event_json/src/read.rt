@@ -43,6 +43,7 @@ pub fn read_events(alloc: Global, bytes: &[u8]) -> Result<Events, ReadFault>
     ensures too_large { max_input < length bytes.now → result ≡ Err ReadFault.InputTooLarge }
     ensures limit { MAX_INPUT ≡ max_input }
     ensures named { IfErr result (λ f. (i : ℕ) → f ≢ ReadFault.BadEvent i Fault.OutOfMemory) }
+    ensures memory { IfErr result (λ f. f ≡ ReadFault.OutOfMemory → 0 < length bytes.now) }
 {
     if bytes.len() as u64 > MAX_INPUT {
         return Err(ReadFault::InputTooLarge);
@@ -155,6 +156,8 @@ pub fn parse(alloc: Global, bytes: &[u8]) -> Result<Value, ReadFault>
     ensures fault { IfErr result (λ f. f ≢ ReadFault.OutOfMemory → f ≡ ReadFault.NotJson) }
     ensures none { IfErr result (λ f. f ≢ ReadFault.OutOfMemory
         → (d : Data) → IsJsonText bytes.now d → ⊥) }
+    ensures some { IfOk result (λ v. 0 < length bytes.now) }
+    ensures memory { IfErr result (λ f. f ≡ ReadFault.OutOfMemory → 0 < length bytes.now) }
 {
     match Value::from_slice(alloc, bytes) {
         Ok(value) => Ok(value),

@@ -1,19 +1,21 @@
-use Rattle.std.proofs.Common.{◌≤◌, length, map, sym, subst}
+use Rattle.std.proofs.Common.{◌≤◌, ◌++◌, length, map, ap, ◌∙◌}
 use Rattle.serde_json.specs.View.{view}
-use Rattle.event_json.specs.Faulty.{TellsFaulty, member_of}
+use Rattle.event_json.specs.Faulty.{faulty, member_of}
 use Rattle.event_json.specs.Reading.{max_input}
-use Rattle.event_json.specs.steps.Told.{AllAreNone}
-use Rattle.event_json.proofs.FaultyLemmas.{same_faults, tells_nothing, told-named}
+use Rattle.event_json.proofs.FaultyLemmas.{tells_whole, told-named}
+use Rattle.event_json.proofs.PieceLemmas.{of_some}
 use Rattle.event_json.proofs.faulty.read_faulty.Goals as goal
 
-pub returns-then-all_are_none-clause-ok : goal.returns-then-all_are_none-clause-ok
-returns-then-all_are_none-clause-ok c =
+pub returns-in-Some-clause-ok : goal.returns-in-Some-clause-ok
+returns-in-Some-clause-ok c =
     let fits : length c.args.bytes.now ≤ max_input = search in
-    let none = subst AllAreNone c.deref.ensures.value (c.all_are_none.ensures c.if-all_are_none.true) in
-    subst (λ l. TellsFaulty c.args.bytes.now (map member_of l)) (sym c.new.ensures.items)
-    (tells_nothing c.args.bytes.now (view c.in_ok-read.read) (map view c.in_ok-members.field-0.items) c.in_ok-faults.faults.items fits c.in_ok-read.ensures.value c.in_ok-members.ensures.ok c.in_ok-faults.ensures none)
+    tells_whole c.args.bytes.now c.in-Some.found (of_some _ c.in_ok-found.field-0 c.in-Some.found c.in-Some.is c.in_ok-found.ensures.gathers) fits
+
+pub returns-in-Some-clause-named : goal.returns-in-Some-clause-named
+returns-in-Some-clause-named c =
+    let found = of_some _ c.in_ok-found.field-0 c.in-Some.found c.in-Some.is c.in_ok-found.ensures.gathers in
+    told-named found.members c.in-Some.found.told.items found.is.0
 
 pub returns-clause-named : goal.returns-clause-named
 returns-clause-named c =
-    let faults = same_faults c.args.bytes.now (view c.in_ok-read.read) (view c.in_ok-again.again) (map view c.in_ok-members.field-0.items) (map view c.in_ok-members-2.field-0.items) c.in_ok-faults.faults.items c.in_ok-read.ensures.value c.in_ok-again.ensures.value c.in_ok-members.ensures.ok c.in_ok-members-2.ensures.ok c.in_ok-faults.ensures in
-    told-named (map view c.in_ok-members-2.field-0.items) c.in_ok-told.field-0.items (c.in_ok-told.ensures faults)
+    told-named (map view c.in_ok-members.members.items) c.tell_faulty.new.told.items (c.in_ok-tell_faulty.ensures ∙ ap (λ t. map member_of t ++ faulty 0 (map view c.in_ok-members.members.items)) c.new-told.ensures.items)
