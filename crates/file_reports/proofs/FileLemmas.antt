@@ -1,5 +1,5 @@
 -- Files that spell events with numbers, one more at a time.
-use Rattle.std.proofs.Common.{◌≡◌, ℕ, List, [], ◌∷◌, ◌++◌, true, None, length, refl, sym, subst, ap, ap₂, ◌∙◌, ◌≢◌, ◌+◌, take, inl, inr, append_assoc}
+use Rattle.std.proofs.Common.{◌≡◌, ◌≤◌, ℕ, zero, suc, List, [], ◌∷◌, ◌++◌, true, None, length, refl, sym, subst, ap, ap₂, ◌∙◌, ◌≢◌, ◌+◌, take, inl, inr, append_assoc}
 use Rattle.std.proofs.Math.Seq.{take-append_seam}
 use Rattle.std.specs.Prelude.{Bool, ◌&&◌, ◌||◌, Some, is_some, slice_get}
 use Rattle.std.specs.List.{list_all, list_any}
@@ -11,7 +11,7 @@ use Rattle.std.proofs.lemmas.List.Sorted.{All-permutation, list_any-IsPermutatio
 use Rattle.std.specs.List.Sorted.{IsPermutation}
 use Rattle.attributes.specs.Event.{EventValue}
 use Rattle.attributes.specs.Fault.{IsEvent}
-use Rattle.event_json.specs.Reading.{Reads}
+use Rattle.event_json.specs.Reading.{Reads, max_input}
 use Rattle.inbox.specs.KeyOrder.{key_cmp}
 use Rattle.inbox.specs.Laws.{SetLaws}
 use Rattle.inbox.specs.Ordered.{add_all, has}
@@ -25,7 +25,7 @@ use Rattle.file_reports.proofs.ListLemmas.{take_next}
 use Rattle.file_reports.specs.declared.refusal.ReportFault.{ReportFault}
 use Rattle.file_reports.specs.declared.refusal.ReportFault.TheVariants.{OutOfMemory, Read, Event}
 use Rattle.file_reports.specs.steps.Intake.{Gains}
-use Rattle.file_reports.specs.Reports.{AreSequenced, EachReads, IsFault, IsRefusal, IsReportWith, IsUnnumberedAt, KeepsFiles, SpellAll, joined}
+use Rattle.file_reports.specs.Reports.{AreSequenced, EachReads, FirstFits, FirstFitsIfAny, IsFault, IsRefusal, IsReportWith, IsUnnumberedAt, KeepsFiles, SpellAll, joined}
 
 pub EachReads-more : (files : List (List ℕ)) (lists : List (List EventValue)) (file : List ℕ) (events : List EventValue)
     → EachReads files lists → Reads file events → AreSequenced events → EachReads (files ++ file ∷ []) (lists ++ events ∷ [])
@@ -141,3 +141,15 @@ module _ (done rest left events : List EventValue) (e : EventValue) (next : rest
     reason = reason;
     first = ap (list_all (λ (x : EventValue). is_some (number_of x))) (ap₂ (λ (l : List EventValue) (n : ℕ). take n l) (sym all_of) at ∙ take-append_seam done (e ∷ left)) ∙ numbered;
   }
+
+-- ---- the first file is not too large
+
+pub first_fits : (files : List (List ℕ)) (i : ℕ) (file : List ℕ) (lists : List (List EventValue)) → slice_get files i ≡ Some file → EachReads (take i files) lists → length file ≤ max_input → FirstFits files
+first_fits [] i file lists at before fits = absurd (let none : None ≡ Some file = at in cc)
+first_fits (f ∷ fs) zero file lists at before fits = let same : f ≡ file = cc in subst (λ x. length x ≤ max_input) (sym same) fits
+first_fits (f ∷ fs) (suc i) file [] at before fits = absurd before
+first_fits (f ∷ fs) (suc i) file (l ∷ ls) at before fits = before.0.is_text.fits
+
+pub if_any : (files : List (List ℕ)) → FirstFits files → FirstFitsIfAny files
+if_any [] h = tt
+if_any (f ∷ fs) h = h

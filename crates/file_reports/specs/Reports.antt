@@ -1,10 +1,11 @@
 -- Answers to questions about the events of files.
-use Rattle.std.specs.Prelude.{◌≡◌, ◌⊎◌, ◌↔◌, ◌++◌, Contains, ℕ, List, [], ◌∷◌, true, None, Some, is_some, slice_get, take}
+use Rattle.std.specs.Prelude.{◌≡◌, ◌≤◌, ◌⊎◌, ◌↔◌, ◌++◌, Contains, ℕ, List, [], ◌∷◌, length, true, None, Some, is_some, slice_get, take}
 use Rattle.std.specs.List.{flat_map, list_all}
+use Rattle.std.specs.List.Sorted.{IsPermutation}
 use Rattle.attributes.specs.Event.{EventValue}
 use Rattle.attributes.specs.Sequence.{number_of, sequence_fault}
 use Rattle.attributes.specs.declared.fault.Fault.{Fault}
-use Rattle.event_json.specs.Reading.{Refuses, Reads}
+use Rattle.event_json.specs.Reading.{Refuses, Reads, max_input}
 use Rattle.inbox.specs.Sets.{AreEvents, set_of}
 use Rattle.views.specs.Question.{IsAnswer}
 use Rattle.views.specs.declared.query.Query.{Query}
@@ -28,6 +29,18 @@ EachReads _ _ = ⊥
 -- the events of all lists
 abbrev pub joined : List (List EventValue) → List EventValue
 joined lists = flat_map (λ events. events) lists
+
+-- the bytes spell these events, each of them with a number
+pub record SpellsNumbered (b : List ℕ) (events : List EventValue) : Type 0 where
+  pub reads : Reads b events
+  pub numbered : AreSequenced events
+  pub are : AreEvents events
+
+-- the bytes spell these events, each of them with a number, in whatever order
+pub record SpellsUnordered (b : List ℕ) (events : List EventValue) : Type 0 where
+  pub ordered : List EventValue
+  pub spells : SpellsNumbered b ordered
+  pub same : IsPermutation ordered events
 
 -- the files all spell events with numbers, and these are they, one file behind the other
 abbrev pub SpellAll : List (List ℕ) → List EventValue → Type 0
@@ -85,6 +98,16 @@ IsFault file fault.OutOfMemory = ⊥
 IsFault file (fault.Read why) = Refuses file why
 IsFault file (fault.Event i why) =
     (events : List EventValue) × Reads file events × IsUnnumberedAt events i why
+
+-- there is a file, and the first is not larger than what is read
+abbrev pub FirstFits : List (List ℕ) → Type 0
+FirstFits [] = ⊥
+FirstFits (file ∷ files) = length file ≤ max_input
+
+-- the first file, where there is one, is not larger than what is read
+abbrev pub FirstFitsIfAny : List (List ℕ) → Type 0
+FirstFitsIfAny [] = Unit {0}
+FirstFitsIfAny (file ∷ files) = length file ≤ max_input
 
 -- the first file at fault, and its first fault
 pub record IsAtFault (files : List (List ℕ)) (index : ℕ) (why : ReportFault) : Type 0 where

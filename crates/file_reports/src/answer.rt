@@ -1,10 +1,11 @@
 //! The answer to a question about the events of files.
 ghost use Rattle.std.specs.Prelude.{◌≡◌, ℕ, List, IfErr, IfOk};
 ghost use Rattle.inbox.specs.Sets.{set_of, union};
-ghost use Rattle.file_reports.specs.Reports.{HoldSameEvents, IsReport, IsReportWith, IsRefusal, KeepsFiles};
+ghost use Rattle.file_reports.specs.Reports.{FirstFitsIfAny, HoldSameEvents, IsReport, IsReportWith, IsRefusal, KeepsFiles};
 
+use crate::batch::EventReader;
 use crate::intake::{site_of, take_all};
-use crate::refusal::Refused;
+use crate::refusal::{Refused, ReportFault};
 use attributes::{Batch, Octets, Text};
 use event_json::readings_are_one;
 use site::Site;
@@ -26,10 +27,17 @@ pub struct Reported {
 /// The files are judged in their order; in a file a fault of its text comes before an event without
 /// a number. Time in proportion to the files' bytes, and n log n in their events; the events of all
 /// files are held at once, each once.
-pub fn report(alloc: Global, query: Query, files: &[Octets]) -> Result<Reported, Refused>
+pub fn report<R: EventReader>(
+    alloc: Global,
+    reader: &R,
+    query: Query,
+    files: &[Octets],
+) -> Result<Reported, Refused>
     ensures ok { IfOk result (λ r. IsReport query files.now r.text) }
     ensures events { IfOk result (λ r. KeepsFiles files.now r.events) }
     ensures err { IfErr result (IsRefusal files.now) }
+    ensures memory { IfErr result (λ refused. refused.fault ≡ ReportFault.OutOfMemory
+        → FirstFitsIfAny files.now) }
 
     // Other files with the same events have the same report, byte for byte.
     ensures alike { IfOk result (λ r. (others : List (List ℕ)) (other : List ℕ)
@@ -38,7 +46,7 @@ pub fn report(alloc: Global, query: Query, files: &[Octets]) -> Result<Reported,
     // Two laws that `alike` rests on; they do nothing.
     readings_are_one();
     answers_are_alike();
-    let events = site_of(alloc, files)?;
+    let events = site_of(alloc, reader, files)?;
     let text = events.lines(query)?;
     Ok(Reported { text, events })
 }

@@ -1,15 +1,51 @@
 //! The events of one file, each with its number.
-ghost use Rattle.std.specs.Prelude.{◌≡◌, ◌≢◌, IfErr, IfOk};
+ghost use Rattle.std.specs.Prelude.{◌≡◌, ◌≢◌, ◌≤◌, IfErr, IfOk, length};
 ghost use Rattle.std.specs.List.Sorted.{IsPermutation};
-ghost use Rattle.event_json.specs.Reading.{Reads};
+ghost use Rattle.event_json.specs.Reading.{Reads, max_input};
 ghost use Rattle.inbox.specs.Sets.{AreEvents};
-ghost use Rattle.file_reports.specs.Reports.{AreSequenced, IsFault, IsUnnumbered};
+ghost use Rattle.file_reports.specs.Reports.{AreSequenced, IsFault, IsUnnumbered, SpellsNumbered, SpellsUnordered};
 
 use crate::refusal::ReportFault;
 use attributes::{Batch, Events, Sequenced};
 use event_json::{ReadFault, read_events};
 use inbox::compare_keys;
 use std::alloc::{AllocError, Global};
+
+/// Reads the events of files: with one thread, or with several.
+pub trait EventReader {
+    /// The events that a file's bytes spell, each with its number, in their order. The first fault
+    /// of the file is answered; want of memory never of one that is too large.
+    fn read(&self, alloc: Global, bytes: &[u8]) -> Result<Batch, ReportFault>
+        ensures ok { IfOk result (λ events. SpellsNumbered bytes.now events) }
+        ensures fault { IfErr result (λ why. why ≢ ReportFault.OutOfMemory
+            → IsFault bytes.now why) }
+        ensures memory { IfErr result (λ why. why ≡ ReportFault.OutOfMemory
+            → length bytes.now ≤ max_input) };
+
+    /// The same events in an order that a site takes them fast in: by their keys, or in few runs
+    /// that each are so. That they are sorted has no clause, since it serves speed alone.
+    fn read_sorted(&self, alloc: Global, bytes: &[u8]) -> Result<Batch, ReportFault>
+        ensures ok { IfOk result (λ events. SpellsUnordered bytes.now events) }
+        ensures fault { IfErr result (λ why. why ≢ ReportFault.OutOfMemory
+            → IsFault bytes.now why) }
+        ensures memory { IfErr result (λ why. why ≡ ReportFault.OutOfMemory
+            → length bytes.now ≤ max_input) };
+}
+
+/// A reader with the thread that calls it, and no other.
+pub struct SequentialReader {}
+
+impl EventReader for SequentialReader {
+    fn read(&self, alloc: Global, bytes: &[u8]) -> Result<Batch, ReportFault> {
+        let events = events_of_file(alloc, bytes)?;
+        Ok(batch_of(alloc, events)?)
+    }
+
+    fn read_sorted(&self, alloc: Global, bytes: &[u8]) -> Result<Batch, ReportFault> {
+        let events = events_of_file(alloc, bytes)?;
+        Ok(in_key_order(alloc, events)?)
+    }
+}
 
 /// The events that a file's bytes spell, each with its number, in their order. The first fault of
 /// the file is answered.
@@ -18,6 +54,8 @@ pub fn events_of_file(alloc: Global, bytes: &[u8]) -> Result<Vec<Sequenced>, Rep
     ensures numbered { IfOk result (λ events. AreSequenced events.items) }
     ensures events { IfOk result (λ events. AreEvents events.items) }
     ensures fault { IfErr result (λ why. why ≢ ReportFault.OutOfMemory → IsFault bytes.now why) }
+    ensures memory { IfErr result (λ why. why ≡ ReportFault.OutOfMemory
+        → length bytes.now ≤ max_input) }
 {
     match read_events(alloc, bytes) {
         Ok(events) => sequenced(alloc, events),
@@ -27,7 +65,7 @@ pub fn events_of_file(alloc: Global, bytes: &[u8]) -> Result<Vec<Sequenced>, Rep
 }
 
 /// The events with their numbers, or the first that has none.
-fn sequenced(alloc: Global, events: Events) -> Result<Vec<Sequenced>, ReportFault>
+pub fn sequenced(alloc: Global, events: Events) -> Result<Vec<Sequenced>, ReportFault>
     ensures same { IfOk result (λ numbered. numbered.items ≡ events) }
     ensures numbered { IfOk result (λ numbered. AreSequenced numbered.items) }
     ensures events { IfOk result (λ numbered. AreEvents numbered.items) }
@@ -54,6 +92,13 @@ pub fn in_key_order(alloc: Global, mut events: Vec<Sequenced>) -> Result<Batch, 
     ensures { IfOk result (IsPermutation events.items) }
 {
     events.sort_unstable_by(|event, other| compare_keys(event, other));
+    batch_of(alloc, events)
+}
+
+/// The events as a batch.
+pub fn batch_of(alloc: Global, events: Vec<Sequenced>) -> Result<Batch, AllocError>
+    ensures { IfOk result (λ batch. batch ≡ events.items) }
+{
     let mut batch = Batch::empty(alloc);
     for event in events {
         batch.push(event)?;

@@ -3,25 +3,35 @@ use Rattle.std.specs.Prelude.{Some, slice_get}
 use Rattle.std.proofs.lemmas.Option.{slice_get_read}
 use Rattle.file_reports.specs.Reports.{KeepsFiles}
 use Rattle.file_reports.proofs.ListLemmas.{take_next}
-use Rattle.file_reports.proofs.FileLemmas.{Gains-permutation, KeepsFiles-more, refusal_by}
+use Rattle.file_reports.proofs.FileLemmas.{Gains-permutation, KeepsFiles-more, first_fits, refusal_by}
 use Rattle.file_reports.proofs.intake.site_of.Goals as goal
 
 pub returns-in-Err-clause-err : goal.returns-in-Err-clause-err
-returns-in-Err-clause-err c =
+returns-in-Err-clause-err g c =
     let files = c.args.files.now in
     let there : slice_get files c.loop-file.file ≡ Some c.as_bytes.result.now =
     slice_get_read files (length files) c.loop-file.file c.index-files-file.result refl (omega arith) c.index-files-file.is
     ∙ ap (λ (x : List ℕ). Some x) (sym c.as_bytes.ensures.value) in
     refusal_by files c.loop-file.file c.as_bytes.result.now c.in-Err.fault c.loop-file.invariant.0 there c.in-Err.ensures.fault c.loop-file.invariant.1
 
-pub loop-file-preserved : goal.loop-file-preserved
-loop-file-preserved c =
+pub returns-in-Err-clause-memory : goal.returns-in-Err-clause-memory
+returns-in-Err-clause-memory g c = λ why.
     let files = c.args.files.now in
     let there : slice_get files c.loop-file.file ≡ Some c.as_bytes.result.now =
     slice_get_read files (length files) c.loop-file.file c.index-files-file.result refl (omega arith) c.index-files-file.is
     ∙ ap (λ (x : List ℕ). Some x) (sym c.as_bytes.ensures.value) in
-    subst (λ (fs : List (List ℕ)). KeepsFiles fs c.take_all.new.site) (sym (take_next files c.loop-file.file c.as_bytes.result.now there))
-    (KeepsFiles-more (take c.loop-file.file files) c.as_bytes.result.now c.in-Ok.events.items c.loop-file.site c.take_all.new.site
-    c.loop-file.invariant c.in-Ok.ensures.reads c.in-Ok.ensures.numbered c.in-Ok.ensures.events
-    (Gains-permutation c.sets_are_members.ensures (take c.loop-file.file files) c.in-Ok.events.items c.in_ok-in_key_order-in-Ok.field-0 c.loop-file.site c.take_all.new.site
-    c.loop-file.invariant c.in-Ok.ensures.events c.in_ok-in_key_order-in-Ok.ensures c.in_ok-take_all-in-Ok.ensures))
+    first_fits files c.loop-file.file c.as_bytes.result.now c.loop-file.invariant.0 there c.loop-file.invariant.1 (c.in-Err.ensures.memory why)
+
+pub loop-file-preserved : goal.loop-file-preserved
+loop-file-preserved g c =
+    let files = c.args.files.now in
+    let there : slice_get files c.loop-file.file ≡ Some c.as_bytes.result.now =
+    slice_get_read files (length files) c.loop-file.file c.index-files-file.result refl (omega arith) c.index-files-file.is
+    ∙ ap (λ (x : List ℕ). Some x) (sym c.as_bytes.ensures.value) in
+    let took = c.in_default.ensures.ok in
+    let spelled = took.spells in
+    subst (λ (fs : List (List ℕ)). KeepsFiles fs c.take_file.new.site) (sym (take_next files c.loop-file.file c.as_bytes.result.now there))
+    (KeepsFiles-more (take c.loop-file.file files) c.as_bytes.result.now spelled.ordered c.loop-file.site c.take_file.new.site
+    c.loop-file.invariant spelled.spells.reads spelled.spells.numbered spelled.spells.are
+    (Gains-permutation c.sets_are_members.ensures (take c.loop-file.file files) spelled.ordered took.events c.loop-file.site c.take_file.new.site
+    c.loop-file.invariant spelled.spells.are spelled.same took.gains))
