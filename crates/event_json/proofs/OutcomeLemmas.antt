@@ -1,13 +1,13 @@
 -- What the members of a batch come to, piece by piece.
-use Rattle.std.proofs.Common.{◌≡◌, ℕ, suc, ◌+◌, ◌≤◌, List, [], ◌∷◌, ◌++◌, map, length, Option, Some, None, ◌<◌, Result, Ok, Err, IfOk, IfErr, IfSome, ◌≢◌, refl, sym, ap, ap₂, ◌∙◌, subst, arith, append-nil}
+use Rattle.std.proofs.Common.{◌≡◌, ℕ, suc, ◌+◌, ◌≤◌, List, [], ◌∷◌, ◌++◌, map, length, Option, Some, None, ◌<◌, Result, Ok, Err, IfOk, IfErr, IfSome, ◌≢◌, refl, sym, ap, ap₂, ◌∙◌, subst, arith, append_assoc, append-nil, take, slice_get, slice_range, true, false, if◌then◌else◌}
 use Rattle.std.specs.Option.{option_or}
-use Rattle.std.proofs.lemmas.List.{map-append}
+use Rattle.std.proofs.lemmas.List.{map-append, take_rest}
 use Rattle.serde_json.specs.Data.{Data, array}
 use Rattle.attributes.specs.Event.{EventValue}
 use Rattle.attributes.specs.declared.fault.Fault.{Fault}
 use Rattle.event_json.specs.Spelling.{fault_in, event_in, list_of}
 use Rattle.event_json.specs.Reading.{AreFaultless, IsNoSpelling, Reads, Refuses, max_input}
-use Rattle.event_json.specs.Parts.{HoldsSome, SpellsSome}
+use Rattle.event_json.specs.Parts.{HoldsSome, SpellsSome, PartsJoin, WholesRead}
 use Rattle.event_json.specs.steps.Pieces.{Gathers, GoesOn}
 use Rattle.event_json.specs.steps.Walk.{bad, bad_or, first_bad}
 use Rattle.event_json.specs.steps.Outcome.{IsOutcome, ok_of, result_of, unless_refused}
@@ -16,6 +16,7 @@ use Rattle.event_json.specs.declared.read.Outcome.{Outcome}
 use Rattle.event_json.specs.declared.fault.ReadFault.TheVariants.{OutOfMemory, BadEvent}
 use Rattle.attributes.specs.declared.fault.Fault.TheVariants as fault
 use Rattle.event_json.proofs.FaultLemmas.{unnamed, has_bytes}
+use Rattle.event_json.proofs.PieceLemmas.{join_held, cut_rest}
 use Rattle.event_json.proofs.WalkLemmas.{faultless_all, is_bad, no_spelling}
 
 -- ---- the first value with a fault
@@ -131,3 +132,30 @@ pub whole_has_bytes : (b : List ℕ) (o : Outcome) → Gathers (b ++ []) (IsOutc
 whole_has_bytes b o h =
     let g = subst (λ x. Gathers x (IsOutcome o)) (append-nil b) h in
     if_refused (λ f. f ≡ OutOfMemory) (0 < length b) (result_of o) (has_bytes b (array g.holds.items) (g.holds.utf8, g.holds.reads))
+
+-- ---- parts that were read side by side
+
+faultless_append : (xs ys : List Data) → AreFaultless xs → AreFaultless ys → AreFaultless (xs ++ ys)
+faultless_append [] ys g h = h
+faultless_append (d ∷ xs) ys g h = (g.0, faultless_append xs ys g.1 h)
+
+two_texts : (o f t c : List ℕ) (l m : List EventValue) → SpellsSome (o ++ (f ++ 93 ∷ [])) l → SpellsSome (91 ∷ (t ++ c)) m → SpellsSome (o ++ ((f ++ 44 ∷ t) ++ c)) (l ++ m)
+two_texts o f t c l m a b =
+    let left = subst (λ x. HoldsSome x a.members) (sym (append_assoc o f (93 ∷ []))) a.holds in
+    let whole = join_held (o ++ f) (t ++ c) a.members b.members left b.holds in
+    record {
+      members = a.members ++ b.members;
+      holds = subst (λ x. HoldsSome x (a.members ++ b.members)) (append_assoc o f (44 ∷ (t ++ c)) ∙ ap (λ x. o ++ x) (sym (append_assoc f (44 ∷ t) c))) whole;
+      faultless = faultless_append a.members b.members a.faultless b.faultless;
+      are_events = ap₂ (λ (x y : List EventValue). x ++ y) a.are_events b.are_events ∙ sym (map-append event_in a.members b.members);
+    }
+
+pub parts_join : PartsJoin
+parts_join b opened closed i l m at a h =
+    let o = if opened then [] else 91 ∷ [] in
+    let c = if closed then [] else 93 ∷ [] in
+    subst (λ x. SpellsSome (o ++ (x ++ c)) (l ++ m)) (ap (λ x. take i b ++ 44 ∷ x) (take_rest b (i + 1)) ∙ cut_rest b i at)
+    (two_texts o (take i b) (slice_range b (i + 1) (length b)) c l m a h)
+
+pub wholes_read : WholesRead
+wholes_read b l h fits = reads_all b l (subst (λ x. SpellsSome x l) (append-nil b) h) fits

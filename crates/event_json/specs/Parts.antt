@@ -1,12 +1,12 @@
 -- Parts of a batch's text, cut at commas (CloudEvents JSON Event Format 1.0.2, section 4; RFC 8259,
 -- section 5).
-use Rattle.std.specs.Prelude.{◌≡◌, ℕ, Bool, if◌then◌else◌, List, [], ◌∷◌, ◌++◌, map, Some, IsUtf8}
+use Rattle.std.specs.Prelude.{◌≡◌, ◌≤◌, ◌+◌, ℕ, Bool, true, false, if◌then◌else◌, List, [], ◌∷◌, ◌++◌, length, map, take, slice_get, slice_range, Some, IsUtf8}
 use Rattle.serde_json.specs.Data.{Data, Items, array}
 use Rattle.serde_json.specs.Read.{read}
 use Rattle.array_texts.specs.Arrays.{AreSome}
 use Rattle.attributes.specs.Event.{EventValue}
 use Rattle.event_json.specs.Spelling.{event_in, list_of}
-use Rattle.event_json.specs.Reading.{AreFaultless}
+use Rattle.event_json.specs.Reading.{AreFaultless, Reads, max_input}
 
 -- the bytes are the text of an array of these values, one at least
 pub record HoldsSome (b : List ℕ) (ds : List Data) : Type 0 where
@@ -27,3 +27,15 @@ pub record SpellsSome (b : List ℕ) (es : List EventValue) : Type 0 where
 abbrev pub part_text : Bool → List ℕ → Bool → List ℕ
 part_text opened b closed =
     (if opened then [] else 91 ∷ []) ++ (b ++ (if closed then [] else 93 ∷ []))
+
+-- two parts that a comma joins spell the events of both
+abbrev pub PartsJoin : Type 0
+PartsJoin = (b : List ℕ) (opened closed : Bool) (i : ℕ) (l m : List EventValue)
+    → slice_get b i ≡ Some 44 → SpellsSome (part_text opened (take i b) false) l
+    → SpellsSome (part_text false (slice_range b (i + 1) (length b)) closed) m
+    → SpellsSome (part_text opened b closed) (l ++ m)
+
+-- a part that is the whole spells its events
+abbrev pub WholesRead : Type 0
+WholesRead = (b : List ℕ) (l : List EventValue) → SpellsSome (part_text true b true) l
+    → length b ≤ max_input → Reads b l

@@ -11,7 +11,7 @@ mod write;
 pub use fault::ReadFault;
 pub use faulty::{Faulty, read_faulty};
 pub use pieces::next_comma;
-pub use read::{MAX_INPUT, read_events, read_part_events, readings_are_one};
+pub use read::{MAX_INPUT, batch_parts_join, read_events, read_part_events, readings_are_one};
 pub use write::{
     batch_texts_read_back, batch_texts_tell_lists, texts_read_back, write_batch, write_event,
     write_sequenced,

@@ -10,7 +10,7 @@ ghost use Rattle.attributes.specs.JsonText.{IsJsonText};
 ghost use Rattle.event_json.specs.Payload.{unless_null, payload, bytes_in, decoded};
 ghost use Rattle.event_json.specs.Spelling.{given_whole, given_in, spelled, offer_in, fault_in, event_in};
 ghost use Rattle.event_json.specs.Reading.{Spells, IsNoSpelling, Reads, Refuses, max_input};
-ghost use Rattle.event_json.specs.Parts.{SpellsSome, part_text};
+ghost use Rattle.event_json.specs.Parts.{PartsJoin, SpellsSome, WholesRead, part_text};
 ghost use Rattle.event_json.specs.steps.Outcome.{IsOutcome, ok_of, result_of};
 ghost use Rattle.event_json.specs.steps.Walk.{bad, bad_or, first_bad};
 
@@ -71,6 +71,13 @@ pub fn read_part_events(
         None => Ok(None),
     }
 }
+
+/// Parts of a batch that were read, with a comma between them, are what they are together: for
+/// readers that read parts side by side.
+pub fn batch_parts_join()
+    ensures join { PartsJoin }
+    ensures whole { WholesRead }
+{}
 
 /// What the members of a batch that were read come to: their events, or the first that is none.
 #[derive(Drop)]

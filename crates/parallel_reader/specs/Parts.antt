@@ -1,0 +1,24 @@
+-- Parts of a batch, read side by side.
+use Rattle.std.specs.Prelude.{◌≡◌, ℕ, List, Bool, false}
+use Rattle.std.specs.List.Sorted.{IsPermutation}
+use Rattle.attributes.specs.Event.{EventValue}
+use Rattle.event_json.specs.Parts.{SpellsSome}
+use Rattle.inbox.specs.Sets.{AreEvents}
+use Rattle.file_reports.specs.Reports.{AreSequenced, SpellsNumbered}
+
+-- the batch has just the events that the bytes spell, each with a number, and in their order unless
+-- they are sorted
+pub record IsPart (b : List ℕ) (is_sorted : Bool) (batch : List EventValue) : Type 0 where
+  pub events : List EventValue
+  pub spells : SpellsSome b events
+  pub numbered : AreSequenced events
+  pub are : AreEvents events
+  pub same : IsPermutation events batch
+  pub in_order : is_sorted ≡ false → batch ≡ events
+
+-- the same of a whole file
+pub record SpellsBatch (b : List ℕ) (is_sorted : Bool) (batch : List EventValue) : Type 0 where
+  pub events : List EventValue
+  pub spells : SpellsNumbered b events
+  pub same : IsPermutation events batch
+  pub in_order : is_sorted ≡ false → batch ≡ events
