@@ -3,7 +3,7 @@
 use attributes::{Fault, Octets, Text};
 use event_json::ReadFault;
 use file_reports::Unread::{CannotRead, TooLarge};
-use file_reports::{Query, ReportFault, Unread, read_all, report};
+use file_reports::{Query, ReportFault, SequentialReader, Unread, read_all, report};
 use std::alloc::Global;
 use std::io;
 use std::io::Read;
@@ -28,7 +28,7 @@ fn add_events(alloc: Global, files: &mut Vec<Octets>, count: u64) -> bool {
 
 /// The text of the report of files.
 fn told(alloc: Global, query: Query, files: &[Octets]) -> Option<Text> {
-    Some(report(alloc, query, files).ok()?.text)
+    Some(report(alloc, &SequentialReader {}, query, files).ok()?.text)
 }
 
 /// Whether the report of files is this text.

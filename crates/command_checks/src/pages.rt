@@ -8,7 +8,7 @@ use database_commands::{
     CommandEnd, CommandFault, EventPages, delta_pages, held, scrub_pages, summary, take,
 };
 use event_json::write_sequenced;
-use file_reports::events_of;
+use file_reports::{SequentialReader, events_of};
 use inbox_table::Unwatched;
 use site::Site;
 use sqlite::{Connection, MemStore};
@@ -47,7 +47,7 @@ fn falling<R: AllocGlobal + Abort>(rt: &R, other: u64) -> String {
 /// The events of that batch, in its order.
 fn events<R: AllocGlobal + Abort>(rt: &R, other: u64) -> Batch {
     let file = octets(rt, falling(rt, other).as_str());
-    match events_of(rt.alloc(), &[file]) {
+    match events_of(rt.alloc(), &SequentialReader {}, &[file]) {
         Ok(events) => events,
         Err(_) => panic!(rt; "no events"),
     }

@@ -9,7 +9,7 @@ use crate::answer::Told;
 use crate::line::{LineFault, Next, Pending, next_line};
 use attributes::{Batch, List, Octets};
 use event_json::ReadFault;
-use file_reports::{ReportFault, events_of};
+use file_reports::{ReportFault, SequentialReader, events_of};
 use std::alloc::{AllocError, Global};
 use std::io::Read;
 
@@ -55,7 +55,7 @@ fn judge(alloc: Global, line: Octets) -> Result<Judged, AllocError>
 {
     let mut lines = List::empty(alloc);
     lines.push(line)?;
-    match events_of(alloc, lines.as_slice()) {
+    match events_of(alloc, &SequentialReader {}, lines.as_slice()) {
         Ok(events) => Ok(Judged {
             fault: None,
             events,

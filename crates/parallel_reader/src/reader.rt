@@ -21,20 +21,11 @@ const LEVELS: u32 = 2;
 /// there are processors, rounded down to a power of two, and four where that isn't known. What
 /// can't be read in parts (one event alone, a file at fault) is read with one thread after that.
 pub struct ParallelReader<'r, R> {
-    rt: &'r R,
-    levels: u32,
+    /// What starts the threads.
+    pub rt: &'r R,
 }
 
 impl<'r, R: Threads + Sync> ParallelReader<'r, R> {
-    /// A reader with as many threads as there are processors.
-    pub fn of(rt: &'r R) -> ParallelReader<'r, R> {
-        let levels = match available_parallelism(rt) {
-            Ok(count) => count.get().ilog2(),
-            Err(_) => LEVELS,
-        };
-        ParallelReader { rt, levels }
-    }
-
     /// The events of a large file, where it was read in parts.
     fn read_parts(
         &self,
@@ -47,7 +38,11 @@ impl<'r, R: Threads + Sync> ParallelReader<'r, R> {
     {
         // That parts that were read are the whole is a law; it does nothing.
         batch_parts_join();
-        read_halves(self.rt, alloc, bytes, true, true, is_sorted, self.levels)
+        let levels = match available_parallelism(self.rt) {
+            Ok(count) => count.get().ilog2(),
+            Err(_) => LEVELS,
+        };
+        read_halves(self.rt, alloc, bytes, true, true, is_sorted, levels)
     }
 }
 

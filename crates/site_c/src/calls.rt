@@ -11,7 +11,7 @@ use attributes::{Batch, Octets, Text};
 use coverage::{Summary, SummaryFault};
 use event_json::write_sequenced;
 use fault_lines::fault_lines;
-use file_reports::{Refused, events_of};
+use file_reports::{Refused, SequentialReader, events_of};
 use site::Site;
 use std::alloc::{AllocError, Global};
 use std::hash::RandomState;
@@ -73,7 +73,7 @@ pub(crate) fn batch_of(alloc: Global, bytes: &[u8]) -> Result<Batch, Refused>
     ensures err { IfErr result (IsRefusal (bytes.now ∷ [])) }
 {
     let files = [Octets::of(alloc, bytes)?];
-    events_of(alloc, &files)
+    events_of(alloc, &SequentialReader {}, &files)
 }
 
 /// Takes the events that the bytes spell.

@@ -13,7 +13,7 @@ use attributes::Text;
 use command_words::{Action, Pages, Request};
 use coverage::Summary;
 use database_commands::{CommandFault, Databases, Status, summary_of};
-use file_reports::{Shelf, UnreadAt, contents_of, events_of};
+use file_reports::{EventReader, Shelf, UnreadAt, contents_of, events_of};
 use inbox_table::Watch;
 use std::alloc::Global;
 use std::mem;
@@ -21,9 +21,10 @@ use std::mem;
 /// Adds the events of all files to a database, and answers how many were new. All files are read
 /// and judged before the database is opened. The memory of the events is left to the operating
 /// system, since the program ends next.
-pub fn take<S: Shelf, D: Databases, W: Watch>(
+pub fn take<S: Shelf, F: EventReader, D: Databases, W: Watch>(
     alloc: Global,
     shelf: &S,
+    reader: &F,
     databases: &D,
     db: &str,
     files: &[Text],
@@ -34,7 +35,7 @@ pub fn take<S: Shelf, D: Databases, W: Watch>(
         (RefusesTake (S.is_content shelf.now) (S.is_unread shelf.now) files.now) }
 {
     match contents_of(alloc, shelf, files) {
-        Ok(contents) => match events_of(alloc, contents.as_slice()) {
+        Ok(contents) => match events_of(alloc, reader, contents.as_slice()) {
             Ok(events) => {
                 let answer = databases.take(alloc, db, &events, watch);
                 mem::forget(events);

@@ -5,15 +5,16 @@ ghost use Rattle.site_commands.specs.Answers.{AnswersQuery, RefusesQuery};
 use crate::line::Refusal;
 use attributes::Text;
 use database_commands::{CommandFault, Databases};
-use file_reports::{Query, Shelf, contents_of, report, report_with, site_of};
+use file_reports::{EventReader, Query, Shelf, contents_of, report, report_with, site_of};
 use std::alloc::Global;
 use std::mem;
 
 /// The answer to the query for the events of all files, and those of a database where one is given.
 /// All files are read before one is judged, and judged before the database is opened.
-pub fn ask<S: Shelf, D: Databases>(
+pub fn ask<S: Shelf, F: EventReader, D: Databases>(
     alloc: Global,
     shelf: &S,
+    reader: &F,
     databases: &D,
     query: Query,
     db: &Option<Text>,
@@ -24,16 +25,17 @@ pub fn ask<S: Shelf, D: Databases>(
         (RefusesQuery (S.is_content shelf.now) (S.is_unread shelf.now) db.now files.now) }
 {
     match db {
-        Some(db) => ask_with(alloc, shelf, databases, query, db.as_str(), files),
-        None => ask_files(alloc, shelf, query, files),
+        Some(db) => ask_with(alloc, shelf, reader, databases, query, db.as_str(), files),
+        None => ask_files(alloc, shelf, reader, query, files),
     }
 }
 
 /// The answer to the query for the events of all files. The memory of the events is left to the
 /// operating system, since the program ends next.
-fn ask_files<S: Shelf>(
+fn ask_files<S: Shelf, F: EventReader>(
     alloc: Global,
     shelf: &S,
+    reader: &F,
     query: Query,
     files: &[Text],
 ) -> Result<Text, Refusal>
@@ -42,7 +44,7 @@ fn ask_files<S: Shelf>(
         (RefusesQuery (S.is_content shelf.now) (S.is_unread shelf.now) None files.now) }
 {
     match contents_of(alloc, shelf, files) {
-        Ok(contents) => match report(alloc, query, contents.as_slice()) {
+        Ok(contents) => match report(alloc, reader, query, contents.as_slice()) {
             Ok(report) => {
                 mem::forget(report.events);
                 Ok(report.text)
@@ -54,9 +56,10 @@ fn ask_files<S: Shelf>(
 }
 
 /// The answer to the query for the events of all files and those of a database.
-fn ask_with<S: Shelf, D: Databases>(
+fn ask_with<S: Shelf, F: EventReader, D: Databases>(
     alloc: Global,
     shelf: &S,
+    reader: &F,
     databases: &D,
     query: Query,
     db: &str,
@@ -67,7 +70,7 @@ fn ask_with<S: Shelf, D: Databases>(
         (RefusesQuery (S.is_content shelf.now) (S.is_unread shelf.now) (Some db.now) files.now) }
 {
     match contents_of(alloc, shelf, files) {
-        Ok(contents) => match site_of(alloc, contents.as_slice()) {
+        Ok(contents) => match site_of(alloc, reader, contents.as_slice()) {
             Ok(events) => match databases.events(alloc, db) {
                 Ok(held) => match report_with(query, events, held) {
                     Ok(report) => {

@@ -23,7 +23,8 @@ use crate::workers::run;
 use attributes::Text;
 use command_words::{Alone, Faulty, Once, Plan, Run, plan};
 use database_commands::Databases;
-use file_reports::Shelf;
+use file_reports::{EventReader, SequentialReader, Shelf};
+use parallel_reader::ParallelReader;
 use run_command::Runs;
 use std::alloc::Global;
 use std::cell::Cell;
@@ -79,7 +80,10 @@ pub fn perform<
         (O.contents out.old) (O.contents out.new) (E.contents err.old) (E.contents err.new) }
 {
     match plan(rt.alloc(), words) {
-        Ok(Plan::Alone(plan)) => perform_alone(rt, &plan, out, err, progress),
+        Ok(Plan::Alone(plan)) => {
+            let reader = ParallelReader { rt };
+            perform_with(rt, &reader, &plan, out, err, progress)
+        }
         Ok(Plan::Run(plan)) => perform_run(rt, &plan, out, err, progress),
         Err(faulty) => finish(said(faulty), out, err),
     }
@@ -101,7 +105,7 @@ fn said(faulty: Faulty) -> Ending
     }
 }
 
-/// Carries out a plan that starts no thread, and answers the exit status, as [`perform`] does; it
+/// Carries out a plan without starting a thread, and answers the exit status, as [`perform`] does; it
 /// doesn't wait. A stream is written as it goes; of every other plan it is known what it comes to
 /// before anything is written.
 pub fn perform_alone<R: AllocGlobal + Files + Databases, O: Write, E: Write, P: Progress>(
@@ -115,11 +119,33 @@ pub fn perform_alone<R: AllocGlobal + Files + Databases, O: Write, E: Write, P: 
     ensures { RunsAlone MayBeRead MayBeUnread plan.now result
         (O.contents out.old) (O.contents out.new) (E.contents err.old) (E.contents err.new) }
 {
+    perform_with(rt, &SequentialReader {}, plan, out, err, progress)
+}
+
+/// As [`perform_alone`], with a reader of the events of files, which may start threads.
+fn perform_with<
+    R: AllocGlobal + Files + Databases,
+    F: EventReader,
+    O: Write,
+    E: Write,
+    P: Progress,
+>(
+    rt: &R,
+    reader: &F,
+    plan: &Alone,
+    out: &mut O,
+    err: &mut E,
+    progress: &P,
+) -> u8
+    requires { IsAllowedAlone plan.now }
+    ensures { RunsAlone MayBeRead MayBeUnread plan.now result
+        (O.contents out.old) (O.contents out.new) (E.contents err.old) (E.contents err.new) }
+{
     match plan {
         Alone::Once(plan) => {
             let left = Cell::new(long_files(plan));
             let shelf = SystemFiles { rt, progress, left };
-            let ending = ending_of(rt.alloc(), &shelf, rt, plan, progress);
+            let ending = ending_of(rt.alloc(), &shelf, reader, rt, plan, progress);
             progress.over();
             finish(ending, out, err)
         }
@@ -166,9 +192,10 @@ fn long_files(plan: &Once) -> u64 {
 }
 
 /// What a plan with one answer comes to over a shelf of files, before anything is written.
-fn ending_of<S: Shelf, D: Databases, P: Progress>(
+fn ending_of<S: Shelf, F: EventReader, D: Databases, P: Progress>(
     alloc: Global,
     shelf: &S,
+    reader: &F,
     databases: &D,
     plan: &Once,
     progress: &P,
@@ -176,7 +203,7 @@ fn ending_of<S: Shelf, D: Databases, P: Progress>(
     requires { IsAllowed plan.now }
     ensures { IsOnceEnding (S.is_content shelf.now) (S.is_unread shelf.now) plan.now result }
 {
-    match carried_out(alloc, shelf, databases, plan, progress) {
+    match carried_out(alloc, shelf, reader, databases, plan, progress) {
         Ok(Printed::Line(text)) => Ending::Answer(text),
         Ok(Printed::Pages(events)) => Ending::Pages(events),
         Err(refusal) => refused(alloc, Names::of_once(plan), refusal),
@@ -211,9 +238,10 @@ fn ending_of_run<R: Threads + Wait + Sync, S: Shelf, D: Runs, P: Progress>(
 }
 
 /// The answer to a plan that has one.
-fn carried_out<S: Shelf, D: Databases, P: Progress>(
+fn carried_out<S: Shelf, F: EventReader, D: Databases, P: Progress>(
     alloc: Global,
     shelf: &S,
+    reader: &F,
     databases: &D,
     plan: &Once,
     progress: &P,
@@ -227,6 +255,7 @@ fn carried_out<S: Shelf, D: Databases, P: Progress>(
         Once::Ask { query, db, files } => lined(ask(
             alloc,
             shelf,
+            reader,
             databases,
             *query,
             db,
@@ -235,6 +264,7 @@ fn carried_out<S: Shelf, D: Databases, P: Progress>(
         Once::Take { db, files } => lined(take(
             alloc,
             shelf,
+            reader,
             databases,
             db.as_str(),
             files.as_slice(),

@@ -11,7 +11,7 @@ ghost use Rattle.site_commands.specs.steps.Feeds.{RefusesFeeds};
 use crate::line::Refusal;
 use attributes::{List, Octets, Text, Texts};
 use database_commands::CommandFault;
-use file_reports::{Refused, ReportFault, Shelf, Unread, UnreadAt, contents_of, events_of};
+use file_reports::{Refused, ReportFault, SequentialReader, Shelf, Unread, UnreadAt, contents_of, events_of};
 use inbox_table::Watch;
 use run_command::{Jobs, RunFault, Runs};
 use site::Site;
@@ -108,7 +108,7 @@ fn run_with_peer<R: Threads + Wait + Sync, D: Runs, W: Watch>(
     ensures err { IfErr result (RefusesJobs true contents.items) }
 {
     let mut contents = contents;
-    let mut events = match events_of(alloc, &contents.as_slice()[..1]) {
+    let mut events = match events_of(alloc, &SequentialReader {}, &contents.as_slice()[..1]) {
         Ok(events) => events,
         Err(refused) => return Err(Refusal::File(refused)),
     };
