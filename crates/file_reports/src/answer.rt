@@ -33,6 +33,7 @@ pub fn report<R: EventReader>(
     query: Query,
     files: &[Octets],
 ) -> Result<Reported, Refused>
+    requires { R.can_read reader.now }
     ensures ok { IfOk result (λ r. IsReport query files.now r.text) }
     ensures events { IfOk result (λ r. KeepsFiles files.now r.events) }
     ensures err { IfErr result (IsRefusal files.now) }

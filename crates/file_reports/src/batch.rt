@@ -13,9 +13,13 @@ use std::alloc::{AllocError, Global};
 
 /// Reads the events of files: with one thread, or with several.
 pub trait EventReader {
+    /// What has to hold for it to read: of one that starts threads, that they may share what it has.
+    ghost can_read: { Self → Type 0 };
+
     /// The events that a file's bytes spell, each with its number, in their order. The first fault
     /// of the file is answered; want of memory never of one that is too large.
     fn read(&self, alloc: Global, bytes: &[u8]) -> Result<Batch, ReportFault>
+        requires { can_read self.now }
         ensures ok { IfOk result (λ events. SpellsNumbered bytes.now events) }
         ensures fault { IfErr result (λ why. why ≢ ReportFault.OutOfMemory
             → IsFault bytes.now why) }
@@ -25,6 +29,7 @@ pub trait EventReader {
     /// The same events in an order that a site takes them fast in: by their keys, or in few runs
     /// that each are so. That they are sorted has no clause, since it serves speed alone.
     fn read_sorted(&self, alloc: Global, bytes: &[u8]) -> Result<Batch, ReportFault>
+        requires { can_read self.now }
         ensures ok { IfOk result (λ events. SpellsUnordered bytes.now events) }
         ensures fault { IfErr result (λ why. why ≢ ReportFault.OutOfMemory
             → IsFault bytes.now why) }
@@ -36,6 +41,8 @@ pub trait EventReader {
 pub struct SequentialReader {}
 
 impl EventReader for SequentialReader {
+    ghost can_read = { λ _. Unit {0} };
+
     fn read(&self, alloc: Global, bytes: &[u8]) -> Result<Batch, ReportFault> {
         let events = events_of_file(alloc, bytes)?;
         Ok(batch_of(alloc, events)?)

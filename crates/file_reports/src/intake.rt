@@ -14,6 +14,7 @@ use std::alloc::{AllocError, Global};
 /// The site of the events of all files; an event that stands again is kept once. The first file at
 /// fault is named. Time in proportion to the files' bytes, and n log n in their events.
 pub fn site_of<R: EventReader>(alloc: Global, reader: &R, files: &[Octets]) -> Result<Site, Refused>
+    requires { R.can_read reader.now }
     ensures ok { IfOk result (λ site. KeepsFiles files.now site) }
     ensures err { IfErr result (IsRefusal files.now) }
     ensures memory { IfErr result (λ refused. refused.fault ≡ ReportFault.OutOfMemory
@@ -38,6 +39,7 @@ fn take_file<R: EventReader>(
     bytes: &[u8],
     site: &mut Site,
 ) -> Result<(), ReportFault>
+    requires { R.can_read reader.now }
     ensures ok { OnOk result (TakesFile bytes.now site.old site.new) }
     ensures fault { IfErr result (λ why. why ≢ ReportFault.OutOfMemory → IsFault bytes.now why) }
     ensures memory { IfErr result (λ why. why ≡ ReportFault.OutOfMemory
@@ -65,6 +67,7 @@ pub fn events_of<R: EventReader>(
     reader: &R,
     files: &[Octets],
 ) -> Result<Batch, Refused>
+    requires { R.can_read reader.now }
     ensures ok { IfOk result (SpellAll files.now) }
     ensures err { IfErr result (IsRefusal files.now) }
     ensures memory { IfErr result (λ refused. refused.fault ≡ ReportFault.OutOfMemory

@@ -47,6 +47,10 @@ impl<'r, R: Threads + Sync> ParallelReader<'r, R> {
 }
 
 impl<'r, R: Threads + Sync> EventReader for ParallelReader<'r, R> {
+    ghost use Rattle.std.specs.Thread.{IsSync};
+
+    ghost can_read = { λ _. IsSync R.row };
+
     fn read(&self, alloc: Global, bytes: &[u8]) -> Result<Batch, ReportFault> {
         if bytes.len() >= PARTED && bytes.len() as u64 <= MAX_INPUT {
             if let Some(events) = self.read_parts(alloc, bytes, false)? {

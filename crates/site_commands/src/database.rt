@@ -30,6 +30,7 @@ pub fn take<S: Shelf, F: EventReader, D: Databases, W: Watch>(
     files: &[Text],
     watch: &W,
 ) -> Result<Text, Refusal>
+    requires { F.can_read reader.now }
     ensures ok { IfOk result (AnswersTake (S.is_content shelf.now) files.now) }
     ensures err { IfErr result
         (RefusesTake (S.is_content shelf.now) (S.is_unread shelf.now) files.now) }

@@ -20,6 +20,7 @@ pub fn ask<S: Shelf, F: EventReader, D: Databases>(
     db: &Option<Text>,
     files: &[Text],
 ) -> Result<Text, Refusal>
+    requires { F.can_read reader.now }
     ensures ok { IfOk result (AnswersQuery (S.is_content shelf.now) query db.now files.now) }
     ensures err { IfErr result
         (RefusesQuery (S.is_content shelf.now) (S.is_unread shelf.now) db.now files.now) }
@@ -39,6 +40,7 @@ fn ask_files<S: Shelf, F: EventReader>(
     query: Query,
     files: &[Text],
 ) -> Result<Text, Refusal>
+    requires { F.can_read reader.now }
     ensures ok { IfOk result (AnswersQuery (S.is_content shelf.now) query None files.now) }
     ensures err { IfErr result
         (RefusesQuery (S.is_content shelf.now) (S.is_unread shelf.now) None files.now) }
@@ -65,6 +67,7 @@ fn ask_with<S: Shelf, F: EventReader, D: Databases>(
     db: &str,
     files: &[Text],
 ) -> Result<Text, Refusal>
+    requires { F.can_read reader.now }
     ensures ok { IfOk result (AnswersQuery (S.is_content shelf.now) query (Some db.now) files.now) }
     ensures err { IfErr result
         (RefusesQuery (S.is_content shelf.now) (S.is_unread shelf.now) (Some db.now) files.now) }

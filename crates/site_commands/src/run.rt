@@ -137,7 +137,8 @@ fn perform_with<
     err: &mut E,
     progress: &P,
 ) -> u8
-    requires { IsAllowedAlone plan.now }
+    requires allowed { IsAllowedAlone plan.now }
+    requires reader { F.can_read reader.now }
     ensures { RunsAlone MayBeRead MayBeUnread plan.now result
         (O.contents out.old) (O.contents out.new) (E.contents err.old) (E.contents err.new) }
 {
@@ -200,7 +201,8 @@ fn ending_of<S: Shelf, F: EventReader, D: Databases, P: Progress>(
     plan: &Once,
     progress: &P,
 ) -> Ending
-    requires { IsAllowed plan.now }
+    requires allowed { IsAllowed plan.now }
+    requires reader { F.can_read reader.now }
     ensures { IsOnceEnding (S.is_content shelf.now) (S.is_unread shelf.now) plan.now result }
 {
     match carried_out(alloc, shelf, reader, databases, plan, progress) {
@@ -246,7 +248,8 @@ fn carried_out<S: Shelf, F: EventReader, D: Databases, P: Progress>(
     plan: &Once,
     progress: &P,
 ) -> Result<Printed, Refusal>
-    requires { IsAllowed plan.now }
+    requires allowed { IsAllowed plan.now }
+    requires reader { F.can_read reader.now }
     ensures ok { IfOk result (λ p. AnswersOnce (S.is_content shelf.now) plan.now (printed p)) }
     ensures err { IfErr result
         (RefusesOnce (S.is_content shelf.now) (S.is_unread shelf.now) plan.now) }

@@ -1,0 +1,12 @@
+-- Each half is halved once less.
+use Rattle.std.proofs.Common.{◌-◌, ◌*◌}
+use Rattle.parallel_reader.proofs.part.+levels.Given as goal
+
+abbrev pub decreases-join+arg2 : goal.decreases-join+arg2
+decreases-join+arg2 g l = 2 * l.levels - 1
+
+abbrev pub decreases-join+arg3 : goal.decreases-join+arg3
+decreases-join+arg3 g l = 2 * l.levels - 1
+
+abbrev pub decreases-read_halves : goal.decreases-read_halves
+decreases-read_halves g l = 2 * l.levels
