@@ -38,6 +38,7 @@ pub trait EventReader {
 }
 
 /// A reader with the thread that calls it, and no other.
+#[derive(Clone, Copy)]
 pub struct SequentialReader {}
 
 impl EventReader for SequentialReader {

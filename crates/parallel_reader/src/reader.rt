@@ -20,6 +20,7 @@ const LEVELS: u32 = 2;
 /// A reader that reads a large file in parts, each with a thread of its own: at most as many as
 /// there are processors, rounded down to a power of two, and four where that isn't known. What
 /// can't be read in parts (one event alone, a file at fault) is read with one thread after that.
+#[derive(Drop)]
 pub struct ParallelReader<'r, R> {
     /// What starts the threads.
     pub rt: &'r R,
