@@ -87,3 +87,16 @@ uncovered_end ps qs left p rest end h c e last lt all =
       | inl before ↦ both_ways _ (absent_after ps p.0 end h last before) (all p.0 (first.1 p.0 (omega arith) first.0))
       | inr within ↦ both_ways _ (absent_next ps p.0 end h last within) (all (end.1 + 1) (first.1 (end.1 + 1) (omega arith) (omega arith)))
     ]
+
+-- a span that the interval before it doesn't reach the end of lacks a number
+pub span_lacks : (ps : List Interval) (first last : ℕ) (end : Interval) → IsCanonical ps → IsLastUpTo ps first end → end.1 < last → first ≤ last
+    → (n : ℕ) × (first ≤ n) × (n ≤ last) × (holds ps n ≡ false)
+span_lacks ps first last end h upto lt le = elim (cases_lt end.1 first) [
+  | inl before ↦ (first, omega arith, le, absent_after ps first end h upto before)
+  | inr within ↦ (end.1 + 1, omega arith, omega arith, absent_next ps first end h upto within)
+]
+
+-- a span before which no interval starts lacks its first number
+pub span_lacks_first : (ps : List Interval) (first last : ℕ) → IsCanonical ps → NoneUpTo ps first → first ≤ last
+    → (n : ℕ) × (first ≤ n) × (n ≤ last) × (holds ps n ≡ false)
+span_lacks_first ps first last h none le = (first, omega arith, le, absent_with_none ps first h none)

@@ -1,10 +1,10 @@
 -- The numbers between intervals.
 use Rattle.std.proofs.Common.{◌≡◌, ℕ, ◌+◌, ◌-◌, ◌<◌, ◌≤◌, Bool, true, false, not, ◌||◌, ◌&&◌, ◌⊎◌, nat_le, min, List, [], length, take, take_all, refl, sym, ap, ◌∙◌, arith, inl, inr}
-use Rattle.std.proofs.lemmas.Bool.{both_ways, cases_Bool, and_parts}
+use Rattle.std.proofs.lemmas.Bool.{both_ways, cases_Bool, cases_eq, cases_lt, and_parts}
 use Rattle.std.proofs.lemmas.Bool.Decides.{nat_tests}
-use Rattle.coverage.specs.Intervals.{Interval, max_sequence, in_interval, holds, interval_at, rises_from, IsCanonical, IsGreatest}
+use Rattle.coverage.specs.Intervals.{Interval, max_sequence, in_interval, holds, interval_at, rises_from, IsCanonical, IsGreatest, IsMissing}
 use Rattle.coverage.specs.steps.Starts.{last_start_or, StartsAtMost}
-use Rattle.coverage.proofs.HoldsLemmas.{in_interval_tells, holds-nil, holds-more, last_start_or-nil, rises_from-nil, rises_from-at, rises_from-gap}
+use Rattle.coverage.proofs.HoldsLemmas.{in_interval_tells, holds-below, holds-nil, holds-more, last_start_or-nil, rises_from-nil, rises_from-at, rises_from-gap}
 use Rattle.coverage.proofs.MapLemmas.{holds-found, found-fits}
 
 -- the numbers below the next one, up to the top, that none of the first i intervals holds
@@ -133,3 +133,20 @@ without_members xs ys top n outside taken left h greatest o t l = elim (cases_Bo
     and_never true true z h = absurd (both_ways _ h refl)
     and_never true false z h = refl
     and_never false y z h = refl
+
+-- a number up to the greatest that isn't held is missing
+pub missing_there : (ps : List Interval) (top : ℕ) → IsGreatest ps top → (n : ℕ) × (1 ≤ n) × (n ≤ top) × (holds ps n ≡ false) → (n : ℕ) × IsMissing ps n
+missing_there ps top great it = (it.0, (it.1, it.3, (top, (below, great.0))))
+  where
+    below : it.0 < top
+    below = elim (cases_eq it.0 top) [
+      | inl e ↦ absurd (both_ways _ it.3 (ap (holds ps) e ∙ great.0))
+      | inr apart ↦ let le = it.2 in omega arith
+    ]
+
+-- the greatest number is no less than 1
+pub greatest_positive : (ps : List Interval) (top : ℕ) → IsCanonical ps → IsGreatest ps top → 1 ≤ top
+greatest_positive ps top h great = elim (cases_lt top 1) [
+  | inl before ↦ absurd (both_ways _ (holds-below 1 ps top h before) great.0)
+  | inr after ↦ after
+]

@@ -1,13 +1,13 @@
 -- Numbers that are held in a row, from a number on.
-use Rattle.std.proofs.Common.{◌≡◌, ℕ, ◌+◌, ◌*◌, ◌/◌, ◌<◌, ◌≤◌, true, false, ◌⊎◌, Some, None, List, length, sym, ap, ◌∙◌, arith, inl, inr}
-use Rattle.std.proofs.lemmas.Bool.{both_ways, cases_Bool, cases_eq, cases_lt}
+use Rattle.std.proofs.Common.{◌≡◌, ℕ, ◌<◌, ◌≤◌, true, Some, None, List, length, sym, ap, ◌∙◌, arith, inl, inr}
+use Rattle.std.proofs.lemmas.Bool.{cases_Bool, cases_eq, cases_lt}
 use Rattle.block_digests.specs.Block.{block_of}
 use Rattle.coverage.specs.Intervals.{AllStartBefore, Interval, IsCanonical, IsNextSpan, holds, interval_at}
 use Rattle.coverage.specs.steps.Spans.{IsRunFrom, NoneFrom}
 use Rattle.coverage.specs.steps.Starts.{IsLastUpTo, NoneUpTo, found}
 use Rattle.coverage.proofs.HoldsLemmas.{holds-at, in_interval-true, rises_from-at, rises_from-gap}
 use Rattle.coverage.proofs.LookLemmas.{found-place}
-use Rattle.coverage.proofs.MapLemmas.{IsHeldBy, found-apart, found-holds, holds-found}
+use Rattle.coverage.proofs.MapLemmas.{found-apart, found-holds, holds-found}
 
 -- each interval that starts at the number or before ends before it
 abbrev pub EndBefore : List Interval → ℕ → Type 0

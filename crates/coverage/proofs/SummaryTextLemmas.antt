@@ -1,9 +1,11 @@
 -- A summary's text of either version reads back as the summary.
-use Rattle.std.proofs.Common.{◌≡◌, ℕ, List, Option, Some, None, is_some, if◌then◌else◌, refl, sym, ap, ap₂, subst, ◌∙◌}
+use Rattle.std.proofs.Common.{◌≡◌, ℕ, List, [], ◌∷◌, Option, Some, None, is_some, if◌then◌else◌, length, arith, refl, sym, ap, ap₂, subst, ◌∙◌}
 use Rattle.std.specs.Prelude.{◌↔◌, ◌≢◌, IsTrue}
+use Rattle.std.specs.Map.{keys_of}
 use Rattle.std.specs.Str.{IsUtf8}
 use Rattle.serde_json.specs.Data.{Data}
 use Rattle.serde_json.specs.Read.{read}
+use Rattle.serde_json.proofs.OnLiterals.{serde_json_on_literals}
 use Rattle.attributes.specs.JsonText.{IsJsonText}
 use Rattle.coverage.specs.BlockDigests.{AreDigests, HasDigests, SourceBlocks}
 use Rattle.coverage.specs.DigestsText.{digests_data, digests_text}
@@ -114,3 +116,26 @@ second_by bytes d es (Some ds) h is shown v = (ds, (refl, h, is, shown))
 
 pub second_of : (bytes : List ℕ) (d : Data) (s : Sources) → IsSummary s → bytes ≡ summary_text s → IsJsonText bytes d → version_of d ≡ Some 2 → IsSecond bytes d s.entries s.digests
 second_of bytes d s h is parses v = second_by bytes d s.entries s.digests h.digests is (value_of_text bytes d s h is parses) v
+
+-- ---- no bytes, and no sources
+pub nothing_read : read [] ≡ None
+unfolding serde_json_on_literals
+nothing_read = refl
+
+pub nothing_is_no_json : (bytes : List ℕ) → bytes ≡ [] → (d : Data) → IsJsonText bytes d → ⊥
+nothing_is_no_json bytes none d is = let told : None ≡ Some d = sym nothing_read ∙ ap read (sym none) ∙ is.1 in absurd (cc)
+
+pub nothing_is_no_summary : (bytes : List ℕ) → bytes ≡ [] → IsSummaryText bytes → ⊥
+nothing_is_no_summary bytes none is = is_json bytes is (λ _. ap read none ∙ nothing_read)
+
+pub no_blocks : (es : Entries) (o : Option SourceBlocks) (ds : SourceBlocks) → HasDigests es o → o ≡ Some ds → es ≡ [] → ds ≡ []
+no_blocks es None ds has is none = absurd (cc)
+no_blocks es (Some bs) [] has is none = refl
+no_blocks es (Some bs) (d ∷ ds) has is none =
+    let same : bs ≡ d ∷ ds = cc in
+    let keys : keys_of (d ∷ ds) ≡ [] = ap keys_of (sym same) ∙ has.sources ∙ ap keys_of none in
+    absurd (cc)
+
+pub no_length : {X : Type 0} (xs : List X) → length xs ≡ 0 → xs ≡ []
+no_length [] h = refl
+no_length (x ∷ xs) h = absurd (omega (arith, h))

@@ -1,5 +1,5 @@
 //! The digests of blocks of sources' numbers.
-ghost use Rattle.std.specs.Prelude.{◌≡◌, ◌↔◌, ◌++◌, ℕ, List, IfOk, OnOk, IsTrue, option_copied};
+ghost use Rattle.std.specs.Prelude.{◌≡◌, ◌≢◌, ◌↔◌, ◌++◌, ℕ, List, [], IfOk, OnErr, OnOk, IsTrue, option_copied};
 ghost use Rattle.inbox.specs.Sets.{AreEvents};
 ghost use Rattle.block_digests.specs.Kept.{IsKeptOf};
 ghost use Rattle.coverage.specs.BlockDigests.{block_digest, blocks_of};
@@ -124,8 +124,12 @@ impl SourceDigests {
     /// A copy. Time and memory linear in the sources and the blocks, but for a logarithm in the
     /// time.
     pub fn copy(&self) -> Result<SourceDigests, AllocError>
-        ensures { IfOk result (λ r. r ≡ self.now) }
+        ensures copied { IfOk result (λ r. r ≡ self.now) }
+        ensures err { OnErr result (self.now ≢ []) }
     {
+        if self.sources.is_empty() {
+            return Ok(SourceDigests::empty(self.alloc));
+        }
         let mut sources = BTreeMap::new(self.alloc);
         for (source, digests) in &self.sources {
             let key = String::from_str(self.alloc, source.as_str())?;

@@ -2,7 +2,7 @@
 
 mod digested;
 
-ghost use Rattle.std.specs.Prelude.{◌≡◌, ◌≢◌, ◌<◌, ◌↔◌, ℕ, ◌||◌, ◌&&◌, ◌==◌, true, false, not, List, [], length, map, slice_get, bytes_eq, Some, option_copied, IsTrue, IfOk, IfErr, IfSome, MatchOption, MatchResult, OnOk, OnErr};
+ghost use Rattle.std.specs.Prelude.{◌≡◌, ◌≢◌, ◌<◌, ◌↔◌, ◌⊎◌, ℕ, ◌||◌, ◌&&◌, ◌==◌, true, false, not, List, [], length, map, slice_get, bytes_eq, Err, Some, option_copied, IsTrue, IfOk, IfErr, IfSome, MatchOption, MatchResult, OnOk, OnErr};
 ghost use Rattle.std.specs.Map.Iter.{deref_pair};
 ghost use Rattle.serde_json.specs.View.{view};
 ghost use Rattle.attributes.specs.Character.{is_filled};
@@ -165,6 +165,9 @@ impl Summary {
     pub fn copy(&self) -> Result<Summary, AllocError>
         ensures copied { IfOk result (λ r. r ≡ self.now) }
         ensures summary { IsSummary self.now }
+
+        // Memory is wanted for sources alone.
+        ensures err { OnErr result (entries_of self.now ≢ []) }
     {
         let numbers = self.numbers.copy()?;
         let digests = match &self.digests {
@@ -181,6 +184,9 @@ impl Summary {
         ensures members { IfOk result (λ r. (s : List ℕ) (m : ℕ)
             → holds_at r s m ≡ (holds_at self.now s m || holds_at other.now s m)) }
         ensures version { IfOk result (λ r. version_of r ≡ 1) }
+
+        // Memory is wanted where either has a source.
+        ensures err { OnErr result ((entries_of self.now ≢ []) ⊎ (entries_of other.now ≢ [])) }
     {
         Ok(Summary {
             numbers: self.numbers.union(&other.numbers)?,
@@ -273,7 +279,13 @@ impl Summary {
         ensures refused { IfErr result (Refuses bytes.now) }
         ensures accepted { (s : Sources) → IsSummary s → bytes.now ≡ summary_text s
             → MatchResult result (λ r. r ≡ s) (λ e. e ≡ SummaryFault.OutOfMemory) }
+
+        // No bytes are refused without memory.
+        ensures none { bytes.now ≡ [] → result ≡ Err SummaryFault.NotJson }
     {
+        if bytes.is_empty() {
+            return Err(SummaryFault::NotJson);
+        }
         let value = parse(alloc, bytes)?;
         let Some(version) = version_in(&value) else {
             return Err(SummaryFault::Shape);

@@ -13,7 +13,7 @@ use std::marker::Model;
 pub enum Step {
     /// A site takes a batch.
     Deliver { site: u32, batch: Batch },
-    /// The second site takes the events of the first whose numbers it lacks.
+    /// The second site takes what it lacks of the first, by the numbers and digests of both.
     Gossip { from: u32, to: u32 },
     /// The second site takes all events of the first.
     Scrub { from: u32, to: u32 },

@@ -1,6 +1,6 @@
 -- Counts of types by day: what one more or one less changes, and the counts in order.
-use Rattle.std.proofs.Common.{◌≡◌, ℕ, ◌+◌, List, [], ◌∷◌, ℤ, Bool, true, false, ◌||◌, ◌&&◌, cond, if◌then◌else◌, map, refl, sym, ap, ap₂, ◌∙◌, arith, Option, Some, None}
-use Rattle.std.specs.Prelude.{count_by, filter_map, is_some}
+use Rattle.std.proofs.Common.{◌≡◌, ℕ, ◌+◌, List, [], ◌∷◌, ℤ, Bool, true, false, ◌||◌, ◌&&◌, cond, if◌then◌else◌, length, map, refl, sym, subst, ap, ap₂, ◌∙◌, arith, Option, Some, None}
+use Rattle.std.specs.Prelude.{◌≢◌, Contains, count_by, filter_map, is_some}
 use Rattle.std.specs.declared.cmp.Ordering.{Ordering}
 use Rattle.std.specs.declared.cmp.Ordering.TheVariants.{Less, Equal, Greater}
 use Rattle.std.specs.Ordering.{int_cmp, int_eq, is_eq, ordering_then}
@@ -14,6 +14,7 @@ use Rattle.std.proofs.lemmas.List.Sums.{sum_by-cons}
 use Rattle.std.proofs.lemmas.Map.Lookups.{exact_bytes, exact_pairs, exact_signed}
 use Rattle.std.proofs.lemmas.Map.Text.{is_eq-slice_cmp}
 use Rattle.std.proofs.lemmas.Slice.Eq.{bytes_eq-Decides}
+use mathlib.Core.Bool.{true≢false}
 use Rattle.attributes.specs.Bytes.{byte_cmp}
 use Rattle.attributes.specs.Event.{EventValue}
 use Rattle.inbox.specs.Ordered.{has}
@@ -26,6 +27,7 @@ use Rattle.kept_views.specs.steps.Rows.{put_all}
 use Rattle.kept_views.specs.steps.Seen.{day_in, days_in}
 use Rattle.kept_views.proofs.AnswerLemmas.{count_from, distinct_seen, in_order_of_keys, one_order, positive, row_found}
 use Rattle.kept_views.proofs.ListLemmas.{each_at}
+use Rattle.kept_views.proofs.MemberLemmas.{at_head, behind}
 use Rattle.kept_views.proofs.TableLemmas.{and_left, and_right, option_same, read_after, seen}
 use Rattle.kept_views.proofs.TallyLemmas.{at_own}
 
@@ -119,3 +121,39 @@ days_listed S rows counts distinct =
 
 pub days_distinct : {Y : Type 0} (es : List ((String Y × ℤ) × ℕ)) → IsDistinct (λ x y. is_day (day_in x) (day_in y)) (keys_of es) → IsDistinct is_day (map (λ row. row.0) (days_in es))
 days_distinct es d = distinct_seen day_in is_day (λ (n : ℕ). n) es d
+
+-- a table without rows is of events without a time
+pub no_days : (S : List EventValue) (rows : List (KindDay × ℕ)) → CountsDays S rows → rows ≡ [] → [] ≡ tally day_cmp (filter_map kind_and_day S)
+no_days S rows counts none = by_cases (filter_map kind_and_day S) refl
+  where
+    by_cases : (l : List KindDay) → filter_map kind_and_day S ≡ l → [] ≡ tally day_cmp (filter_map kind_and_day S)
+    by_cases [] is = ap (tally day_cmp) (sym is)
+    by_cases (d ∷ ds) is =
+        let absent : has day_cmp (d ∷ ds) d ≡ false = ap (λ l. has day_cmp l d) (sym is) ∙ has_day S d ∙ ap is_some (sym (counts d)) ∙ ap (λ l. is_some (lookup (is_day d) l)) none in
+        let there : has day_cmp (d ∷ ds) d ≡ true = ap (λ b. b || has day_cmp ds d) (same_day d d ∙ day_itself d) in
+        absurd (true≢false (sym there ∙ absent))
+
+-- a row is of an event with a time
+timed : (S : List EventValue) (k : KindDay) → has day_cmp (filter_map kind_and_day S) k ≡ true → (e : EventValue) × Contains S e × ((d : KindDay) × (kind_and_day e ≡ Some d))
+timed [] k h = absurd (cc)
+timed (e ∷ S) k h = by_cases (timed S k) (kind_and_day e) refl
+  where
+    by_cases : (has day_cmp (filter_map kind_and_day S) k ≡ true → (f : EventValue) × Contains S f × ((d : KindDay) × (kind_and_day f ≡ Some d)))
+        → (o : Option KindDay) → kind_and_day e ≡ o → (f : EventValue) × Contains (e ∷ S) f × ((d : KindDay) × (kind_and_day f ≡ Some d))
+    by_cases later (Some d) is = (e, at_head e S, (d, is))
+    by_cases later None is =
+        let r = later (sym (ap (λ o. has day_cmp (cons_option o (filter_map kind_and_day S)) k) is) ∙ h) in
+        (r.0, behind e r.0 S r.1, r.2)
+
+pub has_time : (S : List EventValue) (rows : List (KindDay × ℕ)) → CountsDays S rows → rows ≢ [] → (e : EventValue) × Contains S e × ((d : KindDay) × (kind_and_day e ≡ Some d))
+has_time S [] counts some = absurd (some refl)
+has_time S (row ∷ rows) counts some =
+    timed S row.0 (has_day S row.0 ∙ ap is_some (sym (counts row.0)) ∙ ap (λ b. is_some (cond b (Some row.1) (lookup (is_day row.0) rows))) (day_itself row.0))
+
+pub no_entry : {Y : Type 0} (es : List ((String Y × ℤ) × ℕ)) → days_in es ≡ [] → es ≡ []
+no_entry [] h = refl
+no_entry (e ∷ es) h = absurd (cc)
+
+pub none_in : {Y : Type 0} (es : List ((String Y × ℤ) × ℕ)) → length es ≡ 0 → days_in es ≡ []
+none_in [] h = refl
+none_in (e ∷ es) h = absurd (omega (arith, h))

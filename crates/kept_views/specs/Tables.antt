@@ -4,6 +4,7 @@ use Rattle.std.specs.Map.{lookup}
 use Rattle.std.specs.Option.{option_map_or, option_map}
 use Rattle.std.specs.Ordering.{int_eq, is_eq, nat_cmp, ordering_then}
 use Rattle.std.specs.declared.cmp.Ordering.{Ordering}
+use Rattle.std.specs.declared.random_state.RandomState.{RandomState}
 use Rattle.attributes.specs.Bytes.{byte_cmp}
 use Rattle.attributes.specs.Event.{EventValue, id_of, kind_of, source_of, subject_of}
 use Rattle.inbox.specs.Sets.{set_of}
@@ -27,11 +28,13 @@ Rank = ℕ × List ℕ
 abbrev pub Rows : Type 0
 Rows = List (Rank × ℕ)
 
--- the tables: types with counts, types by day with counts, and entities with rows
+-- the tables: types with counts, types by day with counts, and entities with rows; and what the
+-- keys of each of the three are hashed by: a random state, or what everybody knows
 pub record Tables : Type 0 where
   pub kinds : List (List ℕ × ℕ)
   pub days : List (KindDay × ℕ)
   pub entities : List (Entity × Rows)
+  pub states : List (Option RandomState)
 
 -- ---- types
 

@@ -6,7 +6,7 @@ ghost use Rattle.attributes.specs.Event.{EventValue, kind_of};
 ghost use Rattle.inbox.specs.Kept.{events};
 ghost use Rattle.inbox.specs.Shown.{shown};
 ghost use Rattle.views.specs.Latest.{latest};
-ghost use Rattle.views.specs.Question.{IsTrueOf, query_of};
+ghost use Rattle.views.specs.Question.{IsTrueOf, MayWantMemory, query_of};
 ghost use Rattle.views.specs.Tally.{tally};
 ghost use Rattle.kept_views.specs.Tables.{CountsKinds, EachHasRow, RowsAreOf, StandsFor};
 ghost use Rattle.kept_views.specs.steps.Seen.{kinds_in, entities_in};
@@ -84,8 +84,9 @@ impl Views {
         ensures query { IfOk result (λ a. query_of a ≡ query) }
         ensures answer { IfOk result (IsTrueOf (events inbox.now)) }
 
-        // Without events no memory is wanted.
+        // Without events no memory is wanted, nor for conflicts or days where there are none.
         ensures err { OnErr result (events inbox.now ≢ []) }
+        ensures rows { OnErr result (MayWantMemory query (events inbox.now)) }
     {
         if inbox.len() == 0 {
             return answer(self.alloc, inbox, query);

@@ -1,10 +1,10 @@
 //! Counts of types by day.
 
-ghost use Rattle.std.specs.Prelude.{◌≡◌, ◌+◌, ◌<◌, ◌^◌, IfOk, List, OnOk, filter_map, map};
+ghost use Rattle.std.specs.Prelude.{◌≡◌, ◌≢◌, ◌+◌, ◌<◌, ◌^◌, [], IfOk, List, OnErr, OnOk, filter_map, map};
 ghost use Rattle.std.specs.BTreeMap.{insert_entry};
 ghost use Rattle.std.specs.Option.{option_map};
 ghost use Rattle.attributes.specs.Event.{EventValue};
-ghost use Rattle.indexmap.specs.IndexMap.{spare};
+ghost use Rattle.indexmap.specs.IndexMap.{hasher_of, spare};
 ghost use Rattle.views.specs.Tally.{day_cmp, kind_and_day, tally};
 ghost use Rattle.kept_views.specs.Tables.{CountsDays, KindDay, is_day};
 ghost use Rattle.kept_views.specs.steps.Moves.{CountsChange, day_count_in, is_own, one_less, one_more};
@@ -40,8 +40,9 @@ pub(crate) fn day_of(alloc: Global, event: &Sequenced) -> Result<Option<DayKey>,
 pub(crate) fn raise_day(tally: &mut DayTally, day: Option<DayKey>)
     requires room { 0 < spare tally.old }
     requires fits { (k : KindDay) → day_count_in (days_in tally.old.entries) k + 1 < 2 ^ 64 }
-    ensures { CountsChange is_day (is_own (option_map day_in day)) one_more
+    ensures counts { CountsChange is_day (is_own (option_map day_in day)) one_more
         (days_in tally.old.entries) (days_in tally.new.entries) }
+    ensures hasher { hasher_of tally.new ≡ hasher_of tally.old }
 {
     let Some(day) = day else {
         return;
@@ -53,8 +54,9 @@ pub(crate) fn raise_day(tally: &mut DayTally, day: Option<DayKey>)
 /// Counts a type and day once less, where there is one; a count that falls to 0 is taken out. It
 /// takes no memory.
 pub(crate) fn lower_day(tally: &mut DayTally, day: Option<DayKey>)
-    ensures { CountsChange is_day (is_own (option_map day_in day)) one_less
+    ensures counts { CountsChange is_day (is_own (option_map day_in day)) one_less
         (days_in tally.old.entries) (days_in tally.new.entries) }
+    ensures hasher { hasher_of tally.new ≡ hasher_of tally.old }
 {
     let Some(day) = day else {
         return;
@@ -110,10 +112,14 @@ fn listed_days(alloc: Global, table: &BTreeMap<(&str, Day), u64>) -> Result<Days
 
 /// The counts by type, then day.
 pub(crate) fn list_days(alloc: Global, days: &DayTally) -> Result<Days, AllocError>
-    ensures { IfOk result (λ rows. (shown : List EventValue)
+    ensures rows { IfOk result (λ rows. (shown : List EventValue)
         → CountsDays shown (days_in days.now.entries)
         → rows ≡ tally day_cmp (filter_map kind_and_day shown)) }
+    ensures err { OnErr result (days.now.entries ≢ []) }
 {
+    if days.is_empty() {
+        return Ok(Days::empty(alloc));
+    }
     let table = ordered_days(alloc, days)?;
     Ok(listed_days(alloc, &table)?)
 }

@@ -2,6 +2,7 @@
 
 ghost use Rattle.std.specs.Prelude.{◌≡◌, IfOk, None, OnErr, OnOk, Some};
 ghost use Rattle.std.specs.Option.{option_map};
+ghost use Rattle.indexmap.specs.IndexMap.{hasher_of};
 ghost use Rattle.kept_views.specs.Tables.{slot_of};
 ghost use Rattle.kept_views.specs.steps.Moves.{PutsAt};
 ghost use Rattle.kept_views.specs.steps.Seen.{slot_in, entities_in};
@@ -52,6 +53,7 @@ fn put_row(alloc: Global, entities: &mut Entities, slot: Slot, place: u64) -> Re
         (entities_in entities.old.entries) (entities_in entities.new.entries)) }
     ensures err { OnErr result
         (entities_in entities.new.entries ≡ entities_in entities.old.entries) }
+    ensures hasher { hasher_of entities.new ≡ hasher_of entities.old }
 {
     if let Some(rows) = entities.get_mut(&slot.entity) {
         rows.insert(slot.rank, place)?;
@@ -75,6 +77,7 @@ pub(crate) fn bring(
         (entities_in entities.old.entries) (entities_in entities.new.entries)) }
     ensures err { OnErr result
         (entities_in entities.new.entries ≡ entities_in entities.old.entries) }
+    ensures hasher { hasher_of entities.new ≡ hasher_of entities.old }
 {
     match slot {
         Some(slot) => put_row(alloc, entities, slot, place),
@@ -84,8 +87,9 @@ pub(crate) fn bring(
 
 /// Takes a row out; an entity without rows goes too.
 fn take_row_out(entities: &mut Entities, slot: &Slot)
-    ensures { PutsAt (Some (slot_in slot.now)) None
+    ensures rows { PutsAt (Some (slot_in slot.now)) None
         (entities_in entities.old.entries) (entities_in entities.new.entries) }
+    ensures hasher { hasher_of entities.new ≡ hasher_of entities.old }
 {
     let Some(rows) = entities.get_mut(&slot.entity) else {
         return;
@@ -99,8 +103,9 @@ fn take_row_out(entities: &mut Entities, slot: &Slot)
 /// Empties a slot, where there is one. It takes no memory. Time logarithmic in the rows of the
 /// entity.
 pub(crate) fn clear(entities: &mut Entities, slot: Option<Slot>)
-    ensures { PutsAt (option_map slot_in slot) None
+    ensures rows { PutsAt (option_map slot_in slot) None
         (entities_in entities.old.entries) (entities_in entities.new.entries) }
+    ensures hasher { hasher_of entities.new ≡ hasher_of entities.old }
 {
     match slot {
         Some(slot) => take_row_out(entities, &slot),

@@ -1,6 +1,6 @@
 //! Views of an inbox that has events already.
 
-ghost use Rattle.std.specs.Prelude.{◌≢◌, ◌+◌, ◌<◌, [], IfOk, OnErr, OnOk, length};
+ghost use Rattle.std.specs.Prelude.{◌≡◌, ◌≢◌, ◌+◌, ◌<◌, [], IfOk, OnErr, OnOk, Some, length, replicate};
 ghost use Rattle.inbox.specs.Kept.{events};
 ghost use Rattle.kept_views.specs.Tables.{StandsFor};
 ghost use Rattle.kept_views.specs.steps.Among.{AreOf, shown_before};
@@ -18,6 +18,7 @@ impl Views {
     /// for hidden events none.
     pub fn of(alloc: Global, state: RandomState, inbox: &Inbox) -> Result<Views, AllocError>
         ensures stands { IfOk result (StandsFor inbox.now.arrivals) }
+        ensures states { IfOk result (λ views. views.states ≡ replicate 3 (Some state)) }
 
         // Without events no memory is wanted.
         ensures err { OnErr result (events inbox.now ≢ []) }
@@ -33,8 +34,9 @@ impl Views {
     fn admit_at(&mut self, inbox: &Inbox, i: u64) -> Result<(), AllocError>
         requires in_range { i < length (events inbox.now) }
         requires before { AreOf inbox.now.arrivals (shown_before i (events inbox.now)) self.old }
-        ensures { OnOk result
+        ensures counted { OnOk result
             (AreOf inbox.now.arrivals (shown_before (i + 1) (events inbox.now)) self.new) }
+        ensures states { self.new.states ≡ self.old.states }
     {
         if !inbox.is_shown(i) {
             return Ok(());

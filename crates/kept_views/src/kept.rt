@@ -1,6 +1,6 @@
 //! The views, kept.
 
-ghost use Rattle.std.specs.Prelude.{◌≡◌, ◌∷◌, ◌++◌, ◌<◌, ◌≤◌, [], IfOk, OnErr, OnOk, false, true};
+ghost use Rattle.std.specs.Prelude.{◌≡◌, ◌∷◌, ◌++◌, ◌<◌, ◌≤◌, [], IfOk, None, OnErr, OnOk, Some, false, replicate, true};
 ghost use Rattle.std.specs.Option.{option_map};
 ghost use Rattle.attributes.specs.Event.{kind_of};
 ghost use Rattle.inbox.specs.Kept.{events};
@@ -42,12 +42,13 @@ impl Model for Views {
 
     ghost Value = { Tables };
 
-    ghost use Rattle.kept_views.specs.steps.Seen.{days_in, kinds_in, entities_in};
+    ghost use Rattle.kept_views.specs.steps.Seen.{days_in, kinds_in, entities_in, states_in};
 
     ghost view = { λ v. record {
       kinds = kinds_in v.kinds.entries;
       days = days_in v.days.entries;
       entities = entities_in v.entities.entries;
+      states = states_in v.kinds v.days v.entities;
     } };
 }
 
@@ -69,7 +70,8 @@ impl Views {
     /// The views of no events. Keys are hashed by the random state, which nobody else knows, so
     /// events from outside may come. They take no memory.
     pub fn with_hasher(alloc: Global, state: RandomState) -> Views
-        ensures { StandsFor [] result }
+        ensures stands { StandsFor [] result }
+        ensures states { result.states ≡ replicate 3 (Some state) }
     {
         Views::with_seed(alloc, Seed::random(state))
     }
@@ -79,14 +81,16 @@ impl Views {
     /// in proportion to them. What takes events from outside calls `with_hasher`. They take no
     /// memory.
     pub fn empty(alloc: Global) -> Views
-        ensures { StandsFor [] result }
+        ensures stands { StandsFor [] result }
+        ensures states { result.states ≡ replicate 3 None }
     {
         Views::with_seed(alloc, Seed::known())
     }
 
     /// The views of no events, hashed by a seed.
     fn with_seed(alloc: Global, seed: Seed) -> Views
-        ensures { StandsFor [] result }
+        ensures stands { StandsFor [] result }
+        ensures states { result.states ≡ replicate 3 seed.state }
     {
         Views {
             kinds: IndexMap::with_hasher(alloc, seed),
@@ -105,6 +109,7 @@ impl Views {
         ensures stands { OnOk result
             (StandsFor (append_new key_cmp inbox.now.arrivals (event.now ∷ [])) self.new) }
         ensures same { OnErr result (self.new ≡ self.old) }
+        ensures states { self.new.states ≡ self.old.states }
 
         // Memory is wanted for a new event alone, and that it is shown.
         ensures new { OnErr result (has key_cmp inbox.now.arrivals event.now ≡ false) }
@@ -128,6 +133,7 @@ impl Views {
         ensures stands { OnOk result
             (StandsFor (append_new key_cmp inbox.now.arrivals (event.now ∷ [])) self.new) }
         ensures same { OnErr result (self.new ≡ self.old) }
+        ensures states { self.new.states ≡ self.old.states }
         ensures shown { OnErr result
             (is_shown (set_of (inbox.now.arrivals ++ event.now ∷ [])) event.now ≡ true) }
     {
@@ -145,6 +151,7 @@ impl Views {
         ensures stands { OnOk result
             (StandsFor (append_new key_cmp inbox.now.arrivals (event.now ∷ [])) self.new) }
         ensures same { OnErr result (self.new ≡ self.old) }
+        ensures states { self.new.states ≡ self.old.states }
         ensures shown { OnErr result
             (is_shown (set_of (inbox.now.arrivals ++ event.now ∷ [])) event.now ≡ true) }
     {
@@ -179,6 +186,7 @@ impl Views {
         requires days_fit { (k : KindDay) → day_count_in self.old.days k ≤ before }
         ensures comes { OnOk result (ComesIn event.now place self.old self.new) }
         ensures same { OnErr result (self.new ≡ self.old) }
+        ensures states { self.new.states ≡ self.old.states }
     {
         // So many events no memory holds; a count goes as far as they.
         if before == u64::MAX {
@@ -200,7 +208,8 @@ impl Views {
     fn dismiss(&mut self, event: &Sequenced, slot: Option<Slot>, day: Option<DayKey>)
         requires counted { 0 < count_in self.old.kinds (kind_of event.now) }
         requires own { option_map day_in day ≡ kind_and_day event.now }
-        ensures { GoesOut event.now (option_map slot_in slot) self.old self.new }
+        ensures goes { GoesOut event.now (option_map slot_in slot) self.old self.new }
+        ensures states { self.new.states ≡ self.old.states }
     {
         lower(&mut self.kinds, event.event().kind());
         lower_day(&mut self.days, day);

@@ -1,5 +1,6 @@
 //! What keys are hashed by.
 
+ghost use Rattle.std.specs.Prelude.{◌≡◌, None, Some};
 ghost use Rattle.kept_views.specs.Seed.{hasher_of};
 
 use std::hash::{BuildHasher, DefaultHasher, RandomState};
@@ -12,13 +13,17 @@ pub(crate) struct Seed {
 
 impl Seed {
     /// A seed that nobody knows, for keys that come from outside.
-    pub(crate) fn random(state: RandomState) -> Seed {
+    pub(crate) fn random(state: RandomState) -> Seed
+        ensures { result.state ≡ Some state }
+    {
         Seed { state: Some(state) }
     }
 
     /// The seed that everybody knows, for keys that one trusts: whoever knows it can pick keys that
     /// collide.
-    pub(crate) fn known() -> Seed {
+    pub(crate) fn known() -> Seed
+        ensures { result.state ≡ None }
+    {
         Seed { state: None }
     }
 }

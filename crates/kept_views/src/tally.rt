@@ -2,7 +2,7 @@
 
 ghost use Rattle.std.specs.Prelude.{◌≡◌, ◌+◌, ◌-◌, ◌<◌, ◌≤◌, ◌^◌, ℕ, List, Some, bytes_eq, string_bytes, if◌then◌else◌};
 ghost use Rattle.std.specs.Option.{unwrap_or};
-ghost use Rattle.indexmap.specs.IndexMap.{get_by_text, spare};
+ghost use Rattle.indexmap.specs.IndexMap.{get_by_text, hasher_of, spare};
 ghost use Rattle.kept_views.specs.Tables.{counted};
 
 use crate::seed::Seed;
@@ -15,9 +15,10 @@ pub(crate) type Tally = IndexMap<String, u64, Seed>;
 pub(crate) fn raise(tally: &mut Tally, text: String)
     requires room { 0 < spare tally.old }
     requires fits { unwrap_or (get_by_text tally.old (string_bytes text)) 0 + 1 < 2 ^ 64 }
-    ensures { (k : List ℕ) → get_by_text tally.new k ≡ (if bytes_eq (string_bytes text) k
+    ensures counts { (k : List ℕ) → get_by_text tally.new k ≡ (if bytes_eq (string_bytes text) k
         then Some (unwrap_or (get_by_text tally.old (string_bytes text)) 0 + 1)
         else get_by_text tally.old k) }
+    ensures hasher { hasher_of tally.new ≡ hasher_of tally.old }
 {
     let before = tally.get(text.as_str()).copied().unwrap_or(0);
     let _ = tally.insert(text, before + 1);
@@ -27,9 +28,10 @@ pub(crate) fn raise(tally: &mut Tally, text: String)
 /// takes no memory.
 pub(crate) fn lower(tally: &mut Tally, text: &str)
     requires counted { 0 < unwrap_or (get_by_text tally.old text.now) 0 }
-    ensures { (k : List ℕ) → get_by_text tally.new k ≡ (if bytes_eq text.now k
+    ensures counts { (k : List ℕ) → get_by_text tally.new k ≡ (if bytes_eq text.now k
         then counted (unwrap_or (get_by_text tally.old text.now) 0 - 1)
         else get_by_text tally.old k) }
+    ensures hasher { hasher_of tally.new ≡ hasher_of tally.old }
 {
     let before = tally.get(text).copied().unwrap_or(0);
     if before == 1 {

@@ -68,7 +68,8 @@ pub trait Desk {
         ensures emptied { OnOk result (batch.new ≡ []) }
         ensures rest { IfErr result (λ fault. batch.new ≡ drop (taken_of fault) batch.old) };
 
-    /// Which numbers the events of each source have.
+    /// The summary that digests what came, version 2: which numbers the events of each source
+    /// have, and the digests of their blocks.
     fn summary(&mut self) -> Result<Summary, DeskFault>
         ensures went { went self.old self.new (call command.Summary (summed result) ∷ []) }
         ensures step { Follows (arrivals self.old)

@@ -25,4 +25,6 @@ mod sites;
 #[cfg(test)]
 mod stops;
 #[cfg(test)]
+mod wants;
+#[cfg(test)]
 mod worlds;

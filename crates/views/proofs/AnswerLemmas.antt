@@ -1,13 +1,13 @@
 -- Lines answer questions, and a question has one answer in lines.
-use Rattle.std.proofs.Common.{◌≡◌, ℕ, Bool, List, Option, Some, None, refl, sym, subst, ap, ◌∙◌, arith}
+use Rattle.std.proofs.Common.{◌≡◌, ℕ, Bool, List, [], Option, Some, None, refl, sym, subst, ap, ◌∙◌, arith}
 use Rattle.attributes.specs.Event.{EventValue}
 use Rattle.coverage.specs.CoverText.{IsCoverText}
 use Rattle.coverage.specs.BlockDigests.{SourceBlocks}
 use Rattle.coverage.specs.NumbersText.{numbers_text}
 use Rattle.coverage.specs.Summary.{Sources, IsSummary, holds_at, version_of}
 use Rattle.coverage.specs.SummaryText.{summary_text}
-use Rattle.views.specs.Line.{AreDayLines, conflict_lines, event_lines, gap_lines, kind_lines, line}
-use Rattle.views.specs.Law.{AnswersAreOne, LinesAreAnswers}
+use Rattle.views.specs.Line.{AreDayLines, conflict_lines, cover_line, event_lines, gap_lines, kind_lines, line}
+use Rattle.views.specs.Law.{AnswersAreOne, LinesAreAnswers, SilenceIsAnswer}
 use Rattle.views.specs.Number.{has_number}
 use Rattle.views.specs.Question.{AreLines, IsAnswer, IsTrueOf, query_of}
 use Rattle.views.specs.Tally.{days}
@@ -61,3 +61,16 @@ answers_are_one told known query.Latest E t u a b = a ∙ sym b
 answers_are_one told known query.Kinds E t u a b = a ∙ sym b
 answers_are_one told known query.Days E t u a b = day_lines_one (days E) t u a b
 answers_are_one told known query.Gaps E t u a b = a.2 ∙ ap gap_lines (gaps_are_one known E a.0 b.0 a.1 b.1) ∙ sym b.2
+
+-- a question that is answered by no line has one text, and that is what its true answers have
+own_silence : LinesAreAnswers → AnswersAreOne → (E : List EventValue) (a : Answer) → IsTrueOf E a → IsAnswer (query_of a) E [] → AreLines a []
+own_silence written one E (answer.Cover summary) true none = one query.Cover E [] (cover_line summary) none (written query.Cover E (answer.Cover summary) (cover_line summary) refl true refl)
+own_silence written one E (answer.Shown events) true none = none ∙ ap event_lines (sym true)
+own_silence written one E (answer.Conflicts rows) true none = none ∙ ap conflict_lines (sym true)
+own_silence written one E (answer.Latest events) true none = none ∙ ap event_lines (sym true)
+own_silence written one E (answer.Kinds rows) true none = none ∙ ap kind_lines (sym true)
+own_silence written one E (answer.Days rows) true none = subst (λ r. AreDayLines r []) (sym true) none
+own_silence written one E (answer.Gaps rows) true none = one query.Gaps E [] (gap_lines rows) none (written query.Gaps E (answer.Gaps rows) (gap_lines rows) refl true refl)
+
+pub silence_is_answer : LinesAreAnswers → AnswersAreOne → SilenceIsAnswer
+silence_is_answer written one query E a asked true none = own_silence written one E a true (subst (λ q. IsAnswer q E []) (sym asked) none)

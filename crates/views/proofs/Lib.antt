@@ -11,3 +11,4 @@ pub mod TieLemmas
 pub mod AnswerLemmas
 pub mod InOrderLemmas
 pub mod SilentLemmas
+pub mod TimeLemmas

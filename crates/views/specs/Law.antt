@@ -1,5 +1,5 @@
 -- What holds of answers.
-use Rattle.std.specs.Prelude.{◌≡◌, ℕ, List, ◌&&◌, true, false, Some, Contains}
+use Rattle.std.specs.Prelude.{◌≡◌, ℕ, List, [], ◌&&◌, true, false, Some, Contains}
 use Rattle.std.specs.List.{list_any}
 use Rattle.std.specs.Ordering.{is_eq, is_lt}
 use Rattle.attributes.specs.Event.{EventValue}
@@ -44,6 +44,12 @@ abbrev pub LinesAreAnswers : Type 0
 LinesAreAnswers =
     (query : Query) (E : List EventValue) (a : Answer) (text : List ℕ)
     → query_of a ≡ query → IsTrueOf E a → AreLines a text → IsAnswer query E text
+
+-- where a question is answered without a line, a true answer to it has none
+abbrev pub SilenceIsAnswer : Type 0
+SilenceIsAnswer =
+    (query : Query) (E : List EventValue) (a : Answer)
+    → query_of a ≡ query → IsTrueOf E a → IsAnswer query E [] → AreLines a []
 
 -- a question has one text over a set
 abbrev pub AnswersAreOne : Type 0

@@ -1,5 +1,5 @@
 -- Questions about a set E of events, and what answers them.
-use Rattle.std.specs.Prelude.{◌≡◌, ℕ, List}
+use Rattle.std.specs.Prelude.{◌≡◌, ◌≢◌, ℕ, List, []}
 use Rattle.attributes.specs.Event.{EventValue}
 use Rattle.coverage.specs.CoverText.{IsCoverText}
 use Rattle.coverage.specs.Summary.{Entries}
@@ -9,7 +9,7 @@ use Rattle.views.specs.Latest.{latest}
 use Rattle.views.specs.Line.{AreDayLines, conflict_lines, cover_line, event_lines, gap_lines}
 use Rattle.views.specs.Line.{kind_lines, line}
 use Rattle.views.specs.Number.{AreGaps, Sums, has_number}
-use Rattle.views.specs.Tally.{days, kinds}
+use Rattle.views.specs.Tally.{HasTime, days, kinds}
 use Rattle.views.specs.declared.query.Query.{Query}
 use Rattle.views.specs.declared.query.Query.TheVariants as query
 use Rattle.views.specs.declared.query.Answer.{Answer}
@@ -55,3 +55,14 @@ IsAnswer query.Latest E text = text ≡ event_lines (latest E)
 IsAnswer query.Kinds E text = text ≡ kind_lines (kinds E)
 IsAnswer query.Days E text = AreDayLines (days E) text
 IsAnswer query.Gaps E text = (rows : Entries) × AreGaps E rows × (text ≡ gap_lines rows)
+
+-- an answer over the set E may want memory: about conflicts where there are some, about days where
+-- a shown event has a time, and about anything else where there are events
+abbrev pub MayWantMemory : Query → List EventValue → Type 0
+MayWantMemory query.Cover E = E ≢ []
+MayWantMemory query.Shown E = E ≢ []
+MayWantMemory query.Conflicts E = conflicts E ≢ []
+MayWantMemory query.Latest E = E ≢ []
+MayWantMemory query.Kinds E = E ≢ []
+MayWantMemory query.Days E = HasTime E
+MayWantMemory query.Gaps E = E ≢ []

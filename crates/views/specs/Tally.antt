@@ -1,5 +1,5 @@
 -- How often something is shown. E is a set of events, a list in key order.
-use Rattle.std.specs.Prelude.{ℕ, ℤ, List, Option, map, count_by}
+use Rattle.std.specs.Prelude.{◌≡◌, ℕ, ℤ, List, Contains, Option, Some, map, count_by}
 use Rattle.std.specs.declared.cmp.Ordering.{Ordering}
 use Rattle.std.specs.Ordering.{is_eq, int_cmp, ordering_then}
 use Rattle.std.specs.List.{filter_map}
@@ -20,6 +20,11 @@ kinds E = tally byte_cmp (map kind_of (shown E))
 -- the type and the UTC day of an event that has a time
 abbrev pub kind_and_day : EventValue → Option (List ℕ × ℤ)
 kind_and_day e = option_map (λ day. (kind_of e, day)) (day_of e)
+
+-- a shown event of E has a time
+abbrev pub HasTime : List EventValue → Type 0
+HasTime E =
+    (e : EventValue) × Contains (shown E) e × ((k : List ℕ × ℤ) × (kind_and_day e ≡ Some k))
 
 -- by type, then day
 abbrev pub day_cmp : List ℕ × ℤ → List ℕ × ℤ → Ordering

@@ -1,6 +1,6 @@
 //! Laws of answers, each as the contract of a function that does nothing.
 
-ghost use Rattle.views.specs.Law.{AnswersAreAlike, AnswersAreOne, LatestAreGreatest, LinesAreAnswers, NoneTie, EntitiesHaveLatest};
+ghost use Rattle.views.specs.Law.{AnswersAreAlike, AnswersAreOne, LatestAreGreatest, LinesAreAnswers, NoneTie, EntitiesHaveLatest, SilenceIsAnswer};
 
 use attributes::laws::text_tells_events;
 use coverage::laws::{numbers_tell_cover_texts, numbers_tell_summaries};
@@ -23,12 +23,13 @@ pub fn latest_are_one()
 }
 
 /// The lines of a true answer to a question answer it; a question has one text over a set of
-/// events; and where two lists have the same events, in whatever order and repetition, it has one
-/// text over the sets of both, byte for byte.
+/// events, and where that is empty a true answer has no line; and where two lists have the same
+/// events, in whatever order and repetition, it has one text over the sets of both, byte for byte.
 pub fn answers_are_alike()
     ensures written { LinesAreAnswers }
     ensures one { AnswersAreOne }
     ensures alike { AnswersAreAlike }
+    ensures silent { SilenceIsAnswer }
 {
     numbers_tell_cover_texts();
     numbers_tell_summaries();

@@ -1,9 +1,9 @@
 //! Answers in lines.
 
-ghost use Rattle.std.specs.Prelude.{◌≡◌, ◌<◌, [], ◌∷◌, ◌++◌, IfOk, OnOk, List, Some, ℕ, length, map, slice_get, string_bytes};
+ghost use Rattle.std.specs.Prelude.{◌≡◌, ◌≢◌, ◌<◌, [], ◌∷◌, ◌++◌, IfOk, OnErr, OnOk, List, Some, true, ℕ, length, map, slice_get, string_bytes};
 ghost use Rattle.std.specs.List.{join_with_byte};
 ghost use Rattle.attributes.specs.Event.{EventValue, text};
-ghost use Rattle.inbox.specs.Conflicts.{conflicts, conflicts_of};
+ghost use Rattle.inbox.specs.Conflicts.{conflicts, conflicts_of, is_first_of_several};
 ghost use Rattle.inbox.specs.Kept.{events};
 ghost use Rattle.jiff_core.specs.Date.{epoch_day};
 ghost use Rattle.serde_json.specs.Written.{compact_text};
@@ -145,9 +145,11 @@ fn add_row(alloc: Global, out: &mut String, row: &Conflict) -> Result<(), AllocE
 /// several.
 fn add_conflict_at(alloc: Global, out: &mut String, inbox: &Inbox, i: u64) -> Result<(), AllocError>
     requires in_range { i < length (events inbox.now) }
-    ensures { OnOk result ((e : EventValue) → slice_get (events inbox.now) i ≡ Some e
+    ensures line { OnOk result ((e : EventValue) → slice_get (events inbox.now) i ≡ Some e
         → string_bytes out.new
         ≡ string_bytes out.old ++ conflict_lines (conflicts_of (events inbox.now) (e ∷ []))) }
+    ensures err { OnErr result ((e : EventValue) → slice_get (events inbox.now) i ≡ Some e
+        → is_first_of_several (events inbox.now) e ≡ true) }
 {
     if !inbox.is_shown(i) {
         return Ok(());
@@ -163,7 +165,8 @@ fn add_conflict_at(alloc: Global, out: &mut String, inbox: &Inbox, i: u64) -> Re
 
 /// What `print_conflicts` makes of a set's conflicts, the events printed where they stand.
 pub(crate) fn print_conflicts_of(alloc: Global, inbox: &Inbox) -> Result<Text, AllocError>
-    ensures { IfOk result (λ t. t ≡ conflict_lines (conflicts (events inbox.now))) }
+    ensures lines { IfOk result (λ t. t ≡ conflict_lines (conflicts (events inbox.now))) }
+    ensures err { OnErr result (conflicts (events inbox.now) ≢ []) }
 {
     let mut out = String::new(alloc);
     for i in 0..inbox.len() {

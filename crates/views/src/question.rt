@@ -2,7 +2,7 @@
 
 ghost use Rattle.std.specs.Prelude.{◌≡◌, ◌≢◌, ◌↔◌, [], IfOk, IsTrue, OnErr};
 ghost use Rattle.inbox.specs.Kept.{events};
-ghost use Rattle.views.specs.Question.{AreLines, IsAnswer, IsTrueOf, query_of};
+ghost use Rattle.views.specs.Question.{AreLines, IsAnswer, IsTrueOf, MayWantMemory, query_of};
 
 use crate::laws::answers_are_alike;
 use crate::line::{
@@ -42,8 +42,9 @@ pub fn answer(alloc: Global, inbox: &Inbox, query: Query) -> Result<Answer, Allo
     ensures query { IfOk result (λ a. query_of a ≡ query) }
     ensures answer { IfOk result (IsTrueOf (events inbox.now)) }
 
-    // Without events no memory is wanted.
+    // Without events no memory is wanted, nor for conflicts or days where there are none.
     ensures err { OnErr result (events inbox.now ≢ []) }
+    ensures rows { OnErr result (MayWantMemory query (events inbox.now)) }
 {
     if inbox.len() == 0 {
         return Ok(empty_answer(alloc, query));
@@ -102,8 +103,10 @@ pub fn print(alloc: Global, answer: &Answer) -> Result<Text, AllocError>
 pub fn answer_lines(alloc: Global, inbox: &Inbox, query: Query) -> Result<Text, AllocError>
     ensures lines { IfOk result (IsAnswer query (events inbox.now)) }
 
-    // Without events memory is wanted for lines alone.
+    // Without events memory is wanted for lines alone, and so it is without conflicts or days.
     ensures err { OnErr result (IsAnswer query (events inbox.now) [] → events inbox.now ≢ []) }
+    ensures rows { OnErr result (IsAnswer query (events inbox.now) []
+        → MayWantMemory query (events inbox.now)) }
 {
     // A law that the clauses rest on; the call does nothing.
     answers_are_alike();

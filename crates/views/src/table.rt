@@ -1,16 +1,16 @@
 //! Tables of what events have, by key. Keys are lent by the events.
 
-ghost use Rattle.std.specs.Prelude.{◌≡◌, ◌+◌, ◌<◌, ◌^◌, IfOk, OnOk, filter_map, map, option_map, slice_get, Some};
+ghost use Rattle.std.specs.Prelude.{◌≡◌, ◌+◌, ◌<◌, ◌^◌, ◌&&◌, [], IfOk, IsTrue, OnOk, false, filter_map, is_some, length, map, option_map, slice_get, Some};
 ghost use Rattle.std.specs.BTreeMap.{get, insert_entry};
 ghost use Rattle.std.specs.Cmp.{IsTotalOrder};
 ghost use Rattle.std.specs.Option.{option_and_then, option_copied, option_map_or};
 ghost use Rattle.std.specs.Ordering.{is_lt};
 ghost use Rattle.attributes.specs.Bytes.{byte_cmp};
-ghost use Rattle.attributes.specs.Event.{kind_of};
+ghost use Rattle.attributes.specs.Event.{EventValue, kind_of};
 ghost use Rattle.inbox.specs.Kept.{events};
-ghost use Rattle.inbox.specs.Shown.{shown};
+ghost use Rattle.inbox.specs.Shown.{is_shown, shown};
 ghost use Rattle.views.specs.Latest.{greater, number_cmp};
-ghost use Rattle.views.specs.Tally.{day_cmp, kind_and_day, tally};
+ghost use Rattle.views.specs.Tally.{HasTime, day_cmp, days, kind_and_day, tally};
 ghost use Rattle.views.specs.steps.Rows.{latest_rows};
 
 use crate::day::Day;
@@ -81,6 +81,29 @@ fn kind_and_day_at(inbox: &Inbox, i: u64) -> Option<(&str, Day)>
         Some(day) => Some((event.kind(), day)),
         None => None,
     }
+}
+
+/// Whether the event at a place of key order is shown and has a time.
+fn is_timed(inbox: &Inbox, i: u64) -> bool
+    requires { i < length (events inbox.now) }
+    ensures { (e : EventValue) → slice_get (events inbox.now) i ≡ Some e
+        → result ≡ (is_some (kind_and_day e) && is_shown (events inbox.now) e) }
+{
+    kind_and_day_at(inbox, i).is_some() && inbox.is_shown(i)
+}
+
+/// Whether a shown event has a time. Goes over the events up to the first such one, and takes no
+/// memory.
+pub(crate) fn has_time(inbox: &Inbox) -> bool
+    ensures some { IsTrue result → HasTime (events inbox.now) }
+    ensures none { result ≡ false → days (events inbox.now) ≡ [] }
+{
+    for i in 0..inbox.len() {
+        if is_timed(inbox, i) {
+            return true;
+        }
+    }
+    false
 }
 
 /// How many of the shown events that have a time have each type and day. Goes over the events once.

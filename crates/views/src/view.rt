@@ -1,14 +1,14 @@
 //! What the shown events are asked: types, days and the latest.
 
-ghost use Rattle.std.specs.Prelude.{◌≡◌, ◌≤◌, ◌+◌, IfOk, drop, length, map, take};
+ghost use Rattle.std.specs.Prelude.{◌≡◌, ◌≤◌, ◌+◌, IfOk, OnErr, drop, length, map, take};
 ghost use Rattle.inbox.specs.Kept.{events};
 ghost use Rattle.inbox.specs.Shown.{shown};
 ghost use Rattle.views.specs.Latest.{latest};
-ghost use Rattle.views.specs.Tally.{days, kinds};
+ghost use Rattle.views.specs.Tally.{HasTime, days, kinds};
 
 use crate::day::Day;
 use crate::row::{Days, Kinds};
-use crate::table::{by_day, by_entity, by_kind};
+use crate::table::{by_day, by_entity, by_kind, has_time};
 use attributes::{Batch, Sequenced, Text};
 use inbox::Inbox;
 use std::alloc::{AllocError, Global};
@@ -53,8 +53,12 @@ fn listed_kinds(alloc: Global, table: &BTreeMap<&str, u64>) -> Result<Kinds, All
 /// How many shown events with a time have each type and UTC day, by type, then day. Time as for
 /// `count_kinds`.
 pub(crate) fn count_days(alloc: Global, inbox: &Inbox) -> Result<Days, AllocError>
-    ensures { IfOk result (λ rows. rows ≡ days (events inbox.now)) }
+    ensures rows { IfOk result (λ rows. rows ≡ days (events inbox.now)) }
+    ensures err { OnErr result (HasTime (events inbox.now)) }
 {
+    if !has_time(inbox) {
+        return Ok(Days::empty(alloc));
+    }
     let table = by_day(alloc, inbox)?;
     Ok(listed_days(alloc, &table)?)
 }

@@ -39,9 +39,11 @@ impl Intervals {
     }
 
     /// Whether every number from the first to the last is held.
-    fn holds_span(&self, first: u64, last: u64) -> bool
-        ensures { IsTrue result
+    pub(super) fn holds_span(&self, first: u64, last: u64) -> bool
+        ensures all { IsTrue result
             → (n : ℕ) → first ≤ n → n ≤ last → holds self.now n ≡ true }
+        ensures lacks { result ≡ false → first ≤ last
+            → (n : ℕ) × (first ≤ n) × (n ≤ last) × (holds self.now n ≡ false) }
     {
         match last_up_to(&self.starts, first) {
             Some((_, end)) => last <= end,

@@ -1,5 +1,5 @@
 //! A set as a map from the start of each interval to its end.
-ghost use Rattle.std.specs.Prelude.{◌≡◌, ℕ, ◌||◌, ◌==◌, not, false, [], ◌↔◌, IsTrue, IfOk, OnOk};
+ghost use Rattle.std.specs.Prelude.{◌≡◌, ◌≢◌, ℕ, ◌||◌, ◌==◌, not, false, [], ◌↔◌, IsTrue, IfOk, OnOk};
 ghost use Rattle.std.specs.Prelude.{OnErr, MatchOption};
 ghost use Rattle.coverage.specs.Intervals.{IsCanonical, holds};
 ghost use Rattle.coverage.specs.steps.Starts.{NoneUpTo, IsLastUpTo};
@@ -76,7 +76,13 @@ impl Intervals {
     pub fn copy(&self) -> Result<Intervals, AllocError>
         ensures copied { IfOk result (λ r. r ≡ self.now) }
         ensures canonical { IsCanonical self.now }
+
+        // Memory is wanted for numbers alone.
+        ensures err { OnErr result (self.now ≢ []) }
     {
+        if self.starts.is_empty() {
+            return Ok(Intervals::empty(self.alloc));
+        }
         Ok(Intervals {
             starts: self.starts.clone()?,
             alloc: self.alloc,

@@ -1,7 +1,7 @@
 //! Sets united, subtracted and completed: passes over their intervals from the front to the end.
-ghost use Rattle.std.specs.Prelude.{◌≡◌, ℕ, ◌<◌, ◌≤◌, ◌||◌, ◌&&◌, false, not, nat_le, ◌⊎◌, length};
-ghost use Rattle.std.specs.Prelude.{IsTrue, IfOk, OnOk};
-ghost use Rattle.coverage.specs.Intervals.{Forms, IsCanonical, IsMissing, holds, in_interval};
+ghost use Rattle.std.specs.Prelude.{◌≡◌, ◌≢◌, ℕ, ◌<◌, ◌≤◌, ◌||◌, ◌&&◌, [], false, not, nat_le, ◌⊎◌, length};
+ghost use Rattle.std.specs.Prelude.{IsTrue, IfOk, OnErr, OnOk};
+ghost use Rattle.coverage.specs.Intervals.{Forms, HoldsAll, IsCanonical, IsMissing, holds, in_interval};
 ghost use Rattle.coverage.specs.Intervals.{interval_at, max_sequence};
 ghost use Rattle.coverage.specs.steps.Starts.{StartsAtMost};
 
@@ -108,7 +108,13 @@ impl Intervals {
         ensures canonical { IfOk result (λ r. IsCanonical r) }
         ensures members { IfOk result (λ r. (n : ℕ)
             → holds r n ≡ (holds self.now n || holds other.now n)) }
+
+        // Memory is wanted where either set has a number.
+        ensures err { OnErr result ((self.now ≢ []) ⊎ (other.now ≢ [])) }
     {
+        if self.is_empty() && other.is_empty() {
+            return Ok(Intervals::empty(self.alloc));
+        }
         let own = self.pairs()?;
         let others = other.pairs()?;
         let both = merged(self.alloc, &own, &others)?;
@@ -120,7 +126,13 @@ impl Intervals {
         ensures canonical { IfOk result (λ r. IsCanonical r) }
         ensures members { IfOk result (λ r. (n : ℕ)
             → holds r n ≡ (holds self.now n && not (holds other.now n))) }
+
+        // Memory is wanted where a number is left.
+        ensures err { OnErr result (¬ HoldsAll other.now self.now) }
     {
+        if other.covers(self) {
+            return Ok(Intervals::empty(self.alloc));
+        }
         let Some(top) = self.greatest() else {
             return Ok(Intervals::empty(self.alloc));
         };
@@ -135,11 +147,17 @@ impl Intervals {
     /// The numbers from 1 on that aren't held, up to the greatest that is. Time and memory as for
     /// `union`.
     pub fn missing(&self) -> Result<Intervals, AllocError>
-        ensures { IfOk result (λ r. Forms r (IsMissing self.now)) }
+        ensures missing { IfOk result (λ r. Forms r (IsMissing self.now)) }
+
+        // Memory is wanted where a number is missing.
+        ensures err { OnErr result ((n : ℕ) × IsMissing self.now n) }
     {
         let Some(top) = self.greatest() else {
             return Ok(Intervals::empty(self.alloc));
         };
+        if self.holds_span(1, top) {
+            return Ok(Intervals::empty(self.alloc));
+        }
         let own = self.pairs()?;
         let missing = gaps(self.alloc, &own, top)?;
         Intervals::of_pairs(self.alloc, &missing)

@@ -114,7 +114,11 @@ impl Numbers {
     pub fn copy(&self) -> Result<Numbers, AllocError>
         ensures copied { IfOk result (λ r. r ≡ self.now) }
         ensures summary { AreListed self.now }
+        ensures err { OnErr result (self.now ≢ []) }
     {
+        if self.entries.is_empty() {
+            return Ok(Numbers::empty(self.alloc));
+        }
         let mut own = Numbers::empty(self.alloc);
         for (source, numbers) in &self.entries {
             own.append(source.as_str(), numbers.copy()?)?;

@@ -1,5 +1,5 @@
 //! The union of two summaries.
-ghost use Rattle.std.specs.Prelude.{◌≡◌, ℕ, ◌||◌, ◌&&◌, List, bytes_eq, IfOk, OnOk};
+ghost use Rattle.std.specs.Prelude.{◌≡◌, ◌≢◌, ◌⊎◌, ℕ, ◌||◌, ◌&&◌, List, [], bytes_eq, IfOk, OnErr, OnOk};
 ghost use Rattle.coverage.specs.Intervals.{holds};
 ghost use Rattle.coverage.specs.Numbers.{IsEntry, AreListed, holds_in};
 
@@ -14,7 +14,11 @@ impl Numbers {
         ensures summary { IfOk result (λ r. AreListed r) }
         ensures members { IfOk result (λ r. (s : List ℕ) (m : ℕ)
             → holds_in r s m ≡ (holds_in self.now s m || holds_in other.now s m)) }
+        ensures err { OnErr result ((self.now ≢ []) ⊎ (other.now ≢ [])) }
     {
+        if self.entries.is_empty() && other.entries.is_empty() {
+            return Ok(Numbers::empty(self.alloc));
+        }
         let mut both = self.copy()?;
         for (source, numbers) in &other.entries {
             both.add_all(source.as_str(), numbers)?;

@@ -1,5 +1,5 @@
 //! Summaries with the digests of a set's blocks.
-ghost use Rattle.std.specs.Prelude.{◌≡◌, ℕ, List, [], IfOk};
+ghost use Rattle.std.specs.Prelude.{◌≡◌, ◌≢◌, ℕ, List, [], IfOk, OnErr};
 ghost use Rattle.std.specs.List.Sorted.{IsStrictlySortedBy};
 ghost use Rattle.inbox.specs.KeyOrder.{key_cmp};
 ghost use Rattle.inbox.specs.Sets.{AreEvents, set_of};
@@ -53,8 +53,14 @@ impl Summary {
     /// memory for their places.
     pub fn of_events(alloc: Global, events: &Batch) -> Result<Summary, AllocError>
         requires { IsStrictlySortedBy key_cmp events.now }
-        ensures { IfOk result (Digests events.now) }
+        ensures digests { IfOk result (Digests events.now) }
+
+        // Without events no memory is wanted.
+        ensures err { OnErr result (events.now ≢ []) }
     {
+        if events.is_empty() {
+            return Ok(Summary::empty_digested(alloc));
+        }
         let mut numbers = Summary::empty(alloc);
         let mut blocks = Blocks::empty(alloc);
         sets_are_members();

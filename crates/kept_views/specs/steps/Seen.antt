@@ -1,8 +1,11 @@
 -- Tables as the code holds them, seen as contracts see them.
-use Rattle.std.specs.Prelude.{ℕ, ℤ, List, map, string_bytes}
+use Rattle.std.specs.Prelude.{ℕ, ℤ, List, [], ◌∷◌, Option, map, string_bytes}
 use Rattle.std.specs.BTreeMap.{BTreeMap}
 use Rattle.std.specs.declared.string.String.{String}
+use Rattle.std.specs.declared.random_state.RandomState.{RandomState}
+use Rattle.indexmap.specs.IndexMap.{IndexMap, hasher_of}
 use Rattle.kept_views.specs.declared.entities.Slot.{Slot}
+use Rattle.kept_views.specs.declared.seed.Seed.{Seed}
 use Rattle.kept_views.specs.Tables.{KindDay, Rank, Rows, Entity}
 
 module _ {Y : Type 0} where
@@ -27,6 +30,12 @@ module _ {Y : Type 0} where
   abbrev pub entities_in : List ((String Y × String Y) × BTreeMap (ℕ × String Y) ℕ)
       → List (Entity × Rows)
   entities_in es = map (λ e. (entity_in e.0, rows_in e.1)) es
+
+-- what the keys of three tables are hashed by
+abbrev pub states_in : {K L M U V W : Type 0} → IndexMap K U Seed → IndexMap L V Seed
+    → IndexMap M W Seed → List (Option RandomState)
+states_in k d e =
+    (hasher_of k).state ∷ (hasher_of d).state ∷ (hasher_of e).state ∷ []
 
 abbrev pub slot_in : Slot → Entity × Rank
 slot_in s = (entity_in s.entity, rank_in s.rank)

@@ -8,8 +8,8 @@ use Rattle.kept_views.proofs.DayLemmas.{at_day, day_changes}
 use Rattle.kept_views.proofs.TallyLemmas.{counted_some}
 use Rattle.kept_views.proofs.days.lower_day.Goals as goal
 
-pub returns-then-before-le1 : goal.returns-then-before-le1
-returns-then-before-le1 c =
+pub returns-then-before-le1-clause-counts : goal.returns-then-before-le1-clause-counts
+returns-then-before-le1-clause-counts c =
     let d = day_in c.in-Some.day in
     let es = c.args.tally.now.entries in
     let was : c.unwrap_or-before.result ≡ unwrap_or (lookup (at_day d) es) 0 = c.unwrap_or-before.ensures ∙ ap (λ o. unwrap_or o 0) (c.copied.ensures ∙ c.get.ensures.value) in
@@ -17,8 +17,8 @@ returns-then-before-le1 c =
     subst (λ o. CountsChange is_day (is_own (option_map day_in o)) one_less (days_in es) (days_in c.swap_remove.new.self.entries)) (sym c.in-Some.is)
     (day_changes one_less d es c.swap_remove.new.self.entries None c.swap_remove.ensures.updates.3 c.swap_remove.ensures.updates.1 (ap counted left))
 
-pub returns-in-Some-get_mut : goal.returns-in-Some-get_mut
-returns-in-Some-get_mut c =
+pub returns-in-Some-get_mut-clause-counts : goal.returns-in-Some-get_mut-clause-counts
+returns-in-Some-get_mut-clause-counts c =
     let d = day_in c.in-Some.day in
     let es = c.args.tally.now.entries in
     let was : c.unwrap_or-before.result ≡ unwrap_or (lookup (at_day d) es) 0 = c.unwrap_or-before.ensures ∙ ap (λ o. unwrap_or o 0) (c.copied.ensures ∙ c.get.ensures.value) in

@@ -15,8 +15,8 @@ overflow_add-before c =
     let was : c.unwrap_or-before.result ≡ unwrap_or (lookup (at_day d) es) 0 = c.unwrap_or-before.ensures ∙ ap (λ o. unwrap_or o 0) (c.copied.ensures ∙ c.get.ensures.value) in
     omega (arith, was, day_count_seen es d, c.requires.fits d)
 
-pub returns : goal.returns
-returns c =
+pub returns-clause-counts : goal.returns-clause-counts
+returns-clause-counts c =
     let d = day_in c.in-Some.day in
     let es = c.args.tally.now.entries in
     let was : c.unwrap_or-before.result ≡ unwrap_or (lookup (at_day d) es) 0 = c.unwrap_or-before.ensures ∙ ap (λ o. unwrap_or o 0) (c.copied.ensures ∙ c.get.ensures.value) in

@@ -11,8 +11,8 @@ overflow_add-before c =
     c.unwrap_or-before.ensures ∙ ap (λ o. unwrap_or o 0) (c.copied.ensures ∙ c.get.ensures.value ∙ ap (get_by_text c.args.tally.now) c.as_str.ensures.value) in
     omega (arith, was, c.requires.fits)
 
-pub returns : goal.returns
-returns c =
+pub returns-clause-counts : goal.returns-clause-counts
+returns-clause-counts c =
     let was : c.unwrap_or-before.result ≡ unwrap_or (get_by_text c.args.tally.now (string_bytes c.args.text)) 0 =
     c.unwrap_or-before.ensures ∙ ap (λ o. unwrap_or o 0) (c.copied.ensures ∙ c.get.ensures.value ∙ ap (get_by_text c.args.tally.now) c.as_str.ensures.value) in
     λ k. hash_map_updates_text (string_bytes c.args.text) c.args.tally.now c.insert.new.self (Some (c.unwrap_or-before.result + 1)) (on_ok c.insert.result _ (c.insert.ensures.succeeds c.requires.room) c.insert.ensures.updates) k

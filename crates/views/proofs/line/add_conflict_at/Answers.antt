@@ -15,8 +15,8 @@ abbrev first_or : EventValue → Option EventValue → EventValue
 first_or e None = e
 first_or e (Some f) = f
 
-pub returns-in_ok-add_conflict : goal.returns-in_ok-add_conflict
-returns-in_ok-add_conflict c = λ e there.
+pub returns-in_ok-add_conflict-clause-line : goal.returns-in_ok-add_conflict-clause-line
+returns-in_ok-add_conflict-clause-line c = λ e there.
     let E = events c.args.inbox.now in
     let own = string_bytes c.args.out.now in
     let i = c.args.i in

@@ -23,6 +23,6 @@ loop-source-preserved c =
     (subst (λ l. IsStrictlySortedBy byte_cmp (keys_of l)) c.self.view_is (sorted_blocks _ c.into_iter-source-iterator.ensures.into_iter_gives.5))
     c.loop-source.invariant (ap blocks_in c.in-Some.ensures.steps) (c.in_ok-key.ensures.ok ∙ c.as_str.ensures.value) c.in_ok-copy_blocks.ensures c.in_ok-insert.ensures.entries
 
-pub returns : goal.returns
-returns c =
+pub returns-clause-copied : goal.returns-clause-copied
+returns-clause-copied c =
     sym (append-nil (blocks_in c.loop-source.sources.entries)) ∙ ap (λ l. blocks_in c.loop-source.sources.entries ++ blocks_in l) (sym c.in-None.ensures.steps.0) ∙ c.loop-source.invariant

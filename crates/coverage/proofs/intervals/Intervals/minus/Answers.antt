@@ -7,7 +7,7 @@ use Rattle.coverage.proofs.intervals.Intervals.minus.Goals as goal
 
 pub returns-in_default-clause-members : goal.returns-in_default-clause-members
 returns-in_default-clause-members c = λ n.
-    c.empty.ensures.members n ∙ sym (ap (λ l. holds l n && not (holds c.args.other.now n)) c.in_default.ensures.value ∙ ap (λ b. b && not (holds c.args.other.now n)) (holds-nil n))
+    c.empty-in_default.ensures.members n ∙ sym (ap (λ l. holds l n && not (holds c.args.other.now n)) c.in_default.ensures.value ∙ ap (λ b. b && not (holds c.args.other.now n)) (holds-nil n))
 
 pub returns-clause-members : goal.returns-clause-members
 returns-clause-members c =

@@ -31,8 +31,8 @@ digested-requires-clause-numbers c = λ s n.
     let same : set_of E ≡ E = own_set c.sets_are_members.ensures (tied_events c.text_tells_events.ensures) E (subst AreEvents whole c.loop-i.invariant.0) c.requires in
     c.loop-i.invariant.1 s n ∙ ap (λ A. has_number A s n) (whole ∙ sym same)
 
-pub returns : goal.returns
-returns c =
+pub returns-clause-digests : goal.returns-clause-digests
+returns-clause-digests c =
     let E = c.args.events.now in
     let whole : take c.loop-i.i E ≡ E = take_all c.loop-i.i E (search rules) in
     let same : set_of E ≡ E = own_set c.sets_are_members.ensures (tied_events c.text_tells_events.ensures) E (subst AreEvents whole c.loop-i.invariant.0) c.requires in

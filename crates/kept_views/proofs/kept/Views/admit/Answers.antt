@@ -24,9 +24,9 @@ returns-clause-comes c =
     let view : days_in c.self.inside.days.entries ≡ c.args.self.now.days = ap (λ v. v.days) c.self.view_is in
     let same : days_in c.reserve-2.new.self.entries ≡ c.args.self.now.days = ap days_in c.in_ok-reserve-2.ensures.entries ∙ view in
     record {
-      kinds = count_changes one_more c.self.inside.kinds.entries c.reserve.new.self.entries c.raise.new.tally.entries c.args.self.now.kinds _ (kind_of c.args.event.now) (ap (λ v. v.kinds) c.self.view_is) c.in_ok-reserve.ensures.entries text c.raise.ensures;
+      kinds = count_changes one_more c.self.inside.kinds.entries c.reserve.new.self.entries c.raise.new.tally.entries c.args.self.now.kinds _ (kind_of c.args.event.now) (ap (λ v. v.kinds) c.self.view_is) c.in_ok-reserve.ensures.entries text c.raise.ensures.counts;
       days =
           subst (λ (l : List (KindDay × ℕ)). CountsChange is_day (is_own (kind_and_day c.args.event.now)) one_more l (days_in c.raise_day.new.tally.entries)) same
-          (subst (λ o. CountsChange is_day (is_own o) one_more (days_in c.reserve-2.new.self.entries) (days_in c.raise_day.new.tally.entries)) c.in_ok-day.ensures c.raise_day.ensures);
+          (subst (λ o. CountsChange is_day (is_own o) one_more (days_in c.reserve-2.new.self.entries) (days_in c.raise_day.new.tally.entries)) c.in_ok-day.ensures c.raise_day.ensures.counts);
       entities = rw (← c.in_ok-slot.ensures, ← c.self.view_is) c.in_ok-bring.ensures.ok;
     }

@@ -12,13 +12,13 @@ lower-requires c =
     let text = c.kind.ensures.value ∙ ap kind_of c.event.ensures in
     record { counted = omega (arith, c.requires.counted, count_seen c.self.inside.kinds.entries c.self.inside.kinds.entries c.args.self.now.kinds _ (kind_of c.args.event.now) (ap (λ v. v.kinds) c.self.view_is) refl text) }
 
-pub returns : goal.returns
-returns c =
+pub returns-clause-goes : goal.returns-clause-goes
+returns-clause-goes c =
     let text = c.kind.ensures.value ∙ ap kind_of c.event.ensures in
     record {
-      kinds = count_changes one_less c.self.inside.kinds.entries c.self.inside.kinds.entries c.lower.new.tally.entries c.args.self.now.kinds _ (kind_of c.args.event.now) (ap (λ v. v.kinds) c.self.view_is) refl text c.lower.ensures;
+      kinds = count_changes one_less c.self.inside.kinds.entries c.self.inside.kinds.entries c.lower.new.tally.entries c.args.self.now.kinds _ (kind_of c.args.event.now) (ap (λ v. v.kinds) c.self.view_is) refl text c.lower.ensures.counts;
       days =
           subst (λ (l : List (KindDay × ℕ)). CountsChange is_day (is_own (kind_and_day c.args.event.now)) one_less l (days_in c.lower_day.new.tally.entries)) (ap (λ v. v.days) c.self.view_is)
-          (subst (λ o. CountsChange is_day (is_own o) one_less (days_in c.self.inside.days.entries) (days_in c.lower_day.new.tally.entries)) c.requires.own c.lower_day.ensures);
-      entities = rw (← c.self.view_is) c.clear.ensures;
+          (subst (λ o. CountsChange is_day (is_own o) one_less (days_in c.self.inside.days.entries) (days_in c.lower_day.new.tally.entries)) c.requires.own c.lower_day.ensures.counts);
+      entities = rw (← c.self.view_is) c.clear.ensures.rows;
     }

@@ -5,11 +5,11 @@ use Rattle.kept_views.proofs.AmongLemmas.{are_of_all, are_of_none}
 use Rattle.kept_views.proofs.kept.Views.of.Goals as goal
 
 pub loop-i-init : goal.loop-i-init
-loop-i-init c = are_of_none c.args.inbox.now.arrivals (events c.args.inbox.now) c.with_hasher-views.result c.with_hasher-views.ensures
+loop-i-init c = (are_of_none c.args.inbox.now.arrivals (events c.args.inbox.now) c.with_hasher-views.result c.with_hasher-views.ensures.stands, c.with_hasher-views.ensures.states)
 
 pub returns-clause-stands : goal.returns-clause-stands
 returns-clause-stands c =
-    are_of_all c.args.inbox.now.arrivals c.loop-i.i c.loop-i.views (omega (arith, c.len-i-end.ensures, c.loop-i-test.false)) c.loop-i.invariant
+    are_of_all c.args.inbox.now.arrivals c.loop-i.i c.loop-i.views (omega (arith, c.len-i-end.ensures, c.loop-i-test.false)) c.loop-i.invariant.0
 
 wanted : {T E : Type 0} (r : Result T E) (P : Type 0) → P → OnErr r P
 wanted (Ok t) P p = tt

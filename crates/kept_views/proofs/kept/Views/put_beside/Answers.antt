@@ -106,4 +106,4 @@ returns-in_ok-admit-in-Some-clause-stands c =
     let texts : is_lt (text_cmp e o) ≡ true =
     ap is_lt (sym (c.compare.ensures.order ∙ ap₂ (λ (x y : EventValue). byte_cmp (text x) (text y)) c.event-came.ensures c.event.ensures)) ∙ sym c.is_lt.ensures ∙ c.if-not-is_lt.false in
     comes_new A e after new (stands_replaced A e new c.args.self.now c.requires.stands mid (subst (λ n. ComesIn e n c.args.self.now mid) c.arrived-place.ensures.count c.in_ok-admit-in-Some.ensures.comes) o there texts after
-    (subst (λ s. GoesOut o s mid after) c.in_ok-slot-in-Some.ensures c.dismiss.ensures) c.arrived-place.ensures.events c.text_tells_events.ensures)
+    (subst (λ s. GoesOut o s mid after) c.in_ok-slot-in-Some.ensures c.dismiss.ensures.goes) c.arrived-place.ensures.events c.text_tells_events.ensures)
