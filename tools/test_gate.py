@@ -55,7 +55,7 @@ status=$?
 echo "end try_edits" >>FOLDER/order
 exit $status
 """
-SCRIPTS = ["try_bindings.py", "try_release.py", "try_refusals.py", "try_program.sh", "try_reports.sh", "try_databases.sh", "try_run.sh"]
+SCRIPTS = ["try_bindings.py", "try_release.py", "try_refusals.py", "try_rows.py", "try_program.sh", "try_reports.sh", "try_databases.sh", "try_run.sh"]
 SCRIPTS += ["run_guide.py", "try_streams.py", "try_terminal.py", "try_together.py"]
 ALONE = SCRIPTS[-3:]
 

@@ -133,8 +133,12 @@ for only in asked:
     if at is None:
         sys.exit(2)
     is_wrong = any("wrong" in line for line in lines[at : lines.index("}", at)])
-    if is_wrong or only.endswith("_edit1") and os.path.exists(os.environ["ASKED"] + ".faithless"):
+    is_control = only.endswith("_edit1")
+    if is_wrong or is_control and os.path.exists(os.environ["ASKED"] + ".faithless"):
         print(f"note: src/lib.rt:{at + 1}:1: it is not proved that it is right (`returns-clause-right`)")
+        print(f"fn small::{only}: no proof: `search` did not prove `returns-clause-right`; it calls `small::other`, which is not proved")
+    elif is_control and os.path.exists(os.environ["ASKED"] + ".calls"):
+        print(f"fn small::{only}: no proof: it calls `small::second` and `small::third`, which are not proved")
     else:
         proved += 1
         print(f"fn small::{only}: proved")
@@ -275,6 +279,10 @@ def told_of_bad(folder):
     copy.write("asked.faithless", "")
     status, said, checks = copy.run()
     yield (status, said[-1], checks[1:]) == (0, ALL_TRIED[1], ["first"]), f"wrong: a copy that isn't faithful: {said} {checks}"
+    copy = Copy(f"{folder}/calling")
+    copy.write("asked.calls", "")
+    status, said, checks = copy.run()
+    yield (status, said[-1], len(checks)) == (0, ALL_TRIED[1], 1), f"wrong: a copy that calls what an edit made wrong: {said} {checks}"
     copy = Copy(f"{folder}/no_place")
     copy.write("file", "")
     for words in ({"JUMBETAI_KEPT": f"{copy.folder}/file"}, {"JUMBETAI_KEPT": f"{copy.folder}/open"}):
