@@ -58,6 +58,7 @@ exit $status
 SCRIPTS = ["try_bindings.py", "try_release.py", "try_refusals.py", "try_rows.py", "try_program.sh", "try_reports.sh", "try_databases.sh", "try_run.sh"]
 SCRIPTS += ["run_guide.py", "try_streams.py", "try_terminal.py", "try_together.py"]
 ALONE = SCRIPTS[-3:]
+TESTS = ["test_gate.py", "test_build.py", "test_try_rows.py", "test_try_edits.py"]
 
 
 class Tried(Copy):
@@ -69,7 +70,7 @@ class Tried(Copy):
         os.rename(f"{self.top}/tools/try_edits.py", f"{self.top}/tools/try_edits_itself.py")
         self.write("bad_script", "none\n")
         self.write("bin/rt", RT.replace("FOLDER", folder))
-        for it in [*SCRIPTS, "test_try_edits.py", "test_gate.py"]:
+        for it in [*SCRIPTS, *TESTS]:
             self.write(f"top/tools/{it}", "#!/bin/sh\necho 1 passed, 0 failed\n" if it.startswith("test") else SCRIPT.replace("FOLDER", folder))
             os.chmod(f"{self.top}/tools/{it}", 0o755)
         self.write("top/tools/try_edits.py", EDITS.replace("FOLDER", folder))
@@ -89,7 +90,7 @@ def rows(folder):
     """Pairs of whether the gate did as it is to do, and what is wrong."""
     copy = Tried(f"{folder}/first")
     status, said, order = copy.gate()
-    counts = 2 + 2 + 3 + 4 * len(SCRIPTS)
+    counts = 2 + len(TESTS) + 3 + 4 * len(SCRIPTS)
     yield (status, said[-1]) == (0, f"{counts} passed, 0 failed"), f"a first run: {said[-8:]}"
     told = ["proofs: 1 kept, 1 tried anew", "library: 1 kept, 0 built anew", "edits: 0 kept, 3 tried anew"]
     yield sorted(said[-4:-1]) == sorted(told), f"what a first run took: {said[-6:]}"

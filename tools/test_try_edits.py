@@ -117,9 +117,13 @@ PROVER = """#!/usr/bin/env python3
 import os, re, sys
 words = sys.argv[1:]
 if words[0] == "build":
-    folder = words[words.index("-o") + 1]
-    os.makedirs(folder, exist_ok=True)
-    with open(f"{folder}/format", "w") as it:
+    made = words[words.index("-o") + 1]
+    with open(os.environ["ASKED"] + ".built", "a") as it:
+        it.write(words[words.index("--crate-name") + 1] + chr(10))
+    if made.endswith(".rlib"):
+        os.makedirs(made, exist_ok=True)
+        made += "/format"
+    with open(made, "w") as it:
         it.write("built")
     sys.exit()
 asked = [word for at, word in enumerate(words) if words[at - 1] == "--only"]

@@ -9,9 +9,10 @@ all others use. A group that is played alone has to answer as it stands in stdou
 
 Where an allocation is refused, what is written may differ in one line alone: behind the call that it was refused to
 stands `(again)`, since the driver then plays the call once more, or what of it is left, and the answer is as ever. Where
-the refused call left something behind, `(again)` tells it, and a line `~ ..` below the call has to say that it may: each
-such line has to come up, one that begins with `~ once ` once. Or the program ends with status 1 at a line of its input
-that wanted memory. Behind a line that begins with `# No allocation is refused` groups are played whole alone.
+the refused call left something behind, `(again)` tells it. Lines `~ ..` below a call say all that it may leave: then it
+may be nothing else, one of them has to come up, and one that begins with `~ once ` just once. Or the program ends with
+status 1 at a line of its input that wanted memory. Behind a line that begins with `# No allocation is refused` groups
+are played whole alone.
 
 The last line is 'N passed, M failed', of the groups and of the refused allocations.
 """
@@ -86,7 +87,9 @@ class Group:
 
     def left_behind(self, call, line):
         left = line.removeprefix(f"{AGAIN} ")
-        for it in self.may.get(call, []):
+        if call not in self.may:
+            return None
+        for it in self.may[call]:
             if left == it.removeprefix(ONCE).removeprefix(LEFT):
                 self.met[call, it] = self.met.get((call, it), 0) + 1
                 return None
@@ -112,10 +115,10 @@ class Group:
                 self.wrong.append(f"allocation {at}: {why}")
             at += 1
         for call, lines in self.may.items():
-            for it in lines:
-                times = self.met.get((call, it), 0)
-                if times == 0 or it.startswith(ONCE) and times > 1:
-                    self.wrong.append(f"{self.lines[call]}: it left behind {times} times: {it}")
+            times = {it: self.met.get((call, it), 0) for it in lines}
+            if not any(times.values()):
+                self.wrong.append(f"{self.lines[call]}: nothing of what it may leave behind came up")
+            self.wrong += [f"{self.lines[call]}: it left behind {count} times: {it}" for it, count in times.items() if it.startswith(ONCE) and count != 1]
         return at - start
 
 

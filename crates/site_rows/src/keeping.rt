@@ -5,12 +5,12 @@ ghost use Rattle.inbox.specs.KeyOrder.{key_cmp};
 ghost use Rattle.inbox.specs.Ordered.{append_new};
 ghost use Rattle.kept_views.specs.Tables.{StandsFor};
 
-use crate::said::{line, lines};
-use crate::shelf::Shelf;
 use crate::sites::query_of;
 use attributes::{Sequenced, Text};
 use inbox::Inbox;
 use kept_views::Views;
+use rows::said::{line, lines};
+use rows::shelf::Shelf;
 use std::alloc::{AllocError, Global};
 use std::hash::RandomState;
 use std::marker::Model;

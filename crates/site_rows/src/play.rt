@@ -1,13 +1,15 @@
 //! What has a name, and the calls by their words.
 
 use crate::keeping::Kept;
-use crate::said::Said;
 use crate::schedules::Schedule;
-use crate::shelf::Shelf;
 use crate::sites::{Shown, Way};
-use crate::{events, keeping, schedules, sites};
+use crate::{keeping, schedules, sites};
 use attributes::Sequenced;
 use coverage::Summary;
+use rows::events;
+use rows::player::Player;
+use rows::said::Said;
+use rows::shelf::Shelf;
 use site::Site;
 use std::alloc::Global;
 
@@ -149,20 +151,21 @@ fn call(
     }
 }
 
-/// Plays the call of a line; answers whether all that it is to tell is told.
-pub fn play(rt: &HostRuntime, values: &mut Values, line: &str, said: &mut Said) -> bool {
-    if let Some(step) = line.strip_prefix("then ") {
-        return match step.split_once(' ') {
-            Some((name, step)) => schedules::then(rt.alloc(), &mut values.schedules, name, step),
-            None => false,
-        };
-    }
-    let words: Result<Vec<&str>, _> = line.split_whitespace().collect(rt.alloc());
-    match words {
-        Ok(words) => match words.as_slice() {
-            [word, words @ ..] => call(rt, values, word, words, said),
-            _ => false,
-        },
-        Err(_) => false,
+impl Player for Values {
+    fn play(&mut self, rt: &HostRuntime, line: &str, said: &mut Said) -> bool {
+        if let Some(step) = line.strip_prefix("then ") {
+            return match step.split_once(' ') {
+                Some((name, step)) => schedules::then(rt.alloc(), &mut self.schedules, name, step),
+                None => false,
+            };
+        }
+        let words: Result<Vec<&str>, _> = line.split_whitespace().collect(rt.alloc());
+        match words {
+            Ok(words) => match words.as_slice() {
+                [word, words @ ..] => call(rt, self, word, words, said),
+                _ => false,
+            },
+            Err(_) => false,
+        }
     }
 }

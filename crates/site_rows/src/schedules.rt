@@ -1,11 +1,11 @@
 //! Schedules among sites.
 
-use crate::events::fill;
-use crate::said::{Said, line, number, truth};
-use crate::shelf::Shelf;
 use crate::sites::{covers, number_of};
 use attributes::{Batch, Sequenced, Text};
 use exchange::{Step, Steps, Stop, World, run};
+use rows::events::fill;
+use rows::said::{Said, line, number, truth};
+use rows::shelf::Shelf;
 use site::Site;
 use std::alloc::Global;
 

@@ -2,13 +2,13 @@
 
 ghost use Rattle.std.specs.Prelude.{◌≤◌, IfSome};
 
-use crate::events::{add_numbered, fill};
-use crate::said::{Said, as_line, batch, events, line, lines, number, truth};
-use crate::shelf::Shelf;
 use attributes::{Batch, Sequence, Sequenced, Text};
 use coverage::Summary;
 use exchange::{gossip, scrub};
 use inbox::{Counts, Short};
+use rows::events::{add_numbered, fill};
+use rows::said::{Said, as_line, batch, events, line, lines, number, truth};
+use rows::shelf::Shelf;
 use site::{DeltaPart, Site};
 use std::alloc::{AllocError, Global};
 use std::hash::RandomState;

@@ -56,8 +56,11 @@ pub fn truth(out: &mut String, is_so: bool) -> bool {
     line(out, if is_so { "yes" } else { "no" })
 }
 
-/// Adds the ids and types of events, as a line.
+/// Adds the ids and types of events, as a line; `none` where there is no event.
 pub fn events(out: &mut String, batch: &Batch) -> bool {
+    if batch.is_empty() {
+        return line(out, "none");
+    }
     for i in 0..batch.len() {
         let event = batch.at(i).event();
         let is_said = (i == 0 || out.push(' ').is_ok())
