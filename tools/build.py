@@ -5,15 +5,17 @@
 
 As many crates at once as there are processors and memory (2 GB each), each by as many processes as there are
 processors; of crates side by side the system gives that the most time for which most waits, and what it leaves goes
-to the others. What is newer than its sources is left as it is. A library goes to crates/NAME/out/built, as the statements that the crates
-above it rest on, which is what `rt ci` makes too; the program, and a static library as libNAME.a, go to crates/NAME/out. `rt` itself lets one command
-at a time work in a crate and in those below it, so `rattle` is called as `rt` calls it.
+to the others. What is built as its sources are is left as it is, also where `rt ci` left it (crates/NAME/out/rlib).
+A library goes to crates/NAME/out/built, as the statements that the crates above it rest on, which is what `rt ci` makes
+too; the program, and a static library as libNAME.a, go to crates/NAME/out. `rt` itself lets one command at a time work
+in a crate and in those below it, so `rattle` is called as `rt` calls it.
 
 How far it is stands on standard error: on one line that is rewritten where that is a terminal, else a line a crate.
 What each crate took is kept, and tells the next time how long is left to wait.
 """
 
 import argparse
+import contextlib
 import os
 import re
 import shutil
@@ -22,10 +24,11 @@ import sys
 import tempfile
 import time
 
+from kept import SOURCES, Sums
+
 TOP = os.path.dirname(os.path.dirname(os.path.realpath(__file__)))
 PROGRAM = "site_cli"
 MEMORY_EACH = 2_000_000_000
-SOURCES = ("src", "specs", "proofs")
 BUILT, OF_RT = "built", "rlib"
 FUNCTION = re.compile(r"^\s*(?:pub(?:\([a-z]+\))? )?(?:const |unsafe )*fn ", re.M)
 
@@ -91,41 +94,97 @@ def sources(name):
             yield from (f"{at}/{it}" for it in files)
 
 
-def is_made(name, file):
-    """Whether a file below the crate's out/ is there, and newer than the crate's sources."""
-    mark = f"{TOP}/crates/{name}/out/{file}"
-    if not os.path.exists(mark):
-        return False
-    made = os.path.getmtime(mark)
-    return all(os.path.getmtime(it) <= made for it in [*sources(name), f"{TOP}/crates.txt"])
-
-
-def made_of(name):
+def made_of(name, folder=None):
     """The file below a crate's out/ that tells that it is built."""
     if is_program(name):
         return name
-    return f"lib{name}.a" if is_static(name) else f"{BUILT}/{name}.rlib/format"
+    return f"lib{name}.a" if is_static(name) else f"{folder or BUILT}/{name}.rlib/format"
 
 
-def stale(crates, names):
-    """Those of the crates, in their order, that aren't as their sources are, or stand on one that isn't."""
-    found = []
-    for name in names:
-        if not is_made(name, made_of(name)) or any(it in found for it in crates[name][0]):
-            found.append(name)
-    return found
+class Made:
+    """Which crates are built as their sources are.
+
+    Beside what is built stands a note of what it was built from: the sum of its sources, of those of the crates below
+    and of the kit. What has no note was built by `rt`, and counts where it is newer than all these sources.
+    """
+
+    def __init__(self, crates):
+        self.crates, self.sums, self.changed = crates, Sums(TOP, crates, kit()), {}
+
+    @staticmethod
+    def note_of(name, file):
+        return f"{TOP}/crates/{name}/out/{file.split('/')[0]}.sum"
+
+    @staticmethod
+    def stamp(name, file):
+        """What tells whether something else was built in its place."""
+        found = os.stat(f"{TOP}/crates/{name}/out/{file}")
+        return f"{found.st_ino} {found.st_size} {found.st_mtime_ns}"
+
+    def note(self, name, file, total):
+        """Notes what a crate was built from."""
+        with open(self.note_of(name, file), "w", encoding="ascii") as it:
+            it.write(f"{total}\n{self.stamp(name, file)}\n")
+
+    def changed_last(self, name):
+        """When a source of the crate or of one below it was last written."""
+        if name not in self.changed:
+            own = [os.path.getmtime(it) for it in [*sources(name), f"{TOP}/crates.txt"]]
+            self.changed[name] = max([*own, *(self.changed_last(it) for it in self.crates[name][0])])
+        return self.changed[name]
+
+    def is_made(self, name, file):
+        """Whether a file below the crate's out/ was built from what is there now."""
+        if not os.path.exists(f"{TOP}/crates/{name}/out/{file}"):
+            return False
+        with contextlib.suppress(OSError, ValueError), open(self.note_of(name, file), encoding="ascii") as it:
+            total, stamp = it.read().splitlines()
+            if stamp == self.stamp(name, file):
+                return total == self.sums.of(name)
+        return self.changed_last(name) <= os.path.getmtime(f"{TOP}/crates/{name}/out/{file}")
+
+    def folder(self, name):
+        """The folder of out/ where the library is as its sources are: where `rt` leaves it, or where this script puts it."""
+        return next((it for it in (OF_RT, BUILT) if self.is_made(name, made_of(name, it))), None)
+
+    def folders(self, names):
+        """The folders of libraries, those that aren't built as this script will build them."""
+        return {it: self.folder(it) or BUILT for it in names if not is_program(it) and not is_static(it)}
+
+    def stale(self, names):
+        """Those of the crates, in their order, that aren't built as their sources are."""
+        return [it for it in names if not (self.is_made(it, made_of(it)) or self.is_made(it, made_of(it, OF_RT)))]
 
 
-def words_of(crates, name, folder, where):
-    """The words by which `rattle` reads the crate in the current folder, over libraries in out/FOLDER."""
+def clear_of_rt(made):
+    """Removes the libraries that `rt` left, where one isn't as its sources are: else `rt ci` puts them back behind its run."""
+    there = [it for it in made.crates if os.path.exists(f"{TOP}/crates/{it}/out/{OF_RT}")]
+    if not all(made.is_made(it, made_of(it, OF_RT)) for it in there):
+        for name in there:
+            shutil.rmtree(f"{TOP}/crates/{name}/out/{OF_RT}", ignore_errors=True)
+
+
+def note_of_rt(before):
+    """Notes of what `rt ci` left what it was built from, where no source changed since `before`: it takes libraries of
+    earlier runs too, which are older than a new clone's sources."""
+    after = Made(crates_listed())
+    for name in after.crates:
+        file = made_of(name, OF_RT)
+        is_there = not is_static(name) and os.path.exists(f"{TOP}/crates/{name}/out/{file}")
+        if is_there and name in before.crates and before.sums.of(name) == after.sums.of(name):
+            after.note(name, file, after.sums.of(name))
+
+
+def words_of(crates, name, folders, where):
+    """The words by which `rattle` reads the crate in the current folder, over libraries each in its folder of out/."""
     own, of_kit = crates[name]
     words = ["--crate-name", name, f"src/{'main' if is_program(name) else 'lib'}.rt", "-L", f"dependency={where}/rlibs"]
     for library in ["std", *of_kit]:
         words += ["--extern", f"{library}={where}/rlibs/{library}.rlib"]
     for library in own:
-        words += ["--extern", f"{library}={TOP}/crates/{library}/out/{folder}/{library}.rlib"]
+        words += ["--extern", f"{library}={TOP}/crates/{library}/out/{folders[library]}/{library}.rlib"]
     for library in reached(crates, own):
-        words += ["-L", f"dependency={TOP}/crates/{library}/out/{folder}"]
+        words += ["-L", f"dependency={TOP}/crates/{library}/out/{folders[library]}"]
     words += ["--antt-project", f"{where}/rattle/logic/antt-project.json", "--logic-built", f"{where}/logic_built"]
     return [*words, *["--crate-type", "staticlib"] * is_static(name), "--links", f"{name}="]
 
@@ -133,11 +192,11 @@ def words_of(crates, name, folder, where):
 class Build:
     """One crate's proof and building, running."""
 
-    def __init__(self, crates, name, jobs, nice, where):
+    def __init__(self, crates, name, jobs, nice, where, folders):
         self.name, self.started, self.processor = name, time.monotonic(), 0.0
         self.folder = f"{TOP}/crates/{name}"
         self.log = tempfile.TemporaryFile("w+", errors="replace")
-        words = ["rattle", "build", *words_of(crates, name, BUILT, where), "--jobs", str(jobs)]
+        words = ["rattle", "build", *words_of(crates, name, folders, where), "--jobs", str(jobs)]
         made, compiled = f"out/{name}", f"out/{name}.o"
         tools = ["--toolchain", f"{where}/toolchain"]
         if is_program(name):
@@ -245,8 +304,10 @@ class Show:
 class Plan:
     """Crates to build: what waits for what, how long each takes, and how far all are."""
 
-    def __init__(self, names):
-        self.names, self.crates = names, crates_listed()
+    def __init__(self, names, made):
+        self.names, self.crates, self.made = names, made.crates, made
+        self.folders = {**made.folders(reached(self.crates, names)), **dict.fromkeys(names, BUILT)}
+        self.sums = {it: made.sums.of(it) for it in names}
         weights = {it: weight(it) for it in names}
         self.is_known = all(known for _, known in weights.values())
         self.weights = {it: seconds for it, (seconds, _) in weights.items()}
@@ -270,7 +331,7 @@ class Plan:
                 break
             self.left.remove(name)
             ahead = sum(self.behind[it.name] >= self.behind[name] for it in self.running)
-            self.running.append(Build(self.crates, name, lanes, 5 * ahead, where))
+            self.running.append(Build(self.crates, name, lanes, 5 * ahead, where, self.folders))
 
     def wait_left(self, lanes):
         """How many seconds are left, by the last build's times."""
@@ -288,9 +349,15 @@ class Plan:
         return f"site: proved {crates} in {minutes(time.monotonic() - self.started)}{wait}; now {now}"
 
 
-def build(names, lanes, show):
+def note_built(plan, name):
+    """Notes what a crate was built from, if that is what is still there: what changed meanwhile is built again."""
+    now = Made(plan.crates).sums.of(name)
+    plan.made.note(name, made_of(name), now if now == plan.sums[name] else "changed")
+
+
+def build(names, lanes, show, made):
     """Builds crates; answers the name of the one that failed, with what it said, if any did."""
-    plan, where = Plan(names), kit()
+    plan, where = Plan(names, made), kit()
     try:
         while plan.left or plan.running:
             plan.start(lanes, where)
@@ -299,6 +366,7 @@ def build(names, lanes, show):
                 plan.running.remove(it)
                 if it.process.returncode:
                     return it.name, it.said()
+                note_built(plan, it.name)
                 it.note_time()
                 it.end()
                 plan.done.append(it.name)
@@ -320,8 +388,8 @@ def main():
     given = words.parse_args()
     if given.jobs:
         os.sched_setaffinity(0, sorted(os.sched_getaffinity(0))[: given.jobs])
-    show, crates = Show(), crates_listed()
-    failed = build(stale(crates, reached(crates, given.crates or [PROGRAM])), lanes_for(given.jobs), show)
+    show, made = Show(), Made(crates_listed())
+    failed = build(made.stale(reached(made.crates, given.crates or [PROGRAM])), lanes_for(given.jobs), show, made)
     if failed:
         log = f"{TOP}/crates/{failed[0]}/out/build.log"
         os.makedirs(os.path.dirname(log), exist_ok=True)

@@ -10,6 +10,7 @@ import os
 import subprocess
 import sys
 import tempfile
+import threading
 
 SHIM = r"""
 #define _GNU_SOURCE
@@ -56,9 +57,11 @@ class Refuser:
 
     def ran(self, words, at, **how):
         """The run of the words whose allocation of this number, from 1, is refused, and whether it came so far."""
-        mark = f"{self.room.name}/mark-{at}"
+        mark = f"{self.room.name}/mark-{threading.get_ident()}-{at}"
         env = {**os.environ, "LD_PRELOAD": self.shim, "REFUSE_AT": str(at), "REFUSE_MARK": mark}
-        ran = subprocess.run(words, capture_output=True, env=env, stdin=subprocess.DEVNULL, timeout=60, **how)
+        if "input" not in how:
+            how["stdin"] = subprocess.DEVNULL
+        ran = subprocess.run(words, capture_output=True, env=env, timeout=60, **how)
         was_met = os.path.exists(mark)
         if was_met:
             os.remove(mark)

@@ -33,7 +33,7 @@ else
     { read -r seen && read -r sum && read -r line; } <"$passed"
     [ "$seen" = "$(git rev-parse HEAD)" ] || fail "the gate has passed for $seen, and this is $(git rev-parse HEAD)"
     [ "$(sha256sum "$program" | cut -d' ' -f1)" = "$sum" ] || fail "$program is not what the gate has seen"
-    tools/library.py --after-ci "$library" >/dev/null || fail 'the library is not built'
+    tools/library.py "$library" >/dev/null || fail 'the library is not built'
 fi
 version=$(tools/version.py --check) || fail 'the version is not the same wherever it stands'
 commit=$(git rev-parse HEAD) || exit 1

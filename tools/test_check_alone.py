@@ -64,7 +64,7 @@ def main():
     with tempfile.TemporaryDirectory(prefix="alone-") as top:
         write(f"{top}/crates.txt", "low:\nhigh: low\n")
         write(f"{top}/HANDLES", "Handles allowed: Threads, Wait.\n")
-        for name in ("build.py", "check_alone.py"):
+        for name in ("build.py", "check_alone.py", "kept.py"):
             write(f"{top}/tools/{name}", open(f"{TOP}/tools/{name}", encoding="utf-8").read())
         write(f"{top}/crates/low/src/lib.rt", LOW)
         for row, (body, status, line) in ROWS.items():

@@ -1,7 +1,7 @@
 #!/usr/bin/env python3
 """Makes libjumbetai.a and tries it as its users do: from C, under valgrind too, from Rust and from Python.
 
-    tools/try_bindings.py [--after-ci] [--program FILE] [--library FOLDER] [--events N] [--orders N]
+    tools/try_bindings.py [--anew] [--program FILE] [--library FOLDER] [--events N] [--orders N]
 
 From C the answers about examples/orders.json have to be those that were worked out by hand. From Rust and Python a
 batch of 120,000 events, 30.6 MB, is taken, also page by page in another order, and all answers have to be the same,
@@ -207,7 +207,7 @@ def try_python(tries, batch):
 
 def main():
     words = argparse.ArgumentParser(description=__doc__, formatter_class=argparse.RawDescriptionHelpFormatter)
-    words.add_argument("--after-ci", action="store_true")
+    words.add_argument("--anew", action="store_true", help="build the library, though it is kept")
     words.add_argument("--program", default=f"{TOP}/crates/site_cli/out/site_cli")
     words.add_argument("--library")
     words.add_argument("--events", type=int, default=120_000)
@@ -230,7 +230,7 @@ def main():
             for file in ("libjumbetai.a", "jumbetai.h"):
                 shutil.copy(f"{given.library}/{file}", f"{folder}/library/{file}")
         else:
-            library.make(f"{folder}/library", library.proved_part(given.after_ci))
+            library.make(f"{folder}/library", library.proved_part(given.anew))
         # Apart from the archive, or the programs in C would be linked with it.
         os.makedirs(f"{folder}/shared")
         words = [library.compiler(), "-o", "../shared/libjumbetai.so", *library.SHARED]

@@ -1,23 +1,29 @@
 #!/usr/bin/env python3
 """Tries the wrong bodies in crates/NAME/edits/*.edit: each must be refused at the clause that it names.
 
-    tools/try_edits.py [--jobs N] [--after-ci] [CRATE..]      by default every crate that has edits
+    tools/try_edits.py [--jobs N] [--anew] [CRATE..]      by default every crate that has edits
 
 An edit is a file of lines: 'only: PATH', the function whose proof is to refuse it; 'clause: NAME', the clause at
 which ('ensures' for a contract of one clause without a name), or another goal by the name that a check gives it
 ('CALL-requires' of what a call asks, 'invariant_of-result'); and then 'file: src/..', 'old: TEXT' (once in that file)
 and 'new: TEXT', a line each. It is applied to a copy of the crate, and that one function is checked with what it calls, over the
-libraries as they are built. Crates are tried side by side; a crate's edits in one check where they change different
-functions, since a proof rests on what a function calls by its contract alone; else in turn, each over what the checks
-before it proved. An edit that proves is let through; one that doesn't read or compile, whose old line isn't there
-once, or that takes away a name that the proof uses, is an error; one that is refused at other clauses alone is told
-with those. Each of these fails, and so does a README.md beside the edits whose table doesn't name just these. The last
-line is 'N passed, M failed'.
+libraries as they are built. Crates are tried side by side, all edits of a crate in one check: a proof rests on what a
+function calls by its contract alone. The second edit of a function is made to a copy of it, under another name and
+with a copy of its folder of proofs; one copy more stays as it was and has to be proved, or nothing is said of the
+copies. What such a check doesn't show refused at its clause is tried alone. An edit that proves is let through; one
+that doesn't read or compile, whose old line isn't there once, or that takes away a name that the proof uses, is an
+error; one that is refused at other clauses alone is told with those. Each of these fails, and so does a README.md
+beside the edits whose table doesn't name just these. The last line is 'N passed, M failed'.
 
-Libraries that aren't built, or are older than their sources, are built first (tools/build.py).
+That an edit was refused at its clause is kept on this machine (tools/kept.py) by the checksums of the edit, of its
+crate's sources and those of all crates below, of their lines of crates.txt, of the kit and of these scripts: a later run
+here, in another clone too, tries what changed. With --anew all are tried. A kept result that is damaged fails.
+
+Libraries that aren't built, or aren't as their sources are, are built first (tools/build.py).
 """
 
 import argparse
+import contextlib
 import glob
 import os
 import re
@@ -27,13 +33,21 @@ import sys
 import tempfile
 from concurrent.futures import ThreadPoolExecutor, as_completed
 
-from build import BUILT, OF_RT, SOURCES, TOP, crates_listed, is_made, kit, lanes_for, reached, words_of
+import kept
+from build import TOP, Made, crates_listed, kit, lanes_for, reached, words_of
+from kept import SOURCES, Damaged, Kept, Sums, file_sum, sum_of
 
 # A proof that cites what the edit took away says nothing of the clause.
 TAKEN_AWAY = re.compile(r"is not in scope|has no field|has no `|is no name|was not admitted")
 # A goal, as a check names it where its written answer is refused, and where none is written and the search finds none.
 ANSWERED = re.compile(r"^(?:\./)?proofs/(\S+?)/\w+\.antt:\d+:\d+: error: `([^`]+)`: ")
 SEARCHED = re.compile(r"^note: (src/\S+?):(\d+):\d+: it is not proved that .*\(`([^`]+)`\)")
+FUNCTION = r"(\s*)(?:pub(?:\([a-z]+\))? )?(?:const |unsafe )*fn "
+# A copy of a function can't stand among a trait's, nor alone in a circle of calls.
+OF_TRAIT = re.compile(r"\s*(?:unsafe )?(?:impl\b.* for |(?:pub(?:\([a-z]+\))? )?trait )")
+IN_CYCLE = re.compile(r"^\s*#\[cycle\(", re.M)
+# What the answers rest on beside the sources and the kit.
+SCRIPTS = [os.path.realpath(it) for it in (__file__, kept.__file__, f"{os.path.dirname(__file__)}/build.py")]
 
 
 class BadEdit(Exception):
@@ -127,6 +141,13 @@ def judged(only, clause, goals):
     return False, f"REFUSED ELSEWHERE, not at {clause}: {', '.join(goals) or 'no goal of its own'}"
 
 
+def is_faithful(name, control, lines):
+    """Whether a check of a crate says of a copy that stayed as it was that its own goals are met: it is proved, or it is
+    not for the sole reason that it calls what another edit made wrong."""
+    said = next((it for it in lines if it.startswith(f"fn {name}::{control}: ")), "")
+    return re.fullmatch(r"fn \S+: (proved|no proof: it calls (`\S+`( and )?)+, which (is|are) not proved)", said) is not None
+
+
 def apply(room, changes):
     """Makes the changes in a copy of the crate, all or none."""
     texts = {}
@@ -142,34 +163,135 @@ def apply(room, changes):
             it.write(text)
 
 
-def checked(crates, name, edits, folder, kept):
-    """Checks the edits' functions over a copy of the crate with all of these edits. Answers the status, the lines that
-    the check said, the processor seconds, and the refused goals of each edit."""
+class Placed:
+    """An edit's place in a copy of its crate: the function that it changes, or the copy of that function."""
+
+    def __init__(self, file, edit, name=None):
+        self.file, (self.only, self.clause, self.changes) = file, edit
+        self.name = name or self.only.split("::")[-1]
+        self.path = "::".join([*self.only.split("::")[:-1], self.name])
+        self.control = None
+
+
+def function_in(lines, name):
+    """Where a function stands among a source's lines, with what stands right above it, or None where it can't be copied."""
+    found = [at for at, text in enumerate(lines) if re.match(rf"{FUNCTION}{name}\b", text)]
+    if len(found) != 1:
+        return None
+    start = at = found[0]
+    indent = re.match(r"\s*", lines[at])[0]
+    end = next((it for it in range(at, len(lines)) if re.match(rf"{indent}(}}|\S.*{{}}|{{}})$", lines[it])), at)
+    while start and lines[start - 1].strip() and not lines[start - 1].endswith(("{", "}")):
+        start -= 1
+    around = next((it for it in reversed(lines[:start]) if it.strip() and len(it) - len(it.lstrip()) < len(indent)), "")
+    is_alone = lines[end] == f"{indent}}}" and not OF_TRAIT.match(around) and not IN_CYCLE.search("\n".join(lines[start:at]))
+    return (start, end + 1) if is_alone else None
+
+
+def text_of(room, path):
+    with open(f"{room}/{path}", encoding="utf-8") as it:
+        return it.read()
+
+
+def body_of(room, only, changes):
+    """The text of an edit's function, if all that the edit changes stands in it once and nowhere else."""
+    paths = {path for path, _, _ in changes}
+    if len(paths) != 1:
+        return None
+    text = text_of(room, *paths)
+    lines = text.split("\n")
+    place = function_in(lines, only.split("::")[-1])
+    body = place and "\n".join(lines[slice(*place)])
+    return body if body and all(text.count(old) == body.count(old) == 1 for _, old, _ in changes) else None
+
+
+def copy_proofs(room, only, name):
+    """Copies a function's folder of proofs for its copy of another name."""
+    *modules, own = only.split("::")
+    folder = f"{room}/proofs/{'/'.join(modules)}"
+    if not os.path.isdir(f"{folder}/{own}"):
+        return
+    shutil.copytree(f"{folder}/{own}", f"{folder}/{name}")
+    path, copied = (r"\.".join([*modules, own]), ".".join([*modules, name]))
+    for file in os.listdir(f"{folder}/{name}"):
+        text = text_of(f"{folder}/{name}", file)
+        text = re.sub(rf"\b(proofs|contracts)\.{path}(?![\w-])", rf"\g<1>.{copied}", text)
+        with open(f"{folder}/{name}/{file}", "w", encoding="utf-8") as it:
+            it.write(text)
+
+
+def add_copy(room, only, path, name, body):
+    """Puts a copy of a function, with a body of its own, behind it."""
+    own = only.split("::")[-1]
+    lines = text_of(room, path).split("\n")
+    _, end = function_in(lines, own)
+    body = re.sub(rf"^({FUNCTION}){own}\b", rf"\g<1>{name}", body, count=1, flags=re.M)
+    lines[end:end] = ["", *body.split("\n")]
+    with open(f"{room}/{path}", "w", encoding="utf-8") as it:
+        it.write("\n".join(lines))
+    copy_proofs(room, only, name)
+
+
+def placed(room, edits, has_copies):
+    """Makes edits in a copy of their crate, each further one of a function in a copy of it, as far as that goes. Answers
+    those that were made, and those that are left."""
+    bodies = {file: body_of(room, only, changes) for file, (only, _, changes) in edits}
+    here, copies, left, taken = {}, [], [], []
+    for file, edit in sorted(edits, key=lambda it: bodies[it[0]] is not None):
+        only, _, changes = edit
+        if only in here:
+            can_copy = has_copies and bodies[file] is not None
+            (copies if can_copy else left).append((file, edit))
+        elif any(path == at and (old in text or text in old) for path, *texts in changes for old in texts for at, text in taken):
+            left.append((file, edit))
+        else:
+            here[only] = Placed(file, edit)
+            taken += [(path, text) for path, *texts in changes for text in texts]
+    for it in here.values():
+        apply(room, it.changes)
+    made, controls = [], {}
+    for file, (only, clause, changes) in copies:
+        path, body, own = changes[0][0], bodies[file], only.split("::")[-1]
+        if only not in controls:
+            controls[only] = f"{own}_edit1"
+            add_copy(room, only, path, controls[only], body)
+        it = Placed(file, (only, clause, changes), f"{own}_edit{len(made) + 2}")
+        it.control = "::".join([*only.split("::")[:-1], controls[only]])
+        for _, old, new in changes:
+            body = body.replace(old, new)
+        add_copy(room, only, path, it.name, body)
+        made.append(it)
+    return [*here.values(), *made], left
+
+
+def checked(crates, name, edits, folders, kept, has_copies=False):
+    """Checks the edits' functions over a copy of the crate with as many of these edits as go into one. Answers the status,
+    the lines that the check said, the processor seconds, each edit that was made with its refused goals, and the edits
+    that weren't."""
     with tempfile.TemporaryDirectory(prefix="try-edit-") as room:
         for part in SOURCES:
             if os.path.isdir(f"{TOP}/crates/{name}/{part}"):
                 shutil.copytree(f"{TOP}/crates/{name}/{part}", f"{room}/{part}")
-        for _, (_, _, changes) in edits:
-            apply(room, changes)
+        made, left = placed(room, edits, has_copies)
         how = {"cwd": room, "stdin": subprocess.DEVNULL, "stdout": subprocess.PIPE, "stderr": subprocess.STDOUT}
-        words = ["rattle", "check", *words_of(crates, name, folder, kit()), "--jobs", "1", "--incremental", kept]
-        for _, (only, _, _) in edits:
+        words = ["rattle", "check", *words_of(crates, name, folders, kit()), "--jobs", "1", "--incremental", kept]
+        for only in dict.fromkeys([*(it.path for it in made), *(it.control for it in made if it.control)]):
             words += ["--only", only]
         with subprocess.Popen(words, errors="replace", **how) as ran:
             lines = ran.stdout.read().splitlines()
             _, status, used = os.wait4(ran.pid, 0)
             ran.returncode = os.waitstatus_to_exitcode(status)
-        goals = [goals_of(only, changes, lines, room) for _, (only, _, changes) in edits]
-        return ran.returncode, lines, used.ru_utime + used.ru_stime, goals
+        goals = [(it, goals_of(it.path, it.changes, lines, room)) for it in made]
+        return ran.returncode, lines, used.ru_utime + used.ru_stime, goals, left
 
 
-def tried(crates, file, folder, kept):
+def tried(crates, file, folders, kept):
     """Whether an edit is refused at its clause, alone, what to tell, and the processor seconds that it took. The
-    libraries below stand in their out/FOLDER, and `kept` has what earlier checks of the crate proved."""
+    libraries below stand in their folders of out/, and `kept` has what earlier checks of the crate proved."""
     try:
         only, clause, changes = read_edit(file)
         name = file.split(os.sep)[-3]
-        status, lines, seconds, goals = checked(crates, name, [(file, (only, clause, changes))], folder, kept)
+        status, lines, seconds, goals, _ = checked(crates, name, [(file, (only, clause, changes))], folders, kept)
     except (BadEdit, OSError) as why:
         return False, f"ERROR: {why}", 0.0
     counts = asked_and_proved(status, lines)
@@ -177,51 +299,35 @@ def tried(crates, file, folder, kept):
         return *unreached(lines), seconds
     if counts[0] == counts[1]:
         return False, f"LET THROUGH: {only} is still proved", seconds
-    return *judged(only, clause, goals[0]), seconds
+    return *judged(only, clause, goals[0][1]), seconds
 
 
-def rounds(files):
-    """The edits that can be tried in one check: each changes another function, and no two share a line."""
-    made = []
+def tried_of(crates, files, folders):
+    """What came of a crate's edits. All are tried in one check, as far as they go into one; where that isn't read, once
+    more without copies; and what isn't shown refused at its clause is tried alone."""
+    found, edits = {}, []
     for file in files:
-        try:
-            edit = read_edit(file)
-        except (BadEdit, OSError):
-            continue
-        touched = {(path, text) for path, *texts in edit[2] for text in texts}
-        for onlys, taken, edits in made:
-            if edit[0] not in onlys and not any(path == at and (old in text or text in old) for path, old in touched for at, text in taken):
-                break
-        else:
-            onlys, taken, edits = set(), set(), []
-            made.append((onlys, taken, edits))
-        onlys.add(edit[0])
-        taken.update(touched)
-        edits.append((file, edit))
-    return [edits for _, _, edits in made]
-
-
-def tried_of(crates, files, folder):
-    """What came of a crate's edits. Those of different functions are tried in one check, since a proof rests on the
-    contracts of what the function calls and not on its bodies; where that doesn't show an edit refused at its clause,
-    it is tried alone."""
-    found = {}
+        with contextlib.suppress(BadEdit, OSError):
+            edits.append((file, read_edit(file)))
     with tempfile.TemporaryDirectory(prefix="edits-kept-") as kept:
-        for edits in rounds(files):
-            if len(edits) == 1:
-                continue
-            try:
-                name = edits[0][0].split(os.sep)[-3]
-                status, lines, seconds, goals = checked(crates, name, edits, folder, kept)
-            except (BadEdit, OSError):
-                continue
-            if asked_and_proved(status, lines) is None:
-                continue
-            for (file, (only, clause, _)), refused in zip(edits, goals):
-                well, text = judged(only, clause, refused)
-                if well:
-                    found[file] = well, text, seconds / len(edits)
-        return [(file, *(found.get(file) or tried(crates, file, folder, kept))) for file in files]
+        for has_copies in (True, False):
+            todo = [(file, edit) for file, edit in edits if file not in found]
+            while len(todo) > 1:
+                try:
+                    name = todo[0][0].split(os.sep)[-3]
+                    status, lines, seconds, goals, left = checked(crates, name, todo, folders, kept, has_copies)
+                except (BadEdit, OSError):
+                    break
+                if asked_and_proved(status, lines) is None:
+                    break
+                todo = left
+                for it, refused in goals:
+                    well, text = judged(it.only, it.clause, refused)
+                    if well and (it.control is None or is_faithful(name, it.control, lines)):
+                        found[it.file] = well, text, seconds / len(goals)
+            else:
+                break
+        return [(file, *(found.get(file) or tried(crates, file, folders, kept))) for file in files]
 
 
 def untold(files):
@@ -236,45 +342,80 @@ def untold(files):
     return lacking + [f"ERROR: its table names {it}, which isn't there" for it in sorted(rows - names)]
 
 
-def built_in(below, is_after_ci):
-    """The folder of out/ where the libraries are as their sources are: where `rt ci` has left them, or where
-    tools/build.py puts them. None where they can't be built. What `rt ci` took from an earlier run of the same files
-    is older than a new clone's sources; right after it, whatever it left is taken."""
-    made = [f"{OF_RT}/{it}.rlib/format" for it in below]
-    if all(os.path.exists(f"{TOP}/crates/{it}/out/{file}") if is_after_ci else is_made(it, file) for it, file in zip(below, made)):
-        return OF_RT
-    return None if below and subprocess.run([f"{TOP}/tools/build.py", *below]).returncode else BUILT
+def folders_of(crates, names):
+    """The folders of out/ in which the libraries below these crates are as their sources are, which are built first where
+    they aren't. None where they can't be built."""
+    below = reached(crates, [it for name in names for it in crates[name][0]])
+    if below and None in map(Made(crates).folder, below):
+        if subprocess.run([f"{TOP}/tools/build.py", *below]).returncode:
+            return None
+    return Made(crates).folders(below)
+
+
+def keys_of(sums, files):
+    """The sums of all that what came of each edit rests on."""
+    scripts = [file_sum(it) for it in SCRIPTS]
+    names = {file: file.split(os.sep)[-3] for file in files}
+    return {file: sum_of(scripts, sums.of(name), os.path.basename(file), file_sum(file)) for file, name in names.items()}
+
+
+class Tally:
+    """What came of all edits, told as it comes."""
+
+    def __init__(self, kept):
+        self.kept, self.passed, self.failed, self.taken = kept, 0, 0, 0
+
+    def tell(self, file, well, text):
+        self.passed, self.failed = self.passed + well, self.failed + (not well)
+        print(f"{os.path.relpath(file, f'{TOP}/crates')}: {text}", flush=True)
+
+    def is_kept(self, file, key):
+        """Whether an edit was refused at its clause before; a kept result that is damaged fails, and is tried the next time."""
+        try:
+            found = self.kept.result(key)
+        except Damaged as why:
+            self.tell(file, False, f"ERROR: what was kept of it was damaged, and is removed: {why}")
+            return True
+        if found is not None:
+            self.taken += 1
+            self.tell(file, True, f"{found['told']} (kept)")
+        return found is not None
 
 
 def main():
     words = argparse.ArgumentParser(description=__doc__, formatter_class=argparse.RawDescriptionHelpFormatter)
     words.add_argument("--jobs", type=int, default=0)
-    words.add_argument("--after-ci", action="store_true", help="over the libraries that `rt ci` has just left here")
+    words.add_argument("--anew", action="store_true", help="try those too of which it is kept that they were refused")
     words.add_argument("crates", nargs="*")
     given = words.parse_args()
     crates = crates_listed()
     edits = {it: sorted(glob.glob(f"{TOP}/crates/{it}/edits/*.edit")) for it in given.crates or crates}
     edits = {name: files for name, files in edits.items() if files}
-    below = reached(crates, [it for name in edits for it in crates[name][0]])
-    folder = built_in(below, given.after_ci)
-    if folder is None:
-        print("0 passed, 1 failed")
-        return 1
-    lanes = lanes_for(given.jobs)
-    passed = failed = 0
+    tally = Tally(Kept("edits"))
     for files in edits.values():
         for text in untold(files):
-            failed += 1
+            tally.failed += 1
             print(f"{os.path.relpath(os.path.dirname(files[0]), f'{TOP}/crates')}/README.md: {text}")
-    with ThreadPoolExecutor(lanes) as pool:
+    before = keys_of(Sums(TOP, crates, kit()), sum(edits.values(), []))
+    todo = {name: [it for it in files if given.anew or not tally.is_kept(it, before[it])] for name, files in edits.items()}
+    todo = {name: files for name, files in todo.items() if files}
+    folders = folders_of(crates, todo)
+    if folders is None:
+        print("0 passed, 1 failed")
+        return 1
+    with ThreadPoolExecutor(lanes_for(given.jobs)) as pool:
         # The highest crates first: theirs are the longest checks.
-        runs = [pool.submit(tried_of, crates, files, folder) for _, files in reversed(edits.items())]
+        runs = [pool.submit(tried_of, crates, files, folders) for _, files in reversed(todo.items())]
         for run in as_completed(runs):
+            now = keys_of(Sums(TOP, crates, kit()), [it[0] for it in run.result()])
             for file, well, text, seconds in run.result():
-                passed, failed = passed + well, failed + (not well)
-                print(f"{os.path.relpath(file, f'{TOP}/crates')}: {text} ({seconds:.0f} s)", flush=True)
-    print(f"edits: {passed} passed, {failed} failed")
-    return 1 if failed else 0
+                tally.tell(file, well, f"{text} ({seconds:.0f} s)")
+                if well and now[file] == before[file]:
+                    tally.kept.keep(before[file], {"told": text})
+    tally.kept.shrink()
+    print(f"edits: {tally.taken} kept, {sum(map(len, todo.values()))} tried anew")
+    print(f"edits: {tally.passed} passed, {tally.failed} failed")
+    return 1 if tally.failed else 0
 
 
 if __name__ == "__main__":

@@ -78,7 +78,6 @@ def main():
     words = argparse.ArgumentParser(description=__doc__, formatter_class=argparse.RawDescriptionHelpFormatter)
     words.add_argument("--program", default=f"{TOP}/crates/site_cli/out/site_cli")
     words.add_argument("--library")
-    words.add_argument("--after-ci", action="store_true")
     given = words.parse_args()
     if not library.compiler():
         print("skipped: all, since no C compiler is here\n0 of 0 tries of the archive were right")
@@ -87,7 +86,7 @@ def main():
     with tempfile.TemporaryDirectory(prefix="try-release-") as folder:
         where = given.library or f"{folder}/library"
         if not given.library:
-            library.make(where, library.proved_part(given.after_ci))
+            library.make(where, library.proved_part())
         name = f"jumbetai-{version()}-x86_64-linux"
         for it in ("first", "second"):
             tries.passes(f"the {it} archive", [f"{TOP}/tools/release.sh", "--any", given.program, where, f"{folder}/{it}"], umask=0o027 if it == "second" else 0o022)

@@ -2,9 +2,8 @@
 //! whether the definitions of steps and worlds mean what a plain reader takes them for.
 
 use crate::event::{Row, event};
-use crate::schedules::{then, world_of};
 use attributes::{Batch, Sequenced};
-use exchange::{Step, Steps, World};
+use exchange::{Step, Steps, World, run};
 use site::Site;
 use std::alloc::Global;
 use views::Query;
@@ -226,7 +225,7 @@ fn add_steps(
     for _step in 0..dice.below(30) {
         match step(alloc, dice, sites, plain, events) {
             Some(step) => {
-                if !then(steps, step) {
+                if steps.push(step).is_err() {
                     return false;
                 }
             }
@@ -234,6 +233,15 @@ fn add_steps(
         }
     }
     true
+}
+
+/// The world of so many sites after the steps.
+fn world_of(alloc: Global, sites: u32, steps: &Steps) -> Option<World> {
+    if steps.fits(sites) {
+        run(alloc, sites, steps).ok()
+    } else {
+        None
+    }
 }
 
 /// Whether the world of so many sites after the steps is as the sets say.

@@ -1,0 +1,96 @@
+#!/usr/bin/env python3
+"""Tests tools/try_rows.py with a driver in C that asks memory for each call, once before it and once in it: what it tells
+of good rows and of bad ones. The last line is 'N passed, M failed'.
+"""
+
+import os
+import subprocess
+import sys
+import tempfile
+
+TOP = os.path.dirname(os.path.dirname(os.path.realpath(__file__)))
+# `put N` adds to a sum that `sum` tells, N times one, and asks memory at each but the first; what is left where it is
+# refused is added then. `PUTS_AGAIN` makes it forget that some were added before.
+DRIVER = r"""
+#include <stdio.h>
+#include <stdlib.h>
+#include <string.h>
+static long sum;
+static int play(const char *call) {
+    long n, i;
+    void *more;
+    if (!strcmp(call, "sum")) return printf("%ld\n", sum);
+    if (sscanf(call, "put %ld", &n) != 1) return printf("no answer\n");
+    for (i = 0; i < n; i++) {
+        if (i) {
+            more = malloc(16);
+            if (!more) {
+                printf("(again) %ld came\n", i);
+                if (PUTS_AGAIN) i = 0;
+            }
+            free(more);
+        }
+        sum++;
+    }
+    return printf("put\n");
+}
+int main(void) {
+    static char line[1000], room[100000], out[100000];
+    setvbuf(stdin, room, _IOFBF, sizeof room);
+    setvbuf(stdout, out, _IOFBF, sizeof out);
+    while (fgets(line, sizeof line, stdin)) {
+        line[strcspn(line, "\n")] = 0;
+        puts(line);
+        if (!strncmp(line, "> ", 2)) play(line + 2);
+    }
+    return 0;
+}
+"""
+FIRST = "# First.\n> put 1\nput\n\n"
+THREE = "# Three come, and the sum is four.\n> put 3\nput\n~ once 1 came\n~ 2 came\n> sum\n4\n"
+# Rows with their answers, whether the driver is one that forgets, the status that is wanted, and what has to be told.
+ROWS = {
+    "good rows": (FIRST + THREE, 0, 0, "4 passed, 0 failed"),
+    "an answer that isn't the driver's": (FIRST + THREE.replace("\n4\n", "\n5\n"), 0, 1, "wrong: status 0, ['> sum', '4'], and not ['> sum', '5']"),
+    "a refused call that leaves what isn't told": (FIRST + THREE.replace("~ 2 came\n", ""), 0, 1, "> put 3 left behind: 2 came"),
+    "lines of what may be left that don't come up": (FIRST + "> put 1\nput\n~ 1 came\n", 0, 1, "nothing of what it may leave behind came up"),
+    "one that comes up once and not": (FIRST + THREE.replace("~ 2 came\n", "~ 2 came\n~ once 3 came\n"), 0, 1, "it left behind 0 times: ~ once 3 came"),
+    "a call of which no line says what it may leave": (FIRST + THREE.replace("~ once 1 came\n~ 2 came\n", ""), 0, 0, "4 passed, 0 failed"),
+    "a refused call that answers otherwise later": (FIRST + THREE, 1, 1, "and not ['> sum', '4']"),
+    "what isn't refused": (FIRST + "# No allocation is refused of what follows.\n\n" + THREE.replace("~ 2 came\n", ""), 0, 0, "3 passed, 0 failed"),
+    "one line more of what may be left once": (FIRST + THREE.replace("put 3", "put 2").replace("~ 2 came\n", "").replace("\n4\n", "\n3\n"), 0, 0, "3 passed, 0 failed"),
+}
+
+
+def told(folder, text, forgets):
+    """The status of the script over these rows, and what it said."""
+    program = f"{folder}/driver{forgets}"
+    if not os.path.exists(program):
+        with open(f"{folder}/driver.c", "w", encoding="ascii") as it:
+            it.write(DRIVER)
+        subprocess.run(["cc", "-O1", f"-DPUTS_AGAIN={forgets}", "-o", program, f"{folder}/driver.c"], check=True)
+    lines = text.splitlines(True)
+    asked = [it for it in lines if it.startswith(("#", ">", "~")) or it == "\n"]
+    for name, own in (("stdin", asked), ("stdout", lines)):
+        with open(f"{folder}/{name}", "w", encoding="ascii") as it:
+            it.writelines(own)
+    words = [f"{TOP}/tools/try_rows.py", "--jobs", "1", "--program", program, "--rows", folder, "driver"]
+    ran = subprocess.run(words, capture_output=True, text=True)
+    return ran.returncode, ran.stdout + ran.stderr
+
+
+def main():
+    right = 0
+    with tempfile.TemporaryDirectory(prefix="rows-tried-") as folder:
+        for name, (text, forgets, wanted, line) in ROWS.items():
+            status, said = told(folder, text, forgets)
+            is_right = status == wanted and line in said
+            right += is_right
+            if not is_right:
+                print(f"wrong: {name}: {status} {said}")
+    print(f"{right} passed, {len(ROWS) - right} failed")
+    return 0 if right == len(ROWS) else 1
+
+
+if __name__ == "__main__":
+    sys.exit(main())
