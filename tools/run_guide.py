@@ -1,17 +1,17 @@
 #!/usr/bin/env python3
 """Runs the pages that people paste from, each in a folder and a shell of its own, and compares what they print.
 
-    tools/run_guide.py [--program FILE] [PAGE..]
+    tools/run_guide.py [--program FILE] [--seconds N] [--of N] [PAGE..]
 
 The program is by default crates/site_cli/out/site_cli, the pages are README.md, docs/GUIDE.md, docs/OPERATIONS.md and
-docs/PRODUCERS.md. One bash runs all of a page, so `set -o pipefail`, `cd`, functions and `$?` hold as they do for who
-types it. `site` is the program, `make_batch.py` the script beside this one, and `ssh HOST COMMAND` a stand-in, which
-gives the command to a shell here. The first word behind ``` says what a block is:
+docs/PRODUCERS.md; a page may take N seconds, 120 by default. One bash runs all of a page, so `set -o pipefail`, `cd`,
+functions and `$?` hold as they do for who types it. `site` is the program, `make_batch.py` the script beside this one,
+and `ssh HOST COMMAND` a stand-in, which gives the command to a shell here. The first word behind ``` says what a block is:
 
     console     a line that begins with `$ ` is a command; the lines up to the next one are what it prints, on either
                 stream. The words behind it are programs that the block wants: where one isn't there, the block is left
-                out, and told. `sizes=N,M` is no program: these numbers are divided by 100 here, so that the block takes
-                no time, and tools/try_regions.py runs it as it stands
+                out, and told. `sizes=N,M` is no program: these numbers are divided here, by --of or 100, so that the
+                block takes no time, and tools/try_regions.py runs it as it stands
     sh run      is given to the shell whole, and the block behind it, where that is `text`, is what it prints
     LANG file=F is written to the file F
 
@@ -34,7 +34,6 @@ HERE = os.path.dirname(os.path.dirname(os.path.realpath(__file__)))
 PAGES = ("README.md", "docs/GUIDE.md", "docs/OPERATIONS.md", "docs/PRODUCERS.md")
 # What a stand-in for ssh does: it leaves out the host, and joins the words to one text for a shell, as ssh does.
 SSH = '#!/bin/sh\nshift\nexec sh -c "$*"\n'
-LIMIT = 120
 
 
 def blocks(page):
@@ -87,7 +86,7 @@ def steps(page, part=None, times=1, of=1):
     return found, lacking
 
 
-def script(page):
+def script(page, of):
     """All that a page gives to its shell, in order: commands with what each is to print, and texts that are written
     into files, whose command is none; and the programs that blocks want and that aren't there."""
     found, lacking, is_answered = [], set(), False
@@ -98,7 +97,7 @@ def script(page):
             found[-1] = (found[-1][0], text)
         elif mark[:1] == ["console"]:
             lacking |= absent(mark)
-            found += of_console(mark, lines, 1, 100) if not absent(mark) else []
+            found += of_console(mark, lines, 1, of) if not absent(mark) else []
         elif mark[:2] == ["sh", "run"]:
             found.append((text, ""))
         elif file:
@@ -135,9 +134,9 @@ def typed(steps_of_page, mark):
         yield f"_status=$?; printf '%s\\n' '{mark}'; (exit $_status)\n"
 
 
-def run(page, program):
+def run(page, program, seconds, of):
     """How many commands of a page were right, and how many there are."""
-    commands, lacking = script(page)
+    commands, lacking = script(page, of)
     if lacking:
         print(f"{page}: what wants {', '.join(sorted(lacking))} is left out")
     mark, wrong = f"mark-{secrets.token_hex(8)}", 0
@@ -147,11 +146,11 @@ def run(page, program):
         how = {"env": environment, "stdin": subprocess.DEVNULL, "stdout": subprocess.PIPE, "stderr": subprocess.STDOUT}
         with subprocess.Popen(["bash", f".{mark}"], cwd=folder, start_new_session=True, **how) as ran:
             try:
-                said = ran.communicate(timeout=LIMIT)[0].decode("utf-8", "replace")
+                said = ran.communicate(timeout=seconds)[0].decode("utf-8", "replace")
             except subprocess.TimeoutExpired:
                 os.killpg(ran.pid, 9)
                 said = ran.communicate()[0].decode("utf-8", "replace")
-                print(f"wrong: {page} takes more than {LIMIT} s")
+                print(f"wrong: {page} takes more than {seconds} s")
     parts = [re.sub(rf"\.{mark}: line \d+: ", "bash: ", it) for it in said.split(f"{mark}\n")]
     parts = parts[:-1] + [None] * (len(commands) + 1 - len(parts))
     for (command, want), got in zip(commands, parts):
@@ -165,9 +164,11 @@ def run(page, program):
 def main():
     words = argparse.ArgumentParser(description=__doc__, formatter_class=argparse.RawDescriptionHelpFormatter)
     words.add_argument("--program", default=os.path.join(HERE, "crates/site_cli/out/site_cli"))
+    words.add_argument("--seconds", type=int, default=120)
+    words.add_argument("--of", type=int, default=100)
     words.add_argument("pages", nargs="*", metavar="PAGE")
     given = words.parse_args()
-    counts = [run(page, given.program) for page in given.pages or PAGES]
+    counts = [run(page, given.program, given.seconds, given.of) for page in given.pages or PAGES]
     right, every = (sum(it) for it in zip(*counts))
     print(f"{right} of {every} commands of the pages were right")
     sys.exit(0 if right == every and all(it for _, it in counts) else 1)
