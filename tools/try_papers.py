@@ -24,7 +24,7 @@ from run_guide import PAGES, blocks  # noqa: E402
 LIMITS = {
     "README.md": (90, 1000),
     "CHANGELOG.md": (None, 1500),  # grows by at most 30 lines a version
-    "CONTRIBUTING.md": (None, 2100),  # the walks name each place that a change touches
+    "CONTRIBUTING.md": (None, 2150),  # the walks name each place that a change touches
     "SECURITY.md": (None, 500),
     "docs/ARCHITECTURE.md": (100, 2000),
     "docs/DECISIONS.md": (None, 3500),
@@ -35,11 +35,17 @@ LIMITS = {
     "docs/GUIDE.md": (310, 2500),  # every command with what it prints, since all of it is run
     "docs/OPERATIONS.md": (None, 2100),
     "docs/PERFORMANCE.md": (90, 1300),
+    "crates/database_commands/README.md": (60, 1200),  # thirteen commands
+    "crates/inbox_table/README.md": (60, 1050),  # what each call leaves at each exit
+    "crates/site/README.md": (60, 1050),  # what all above stands on
+    "crates/site_c/README.md": (60, 1050),  # twenty exports
     "docs/PRODUCERS.md": (300, 2400),  # a recipe for each kind of producer, with its faults
 }
-OF_CRATES = (60, 900)
+OF_CRATES = (60, 1000)
 OTHERS = (None, 600)
+# All of these together; what stands beside code that people copy (NOT_COUNTED) has limits of its own alone.
 ALL_WORDS = 45_000
+NOT_COUNTED = ("bindings/", "examples/", "tools/")
 PAGES_WITH_DATES = ("CHANGELOG.md", "docs/PERFORMANCE.md")
 DATE = re.compile(r"\b20\d\d-[01]\d-[0-3]\d\b")
 PATH = re.compile(r"(?<![\w.])/(?:work|opt/rattle|root)\b|(?<![\w.])/tmp/")
@@ -166,7 +172,7 @@ def main():
     if given.words:
         for page, count in counts.items():
             print(f"{count:6} of {limit_of(page)[1]:6} {page}")
-    every, total = every + 1, sum(counts.values())
+    every, total = every + 1, sum(count for page, count in counts.items() if not page.startswith(NOT_COUNTED))
     if total <= ALL_WORDS:
         right += 1
     else:
