@@ -18,6 +18,7 @@ STRAY = re.compile(r"\./site\b|\./gate\b|(?<!\w)out/")
 
 def of_archive(text, folder, page):
     """The text of a page as it stands in the archive."""
+
     def link(found):
         to = found[2].partition("#")[0]
         where = os.path.join(folder, os.path.dirname(page), to)

@@ -47,7 +47,7 @@ cp -- "$program" "$here/bin/site" && cp -- "$library/libjumbetai.a" "$library/ju
 licence=$(git ls-tree --name-only "$commit" LICENSE) || exit 1
 git archive -o "$room/pages.tar" "$commit" README.md CHANGELOG.md SECURITY.md docs/GUIDE.md docs/OPERATIONS.md \
     docs/PRODUCERS.md docs/FORMATS.md docs/GUARANTEES.md docs/PERFORMANCE.md docs/GLOSSARY.md examples bindings \
-    tools/make_batch.py $licence && tar -xf "$room/pages.tar" -C "$here" || exit 1
+    tools/make_batch.py ${licence:+"$licence"} && tar -xf "$room/pages.tar" -C "$here" || exit 1
 tools/archive_pages.py "$here" || fail 'a page speaks of what the archive has not'
 (cd "$library" && "${CC:-cc}" -shared -o "$here/bindings/python/libjumbetai.so" -Wl,--whole-archive libjumbetai.a \
     -Wl,--no-whole-archive) || fail 'the shared library is not made'
@@ -56,7 +56,7 @@ chmod 755 "$here/bin/site" || exit 1
 {
     echo "Jumbetai $version, for Linux on x86-64. README.md says what it is, bin/site --help what the program does;"
     echo 'library is for programs in C, Rust or Python: bindings says how. complete has a man page and completions.'
-    echo "licence: ${licence:-none is chosen yet; that is the owner's choice}"
+    echo "licence: ${licence:-none is chosen yet}"
     echo "commit: $commit"
     echo "proved and built with: $(rt version 2>/dev/null || echo 'a kit that is not here')"
     echo "the gate's last line: $line"

@@ -57,7 +57,9 @@ SHELLS = ("sh", "console", "bash")
 
 def pages():
     """All pages of the repository but those of edits, which tools/try_edits.py holds against the edits."""
-    said = subprocess.run(["git", "ls-files", "*.md"], cwd=TOP, capture_output=True, text=True, check=True).stdout.split("\n")
+    said = subprocess.run(
+        ["git", "ls-files", "*.md"], cwd=TOP, capture_output=True, text=True, check=True
+    ).stdout.split("\n")
     return [it for it in said if it and "/edits/" not in it and os.path.exists(f"{TOP}/{it}")]
 
 
