@@ -4,8 +4,8 @@
     tools/archive_pages.py FOLDER
 
 What stands between the lines `<!-- repository -->` and `<!-- archive -->` is of the repository alone, and goes; the
-lines go too. A link to what isn't in the folder becomes its text. `out/library` is `library` there. Status 1 where a page
-still speaks of `./site`, `./gate` or `out/`.
+lines go too. A link to what isn't in the folder becomes its text. `out/library` is `library` there. Status 1 where a
+page still speaks of `./site`, `./gate` or `out/`.
 """
 import os
 import re

@@ -6,7 +6,8 @@
 The program is by default crates/site_cli/out/site_cli, the pages are README.md, docs/GUIDE.md, docs/OPERATIONS.md and
 docs/PRODUCERS.md; a page may take N seconds, 120 by default. One bash runs all of a page, so `set -o pipefail`, `cd`,
 functions and `$?` hold as they do for who types it. `site` is the program, `make_batch.py` the script beside this one,
-and `ssh HOST COMMAND` a stand-in, which gives the command to a shell here. The first word behind ``` says what a block is:
+and `ssh HOST COMMAND` a stand-in, which gives the command to a shell here. The first word behind ``` says what a block
+is:
 
     console     a line that begins with `$ ` is a command; the lines up to the next one are what it prints, on either
                 stream. The words behind it are programs that the block wants: where one isn't there, the block is left
