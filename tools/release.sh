@@ -5,7 +5,8 @@
 #   tools/release.sh --any PROGRAM LIBRARY [FOLDER]     of any built program and library (a folder of tools/library.py)
 #
 # The archive is jumbetai-VERSION-x86_64-linux.tar.xz. It has the program in bin, libjumbetai.a and jumbetai.h in
-# library, the bindings, a man page and completions for bash, zsh and fish, the pages of docs that are for users, the
+# library, the bindings, that for Python with libjumbetai.so beside it, a man page and completions for bash, zsh and
+# fish, README and the pages of docs that are for users (tools/archive_pages.py), LICENSE where there is one, the
 # examples, SHA256SUMS of all files, and ABOUT, which says the version, the commit, the kit, and what the gate said last.
 # Made twice of one commit, program and library it has the same bytes. The program wants Linux on x86-64 with the C library
 # of GNU. Without --any it is refused where ./gate hasn't passed whole for this very commit and program; with it ABOUT
@@ -43,13 +44,19 @@ trap 'rm -rf "$room"' EXIT
 here=$room/$name
 mkdir -p "$here/bin" "$here/library" || exit 1
 cp -- "$program" "$here/bin/site" && cp -- "$library/libjumbetai.a" "$library/jumbetai.h" "$here/library/" || exit 1
-git archive "$commit" CHANGELOG.md docs/GUIDE.md docs/PRODUCERS.md docs/FORMATS.md docs/GLOSSARY.md examples bindings \
-    tools/make_batch.py | tar -x -C "$here" || exit 1
+licence=$(git ls-tree --name-only "$commit" LICENSE) || exit 1
+git archive -o "$room/pages.tar" "$commit" README.md CHANGELOG.md SECURITY.md docs/GUIDE.md docs/OPERATIONS.md \
+    docs/PRODUCERS.md docs/FORMATS.md docs/GUARANTEES.md docs/PERFORMANCE.md docs/GLOSSARY.md examples bindings \
+    tools/make_batch.py ${licence:+"$licence"} && tar -xf "$room/pages.tar" -C "$here" || exit 1
+tools/archive_pages.py "$here" || fail 'a page speaks of what the archive has not'
+(cd "$library" && "${CC:-cc}" -shared -o "$here/bindings/python/libjumbetai.so" -Wl,--whole-archive libjumbetai.a \
+    -Wl,--no-whole-archive) || fail 'the shared library is not made'
 tools/completions.py --program "$here/bin/site" --all "$here/complete" || exit 1
 chmod 755 "$here/bin/site" || exit 1
 {
-    echo "Jumbetai $version, for Linux on x86-64. bin/site --help says what the program does, docs/GUIDE.md shows it;"
+    echo "Jumbetai $version, for Linux on x86-64. README.md says what it is, bin/site --help what the program does;"
     echo 'library is for programs in C, Rust or Python: bindings says how. complete has a man page and completions.'
+    echo "licence: ${licence:-none is chosen yet}"
     echo "commit: $commit"
     echo "proved and built with: $(rt version 2>/dev/null || echo 'a kit that is not here')"
     echo "the gate's last line: $line"

@@ -1,19 +1,29 @@
 #!/usr/bin/env python3
-"""Runs the commands of docs/GUIDE.md and docs/PRODUCERS.md, each page in a folder of its own, and compares what they print.
+"""Runs the pages that people paste from, each in a folder and a shell of its own, and compares what they print.
 
-    tools/run_guide.py [PROGRAM]        by default crates/site_cli/out/site_cli
+    tools/run_guide.py [--program FILE] [--seconds N] [--of N] [PAGE..]
 
-In a block that is marked `console`, a line that begins with `$ ` is a command for bash; the lines up to the next one
-are what it prints, on either stream. `cd FOLDER` alone holds for what stands below it. `site` is the program,
-`make_batch.py` the script beside this one, and `ssh HOST COMMAND` a stand-in, which gives the command to a shell here.
-What stands behind `console` are the programs that the block wants; where one isn't there, the block is left out, and
-told. `sizes=N,M` is no program: these numbers of the block are divided by 100 here, so that it takes no time, and
-tools/try_regions.py runs it as it stands.
+The program is by default crates/site_cli/out/site_cli, the pages are README.md, docs/GUIDE.md, docs/OPERATIONS.md and
+docs/PRODUCERS.md; a page may take N seconds, 120 by default. One bash runs all of a page, so `set -o pipefail`, `cd`,
+functions and `$?` hold as they do for who types it. `site` is the program, `make_batch.py` the script beside this one,
+and `ssh HOST COMMAND` a stand-in, which gives the command to a shell here. The first word behind ``` says what a block
+is:
+
+    console     a line that begins with `$ ` is a command; the lines up to the next one are what it prints, on either
+                stream. The words behind it are programs that the block wants: where one isn't there, the block is left
+                out, and told. `sizes=N,M` is no program: these numbers are divided here, by --of or 100, so that the
+                block takes no time, and tools/try_regions.py runs it as it stands
+    sh run      is given to the shell whole, and the block behind it, where that is `text`, is what it prints
+    LANG file=F is written to the file F
+
+Other blocks aren't run. The last line is 'N of M commands of the pages were right'.
 """
 
+import argparse
 import contextlib
 import os
 import re
+import secrets
 import shutil
 import subprocess
 import sys
@@ -22,7 +32,7 @@ import tempfile
 HERE = os.path.dirname(os.path.dirname(os.path.realpath(__file__)))
 
 
-PAGES = ("docs/GUIDE.md", "docs/PRODUCERS.md")
+PAGES = ("README.md", "docs/GUIDE.md", "docs/OPERATIONS.md", "docs/PRODUCERS.md")
 # What a stand-in for ssh does: it leaves out the host, and joins the words to one text for a shell, as ssh does.
 SSH = '#!/bin/sh\nshift\nexec sh -c "$*"\n'
 
@@ -44,26 +54,57 @@ def blocks(page):
             heading = line.lstrip("# ")
 
 
+def absent(mark):
+    """The programs that a block wants and that aren't there."""
+    return {it for it in mark[1:] if "=" not in it and not shutil.which(it)}
+
+
+def of_console(mark, lines, times, of):
+    """The commands of a block, each with what it is to print."""
+    found = []
+    sizes = [size for word in mark[1:] if word.startswith("sizes=") for size in word[6:].split(",")]
+    for line in lines:
+        for size in sizes:
+            line = re.sub(rf"\b{size}\b", str(int(size) * times // of), line)
+        if line.startswith("$ "):
+            found.append((line[2:], []))
+        else:
+            found[-1][1].append(line)
+    return [(command, "".join(line + "\n" for line in lines)) for command, lines in found]
+
+
 def steps(page, part=None, times=1, of=1):
-    """The commands of a page, or of the part below a heading, with what each is to print, and the programs that blocks
-    want and that aren't there. The sizes of a block are multiplied by `times` and divided by `of`."""
+    """The commands of a page's console blocks, or of those below a heading, with what each is to print, and the
+    programs that blocks want and that aren't there. The sizes of a block are multiplied by `times` and divided by
+    `of`."""
     found, lacking = [], set()
     for heading, mark, lines in blocks(page):
         if mark[:1] != ["console"] or part not in (None, heading):
             continue
-        sizes = [size for word in mark[1:] if word.startswith("sizes=") for size in word[6:].split(",")]
-        absent = {it for it in mark[1:] if not it.startswith("sizes=") and not shutil.which(it)}
-        lacking |= absent
-        if absent:
-            continue
-        for line in lines:
-            for size in sizes:
-                line = re.sub(rf"\b{size}\b", str(int(size) * times // of), line)
-            if line.startswith("$ "):
-                found.append((line[2:], []))
-            else:
-                found[-1][1].append(line)
-    return [(command, "".join(line + "\n" for line in lines)) for command, lines in found], lacking
+        lacking |= absent(mark)
+        if not absent(mark):
+            found += of_console(mark, lines, times, of)
+    return found, lacking
+
+
+def script(page, of):
+    """All that a page gives to its shell, in order: commands with what each is to print, and texts that are written
+    into files, whose command is none; and the programs that blocks want and that aren't there."""
+    found, lacking, is_answered = [], set(), False
+    for _, mark, lines in blocks(page):
+        text = "".join(line + "\n" for line in lines)
+        file = next((word[5:] for word in mark if word.startswith("file=")), None)
+        if mark[:1] == ["text"] and is_answered:
+            found[-1] = (found[-1][0], text)
+        elif mark[:1] == ["console"]:
+            lacking |= absent(mark)
+            found += of_console(mark, lines, 1, of) if not absent(mark) else []
+        elif mark[:2] == ["sh", "run"]:
+            found.append((text, ""))
+        elif file:
+            found.append((None, (file, text)))
+        is_answered = mark[:2] == ["sh", "run"]
+    return found, lacking
 
 
 @contextlib.contextmanager
@@ -83,41 +124,55 @@ def gone_to(folder, command):
     return os.path.normpath(os.path.join(folder, command[3:])) if re.fullmatch(r"cd [\w./-]+", command) else folder
 
 
-def run(page, program):
+def typed(steps_of_page, mark):
+    """The text for bash: each command, and behind it a mark, which leaves the status as it was."""
+    for command, rest in steps_of_page:
+        if command is None:
+            file, text = rest
+            yield f"cat >{file} <<'{mark}'\n{text}{mark}\n"
+        else:
+            yield command + "\n"
+        yield f"_status=$?; printf '%s\\n' '{mark}'; (exit $_status)\n"
+
+
+def run(page, program, seconds, of):
     """How many commands of a page were right, and how many there are."""
-    commands, lacking = steps(page, times=1, of=100)
+    commands, lacking = script(page, of)
     if lacking:
         print(f"{page}: what wants {', '.join(sorted(lacking))} is left out")
-    wrong = 0
+    mark, wrong = f"mark-{secrets.token_hex(8)}", 0
     with room(program) as (folder, environment):
-        how = {"env": environment, "stdin": subprocess.DEVNULL, "timeout": 60}
-        for command, want in commands:
-            ran = subprocess.run(["bash", "-c", command], cwd=folder, stdout=subprocess.PIPE, stderr=subprocess.STDOUT, **how)
-            got = ran.stdout.decode("utf-8", "replace")
-            if got != want:
-                wrong += 1
-                print(f"wrong: {command}\n  printed {got!r}\n  {page} says {want!r}")
-            folder = gone_to(folder, command)
+        with open(os.path.join(folder, f".{mark}"), "w", encoding="utf-8") as file:
+            file.write("".join(typed(commands, mark)))
+        how = {"env": environment, "stdin": subprocess.DEVNULL, "stdout": subprocess.PIPE, "stderr": subprocess.STDOUT}
+        with subprocess.Popen(["bash", f".{mark}"], cwd=folder, start_new_session=True, **how) as ran:
+            try:
+                said = ran.communicate(timeout=seconds)[0].decode("utf-8", "replace")
+            except subprocess.TimeoutExpired:
+                os.killpg(ran.pid, 9)
+                said = ran.communicate()[0].decode("utf-8", "replace")
+                print(f"wrong: {page} takes more than {seconds} s")
+    parts = [re.sub(rf"\.{mark}: line \d+: ", "bash: ", it) for it in said.split(f"{mark}\n")]
+    parts = parts[:-1] + [None] * (len(commands) + 1 - len(parts))
+    for (command, want), got in zip(commands, parts):
+        want = "" if command is None else want
+        if got != want:
+            wrong += 1
+            print(f"wrong: {command or 'a file'}\n  printed {got!r}\n  {page} says {want!r}")
     return len(commands) - wrong, len(commands)
 
 
-def strays():
-    """How many of the lines of README.md that are typed at two regions the guide runs too, and how many there are."""
-    ran = {command for command, _ in steps(PAGES[0])[0]}
-    lines = [line for _, mark, lines in blocks("README.md") if mark == ["sh"] for line in lines]
-    typed = [line for line in lines if line.startswith(("site ", "ssh ", "cmp "))]
-    for line in typed:
-        if line not in ran:
-            print(f"wrong: {line}\n  stands in README.md, and {PAGES[0]} doesn't run it")
-    return len(ran.intersection(typed)), len(typed)
-
-
 def main():
-    program = sys.argv[1] if len(sys.argv) > 1 else os.path.join(HERE, "crates/site_cli/out/site_cli")
-    counts = [*(run(page, program) for page in PAGES), strays()]
+    words = argparse.ArgumentParser(description=__doc__, formatter_class=argparse.RawDescriptionHelpFormatter)
+    words.add_argument("--program", default=os.path.join(HERE, "crates/site_cli/out/site_cli"))
+    words.add_argument("--seconds", type=int, default=120)
+    words.add_argument("--of", type=int, default=100)
+    words.add_argument("pages", nargs="*", metavar="PAGE")
+    given = words.parse_args()
+    counts = [run(page, given.program, given.seconds, given.of) for page in given.pages or PAGES]
     right, every = (sum(it) for it in zip(*counts))
-    print(f"{right} of {every} commands of the guide were right")
-    sys.exit(0 if right == every and counts[0][1] and counts[-1][1] else 1)
+    print(f"{right} of {every} commands of the pages were right")
+    sys.exit(0 if right == every and all(it for _, it in counts) else 1)
 
 
 if __name__ == "__main__":

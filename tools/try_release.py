@@ -22,11 +22,16 @@ sys.dont_write_bytecode = True
 TOP = os.path.dirname(os.path.dirname(os.path.realpath(__file__)))
 sys.path.insert(0, f"{TOP}/tools")
 import library  # noqa: E402
+from archive_pages import LINK, STRAY  # noqa: E402
 from run_guide import steps  # noqa: E402
 from version import version  # noqa: E402
 
 PART = "Orders, and the events that tell of them"
-FILES = ("bin/site", "library/libjumbetai.a", "library/jumbetai.h", "bindings/rust/Cargo.toml", "bindings/python/jumbetai.py", "complete/site.1", "complete/site.bash", "docs/GUIDE.md", "CHANGELOG.md", "ABOUT")
+FILES = (
+    "bin/site", "library/libjumbetai.a", "library/jumbetai.h", "bindings/rust/Cargo.toml", "bindings/python/jumbetai.py",
+    "bindings/python/libjumbetai.so", "complete/site.1", "complete/site.bash", "README.md", "SECURITY.md", "CHANGELOG.md",
+    "docs/GUIDE.md", "docs/OPERATIONS.md", "docs/PRODUCERS.md", "docs/FORMATS.md", "docs/GUARANTEES.md", "ABOUT",
+)
 
 
 class Tries:
@@ -74,6 +79,19 @@ def try_guide(tries, program, folder):
         tries.judge(command, ran.stdout == want, f"{ran.stdout!r}, not {want!r}")
 
 
+def try_pages(tries, unpacked):
+    """Each link of a page leads to what is in the archive, and none speaks of what is in the repository alone."""
+    for at, _, files in os.walk(unpacked):
+        for it in sorted(files):
+            if not it.endswith(".md"):
+                continue
+            with open(f"{at}/{it}", encoding="utf-8") as file:
+                text = file.read()
+            to = [found[1].partition("#")[0] for found in LINK.findall(text) if not re.match("[a-z]+:", found[1])]
+            tries.judge(f"links of {it}", all(os.path.exists(f"{at}/{link}") for link in to), to)
+            tries.judge(f"words of {it}", not STRAY.search(text), STRAY.findall(text))
+
+
 def main():
     words = argparse.ArgumentParser(description=__doc__, formatter_class=argparse.RawDescriptionHelpFormatter)
     words.add_argument("--program", default=f"{TOP}/crates/site_cli/out/site_cli")
@@ -98,6 +116,8 @@ def main():
         tries.passes("the sums of all files", ["sha256sum", "-c", "--quiet", "SHA256SUMS"], cwd=unpacked)
         for file in FILES:
             tries.judge(file, os.path.isfile(f"{unpacked}/{file}"))
+        try_pages(tries, unpacked)
+        tries.passes("the module for Python beside its library", [sys.executable, "-c", "import jumbetai; jumbetai.Site()"], cwd=f"{unpacked}/bindings/python", env={"PATH": "/usr/bin:/bin"})
         try_guide(tries, f"{unpacked}/bin/site", folder)
         words = [library.compiler(), "examples/c/ask.c", "-Ilibrary", "-Llibrary", "-ljumbetai", "-o", "ask"]
         if tries.passes("the example in C", words, cwd=unpacked):
