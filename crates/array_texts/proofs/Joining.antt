@@ -94,8 +94,8 @@ front f js some h =
     record {
       used = l.used;
       is = λ t.
-        ap (punctuate fresh) (c.is words.comma t ∙ ap (λ s. c.front ++ s) (at_comma t)) ∙ q.is (comma ∷ lex between t) refl
-        ∙ ap (λ s. q.front ++ s) (past_comma q.at (lex between t) after) ∙ ap (λ s. s ++ punctuate after_comma (lex between t)) same;
+          ap (punctuate fresh) (c.is words.comma t ∙ ap (λ s. c.front ++ s) (at_comma t)) ∙ q.is (comma ∷ lex between t) refl
+          ∙ ap (λ s. q.front ++ s) (past_comma q.at (lex between t) after) ∙ ap (λ s. s ++ punctuate after_comma (lex between t)) same;
       again = l.again;
     }
 

@@ -131,7 +131,7 @@ module _ (p : Parse Json) where
       let longer : suc (length two + m) ≤ length (one ++ two) + m = omega (arith, length-append one two) in
       ap (items p (length (one ++ two) + m)) (append_assoc one two more)
       ∙ enough (suc (length two + m)) (length (one ++ two) + m) (one ++ (two ++ more)) (item j (append js ks)) rest
-        (more_again (length two + m) (one ++ (two ++ more)) (two ++ more) rest j (item j (append js ks)) (append js ks) refl none first then) longer
+      (more_again (length two + m) (one ++ (two ++ more)) (two ++ more) rest j (item j (append js ks)) (append js ks) refl none first then) longer
 
   listed_by : (n : ℕ) (ts : List Token) (js : Items) (r : List Token) → Local p → ((s : List Token) (ks : Items) → items p n s ≡ Some (ks, r) → Listed s ks r) → Turned n ts js r → Listed ts js r
   listed_by n ts js r each again (over e h) =
@@ -154,8 +154,8 @@ module _ (p : Parse Json) where
         ends = lasts_append true one.used two.used ∙ ap (λ b. lasts b two.used) (one.ends true) ∙ two.ends;
         some = λ other. omega (arith, one.some, length-append one.used two.used);
         again = λ m more left ls k.
-          front_more one.used two.used more left j ks ls m one.some (front_none one.used s (two.used ++ more) one.some start) (one.again (two.used ++ more)) (two.again m more left ls k)
-          ∙ ap (λ x. Some (append x ls, left)) (sym e);
+            front_more one.used two.used more left j ks ls m one.some (front_none one.used s (two.used ++ more) one.some start) (one.again (two.used ++ more)) (two.again m more left ls k)
+            ∙ ap (λ x. Some (append x ls, left)) (sym e);
       }
 
   pub listed : (n : ℕ) (ts : List Token) (js : Items) (r : List Token) → Local p → items p n ts ≡ Some (js, r) → Listed ts js r
@@ -224,8 +224,8 @@ module _ (p : Parse Json) where
         good = (refl, no_bad_append one.used two.used one.good two.good);
         ends = λ b. lasts_append false one.used two.used ∙ ap (λ c. lasts c two.used) (one.ends false) ∙ two.ends true;
         again = λ m more le.
-          ap (λ l. members p m (key k ∷ l)) (append_assoc one.used two.used more)
-          ∙ key_again m k j (one.used ++ (two.used ++ more)) (two.used ++ more) more ns ms e (omega arith) (one.again (two.used ++ more)) (two.again (m - 1) more (omega (arith, one.some, length-append one.used two.used)));
+            ap (λ l. members p m (key k ∷ l)) (append_assoc one.used two.used more)
+            ∙ key_again m k j (one.used ++ (two.used ++ more)) (two.used ++ more) more ns ms e (omega arith) (one.again (two.used ++ more)) (two.again (m - 1) more (omega (arith, one.some, length-append one.used two.used)));
       }
 
   pub filled : (n : ℕ) (ts : List Token) (ms : Members) (r : List Token) → Local p → members p n ts ≡ Some (ms, r) → Filled ts ms r

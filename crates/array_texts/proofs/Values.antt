@@ -28,8 +28,8 @@ array_local p each ts r js h =
       ends = λ b. lasts_append b l.used (end_array ∷ []);
       some = omega (arith, length-append l.used (end_array ∷ []));
       again = λ more.
-        ap (λ s. items p (length s) s) (append_assoc l.used (end_array ∷ []) more)
-        ∙ enough p (length l.used + 1) (length (l.used ++ end_array ∷ more)) (l.used ++ end_array ∷ more) js more
+          ap (λ s. items p (length s) s) (append_assoc l.used (end_array ∷ []) more)
+          ∙ enough p (length l.used + 1) (length (l.used ++ end_array ∷ more)) (l.used ++ end_array ∷ more) js more
           (l.again 1 (end_array ∷ more) more no_items (close_one p more) ∙ ap (λ x. Some (x, more)) (append-no_items js)) (omega (arith, length-append l.used (end_array ∷ more)));
     }
 

@@ -94,8 +94,7 @@ read_ok b ds (Some f) es c fits = tt
 refused_first : (b : List ℕ) (ds : List Data) (f : ReadFault) → HoldsSome b ds → first_bad 0 ds ≡ Some f → length b ≤ max_input → Refuses b f
 refused_first b ds f h is fits =
     let bad_one = is_bad 0 ds f is in
-    subst (Refuses b) (sym bad_one.2)
-    (
+    subst (Refuses b) (sym bad_one.2) (
       array h.items,
       record { fits = fits; is_json = (h.utf8, h.reads) },
       subst (λ x. IsNoSpelling (array h.items) x) bad_one.2 (no_spelling (array h.items) (list_of h.items) f refl (ap (first_bad 0) (sym h.are) ∙ is)),

@@ -8,8 +8,8 @@ mod intake;
 mod refusal;
 mod shelf;
 
-pub use batch::{EventReader, SequentialReader, batch_of, in_key_order, sequenced};
 pub use answer::{Reported, report, report_with};
+pub use batch::{EventReader, SequentialReader, batch_of, in_key_order, sequenced};
 pub use input::{Unread, read_all};
 pub use intake::{append, events_of, site_of};
 pub use refusal::{Refused, ReportFault};

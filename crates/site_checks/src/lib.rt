@@ -8,6 +8,8 @@ mod event;
 #[cfg(test)]
 mod laws;
 #[cfg(test)]
+mod taking;
+#[cfg(test)]
 mod wants;
 #[cfg(test)]
 mod worlds;

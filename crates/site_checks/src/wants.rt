@@ -1,10 +1,8 @@
 //! That nothing gives up above a size, at a small one, or at one way in which events come, while
 //! there is memory: no contract can say so, since memory may be refused wherever something is made.
 
-use crate::event::{A1, A2, add, counts, take, take_all};
-use crate::keeping::keep;
-use crate::schedules::{then, world_of};
-use crate::sites::answers;
+use crate::taking::{A1, A2, add, answers, counts, keep, take, take_all, then};
+use crate::worlds::world_of;
 use attributes::{Batch, Event, Fault, Given, Parts, Sequence, Text};
 use coverage::{Intervals, Summary};
 use exchange::{Step, Steps, gossip};

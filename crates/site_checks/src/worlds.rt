@@ -236,7 +236,7 @@ fn add_steps(
 }
 
 /// The world of so many sites after the steps.
-fn world_of(alloc: Global, sites: u32, steps: &Steps) -> Option<World> {
+pub fn world_of(alloc: Global, sites: u32, steps: &Steps) -> Option<World> {
     if steps.fits(sites) {
         run(alloc, sites, steps).ok()
     } else {

@@ -129,14 +129,7 @@ fn perform_with<
     O: Write,
     E: Write,
     P: Progress,
->(
-    rt: &R,
-    reader: &F,
-    plan: &Alone,
-    out: &mut O,
-    err: &mut E,
-    progress: &P,
-) -> u8
+>(rt: &R, reader: &F, plan: &Alone, out: &mut O, err: &mut E, progress: &P) -> u8
     requires allowed { IsAllowedAlone plan.now }
     requires reader { F.can_read reader.now }
     ensures { RunsAlone MayBeRead MayBeUnread plan.now result

@@ -11,7 +11,9 @@ ghost use Rattle.site_commands.specs.steps.Feeds.{RefusesFeeds};
 use crate::line::Refusal;
 use attributes::{List, Octets, Text, Texts};
 use database_commands::CommandFault;
-use file_reports::{Refused, ReportFault, SequentialReader, Shelf, Unread, UnreadAt, contents_of, events_of};
+use file_reports::{
+    Refused, ReportFault, SequentialReader, Shelf, Unread, UnreadAt, contents_of, events_of,
+};
 use inbox_table::Watch;
 use run_command::{Jobs, RunFault, Runs};
 use site::Site;

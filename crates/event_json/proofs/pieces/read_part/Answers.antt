@@ -15,7 +15,7 @@ loop-next-preserved g c =
       next.1,
       next.2,
       next_piece c.args.bytes.now (if c.args.opened then [] else 91 ∷ []) c.loop-next.at c.in-Some-next_comma.next c.fill-in-Some-next_comma.new.text.items P Q old.1 next.0 c.in_ok-fill-3.ensures old.2
-      (subst (λ t. Adds t P Q) c.deref-in-Some-next_comma.ensures.value adds),
+          (subst (λ t. Adds t P Q) c.deref-in-Some-next_comma.ensures.value adds),
     )
 
 pub returns : goal.returns
@@ -24,6 +24,6 @@ returns g c =
     let P = g.G.Gather.is_of c.loop-next.gathered in
     IfOk-weaker c.add_piece-3.result _ _
     (λ o h. some_weaker _ _ o
-      (λ more adds. last_piece c.args.bytes.now (if c.args.opened then [] else 91 ∷ []) (if c.args.closed then [] else 93 ∷ []) c.loop-next.at c.fill-3.new.text.items P (g.G.Gather.is_of more) old.1 c.in_ok-fill-4.ensures old.2
-        (subst (λ t. Adds t P (g.G.Gather.is_of more)) c.deref-3.ensures.value adds)) h)
+    (λ more adds. last_piece c.args.bytes.now (if c.args.opened then [] else 91 ∷ []) (if c.args.closed then [] else 93 ∷ []) c.loop-next.at c.fill-3.new.text.items P (g.G.Gather.is_of more) old.1 c.in_ok-fill-4.ensures old.2
+    (subst (λ t. Adds t P (g.G.Gather.is_of more)) c.deref-3.ensures.value adds)) h)
     c.add_piece-3.ensures
