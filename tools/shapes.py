@@ -181,6 +181,21 @@ def shapes(size):
     yield "each number in a block of its own", apart, numbers
 
 
+def refused(size):
+    """Name of the shape, the odd file, which is refused, and the friendly file."""
+    plain = batch(size, lambda place: event(place, ',"x":"' + "a" * 200 + '"'))
+    nested = batch(size, with_data("[" * 120 + "]" * 120))
+    commas = batch(size, lambda place: event(place, ',"x":"' + "," * 200 + '"'))
+    yield "a bad last member", plain[:-1] + ",{}]", plain
+    yield "a bad last member, nested", nested[:-1] + ",{}]", nested
+    yield "no closing bracket", plain[:-1], plain
+    yield "no closing bracket, nested", nested[:-1], nested
+    yield "no comma but in texts", "[" + commas[1:-1].replace("},\n{", "}{") + "]", plain
+    yield "one member", '[{"x":"' + "," * size + '"}]', plain
+    yield "empty members", "[" + ",".join(["{}"] * (size // 3)) + "]", plain
+    yield "numbers in place of members", "[" + ",".join(["1"] * (size // 2)) + "]", plain
+
+
 TABLES = (
     "CREATE TABLE service (one INTEGER PRIMARY KEY CHECK (one = 1), source TEXT NOT NULL, "
     "base INTEGER NOT NULL CHECK (base >= 0)) STRICT",
@@ -260,19 +275,21 @@ def write(path, text):
             file.write(content)
 
 
-def seconds(program, command, path):
-    """The processor time of one run."""
+def seconds(program, command, path, wanted=0):
+    """The processor time of one run, which has to end with that status."""
     where = os.path.dirname(path)
-    how = {"cwd": where, "stdout": subprocess.DEVNULL, "check": True}
+    how = {"cwd": where, "stdout": subprocess.DEVNULL, "stderr": subprocess.DEVNULL}
     if command in WRITERS:
         forget(path)
     elif command in READERS and not os.path.exists(f"{path}.db"):
-        subprocess.run([program, *words("take", path)], **how)
+        subprocess.run([program, *words("take", path)], check=True, **how)
     kept = f"{path}.kept"
     if command == "order":
         shutil.copy(f"{path}.db", kept)
     before = resource.getrusage(resource.RUSAGE_CHILDREN)
-    subprocess.run([program, *words(command, path)], **how)
+    ran = subprocess.run([program, *words(command, path)], **how)
+    if ran.returncode != wanted:
+        sys.exit(f"{command} ended with {ran.returncode}")
     after = resource.getrusage(resource.RUSAGE_CHILDREN)
     if command == "order":
         forget(path)
@@ -289,9 +306,9 @@ class Bench:
         self.options, self.dear = options, 0
         self.odd, self.friendly = f"{folder}/odd.json", f"{folder}/friendly.json"
 
-    def compare(self, name, command, scale):
-        """Runs both in turn, and compares the least of each."""
-        turns = [[seconds(self.options.program, command, it) for it in (self.odd, self.friendly)]
+    def compare(self, name, command, scale, wanted=0):
+        """Runs both in turn, the odd file to a status, and compares the least of each."""
+        turns = [[seconds(self.options.program, command, *it) for it in ((self.odd, wanted), (self.friendly,))]
                  for _ in range(self.options.runs)]
         mine, theirs = (min(it) for it in zip(*turns))
         ratio = mine / theirs / scale
@@ -300,14 +317,14 @@ class Bench:
         times = f"{mine:6.2f} s  friendly {theirs:6.2f} s  ratio a byte {ratio:5.2f}{mark}"
         print(f"{name:32} {command:9}  {times}", flush=True)
 
-    def files(self, commands):
-        for name, text, other in shapes(self.options.size):
+    def files(self, commands, made=shapes, wanted=0):
+        for name, text, other in made(self.options.size):
             if commands and self.options.only in name:
                 write(self.odd, text)
                 write(self.friendly, other)
                 scale = os.path.getsize(self.odd) / os.path.getsize(self.friendly)
                 for command in commands:
-                    self.compare(name, command, scale)
+                    self.compare(name, command, scale, wanted)
 
     def orders(self, commands):
         for name, odd, friendly in services(self.options.size // 50):
@@ -336,6 +353,7 @@ def main():
             file.write('{"sources":{},"version":1}')
         bench = Bench(options, folder)
         bench.files([it for it in asked if it not in OF_ORDERS])
+        bench.files([it for it in asked if it in QUESTIONS or it == "take"], refused, 1)
         bench.orders([it for it in asked if it in OF_ORDERS])
     print(f"{bench.dear} shapes above {options.limit} times their friendly file")
     return 1 if bench.dear else 0
