@@ -116,13 +116,6 @@ ROWS_OF_ALL = [
 
 # Tests that have to pass whichever allocation is refused, by their crate. Rows of drivers are tried by try_rows.py.
 TESTS = {
-    "checks": [
-        "refused::a_question_is_answered_whole_or_wants_memory",
-        "refused::a_set_of_numbers_is_right_or_wants_memory",
-        "refused::a_summary_is_judged_or_wants_memory",
-        "refused::an_event_is_read_and_written_or_wants_memory",
-        "refused::an_inbox_is_merged_or_its_front",
-    ],
     "worker_checks": [
         "refused::a_caller_takes_a_batch_or_its_front",
         "refused::a_desk_takes_a_batch_or_its_front",

@@ -1,6 +1,6 @@
 //! What is told of the members of an input that are at fault.
 
-use crate::event::{is_text, is_written};
+use crate::texts::{is_text, is_written};
 use attributes::Text;
 use event_json::{Faulty, read_faulty};
 use fault_lines::fault_lines;
