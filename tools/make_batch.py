@@ -1,8 +1,8 @@
 #!/usr/bin/env python3
 """Writes a batch of CloudEvents to standard output, the same one for the same arguments.
 
-usage: tools/make_batch.py [--events N] [--seed N] [--data BYTES] [--conflicts SHARE] [--gaps SHARE] [--days N]
-           [--subjects N] > FILE
+usage: tools/make_batch.py [--events N] [--seed N] [--data BYTES] [--nested DEPTH] [--escapes N] [--conflicts SHARE]
+           [--gaps SHARE] [--days N] [--subjects N] > FILE
        tools/make_batch.py --region north|south [--events N] > FILE
 
 With no argument: 120,000 events in 30 MB, of five services in four regions, each with a sequence of its own. Numbers
@@ -59,6 +59,12 @@ def event(dice, service, region, number, options):
             sku = f"{dice.getrandbits(32):08x}"
             lines.append({"sku": sku, "count": dice.randrange(1, 20), "gift": dice.random() < 0.1})
         made["data"] = {"lines": lines, "note": "é" * dice.randrange(3)}
+    if options.nested:
+        made["data"] = dice.randrange(100)
+        for _ in range(options.nested):
+            made["data"] = [made["data"]]
+    if options.escapes:
+        made["note"] = '\\"' * options.escapes + f"{dice.getrandbits(32):08x}"
     return made
 
 
@@ -121,6 +127,8 @@ def main():
     parser.add_argument("--events", type=int, default=120_000)
     parser.add_argument("--seed", type=int, default=1)
     parser.add_argument("--data", type=int, default=0, help="bytes of data an event, about")
+    parser.add_argument("--nested", type=int, default=0, help="how deep data is that is an array in an array")
+    parser.add_argument("--escapes", type=int, default=0, help="escaped marks of an attribute")
     parser.add_argument("--conflicts", type=float, default=0, help="share of events that are another one, changed")
     parser.add_argument("--gaps", type=float, default=0.02, help="share of the numbers that are left out")
     parser.add_argument("--days", type=int, default=0, help="days that the events' times are from")

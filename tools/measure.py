@@ -1,16 +1,21 @@
 #!/usr/bin/env python3
 """Measures the built program beside plain Rust programs, and prints tables in Markdown.
 
-usage: tools/measure.py PLAIN [PLAIN_TABLES] [--program FILE] [--rounds N] [--folder FOLDER] [--groups GROUP..]
+usage: tools/measure.py PLAIN [PLAIN_TABLES] [--program FILE] [--rounds N] [--threads N] [--folder FOLDER]
+           [--groups GROUP..]
 
 PLAIN is the program of tools/baseline, PLAIN_TABLES that of tools/baseline_tables. The programs run in turn, the same
 words over the same files, N rounds (3 by default). A table gives of each the least and the middle of processor time
-(user and system), the middle time by the clock where that differs, the largest memory that a round took, and the
-ratios of ours to the plain one, middle by middle. Where two programs answer a question, their outputs must be equal
+(user and system), the least time by the clock, the largest memory that a round took, and the ratios of ours to the
+plain one: of processor time, least by least, of the clock, and of memory. Where two programs answer a question, their outputs must be equal
 byte for byte, or the exit status is 1. The batches are made in FOLDER, or in one of its own that goes in the end.
 
-The groups: questions (no data), data, conflicts (times and conflicts), files (several files), tables (take and run),
-streams (follow, pages and questions over a database), million. All but the last by default.
+The groups: questions (no data), data, conflicts (times and conflicts), nested (data 40 deep), escapes (texts with
+escaped marks), files (several files), tables (take and run), streams (follow, pages and questions over a database),
+million. All but the last by default.
+
+Ours reads large files with as many threads as there are processors. With --threads N it has N of them; the plain
+programs have one.
 """
 import argparse
 import hashlib
@@ -28,11 +33,13 @@ BATCHES = {
     "plain": [],
     "data": ["--data", "200", "--events", "60000"],
     "conflicts": ["--events", "110000", "--conflicts", "0.05", "--gaps", "0.05", "--days", "30", "--subjects", "5000"],
+    "nested": ["--events", "85000", "--nested", "40"],
+    "escapes": ["--events", "60000", "--escapes", "70"],
     "bytes": ["--events", "60000"],
     **{f"part{i}": ["--data", "200", "--events", "7500", "--seed", str(i)] for i in range(1, 9)},
     **{f"many{i}": ["--data", "200", "--events", "25000", "--seed", str(i)] for i in range(1, 41)},
 }
-GROUPS = ("questions", "data", "conflicts", "files", "tables", "streams", "million")
+GROUPS = ("questions", "data", "conflicts", "nested", "escapes", "files", "tables", "streams", "million")
 # How many lines a waiting producer sends.
 WAITING = 1_000
 
@@ -59,7 +66,7 @@ class Measured:
         self.output = digest.hexdigest()
 
     def text(self):
-        return f"{min(self.processor):.2f} s, {middle(self.processor):.2f} s, {self.memory / 1e6:.0f} MB"
+        return f"{min(self.processor):.2f} s, {min(self.clock):.2f} s, {self.memory / 1e6:.0f} MB"
 
 
 def waited(words, events):
@@ -84,6 +91,8 @@ def middle(values):
 class Bench:
     def __init__(self, given, folder):
         self.given, self.folder, self.well = given, folder, True
+        held = ["taskset", "--cpu-list", f"0-{given.threads - 1}"] if given.threads else []
+        self.ours = [*held, given.program]
 
     def batch(self, name):
         path = f"{self.folder}/{name}.json"
@@ -102,15 +111,15 @@ class Bench:
         return found
 
     def question(self, what, words):
-        ours, plain = self.turns([[self.given.program, *words], [self.given.plain, *words]])
+        ours, plain = self.turns([[*self.ours, *words], [self.given.plain, *words]])
         if ours.output != plain.output:
             print(f"{what}: the outputs differ", file=sys.stderr)
             self.well = False
-        ratio = middle(ours.processor) / middle(plain.processor)
-        print(f"| {what} | {ours.text()} | {plain.text()} | {ratio:.2f} | {ours.memory / plain.memory:.2f} |", flush=True)
+        ratios = [min(ours.processor) / min(plain.processor), min(ours.clock) / min(plain.clock), ours.memory / plain.memory]
+        print(f"| {what} | {ours.text()} | {plain.text()} | {' | '.join(f'{it:.2f}' for it in ratios)} |", flush=True)
 
     def heads(self, title):
-        print(f"\n{title}\n\n| what | `site` | plain Rust | time | memory |\n|---|---|---|---|---|")
+        print(f"\n{title}\n\n| what | `site` | plain Rust | processor | clock | memory |\n|---|---|---|---|---|---|")
 
     def questions(self, name):
         path = self.batch(name)
@@ -143,8 +152,7 @@ class Bench:
             (f"`take` of four files with data, {sum(map(os.path.getsize, four)) / 1e6:.1f} MB", ["take", "--db", database, *four]),
             ("`run` of the same four", ["run", "--db", database, *four]),
         ):
-            programs = [[self.given.program, *words]]
-            found = self.turns(programs, gone)[0]
+            found = self.turns([[*self.ours, *words]], gone)[0]
             print(f"| {what} | {found.text()} | {middle(found.clock):.2f} s |", flush=True)
         if self.given.plain_tables:
             found = self.turns([[self.given.plain_tables, "take", database, data]], gone)[0]
@@ -223,6 +231,7 @@ def main():
     words.add_argument("plain_tables", nargs="?")
     words.add_argument("--program", default=f"{TOP}/crates/site_cli/out/site_cli")
     words.add_argument("--rounds", type=int, default=3)
+    words.add_argument("--threads", type=int, default=0)
     words.add_argument("--folder")
     words.add_argument("--groups", nargs="*", choices=GROUPS, default=GROUPS[:-1])
     given = words.parse_args()
