@@ -4,14 +4,17 @@ use Rattle.site_commands.proofs.RunLemmas.{alone_allowed, faulty_run, planned_al
 use Rattle.site_commands.specs.Inputs.{MayBeRead, MayBeUnread}
 use Rattle.site_commands.proofs.run.perform.Goals as goal
 
-pub perform_alone-requires : goal.perform_alone-requires
-perform_alone-requires g c = alone_allowed c.args.words.now c.in-Ok-Alone.plan (subst (IsPlan c.args.words.now) c.in-Ok-Alone.field-0-is c.in-Ok-Alone.ensures.ok)
+pub perform_with-requires-clause-reader : goal.perform_with-requires-clause-reader
+perform_with-requires-clause-reader g c = c.type_bounds.sync-R
+
+pub perform_with-requires-clause-allowed : goal.perform_with-requires-clause-allowed
+perform_with-requires-clause-allowed g c = alone_allowed c.args.words.now c.in-Ok-Alone.plan (subst (IsPlan c.args.words.now) c.in-Ok-Alone.field-0-is c.in-Ok-Alone.ensures.ok)
 
 pub perform_run-requires : goal.perform_run-requires
 perform_run-requires g c = (c.type_bounds.sync-R, run_allowed c.args.words.now c.in-Ok-Run.plan (subst (IsPlan c.args.words.now) c.in-Ok-Run.field-0-is c.in-Ok-Run.ensures.ok))
 
 pub returns-in-Ok-Alone-clause-runs : goal.returns-in-Ok-Alone-clause-runs
-returns-in-Ok-Alone-clause-runs g c = planned_alone MayBeRead MayBeUnread c.args.words.now c.in-Ok-Alone.plan _ _ _ _ _ (subst (IsPlan c.args.words.now) c.in-Ok-Alone.field-0-is c.in-Ok-Alone.ensures.ok) c.perform_alone.ensures
+returns-in-Ok-Alone-clause-runs g c = planned_alone MayBeRead MayBeUnread c.args.words.now c.in-Ok-Alone.plan _ _ _ _ _ (subst (IsPlan c.args.words.now) c.in-Ok-Alone.field-0-is c.in-Ok-Alone.ensures.ok) c.perform_with.ensures
 
 pub returns-in-Ok-Alone-clause-status : goal.returns-in-Ok-Alone-clause-status
 returns-in-Ok-Alone-clause-status g c = run_within MayBeRead MayBeUnread c.args.words.now _ _ _ _ _ (returns-in-Ok-Alone-clause-runs g c)
