@@ -310,7 +310,8 @@ def tried_of(crates, files, folders):
         with contextlib.suppress(BadEdit, OSError):
             edits.append((file, read_edit(file)))
     with tempfile.TemporaryDirectory(prefix="edits-kept-") as kept:
-        for has_copies in (True, False):
+        has_further = len({only for _, (only, _, _) in edits}) < len(edits)
+        for has_copies in (True, False) if has_further else (False,):
             todo = [(file, edit) for file, edit in edits if file not in found]
             while len(todo) > 1:
                 try:
