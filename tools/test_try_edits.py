@@ -297,6 +297,26 @@ def told_of_bad(folder):
             yield (status, said[-2:]) == (0, ALL_TRIED), f"wrong: a place that isn't the user's own: {said}"
 
 
+def told_of_copies(folder):
+    """Whether a copy's folder of proofs is found and renamed, and a copy that stayed as it was is known, where the edit
+    names its function by the end of its path."""
+    at = f"{folder}/copies/proofs/outer/inner"
+    os.makedirs(f"{at}/least")
+    with open(f"{at}/least/Answers.antt", "w", encoding="utf-8") as it:
+        it.write("use Rattle.small.proofs.outer.inner.least.Goals as goal\nuse Rattle.small.proofs.outer.inner.least_of.Met\n")
+    try_edits.copy_proofs(f"{folder}/copies", "inner::least", "least_edit2")
+    with open(f"{at}/least_edit2/Answers.antt", encoding="utf-8") as it:
+        text = it.read()
+    wanted = "use Rattle.small.proofs.outer.inner.least_edit2.Goals as goal\nuse Rattle.small.proofs.outer.inner.least_of.Met\n"
+    yield text == wanted, f"wrong: the proofs of a copy: {text}"
+    calls = "it calls `small::outer::inner::other`, which is not proved"
+    lines = {"proved": True, f"no proof: {calls}": True, f"not proved; {calls}": False, f"no proof: expected answers in ./proofs; {calls}": False}
+    for line, is_wanted in lines.items():
+        found = try_edits.is_faithful("small", "inner::least_edit1", [f"fn small::outer::inner::least_edit1: {line}"])
+        yield found == is_wanted, f"wrong: a copy of which a check says: {line}"
+    yield not try_edits.is_faithful("small", "inner::least_edit1", ["fn small::least_edit1: proved"]), "wrong: a copy elsewhere"
+
+
 def main():
     with tempfile.TemporaryDirectory(prefix="edits-tried-") as room:
         os.makedirs(f"{room}/crates/small/src")
@@ -312,7 +332,7 @@ def main():
         answers = [tried(room, row) for row in ROWS.items()] + [told_of_tables(room)]
         for rows in (TOGETHER, BESIDE):
             answers += tried_together(room, rows)
-        answers += [*told_of_kept(room), *told_of_bad(room)]
+        answers += [*told_of_kept(room), *told_of_bad(room), *told_of_copies(room)]
     for is_right, text in answers:
         if not is_right:
             print(text)

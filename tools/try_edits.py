@@ -144,7 +144,7 @@ def judged(only, clause, goals):
 def is_faithful(name, control, lines):
     """Whether a check of a crate says of a copy that stayed as it was that its own goals are met: it is proved, or it is
     not for the sole reason that it calls what another edit made wrong."""
-    said = next((it for it in lines if it.startswith(f"fn {name}::{control}: ")), "")
+    said = next((it for it in lines if re.match(rf"fn {name}::(\w+::)*{control}: ", it)), "")
     return re.fullmatch(r"fn \S+: (proved|no proof: it calls (`\S+`( and )?)+, which (is|are) not proved)", said) is not None
 
 
@@ -205,18 +205,25 @@ def body_of(room, only, changes):
     return body if body and all(text.count(old) == body.count(old) == 1 for _, old, _ in changes) else None
 
 
+def folder_of(room, only):
+    """The folder of a function's proofs, below that of all, or None: an edit may name the function by the end of its path."""
+    own = f"/{only.replace('::', '/')}"
+    found = [at for at, _, files in os.walk(f"{room}/proofs") if at.endswith(own) and any(it.endswith(".antt") for it in files)]
+    return os.path.relpath(found[0], f"{room}/proofs") if len(found) == 1 else None
+
+
 def copy_proofs(room, only, name):
     """Copies a function's folder of proofs for its copy of another name."""
-    *modules, own = only.split("::")
-    folder = f"{room}/proofs/{'/'.join(modules)}"
-    if not os.path.isdir(f"{folder}/{own}"):
+    folder = folder_of(room, only)
+    if folder is None:
         return
-    shutil.copytree(f"{folder}/{own}", f"{folder}/{name}")
-    path, copied = (r"\.".join([*modules, own]), ".".join([*modules, name]))
-    for file in os.listdir(f"{folder}/{name}"):
-        text = text_of(f"{folder}/{name}", file)
-        text = re.sub(rf"\b(proofs|contracts)\.{path}(?![\w-])", rf"\g<1>.{copied}", text)
-        with open(f"{folder}/{name}/{file}", "w", encoding="utf-8") as it:
+    copied = os.path.join(os.path.dirname(folder), name)
+    shutil.copytree(f"{room}/proofs/{folder}", f"{room}/proofs/{copied}")
+    path, other = re.escape(folder.replace("/", ".")), copied.replace("/", ".")
+    for file in os.listdir(f"{room}/proofs/{copied}"):
+        text = text_of(f"{room}/proofs/{copied}", file)
+        text = re.sub(rf"\b(proofs|contracts)\.{path}(?![\w-])", rf"\g<1>.{other}", text)
+        with open(f"{room}/proofs/{copied}/{file}", "w", encoding="utf-8") as it:
             it.write(text)
 
 
@@ -310,7 +317,8 @@ def tried_of(crates, files, folders):
         with contextlib.suppress(BadEdit, OSError):
             edits.append((file, read_edit(file)))
     with tempfile.TemporaryDirectory(prefix="edits-kept-") as kept:
-        for has_copies in (True, False):
+        has_further = len({only for _, (only, _, _) in edits}) < len(edits)
+        for has_copies in (True, False) if has_further else (False,):
             todo = [(file, edit) for file, edit in edits if file not in found]
             while len(todo) > 1:
                 try:
