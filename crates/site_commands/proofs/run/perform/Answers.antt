@@ -5,7 +5,7 @@ use Rattle.site_commands.specs.Inputs.{MayBeRead, MayBeUnread}
 use Rattle.site_commands.proofs.run.perform.Goals as goal
 
 pub perform_with-requires-clause-reader : goal.perform_with-requires-clause-reader
-perform_with-requires-clause-reader g c = c.type_bounds.sync-R
+perform_with-requires-clause-reader g c = record { shared = c.type_bounds.sync-R.shared }
 
 pub perform_with-requires-clause-allowed : goal.perform_with-requires-clause-allowed
 perform_with-requires-clause-allowed g c = alone_allowed c.args.words.now c.in-Ok-Alone.plan (subst (IsPlan c.args.words.now) c.in-Ok-Alone.field-0-is c.in-Ok-Alone.ensures.ok)
