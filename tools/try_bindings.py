@@ -30,6 +30,7 @@ QUESTIONS = ("cover", "shown", "conflicts", "latest", "kinds", "days", "gaps")
 STRICT = ["-std=c11", "-Wall", "-Wextra", "-Werror", "-pedantic", "-O1", "-g"]
 # The programs in C, and with what else each is linked.
 PROGRAMS = {
+    "bindings/c/test_files.c": [f"{TOP}/bindings/c/files.c", "-Wl,--wrap=fcntl,--wrap=fsync,--wrap=syncfs,--wrap=open"],
     "bindings/c/test_site.c": [],
     "bindings/c/test_file.c": [],
     "bindings/c/test_outbox.c": [],
@@ -88,7 +89,7 @@ def try_c(tries):
     """The programs in C, each linked as a user links it, and once more under valgrind."""
     for source, more in PROGRAMS.items():
         name = os.path.basename(source).removesuffix(".c")
-        words = [library.compiler(), *STRICT, "-Ilibrary", f"{TOP}/{source}", "-Llibrary", "-ljumbetai", *more, "-o", name]
+        words = [library.compiler(), *STRICT, "-Ilibrary", f"{TOP}/{source}", *more, "-Llibrary", "-ljumbetai", "-o", name]
         if tries.passes(f"{source} is compiled", words) and not source.startswith("examples/"):
             tries.passes(source, [f"./{name}"], DONE)
     if tries.has("c++", "the header in C++"):
