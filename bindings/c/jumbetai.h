@@ -16,6 +16,10 @@
 #ifdef __cplusplus
 extern "C" {
 #endif
+/* These functions, and no others, are exported by whatever the library is linked into. */
+#ifdef __GNUC__
+#pragma GCC visibility push(default)
+#endif
 
 #define JUMBETAI_VERSION "0.2.1"
 
@@ -205,6 +209,9 @@ const char *jumbetai_words(int status);
 /* The version of the library that is linked, as JUMBETAI_VERSION is that of this header. */
 const char *jumbetai_version(void);
 
+#ifdef __GNUC__
+#pragma GCC visibility pop
+#endif
 #ifdef __cplusplus
 }
 #endif
