@@ -403,11 +403,14 @@ static void try_folders(void) {
     IS(opened("a.db"), JUMBETAI_SYSTEM);
     error_of_all = 0;
     IS(opened("a.db"), JUMBETAI_DONE);
-    if (geteuid() == 0) {
-        IS(mkdir("deep", 0300) || chmod("deep", 0300) || chown("deep", 65534, 65534), 0);
-        IS(chmod(".", 0711), 0);
-        IS(elsewhere(opened_by_other, "deep/a.db"), JUMBETAI_DONE);
-    }
+    /* Where everybody may go. */
+    char folder[] = "/dev/shm/test-files-XXXXXX", file[80], log[90];
+    if (geteuid() || !mkdtemp(folder)) return;
+    snprintf(file, sizeof file, "%s/a.db", folder);
+    snprintf(log, sizeof log, "%s-wal", file);
+    IS(chmod(folder, 0300) || chown(folder, 65534, 65534), 0);
+    IS(elsewhere(opened_by_other, file), JUMBETAI_DONE);
+    unlink(file), unlink(log), rmdir(folder);
 }
 
 int main(void) {
