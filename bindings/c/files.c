@@ -37,40 +37,47 @@ static void release(int fd) {
     close(fd);
 }
 
+static int is_same(const struct stat *one, const struct stat *other) {
+    return one->st_dev == other->st_dev && one->st_ino == other->st_ino;
+}
+
 /* Descriptors that aren't locked and mustn't be closed: as a process closes any one of a file, the
  * system drops all locks that SQLite's own library has on that file in the process. They serve
- * the next opening of the file. Each is a process's, above, and a descriptor and 1 below, 0 for
- * none: a forked process has copies, by which it would have the same lock. */
-static _Atomic uint64_t kept[64];
+ * the next opening of the file. `owner` is the process, above, and the descriptor and 1 below, 0
+ * for none: a forked process has copies, by which it would have the same lock. `inode` says which
+ * is worth a look, since a descriptor is looked at by the one thread that took it alone. */
+static struct { _Atomic uint64_t owner, inode; } kept[64];
+
+enum { KEPT = sizeof kept / sizeof *kept };
 
 static uint64_t of_this_process(int fd) { return (uint64_t)getpid() << 32 | ((uint32_t)fd + 1); }
 
-static int is_of_this_process(uint64_t it) { return it >> 32 == (uint64_t)getpid(); }
+static int is_of_this_process(uint64_t owner) { return owner >> 32 == (uint64_t)getpid(); }
 
-/* Where all have their place it is open for as long as the process runs. */
+/* Where all places are taken it is open for as long as the process runs. */
 static void keep(int fd) {
-    for (size_t i = 0; i < sizeof kept / sizeof *kept; i++) {
-        uint64_t it = atomic_load(&kept[i]);
-        if (!is_of_this_process(it) &&
-            atomic_compare_exchange_strong(&kept[i], &it, of_this_process(fd)))
-            return;
+    struct stat found;
+    uint64_t inode = fstat(fd, &found) ? 0 : found.st_ino;
+    for (int i = 0; i < KEPT; i++) {
+        uint64_t owner = atomic_load(&kept[i].owner);
+        if (is_of_this_process(owner)) continue;
+        atomic_store(&kept[i].inode, inode);
+        if (atomic_compare_exchange_strong(&kept[i].owner, &owner, of_this_process(fd))) return;
     }
-}
-
-static int is_same(const struct stat *one, const struct stat *other) {
-    return one->st_dev == other->st_dev && one->st_ino == other->st_ino;
 }
 
 /* The descriptor that was kept of what stands there; -1 where there is none. */
 static int take_kept(const char *path) {
     struct stat named, found;
     if (lstat(path, &named)) return -1;
-    for (size_t i = 0; i < sizeof kept / sizeof *kept; i++) {
-        uint64_t it = atomic_load(&kept[i]);
-        int fd = (int)(uint32_t)it - 1;
-        if (is_of_this_process(it) && !fstat(fd, &found) && is_same(&found, &named) &&
-            atomic_compare_exchange_strong(&kept[i], &it, 0))
-            return fd;
+    for (int i = 0; i < KEPT; i++) {
+        uint64_t owner = atomic_load(&kept[i].owner);
+        int fd = (int)(uint32_t)owner - 1;
+        if (!is_of_this_process(owner) || atomic_load(&kept[i].inode) != named.st_ino ||
+            !atomic_compare_exchange_strong(&kept[i].owner, &owner, 0))
+            continue;
+        if (!fstat(fd, &found) && is_same(&found, &named)) return fd;
+        keep(fd);
     }
     return -1;
 }
@@ -155,6 +162,9 @@ static int open_locked(const char *path, mode_t mode, int *to, int *is_new) {
         release(fd);
         return JUMBETAI_NO_FILE;
     }
+    /* While it is locked nobody here has another lock on it, and the others can be closed. */
+    for (int other = take_kept(path); other >= 0; other = take_kept(path))
+        close(other);
     *to = fd;
     return JUMBETAI_DONE;
 }
