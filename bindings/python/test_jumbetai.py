@@ -312,12 +312,13 @@ class Interrupts(unittest.TestCase):
     """What an interrupt leaves, wherever it comes while something is opened."""
 
     def setUp(self):
-        folder = tempfile.TemporaryDirectory()
+        # In memory where that is had: what is synced says nothing here.
+        folder = tempfile.TemporaryDirectory(dir="/dev/shm" if os.path.isdir("/dev/shm") else None)
         self.addCleanup(folder.cleanup)
         self.file = os.path.join(folder.name, "site.db")
 
     def interrupted(self, work, at):
-        """Does some work with an interrupt before its instruction of this number; whether it was done before."""
+        """Does some work with an interrupt before its line or instruction of this number; whether it was done."""
         steps = 0
 
         def trace(frame, what, _):
@@ -325,7 +326,7 @@ class Interrupts(unittest.TestCase):
             if not frame.f_globals.get("__name__", "").startswith("jumbetai") or frame.f_code.co_name == "__del__":
                 return None
             frame.f_trace_opcodes = True
-            if what == "opcode":
+            if what in ("line", "opcode"):
                 steps += 1
                 if steps == at:
                     raise KeyboardInterrupt
@@ -335,7 +336,8 @@ class Interrupts(unittest.TestCase):
         sys.settrace(trace)
         try:
             work()
-        except KeyboardInterrupt:
+        except (KeyboardInterrupt, SystemError):
+            # The latter is how Python 3.8 tells of an interrupt between two instructions of its own.
             return False
         finally:
             sys.settrace(before)
@@ -352,7 +354,7 @@ class Interrupts(unittest.TestCase):
                 it.close()
             gc.collect()
             opens().close()
-        self.assertGreater(at, 50)
+        self.assertGreater(at, 25)
 
     def test_a_site(self):
         self.is_free_after_each(lambda: Site(self.file))
