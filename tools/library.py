@@ -1,16 +1,21 @@
 #!/usr/bin/env python3
 """Makes libjumbetai.a, the library for programs in C and what calls C, with its header, in a folder.
 
-    tools/library.py [--shared] [FOLDER]       by default out/library
+    tools/library.py [--shared] [FOLDER]       by default out/library; with --shared libjumbetai.so beside it
+    tools/library.py --install PREFIX          both, the header and jumbetai.pc below PREFIX, as $DESTDIR has it
+    tools/library.py --wheel FOLDER            the wheel for Python, which brings the library
+    tools/library.py --object FILE             the shared object alone
+    tools/library.py --from FOLDER ..          any of these of the libjumbetai.a that lies in that folder
 
 The proved part is crates/site_c, which is proved and built where it isn't as its sources are (tools/build.py). What was
 built is kept on this machine (tools/kept.py) by the checksums of all that it rests on, and taken where nothing changed:
 `rt ci` proves a static library and builds none. The C of bindings/c is compiled by $CC, `cc`, `gcc` or `clang`, and all
-of it goes into one archive, with nothing of the machine or the hour in it. With --shared libjumbetai.so is made of that
-archive, as for Python.
+of it goes into one archive, with nothing of the machine or the hour in it. The shared object is made of that archive;
+it exports the functions of jumbetai.h and no others, and its soname has the first number of the version.
 """
 import argparse
 import os
+import re
 import shutil
 import subprocess
 import sys
@@ -26,8 +31,18 @@ CRATE = "site_c"
 # How many archives are kept.
 MOST = 4
 PARTS = ("site.c", "outbox.c", "files.c", "heap.c", "errno.c")
-COMPILE = ["-std=c11", "-Wall", "-Wextra", "-O2", "-fPIC", "-ffunction-sections", "-c"]
-SHARED = ["-shared", "-Wl,--whole-archive", "libjumbetai.a", "-Wl,--no-whole-archive"]
+COMPILE = ["-std=c11", "-Wall", "-Wextra", "-Wconversion", "-O2", "-fPIC", "-fvisibility=hidden", "-ffunction-sections", "-c"]
+HEADER = f"{TOP}/bindings/c/jumbetai.h"
+PC = """prefix={prefix}
+includedir=${{prefix}}/include
+libdir=${{prefix}}/lib
+
+Name: Jumbetai
+Description: Sites of CloudEvents that end with one view, and outboxes of orders
+Version: {version}
+Cflags: -I${{includedir}}
+Libs: -L${{libdir}} -ljumbetai
+"""
 
 
 def compiler():
@@ -67,7 +82,7 @@ def proved_part(is_anew=False):
     return archive
 
 
-def make(folder, proved, shared=False):
+def make(folder, proved):
     """Makes the library in a folder, of the archive of the proved part."""
     os.makedirs(folder, exist_ok=True)
     archive = os.path.abspath(f"{folder}/libjumbetai.a")
@@ -77,21 +92,99 @@ def make(folder, proved, shared=False):
             compiled(f"{TOP}/bindings/c/{part}", f"{room}/jumbetai_{part.removesuffix('.c')}.o")
         subprocess.run(["ar", "rcsD", "new.a", *sorted(os.listdir(room))], cwd=room, check=True)
         shutil.move(f"{room}/new.a", archive)
-    shutil.copyfile(f"{TOP}/bindings/c/jumbetai.h", f"{folder}/jumbetai.h")
-    if shared:
-        subprocess.run([compiler(), "-o", "libjumbetai.so", *SHARED], cwd=folder, check=True)
+    shutil.copyfile(HEADER, f"{folder}/jumbetai.h")
     return archive
+
+
+def header():
+    with open(HEADER, encoding="utf-8") as file:
+        return file.read()
+
+
+def version():
+    return re.search(r'^#define JUMBETAI_VERSION "(.+)"$', header(), re.M)[1]
+
+
+def functions():
+    """The functions of the header, in its order."""
+    return re.findall(r"^[a-z].*?\b(jumbetai_\w+)\(", header(), re.M)
+
+
+def soname():
+    return f"libjumbetai.so.{version().partition('.')[0]}"
+
+
+def link(archive, to):
+    """Makes the shared object of the archive."""
+    archive, to = os.path.abspath(archive), os.path.abspath(to)
+    with tempfile.TemporaryDirectory() as room:
+        with open(f"{room}/map", "w", encoding="ascii") as out:
+            out.write(f"JUMBETAI_0 {{\n    global: {'; '.join(functions())};\n    local: *;\n}};\n")
+        flags = [f"-Wl,-soname,{soname()}", "-Wl,--version-script=map", "-Wl,-z,defs,-z,relro,-z,now"]
+        whole = ["-Wl,--whole-archive", archive, "-Wl,--no-whole-archive"]
+        subprocess.run([compiler(), "-shared", "-o", to, *flags, *whole], cwd=room, check=True)
+    return to
+
+
+def link_beside(archive, folder):
+    """Makes the shared object in a folder under the name of its whole version, with the two links that lead to it."""
+    name = f"libjumbetai.so.{version()}"
+    link(archive, f"{folder}/{name}")
+    for it in (soname(), "libjumbetai.so"):
+        if os.path.lexists(f"{folder}/{it}"):
+            os.remove(f"{folder}/{it}")
+        os.symlink(name, f"{folder}/{it}")
+    return f"{folder}/{name}"
+
+
+def install(archive, prefix, root=""):
+    """Puts the library, its header and jumbetai.pc below a prefix, which lies below a root while it is packed."""
+    prefix = os.path.abspath(prefix)
+    for it in ("include", "lib/pkgconfig"):
+        os.makedirs(f"{root}{prefix}/{it}", exist_ok=True)
+    for file, to in ((HEADER, "include/jumbetai.h"), (archive, "lib/libjumbetai.a")):
+        shutil.copyfile(file, f"{root}{prefix}/{to}")
+        os.chmod(f"{root}{prefix}/{to}", 0o644)
+    link_beside(archive, f"{root}{prefix}/lib")
+    with open(f"{root}{prefix}/lib/pkgconfig/jumbetai.pc", "w", encoding="utf-8") as out:
+        out.write(PC.format(prefix=prefix, version=version()))
+    return f"{root}{prefix}"
+
+
+def wheel(archive, folder):
+    """Makes the wheel for Python, which has the shared object, in a folder."""
+    sys.path.insert(0, f"{TOP}/bindings/python")
+    import build_wheel
+
+    os.makedirs(folder, exist_ok=True)
+    with tempfile.TemporaryDirectory() as room:
+        return f"{folder}/{build_wheel.made(folder, link(archive, f'{room}/libjumbetai.so'))}"
 
 
 def main():
     words = argparse.ArgumentParser(description=__doc__, formatter_class=argparse.RawDescriptionHelpFormatter)
-    words.add_argument("--shared", action="store_true")
+    words.add_argument("--from", dest="source", metavar="FOLDER")
+    other = words.add_mutually_exclusive_group()
+    other.add_argument("--shared", action="store_true")
+    other.add_argument("--install", metavar="PREFIX")
+    other.add_argument("--wheel", metavar="FOLDER")
+    other.add_argument("--object", metavar="FILE")
     words.add_argument("folder", nargs="?", default=f"{TOP}/out/library")
     given = words.parse_args()
     if not compiler():
         print("library: no C compiler is here", file=sys.stderr)
         return 1
-    print(make(given.folder, proved_part(), given.shared))
+    archive = f"{given.source}/libjumbetai.a" if given.source else make(given.folder, proved_part())
+    if given.install:
+        print(install(archive, given.install, os.environ.get("DESTDIR", "")))
+    elif given.wheel:
+        print(wheel(archive, given.wheel))
+    elif given.object:
+        print(link(archive, given.object))
+    else:
+        print(archive)
+        if given.shared:
+            print(link_beside(archive, os.path.dirname(archive)))
     return 0
 
 

@@ -4,8 +4,8 @@
 #   tools/release.sh [FOLDER]                           by default out/release
 #   tools/release.sh --any PROGRAM LIBRARY [FOLDER]     of any built program and library (a folder of tools/library.py)
 #
-# The archive is jumbetai-VERSION-x86_64-linux.tar.xz. It has the program in bin, libjumbetai.a and jumbetai.h in
-# library, the bindings, that for Python with libjumbetai.so beside it, a man page and completions for bash, zsh and
+# The archive is jumbetai-VERSION-x86_64-linux.tar.xz. It has the program in bin, libjumbetai.a, jumbetai.h and
+# the wheel for Python in library, the bindings, that for Python with libjumbetai.so in it, a man page and completions for bash, zsh and
 # fish, README and the pages of docs that are for users (tools/archive_pages.py), LICENSE where there is one, the
 # examples, SHA256SUMS of all files, and ABOUT, which says the version, the commit, the kit, and what the gate said last.
 # Made twice of one commit, program and library it has the same bytes. The program wants Linux on x86-64 with the C library
@@ -49,8 +49,8 @@ git archive -o "$room/pages.tar" "$commit" README.md CHANGELOG.md SECURITY.md do
     docs/PRODUCERS.md docs/FORMATS.md docs/GUARANTEES.md docs/PERFORMANCE.md docs/GLOSSARY.md examples bindings \
     tools/make_batch.py ${licence:+"$licence"} && tar -xf "$room/pages.tar" -C "$here" || exit 1
 tools/archive_pages.py "$here" || fail 'a page speaks of what the archive has not'
-(cd "$library" && "${CC:-cc}" -shared -o "$here/bindings/python/libjumbetai.so" -Wl,--whole-archive libjumbetai.a \
-    -Wl,--no-whole-archive) || fail 'the shared library is not made'
+tools/library.py --from "$library" --object "$here/bindings/python/jumbetai/libjumbetai.so" >/dev/null &&
+    tools/library.py --from "$library" --wheel "$here/library" >/dev/null || fail 'the wheel is not made'
 tools/completions.py --program "$here/bin/site" --all "$here/complete" || exit 1
 chmod 755 "$here/bin/site" || exit 1
 {

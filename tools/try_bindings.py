@@ -1,5 +1,6 @@
 #!/usr/bin/env python3
-"""Makes libjumbetai.a and tries it as its users do: from C, under valgrind too, from Rust and from Python.
+"""Makes libjumbetai.a and tries it as its users do: from C, under valgrind and sanitizers too, from Rust and from Python,
+installed below a prefix and as a wheel.
 
     tools/try_bindings.py [--anew] [--program FILE] [--library FOLDER] [--events N] [--orders N]
 
@@ -27,7 +28,12 @@ import library  # noqa: E402
 import version  # noqa: E402
 
 QUESTIONS = ("cover", "shown", "conflicts", "latest", "kinds", "days", "gaps")
-STRICT = ["-std=c11", "-Wall", "-Wextra", "-Werror", "-pedantic", "-O1", "-g"]
+STRICT = ["-std=c11", "-Wall", "-Wextra", "-Wconversion", "-Werror", "-pedantic", "-O1", "-g"]
+# The tests of some of the C alone, without the proved part, and with what each is linked.
+ALONE = {
+    "bindings/c/test_files.c": ["files.c", "-Wl,--wrap=fcntl,--wrap=fsync,--wrap=syncfs,--wrap=open"],
+    "bindings/c/test_parts.c": ["heap.c", "outbox.c", "site.c", "-ffunction-sections", "-Wl,--gc-sections"],
+}
 # The programs in C, and with what else each is linked.
 PROGRAMS = {
     "bindings/c/test_site.c": [],
@@ -39,6 +45,9 @@ PROGRAMS = {
     "examples/c/orders.c": [],
 }
 VALGRIND = ["valgrind", "-q", "--error-exitcode=9", "--leak-check=full"]
+SANITIZE = ["-fsanitize=address,undefined", "-fno-sanitize-recover=all", "-fno-omit-frame-pointer"]
+# Where else the version stands.
+MANIFESTS = ("bindings/rust/jumbetai-sys/Cargo.toml", "bindings/python/pyproject.toml")
 DONE = re.compile(rb"(\d+) passed, 0 failed|([1-9]\d*) requests refused")
 
 
@@ -84,6 +93,45 @@ def made_batch(tries, name, events):
     return f"{tries.folder}/{name}"
 
 
+def sources(names):
+    """The files of bindings/c among the words of a command, where they lie."""
+    return [f"{TOP}/bindings/c/{it}" if it.endswith(".c") else it for it in names]
+
+
+def try_sources(tries):
+    """Each file in C by the compiler's own analysis, where it has one, and the tests of some of them alone."""
+    if tries.has("gcc", "the analysis of gcc"):
+        for source in (*(f"bindings/c/{it}" for it in library.PARTS), *ALONE, *PROGRAMS):
+            tries.passes(f"{source} by gcc's analysis", ["gcc", *STRICT, "-fanalyzer", "-c", "-Ilibrary", f"{TOP}/{source}", "-o", "analyzed.o"])
+    for source, more in ALONE.items():
+        name = os.path.basename(source).removesuffix(".c")
+        if tries.passes(f"{source} is compiled", [library.compiler(), *STRICT, f"{TOP}/{source}", *sources(more), "-o", name]):
+            tries.passes(source, [f"./{name}"], DONE)
+            if tries.has("valgrind", f"{source} under valgrind"):
+                tries.passes(f"{source} under valgrind", [*VALGRIND, f"./{name}"], DONE)
+
+
+def try_sanitizers(tries):
+    """The tests in C once more, with the C of the library compiled by clang to look at each step."""
+    with open(f"{tries.folder}/nothing.c", "w", encoding="ascii") as out:
+        out.write("int main(void) { return 0; }\n")
+    if not tries.has("clang", "C with sanitizers"):
+        return
+    if tries.run(["clang", *SANITIZE, "nothing.c", "-o", "nothing-sanitized"])[0] or tries.run(["./nothing-sanitized"])[0]:
+        print("skipped: C with sanitizers, since clang has no runtime for them here", flush=True)
+        return
+    whole = ["-Llibrary", "-ljumbetai"]
+    rows = {it: (sources(more), []) for it, more in ALONE.items()}
+    rows.update({it: (sources(library.PARTS), whole) for it in PROGRAMS if it.startswith("bindings/c/test_")})
+    # It gives the library its memory itself.
+    rows["bindings/c/try_want.c"] = (sources(it for it in library.PARTS if it != "heap.c"), whole)
+    for source, (more, last) in rows.items():
+        name = f"{os.path.basename(source).removesuffix('.c')}-sanitized"
+        words = ["clang", *STRICT, *SANITIZE, "-Ilibrary", f"{TOP}/{source}", *more, *last, "-o", name]
+        if tries.passes(f"{source} is compiled with sanitizers", words):
+            tries.passes(f"{source} with sanitizers", [f"./{name}"], DONE)
+
+
 def try_c(tries):
     """The programs in C, each linked as a user links it, and once more under valgrind."""
     for source, more in PROGRAMS.items():
@@ -118,6 +166,63 @@ def try_c(tries):
         want = tries.run([tries.program, *words, "--db", "small.db", *["nothing"] * (word == "delta")])
         got = tries.run(["./ask", word, batch])
         tries.judge(f"C: {word}", got == want and got[0] == 0, f"{got[1][:200]!r}, not {want[1][:200]!r}")
+
+
+def try_installed(tries):
+    """The library below a prefix, as a package has it: found by pkg-config, linked both ways, of the header's functions."""
+    tool, folder = f"{TOP}/tools/library.py", tries.folder
+    words = [tool, "--from", "library", "--install", "/opt/jumbetai"]
+    status, out = tries.run(words, DESTDIR=f"{folder}/packed")
+    pc = f"{folder}/packed/opt/jumbetai/lib/pkgconfig/jumbetai.pc"
+    with contextlib.suppress(FileNotFoundError), open(pc, encoding="utf-8") as file:
+        out += file.read().encode()
+    tries.judge("it is packed", status == 0 and b"prefix=/opt/jumbetai\n" in out, out)
+    if not tries.passes("it is installed", [tool, "--from", "library", "--install", f"{folder}/prefix"]):
+        return
+    files = sorted(os.path.relpath(f"{at}/{it}", f"{folder}/prefix") for at, _, those in os.walk(f"{folder}/prefix") for it in those)
+    names = ("libjumbetai.a", "libjumbetai.so", library.soname(), f"libjumbetai.so.{version.version()}", "pkgconfig/jumbetai.pc")
+    tries.judge("what is installed", files == sorted(["include/jumbetai.h", *(f"lib/{it}" for it in names)]), files)
+    shared, want = f"{folder}/prefix/lib/libjumbetai.so", sorted(library.functions())
+    status, out = tries.run(["nm", "-D", "--defined-only", shared])
+    told = sorted(it.split()[2].partition("@")[0] for it in out.decode().splitlines() if " T " in it)
+    tries.judge("the shared object exports the functions of the header", (status, told) == (0, want), told)
+    status, out = tries.run(["readelf", "-d", shared])
+    tries.judge("its soname", f"soname: [{library.soname()}]" in out.decode(), out)
+    flags = [f"-I{folder}/prefix/include", f"-L{folder}/prefix/lib", "-ljumbetai"]
+    if tries.has("pkg-config", "flags of pkg-config"):
+        status, out = tries.run(["pkg-config", "--cflags", "--libs", "jumbetai"], PKG_CONFIG_PATH=f"{folder}/prefix/lib/pkgconfig")
+        if tries.judge("flags of pkg-config", (status, out.decode().split()) == (0, flags), out):
+            flags = out.decode().split()
+    worked = worked_answers()["kinds"]
+    for how, last in (("shared", []), ("static", ["-Wl,-Bdynamic"])):
+        given = ["-Wl,-Bstatic", *flags] if last else flags
+        words = [library.compiler(), f"{TOP}/examples/c/ask.c", *given, *last, "-o", f"ask-{how}"]
+        if tries.passes(f"the example in C is linked, {how}", words):
+            status, out = tries.run([f"./ask-{how}", "kinds", f"{TOP}/examples/orders.json"], LD_LIBRARY_PATH=f"{folder}/prefix/lib" if how == "shared" else "")
+            tries.judge(f"the example in C, {how}", (status, out.decode()) == (0, worked), out)
+
+
+def try_statuses(tries):
+    """The statuses of the header are those of the crate and of the package, and each has words."""
+    block = re.search(r"enum jumbetai_status \{(.*?)\n\};", library.header(), re.S)[1]
+    statuses = {name: int(number) for name, number in re.findall(r"JUMBETAI_(\w+)\s*=\s*(\d+)", block)}
+    # By these no call of a binding can be answered.
+    apart = ("DONE", "NO_SUCH_QUESTION", "BAD_ARGUMENT", "NOT_OPEN", "NO_SUCH_ACTION")
+    known = {(name, number) for name, number in statuses.items() if name not in apart}
+
+    def judge(what, file, row, want):
+        with open(f"{TOP}/bindings/{file}", encoding="utf-8") as text:
+            found = re.findall(row, text.read(), re.M)
+        found = {tuple(sorted(it, key=str.isdigit)) for it in found}
+        tries.judge(f"the statuses of {what}", found == {(name, str(number)) for name, number in want}, found)
+
+    camel = {("".join(part.capitalize() for part in name.split("_")), number) for name, number in known}
+    judge("the crate, by number", "rust/src/lib.rs", r"^ +(\d+) => Error::(\w+),$", camel)
+    judge("the crate, by name", "rust/src/lib.rs", r"^ +Error::(\w+) => (\d+),$", camel)
+    judge("the package", "python/jumbetai/__init__.py", r"^    ([A-Z_]+) = (\d+)\b", known)
+    with open(f"{TOP}/bindings/c/site.c", encoding="utf-8") as text:
+        told = re.findall(r"\[JUMBETAI_(\w+)\] = ", text.read())
+    tries.judge("each status has words", told == list(statuses), told)
 
 
 def try_orders(tries):
@@ -186,15 +291,51 @@ def try_hold(tries):
 def try_rust(tries, batch, orders):
     if not tries.has("cargo", "Rust"):
         return
-    words = ["cargo", "test", "--offline", "--quiet", "--manifest-path", f"{TOP}/bindings/rust/Cargo.toml"]
+    manifest = ["--offline", "--quiet", "--manifest-path", f"{TOP}/bindings/rust/Cargo.toml", "--workspace"]
     more = {"JUMBETAI_BATCH": batch, "JUMBETAI_ORDERS": str(orders), "CARGO_TARGET_DIR": f"{tries.folder}/cargo"}
-    status, out = tries.run(words, f"{TOP}/bindings/rust", **more)
+    status, out = tries.run(["cargo", "test", *manifest], f"{TOP}/bindings/rust", **more)
     passed = [int(it) for it in re.findall(rb"test result: ok\. (\d+) passed; 0 failed", out)]
-    tries.judge("Rust: tests and the examples of its page", status == 0 and sum(passed) >= 31, out.decode(errors="replace"))
+    is_right = status == 0 and sum(passed) >= 36 and b"warning:" not in out
+    tries.judge("Rust: tests and the examples of its page", is_right, out.decode(errors="replace"))
+    linters = {
+        "cargo-clippy": ["clippy", *manifest, "--all-targets", "--", "-D", "warnings"],
+        "rustdoc": ["doc", *manifest, "--no-deps"],
+        "rustfmt": ["fmt", "--all", "--check", *manifest[2:4]],
+    }
+    for tool, words in linters.items():
+        if tries.has(tool, f"Rust by {tool}"):
+            status, out = tries.run(["cargo", *words], f"{TOP}/bindings/rust", **more, RUSTDOCFLAGS="-D warnings")
+            tries.judge(f"Rust by {tool}", status == 0, out.decode(errors="replace"))
     try_hold(tries)
     try_placing(tries, orders)
     with contextlib.suppress(FileNotFoundError):
         os.remove(f"{TOP}/bindings/rust/Cargo.lock")
+
+
+def try_wheel(tries):
+    """The wheel in a fresh environment of Python that has nothing else, and no network."""
+    folder, alone = tries.folder, {"PATH": "/usr/bin:/bin", "PIP_NO_INDEX": "1", "PYTHONPATH": "", "JUMBETAI_LIB": ""}
+    made = []
+    for it in ("wheel", "wheel-again"):
+        status, out = tries.run([f"{TOP}/tools/library.py", "--from", "library", "--wheel", it])
+        if not tries.judge(f"the {it} is made", status == 0, out.decode(errors="replace")):
+            return
+        made.append(out.decode().strip())
+    with contextlib.ExitStack() as files:
+        both = [files.enter_context(open(f"{folder}/{it}", "rb")).read() for it in made]
+    tries.judge("both wheels are the same bytes", both[0] == both[1])
+    status, out = tries.run([sys.executable, "-m", "venv", "fresh"])
+    if status:
+        print(f"skipped: the wheel in a fresh environment, since none can be made: {out.decode(errors='replace')[-200:]}", flush=True)
+        return
+    code = "import jumbetai; assert jumbetai.Site().take('[]') == (0, 0); print(jumbetai.__file__, jumbetai.version())"
+    source = {**alone, "JUMBETAI_LIB": f"{folder}/shared/libjumbetai.so"}
+    for what, given, more in (("the wheel", made[0], alone), ("the package's folder", "package", source)):
+        # A copy, in which pip may write.
+        shutil.copytree(f"{TOP}/bindings/python", f"{folder}/package", ignore=shutil.ignore_patterns("__pycache__"), dirs_exist_ok=True)
+        tries.passes(f"pip installs {what}", ["env", *(f"{name}={it}" for name, it in more.items()), "fresh/bin/pip", "install", "-q", "--force-reinstall", f"./{given}"])
+        status, out = tries.run(["fresh/bin/python", "-I", "-c", code], **alone)
+        tries.judge(f"{what} brings the library", status == 0 and out.startswith(f"{folder}/fresh/".encode()) and out.endswith(f" {version.version()}\n".encode()), out)
 
 
 def try_python(tries, batch):
@@ -202,7 +343,12 @@ def try_python(tries, batch):
     words = [sys.executable, "-m", "unittest", "-v", "test_jumbetai"]
     status, out = tries.run(words, f"{TOP}/bindings/python", JUMBETAI_LIB=where, JUMBETAI_BATCH=batch)
     passed = len(re.findall(rb"\.\.\. ok$", out, re.M))
-    tries.judge("Python: tests and the example of its page", status == 0 and passed >= 28, out.decode(errors="replace"))
+    tries.judge("Python: tests and the example of its page", status == 0 and passed >= 38, out.decode(errors="replace"))
+    files, example = ["jumbetai", "build_wheel.py", "test_jumbetai.py"], f"{TOP}/examples/python/service.py"
+    for words in (["flake8", *files, example], ["black", "--check", "-q", "-l", "120", *files, example], ["mypy", "--strict", "--cache-dir", f"{tries.folder}/mypy", *files[:2]]):
+        if tries.has(words[0], f"Python by {words[0]}"):
+            tries.passes(f"Python by {words[0]}", words, folder=f"{TOP}/bindings/python")
+    try_wheel(tries)
 
 
 def main():
@@ -223,7 +369,8 @@ def main():
             tries.environment["JUMBETAI_SITE"] = program
         else:
             print(f"skipped: what is compared with the program, since {given.program} isn't there", flush=True)
-        for where, told in version.told().items():
+        others = {file: version.told_in(file, rf'^version = "{version.NUMBER}"$') for file in MANIFESTS}
+        for where, told in {**version.told(), **others}.items():
             tries.judge(f"the version in {where}", told == version.version(), told)
         if given.library:
             os.makedirs(f"{folder}/library")
@@ -233,9 +380,12 @@ def main():
             library.make(f"{folder}/library", library.proved_part(given.anew))
         # Apart from the archive, or the programs in C would be linked with it.
         os.makedirs(f"{folder}/shared")
-        words = [library.compiler(), "-o", "../shared/libjumbetai.so", *library.SHARED]
-        tries.passes("the shared object", words, folder=f"{folder}/library")
+        tries.passes("the shared object", [f"{TOP}/tools/library.py", "--from", "library", "--object", "shared/libjumbetai.so"])
+        try_sources(tries)
         try_c(tries)
+        try_sanitizers(tries)
+        try_installed(tries)
+        try_statuses(tries)
         try_orders(tries)
         batch = made_batch(tries, "batch.json", given.events)
         try_rust(tries, batch, given.orders)

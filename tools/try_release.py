@@ -6,7 +6,7 @@
 The program is by default crates/site_cli/out/site_cli, the library is made (tools/library.py). Both archives have to be
 the same bytes; each file in them has the sum that SHA256SUMS tells; the program runs through the guide's first part in
 a root folder where nothing but the C library is, where the machine lets one be made, and without an environment; the
-example in C is linked with what was unpacked. The last line is 'N of M tries of the archive were right'.
+example in C is linked with what was unpacked, and the wheel installed. The last line is 'N of M tries of the archive were right'.
 """
 import argparse
 import glob
@@ -28,8 +28,9 @@ from version import version  # noqa: E402
 
 PART = "Orders, and the events that tell of them"
 FILES = (
-    "bin/site", "library/libjumbetai.a", "library/jumbetai.h", "bindings/rust/Cargo.toml", "bindings/python/jumbetai.py",
-    "bindings/python/libjumbetai.so", "complete/site.1", "complete/site.bash", "README.md", "SECURITY.md", "CHANGELOG.md",
+    "bin/site", "library/libjumbetai.a", "library/jumbetai.h", "bindings/rust/Cargo.toml", "bindings/rust/jumbetai-sys/Cargo.toml",
+    "bindings/python/jumbetai/__init__.py", "bindings/python/jumbetai/libjumbetai.so", "examples/python/service.py",
+    "examples/rust/hold.rs", "complete/site.1", "complete/site.bash", "README.md", "SECURITY.md", "CHANGELOG.md",
     "docs/GUIDE.md", "docs/OPERATIONS.md", "docs/PRODUCERS.md", "docs/FORMATS.md", "docs/GUARANTEES.md", "ABOUT",
 )
 
@@ -92,6 +93,20 @@ def try_pages(tries, unpacked):
             tries.judge(f"words of {it}", not STRAY.search(text), STRAY.findall(text))
 
 
+def try_python(tries, unpacked, folder):
+    """The wheel of the archive, in a fresh environment and without a network."""
+    wheels = glob.glob(f"{unpacked}/library/jumbetai-{version()}-py3-none-*.whl")
+    if not tries.judge("one wheel", len(wheels) == 1, wheels):
+        return
+    made = subprocess.run([sys.executable, "-m", "venv", f"{folder}/fresh"], capture_output=True, text=True)
+    if made.returncode:
+        print(f"skipped: the wheel in a fresh environment, since none can be made: {made.stdout[-200:]}", flush=True)
+        return
+    alone = {"PATH": "/usr/bin:/bin", "PIP_NO_INDEX": "1"}
+    if tries.passes("pip installs the wheel", [f"{folder}/fresh/bin/pip", "install", "-q", *wheels], env=alone):
+        tries.passes("the wheel", [f"{folder}/fresh/bin/python", "-I", "-c", "import jumbetai; jumbetai.Site()"], cwd=folder, env=alone)
+
+
 def main():
     words = argparse.ArgumentParser(description=__doc__, formatter_class=argparse.RawDescriptionHelpFormatter)
     words.add_argument("--program", default=f"{TOP}/crates/site_cli/out/site_cli")
@@ -117,7 +132,8 @@ def main():
         for file in FILES:
             tries.judge(file, os.path.isfile(f"{unpacked}/{file}"))
         try_pages(tries, unpacked)
-        tries.passes("the module for Python beside its library", [sys.executable, "-c", "import jumbetai; jumbetai.Site()"], cwd=f"{unpacked}/bindings/python", env={"PATH": "/usr/bin:/bin"})
+        try_python(tries, unpacked, folder)
+        tries.passes("the package for Python beside its library", [sys.executable, "-c", "import jumbetai; jumbetai.Site()"], cwd=f"{unpacked}/bindings/python", env={"PATH": "/usr/bin:/bin"})
         try_guide(tries, f"{unpacked}/bin/site", folder)
         words = [library.compiler(), "examples/c/ask.c", "-Ilibrary", "-Llibrary", "-ljumbetai", "-o", "ask"]
         if tries.passes("the example in C", words, cwd=unpacked):

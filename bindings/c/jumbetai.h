@@ -16,6 +16,10 @@
 #ifdef __cplusplus
 extern "C" {
 #endif
+/* These functions, and no others, are exported by whatever the library is linked into. */
+#ifdef __GNUC__
+#pragma GCC visibility push(default)
+#endif
 
 #define JUMBETAI_VERSION "0.2.1"
 
@@ -110,7 +114,12 @@ jumbetai_site *jumbetai_open(void);
  * until then they find it busy, and so does who opens it twice. `path` ends with a zero byte.
  * `cache_mib` is how many MiB of the file are kept in memory, 0 for as many as it has and 16 more,
  * at most 256. Time and memory in proportion to the events. A process that was forked while the
- * site is open neither uses nor closes it. `*site` is null where it isn't done. */
+ * site is open neither uses nor closes it. `*site` is null where it isn't done.
+ *
+ * SQLite's own library may have the file open in the same process. Each then finds it busy while
+ * the other uses it, and JUMBETAI_BUSY takes none of SQLite's locks away: where they may be this
+ * process's own, a descriptor of the file stays open for the next call. In the moment in which a
+ * site is closed no other thread is to open or lock its file by SQLite. */
 int jumbetai_open_file(const char *path, uint32_t cache_mib, jumbetai_site **site);
 
 /* Gives a site and its memory back. A null pointer is let through. */
@@ -159,8 +168,8 @@ int jumbetai_page(jumbetai_site *site, uint64_t from, jumbetai_text *text);
  * one that is there has to have it; null takes any, and "/orders" for a new one. The rows of a new
  * one are numbered from `base` + 1 on, with a base of 0 to 2^63-1; one that is there keeps its own.
  *
- * The file is made, opened and kept busy as by jumbetai_open_file, with a cache of the same kind; a
- * process that was forked leaves it alone. It may have the events of a site too; one of the two is
+ * The file is made, opened and kept busy as by jumbetai_open_file, beside SQLite too, with a cache
+ * of the same kind; a process that was forked leaves it alone. It may have the events of a site too; one of the two is
  * open at a time. Time and memory in proportion to the rows, which are all tested; the memory is
  * given back. `*outbox` is null where it isn't done; a file that was made then stays. */
 int jumbetai_open_outbox(const char *path, const char *source, uint64_t base, uint32_t cache_mib,
@@ -200,6 +209,9 @@ const char *jumbetai_words(int status);
 /* The version of the library that is linked, as JUMBETAI_VERSION is that of this header. */
 const char *jumbetai_version(void);
 
+#ifdef __GNUC__
+#pragma GCC visibility pop
+#endif
 #ifdef __cplusplus
 }
 #endif

@@ -55,13 +55,14 @@ void jumbetai_outbox_counts(const jumbetai_outbox *outbox, jumbetai_order_counts
 
 int jumbetai_order(jumbetai_outbox *outbox, int action, uint64_t order, const char *time,
                    jumbetai_text *event) {
+    /* A line has at most some 2,300 bytes, twice those of a source being most of it. */
+    enum { ROOM = 4096 };
     struct jumbetai_outbox_reply reply;
-    struct jumbetai_piece piece;
     char *bytes = NULL;
     if (event) *event = (jumbetai_text){0};
     if (!outbox || !time) return JUMBETAI_BAD_ARGUMENT;
     /* The room comes before the order is written, so that want of memory means that it isn't. */
-    if (event && !(bytes = malloc(sizeof piece.bytes + 1))) return JUMBETAI_OUT_OF_MEMORY;
+    if (event && !(bytes = malloc(ROOM + 1))) return JUMBETAI_OUT_OF_MEMORY;
     jumbetai_outbox_order(outbox->room, (uint32_t)action, order, (const unsigned char *)time,
                           strlen(time), &reply);
     int status = note(outbox, &reply);
@@ -69,12 +70,13 @@ int jumbetai_order(jumbetai_outbox *outbox, int action, uint64_t order, const ch
         free(bytes);
         return status;
     }
-    /* A line has at most some 2,300 bytes, twice those of a source being most of it: one piece. */
-    jumbetai_outbox_read(outbox->room, 0, &piece);
-    memcpy(bytes, piece.bytes, piece.length);
-    bytes[piece.length] = 0;
-    char *fit = realloc(bytes, piece.length + 1);
-    *event = (jumbetai_text){fit ? fit : bytes, piece.length, 0};
+    char *fit = reply.length < PTRDIFF_MAX ? realloc(bytes, (size_t)reply.length + 1) : NULL;
+    if (!fit && reply.length > ROOM) {
+        free(bytes);
+        return JUMBETAI_OUT_OF_MEMORY;
+    }
+    *event = (jumbetai_text){fit ? fit : bytes, (size_t)reply.length, 0};
+    jumbetai_write(outbox->room, jumbetai_outbox_read, event->length, event->bytes);
     return JUMBETAI_DONE;
 }
 

@@ -33,18 +33,23 @@ static void ask_page(jumbetai_site *site, uint64_t from, struct jumbetai_reply *
         jumbetai_site_page(site->room, from, reply);
 }
 
-int jumbetai_copy(void *room, void (*read)(void *, uint32_t, struct jumbetai_piece *),
-                  uint64_t length, uint64_t listed, jumbetai_text *text) {
-    char *bytes = length < PTRDIFF_MAX ? malloc((size_t)length + 1) : NULL;
-    if (!bytes) return JUMBETAI_OUT_OF_MEMORY;
+void jumbetai_write(void *room, void (*read)(void *, uint32_t, struct jumbetai_piece *),
+                    size_t length, char *bytes) {
     struct jumbetai_piece piece;
     size_t had = 0;
     for (uint32_t i = 0; had < length; i++, had += piece.length) {
         read(room, i, &piece);
         memcpy(bytes + had, piece.bytes, piece.length);
     }
-    bytes[had] = 0;
-    *text = (jumbetai_text){bytes, had, listed};
+    bytes[length] = 0;
+}
+
+int jumbetai_copy(void *room, void (*read)(void *, uint32_t, struct jumbetai_piece *),
+                  uint64_t length, uint64_t listed, jumbetai_text *text) {
+    char *bytes = length < PTRDIFF_MAX ? malloc((size_t)length + 1) : NULL;
+    if (!bytes) return JUMBETAI_OUT_OF_MEMORY;
+    jumbetai_write(room, read, (size_t)length, bytes);
+    *text = (jumbetai_text){bytes, (size_t)length, listed};
     return JUMBETAI_DONE;
 }
 

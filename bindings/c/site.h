@@ -22,8 +22,12 @@ int jumbetai_open_files(const char *path, struct jumbetai_files *files, int lock
 /* Lets go of what `locks` has. */
 void jumbetai_unlock(int locks[2]);
 
-/* The text of so many bytes that lies in the room, of which `listed` is told; it is read by `read`.
- */
+/* Writes the text of so many bytes that lies in the room, which is read by `read`, and a zero byte
+ * behind it. */
+void jumbetai_write(void *room, void (*read)(void *, uint32_t, struct jumbetai_piece *),
+                    size_t length, char *bytes);
+
+/* The same as a text of the caller's, of which `listed` is told. */
 int jumbetai_copy(void *room, void (*read)(void *, uint32_t, struct jumbetai_piece *),
                   uint64_t length, uint64_t listed, jumbetai_text *text);
 

@@ -1,16 +1,20 @@
-"""Tests of jumbetai.py: `python3 -m unittest` in this folder, with JUMBETAI_LIB as jumbetai.py says.
+"""Tests of the package jumbetai: `python3 -m unittest` in this folder, with JUMBETAI_LIB as the package says.
 
 JUMBETAI_BATCH names a file of a batch of events, as tools/make_batch.py makes one of 30.6 MB; without it a batch of 500
 is made here. JUMBETAI_SITE names the program `site`, whose answers are then compared byte for byte; without it that is
 skipped, and said.
 """
 import contextlib
+import ctypes
 import doctest
+import gc
+import itertools
 import json
 import os
 import random
 import resource
 import shutil
+import signal
 import socket
 import sqlite3
 import subprocess
@@ -23,10 +27,10 @@ import urllib.error
 import urllib.request
 
 import jumbetai
-from jumbetai import QUESTIONS, Error, OrderCounts, Outbox, Page, Site, Status, Taken
-
+from jumbetai import QUESTIONS, Error, OrderCounts, Outbox, Page, Site, Status, Taken, _c
 
 HERE = os.path.dirname(os.path.abspath(__file__))
+EXAMPLES = os.path.join(HERE, "../../examples/python")
 
 
 def event(number, source="/shop", **more):
@@ -140,6 +144,45 @@ class Sites(unittest.TestCase):
             for question in QUESTIONS:
                 self.assertTrue(copy.ask(question) == site.ask(question), question)
 
+    def test_a_site_without_events_is_true(self):
+        with Site() as site:
+            self.assertTrue(site)
+            self.assertEqual(len(site), 0)
+
+    def test_a_place_below_0_is_refused(self):
+        with Site() as site:
+            site.take(FEW)
+            nothing = Site().summary()
+            for start in (-1, -(2**64), -(2**64) + 5):
+                with self.assertRaises(ValueError):
+                    site.delta(nothing, start)
+                with self.assertRaises(ValueError):
+                    site.pages(start)
+            for start in (250, 2**63, 2**64 - 1, 2**64, 2**64 + 5):
+                self.assertEqual(list(site.delta(nothing, start)), [], start)
+                self.assertEqual(list(site.pages(start)), [], start)
+
+    def test_a_length_beyond_an_int_of_c(self):
+        # The bytes aren't read: to have so many would take 4 GiB.
+        place = ctypes.create_string_buffer(b"hello", 5)
+        for length in (5, 2**31 - 1, 2**31 + 5, 2**32 + 5):
+            self.assertEqual(len(_c.bytes_at(ctypes.addressof(place), length)), length)
+        self.assertEqual(_c.bytes_at(ctypes.addressof(place), 5).raw, b"hello")
+        self.assertEqual(_c.bytes_at(None, 0).raw, b"")
+
+    def test_the_library_is_loaded_at_first_use(self):
+        code = """
+import jumbetai
+print(jumbetai.PAGE, jumbetai.Status.BUSY, len(jumbetai.QUESTIONS))
+try:
+    jumbetai.Site()
+except OSError:
+    print("none")
+"""
+        more = {**os.environ, "JUMBETAI_LIB": "/none/libjumbetai.so"}
+        ran = subprocess.run([sys.executable, "-c", code], cwd=HERE, env=more, capture_output=True, check=False)
+        self.assertEqual((ran.stdout.decode().split(), ran.stderr), (["100", str(Status.BUSY), "7", "none"], b""))
+
     def test_a_closed_site(self):
         site = Site()
         site.close()
@@ -164,6 +207,162 @@ class Sites(unittest.TestCase):
         site.close()
 
 
+def ended(work, seconds=20):
+    """How a forked process ends that does some work, and is killed where that takes too long: its status, 0 where it
+    is done and the work answers true."""
+    child = os.fork()
+    if child == 0:
+        status = 1
+        try:
+            signal.setitimer(signal.ITIMER_REAL, seconds)
+            status = 0 if work() else 2
+        finally:
+            os._exit(status)
+    return os.waitpid(child, 0)[1]
+
+
+def raises_value_error(call, *arguments):
+    try:
+        call(*arguments)
+    except ValueError:
+        return True
+    return False
+
+
+class Forks(unittest.TestCase):
+    """Processes that are forked while a thread is in a call, which is then held there."""
+
+    def setUp(self):
+        folder = tempfile.TemporaryDirectory()
+        self.addCleanup(folder.cleanup)
+        self.file = os.path.join(folder.name, "site.db")
+
+    def fork_in_a_call(self, it, work):
+        """Forks while a thread has the lock of a call, and answers how the child ends."""
+        has_it, is_over = threading.Event(), threading.Event()
+
+        def call():
+            with it._lock:
+                has_it.set()
+                is_over.wait()
+
+        thread = threading.Thread(target=call)
+        thread.start()
+        has_it.wait()
+        try:
+            return ended(work)
+        finally:
+            is_over.set()
+            thread.join()
+
+    def test_over_a_file(self):
+        with Site(self.file) as site:
+            site.take(FEW)
+
+            def work():
+                is_refused = raises_value_error(site.take, FEW) and raises_value_error(site.summary)
+                site.close()
+                return is_refused
+
+            self.assertEqual(self.fork_in_a_call(site, work), 0)
+            self.assertEqual(site.take(batch([event(251)])), Taken(1, 0))
+        with Outbox(self.file) as outbox:
+            is_refused = self.fork_in_a_call(
+                outbox, lambda: raises_value_error(outbox.counts) and outbox.close() is None
+            )
+            self.assertEqual(is_refused, 0)
+            self.assertEqual(outbox.counts(), OrderCounts(0, 0, 0))
+
+    def test_in_memory(self):
+        with Site() as site, Site() as other:
+            site.take(FEW)
+            other.take(FEW)
+
+            def work():
+                is_refused = raises_value_error(site.take, FEW) and raises_value_error(len, site)
+                site.close()
+                # What nobody used is a copy.
+                return is_refused and other.take(batch([event(251)])) == Taken(1, 0) and len(other) == 251
+
+            self.assertEqual(self.fork_in_a_call(site, work), 0)
+            self.assertEqual((len(site), len(other)), (250, 250))
+            self.assertEqual(ended(lambda: site.take(batch([event(251)])) == Taken(1, 0)), 0)
+            self.assertEqual(len(site), 250)
+
+    def test_while_a_thread_takes(self):
+        with Site(self.file) as site:
+            numbers = itertools.count(1)
+            is_over = threading.Event()
+
+            def take_on():
+                while not is_over.is_set():
+                    site.take(batch([event(next(numbers)) for _ in range(50)]))
+
+            thread = threading.Thread(target=take_on)
+            thread.start()
+            try:
+                for _ in range(20):
+                    self.assertEqual(ended(lambda: raises_value_error(site.take, FEW)), 0)
+            finally:
+                is_over.set()
+                thread.join()
+
+
+class Interrupts(unittest.TestCase):
+    """What an interrupt leaves, wherever it comes while something is opened."""
+
+    def setUp(self):
+        # In memory where that is had: what is synced says nothing here.
+        folder = tempfile.TemporaryDirectory(dir="/dev/shm" if os.path.isdir("/dev/shm") else None)
+        self.addCleanup(folder.cleanup)
+        self.file = os.path.join(folder.name, "site.db")
+
+    def interrupted(self, work, at):
+        """Does some work with an interrupt before its line or instruction of this number; whether it was done."""
+        steps = 0
+
+        def trace(frame, what, _):
+            nonlocal steps
+            if not frame.f_globals.get("__name__", "").startswith("jumbetai") or frame.f_code.co_name == "__del__":
+                return None
+            frame.f_trace_opcodes = True
+            if what in ("line", "opcode"):
+                steps += 1
+                if steps == at:
+                    raise KeyboardInterrupt
+            return trace
+
+        before = sys.gettrace()
+        sys.settrace(trace)
+        try:
+            work()
+        except (KeyboardInterrupt, SystemError):
+            # The latter is how Python 3.8 tells of an interrupt between two instructions of its own.
+            return False
+        finally:
+            sys.settrace(before)
+        return True
+
+    def is_free_after_each(self, opens):
+        opens().close()
+        at, is_done = 0, False
+        while not is_done:
+            at += 1
+            kept = []
+            is_done = self.interrupted(lambda: kept.append(opens()), at)
+            for it in kept:
+                it.close()
+            gc.collect()
+            opens().close()
+        self.assertGreater(at, 25)
+
+    def test_a_site(self):
+        self.is_free_after_each(lambda: Site(self.file))
+
+    def test_an_outbox(self):
+        self.is_free_after_each(lambda: Outbox(self.file, "/north", 3, 1))
+
+
 # What another process does with a file: its status where it is opened, and how many events it has.
 OPENING = """
 import jumbetai, sys
@@ -171,6 +370,17 @@ try:
     print("done", len(jumbetai.Site(sys.argv[1])))
 except jumbetai.Error as why:
     print(why.status.name, why)
+"""
+WRITING = """
+import sqlite3, sys
+try:
+    with sqlite3.connect(sys.argv[1], timeout=0) as database:
+        database.execute("PRAGMA locking_mode = EXCLUSIVE")
+        database.execute("BEGIN EXCLUSIVE")
+        database.execute("CREATE TABLE written (number INTEGER)")
+    print("written")
+except sqlite3.OperationalError as why:
+    print(why)
 """
 TAKING = """
 import jumbetai, os, sys
@@ -216,6 +426,33 @@ class Files(unittest.TestCase):
             self.assertEqual(said(site), said(plain))
         with Site(path=os.fsencode(self.file), cache_mib=1) as site:
             self.assertEqual(len(site), 252)
+
+    def test_a_refused_opening_leaves_the_locks_of_sqlite(self):
+        with Site(self.file) as site:
+            site.take(FEW)
+        plain = os.path.join(self.folder, "plain.db")
+        with contextlib.closing(sqlite3.connect(plain)) as database, database:
+            database.execute("CREATE TABLE kept (number INTEGER)")
+        for file in (self.file, plain):
+            for begin in ("BEGIN EXCLUSIVE", "BEGIN IMMEDIATE", "BEGIN; SELECT * FROM sqlite_master"):
+                with contextlib.closing(sqlite3.connect(file, isolation_level=None)) as database:
+                    cursor = [database.execute(it) for it in begin.split(";")]
+                    cursor[-1].fetchone()
+                    for _ in range(3):
+                        for kind in (Site, Outbox):
+                            with self.assertRaises(Error) as caught:
+                                kind(file)
+                            self.assertIs(caught.exception.status, Status.BUSY, begin)
+                    self.assertEqual(elsewhere(OPENING, file).split()[0], "BUSY", begin)
+                    self.assertEqual(elsewhere(WRITING, file), "database is locked", begin)
+                    database.execute("ROLLBACK")
+        with Site(self.file) as site:
+            self.assertEqual(len(site), 250)
+            with contextlib.closing(sqlite3.connect(self.file, timeout=0)) as database:
+                with self.assertRaises(sqlite3.OperationalError):
+                    database.execute("SELECT * FROM sqlite_master").fetchall()
+            self.assertEqual(elsewhere(OPENING, self.file).split()[0], "BUSY")
+        self.assertEqual(elsewhere(OPENING, self.file), "done 250")
 
     def test_a_file_is_busy_while_it_is_open(self):
         with Site(self.file) as site:
@@ -600,8 +837,9 @@ class Services(unittest.TestCase):
             self.skipTest(f"no port of this machine can be reached: {why}")
 
     def start(self, *words):
-        command = [sys.executable, "service.py", "--port", "0", "--every", "0.05", *words]
-        self.service = subprocess.Popen(command, cwd=HERE, stdout=subprocess.PIPE, text=True)
+        command = [sys.executable, f"{EXAMPLES}/service.py", "--port", "0", "--every", "0.05", *words]
+        more = {**os.environ, "PYTHONPATH": HERE}
+        self.service = subprocess.Popen(command, env=more, stdout=subprocess.PIPE, text=True)
         self.addCleanup(self.service.stdout.close)
         self.addCleanup(self.service.wait)
         self.addCleanup(self.service.kill)
@@ -670,7 +908,9 @@ class BesideTheProgram(unittest.TestCase):
                 out.write(Site().summary())
             first, second = list(site.delta(Site().summary()))[:2]
             self.assertEqual(first.json, run("delta", "--db", "site.db", "nothing"))
-            self.assertEqual(second, Page(100, second.events, run("delta", "--db", "site.db", "--from", "100", "nothing")))
+            self.assertEqual(
+                second, Page(100, second.events, run("delta", "--db", "site.db", "--from", "100", "nothing"))
+            )
             self.assertEqual(next(site.pages()).json, run("scrub", "--db", "site.db"))
             wrong = batch([event(1), {**event(2), "sequence": "2"}])
             said = subprocess.run([program, "check", "-"], input=wrong, stdout=subprocess.PIPE, check=False).stdout

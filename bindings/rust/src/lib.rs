@@ -70,11 +70,13 @@
 //! # Ok::<(), Error>(())
 //! ```
 
-mod ffi;
+#![warn(missing_docs)]
+
 mod outbox;
 
 pub use outbox::{OrderCounts, Outbox, RowPages, Rows};
 
+use jumbetai_sys as ffi;
 use std::ffi::{c_int, CStr, CString};
 use std::fmt;
 use std::os::unix::ffi::OsStrExt;
@@ -86,6 +88,7 @@ pub const PAGE: u64 = 100;
 
 /// Why a call isn't done. Its `Display` says so in words.
 #[derive(Clone, Copy, PartialEq, Eq, Debug)]
+#[non_exhaustive]
 pub enum Error {
     /// Memory was refused. A `take` in memory may then have taken the first of its events: the same
     /// bytes may be given again. Over a file it has taken none.
@@ -141,6 +144,11 @@ pub enum Error {
     BadSource,
     /// The outbox that is there has another source than was given.
     AnotherSource,
+    /// The library that is linked hasn't what this crate calls: [`version`] is before the crate's, or
+    /// one that may have changed what a call means. Nothing was opened.
+    Version,
+    /// The library answered bytes that are no UTF-8, which no text of it is.
+    NotUtf8,
     /// A status that this crate doesn't know: the library that is linked is a later one.
     Other(i32),
 }
@@ -177,7 +185,7 @@ impl Error {
         }
     }
 
-    /// The status by which the C interface answers it.
+    /// The status by which the C interface answers it; -1 of what it doesn't answer.
     pub fn status(self) -> i32 {
         match self {
             Error::OutOfMemory => 1,
@@ -205,6 +213,7 @@ impl Error {
             Error::BadOrder => 26,
             Error::BadSource => 27,
             Error::AnotherSource => 28,
+            Error::Version | Error::NotUtf8 => -1,
             Error::Other(status) => status,
         }
     }
@@ -212,9 +221,16 @@ impl Error {
 
 impl fmt::Display for Error {
     fn fmt(&self, f: &mut fmt::Formatter<'_>) -> fmt::Result {
-        // SAFETY: any status has words, which live as long as the program.
-        let words = unsafe { CStr::from_ptr(ffi::jumbetai_words(self.status())) };
-        f.write_str(&words.to_string_lossy())
+        match self {
+            Error::Version => write!(
+                f,
+                "the library has the version {}, and this crate {VERSION}",
+                version()
+            ),
+            Error::NotUtf8 => f.write_str("the library answered bytes that are no UTF-8"),
+            // SAFETY: any status has words, which live as long as the program.
+            _ => f.write_str(unsafe { lasting(ffi::jumbetai_words(self.status())) }),
+        }
     }
 }
 
@@ -274,6 +290,12 @@ pub struct Page {
 
 /// A site, in memory alone or over a file. It may go to another thread; one thread at a time uses
 /// it, so that a service shares it by a `Mutex`. Over a file it lets go of that when it is dropped.
+///
+/// A process that is forked, as by `fork` of libc, has a copy of each site. One over a file it must
+/// neither use nor drop ([`std::mem::forget`] is for that): what two processes write by their
+/// copies garbles the file. One in memory is a copy from then on, unless another thread was in a
+/// call on it at that moment: then it is to be forgotten too. [`std::process::Command`] does nothing
+/// of the kind, since the process that it starts has no copy.
 pub struct Site {
     raw: NonNull<ffi::Site>,
 }
@@ -286,6 +308,7 @@ unsafe impl Send for Site {}
 impl Site {
     /// A site in memory, without events.
     pub fn new() -> Result<Site, Error> {
+        fitting(version())?;
         // SAFETY: the call asks for nothing.
         match NonNull::new(unsafe { ffi::jumbetai_open() }) {
             Some(raw) => Ok(Site { raw }),
@@ -302,6 +325,11 @@ impl Site {
     /// ends without dropping it, or is killed, leaves a log beside it (`-wal`), which belongs to it
     /// and is read by all of these.
     ///
+    /// SQLite's own library may have the file open in the same process. Each finds it busy while the
+    /// other uses it, and [`Error::Busy`] takes none of SQLite's locks away: where they may be this
+    /// process's own, a descriptor of the file stays open for the next opening. In the moment in which
+    /// a site is dropped no other thread is to open or lock its file by SQLite.
+    ///
     /// Of the file at most 256 MiB are kept in memory, beside the events, which all are. Time and
     /// memory in proportion to the events that are there.
     pub fn open(path: impl AsRef<Path>) -> Result<Site, Error> {
@@ -311,6 +339,7 @@ impl Site {
     /// The same, with so many MiB of the file in memory at most; 0 for as many as it has, and 16
     /// more, at most 256.
     pub fn open_with_cache(path: impl AsRef<Path>, mib: u32) -> Result<Site, Error> {
+        fitting(version())?;
         let path = path_text(path.as_ref())?;
         let mut raw = null_mut();
         // SAFETY: the path ends with a zero byte, and is lent for the call.
@@ -477,30 +506,122 @@ fn path_text(path: &Path) -> Result<CString, Error> {
     CString::new(path.as_os_str().as_bytes()).map_err(|_| Error::NoFile)
 }
 
+/// A text of the library, which is given back in the end.
+struct Text(ffi::Text);
+
+impl Drop for Text {
+    fn drop(&mut self) {
+        // SAFETY: the text is none, or one that a call made, and isn't used again.
+        unsafe { ffi::jumbetai_free(&mut self.0) }
+    }
+}
+
 /// The text that a call answers, and how many events it has.
 fn text_of(call: impl FnOnce(*mut ffi::Text) -> c_int) -> Result<(String, u64), Error> {
-    let mut text = ffi::Text {
+    let mut text = Text(ffi::Text {
         bytes: null_mut(),
         length: 0,
         events: 0,
-    };
-    let status = call(&mut text);
+    });
+    let status = call(&mut text.0);
     if status != 0 {
         return Err(Error::of(status));
     }
     // SAFETY: where a call is done, so many bytes lie there.
-    let bytes = unsafe { std::slice::from_raw_parts(text.bytes.cast::<u8>(), text.length) };
-    let copied = String::from_utf8_lossy(bytes).into_owned();
-    let events = text.events;
-    // SAFETY: the text was made by the call, and isn't used again.
-    unsafe { ffi::jumbetai_free(&mut text) };
-    Ok((copied, events))
+    let bytes = unsafe { std::slice::from_raw_parts(text.0.bytes.cast::<u8>(), text.0.length) };
+    Ok((copied(bytes)?, text.0.events))
 }
 
-/// The version of the library that is linked.
+/// The very bytes as a text.
+fn copied(bytes: &[u8]) -> Result<String, Error> {
+    String::from_utf8(bytes.to_vec()).map_err(|_| Error::NotUtf8)
+}
+
+/// A text that lives as long as the program.
+///
+/// # Safety
+///
+/// A zero byte is behind its last one, and nobody ever writes there.
+unsafe fn lasting(text: *const std::ffi::c_char) -> &'static str {
+    CStr::from_ptr(text).to_str().unwrap_or("no text")
+}
+
+/// The version of this crate.
+const VERSION: &str = env!("CARGO_PKG_VERSION");
+
+/// The version of the library that is linked. It serves this crate where it is the same or a later
+/// one that changes nothing, by semantic versioning; else whatever is opened is [`Error::Version`].
 pub fn version() -> &'static str {
     // SAFETY: the text lives as long as the program.
-    unsafe { CStr::from_ptr(ffi::jumbetai_version()) }
-        .to_str()
-        .unwrap_or("")
+    unsafe { lasting(ffi::jumbetai_version()) }
+}
+
+/// Whether a library of this version has all that this crate calls, with the same meaning.
+fn fitting(library: &str) -> Result<(), Error> {
+    let numbers = |version: &str| -> Option<Vec<u64>> {
+        let plain = version.split('-').next()?;
+        let all: Option<Vec<u64>> = plain.split('.').map(|it| it.parse().ok()).collect();
+        all.filter(|it| it.len() == 3)
+    };
+    match (numbers(library), numbers(VERSION)) {
+        (Some(has), Some(wants)) if has >= wants => {
+            // Before 1.0.0 the second number tells what the first tells behind it.
+            let same = if wants[0] > 0 { 1 } else { 2 };
+            (has[..same] == wants[..same])
+                .then_some(())
+                .ok_or(Error::Version)
+        }
+        _ => Err(Error::Version),
+    }
+}
+
+#[cfg(test)]
+mod tests {
+    use super::*;
+
+    #[test]
+    fn a_text_is_never_altered() {
+        assert_eq!(
+            copied("\u{e9}\0\u{fffd}".as_bytes()).unwrap(),
+            "\u{e9}\0\u{fffd}"
+        );
+        assert_eq!(copied(b"").unwrap(), "");
+        for bytes in [&b"\xff"[..], b"a\xc3", b"\xed\xa0\x80", b"\xc0\x80"] {
+            assert_eq!(copied(bytes), Err(Error::NotUtf8));
+        }
+    }
+
+    #[test]
+    fn a_library_of_another_version_is_refused() {
+        let [first, second, third] = [0, 1, 2].map(|at| {
+            let number = VERSION
+                .split('-')
+                .next()
+                .unwrap()
+                .split('.')
+                .nth(at)
+                .unwrap();
+            number.parse::<u64>().unwrap()
+        });
+        for (version, fits) in [
+            (VERSION.to_string(), true),
+            (format!("{first}.{second}.{}", third + 1), true),
+            (format!("{first}.{}.{third}", second + 1), first > 0),
+            (format!("{}.{second}.{third}", first + 1), false),
+            (format!("{first}.{second}"), false),
+            (format!("{first}.{second}.x"), false),
+            (String::new(), false),
+        ] {
+            assert_eq!(fitting(&version).is_ok(), fits, "{version}");
+        }
+        if third > 0 {
+            assert_eq!(
+                fitting(&format!("{first}.{second}.{}", third - 1)),
+                Err(Error::Version)
+            );
+        }
+        assert_eq!(version(), VERSION);
+        assert!(Error::Version.to_string().contains(VERSION));
+        assert_eq!(Error::Version.status(), -1);
+    }
 }

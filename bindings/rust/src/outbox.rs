@@ -1,6 +1,7 @@
 //! Orders in a database file, and the rows that tell of them.
 
-use crate::{ffi, path_text, text_of, Error};
+use crate::{fitting, path_text, text_of, version, Error};
+use jumbetai_sys as ffi;
 use std::ffi::{c_int, CString};
 use std::fmt;
 use std::path::Path;
@@ -42,8 +43,9 @@ pub struct Rows {
 /// leave both all the same.
 ///
 /// It may go to another thread; one thread at a time uses it. Until it is dropped the file is busy
-/// for whoever else opens it, as that of a [`Site`](crate::Site) is; the events of a site may lie
-/// in the same file.
+/// for whoever else opens it, as that of a [`Site`](crate::Site) is, also beside SQLite's own library
+/// ([`Site::open`](crate::Site::open)); the events of a site may lie in the same file. A process
+/// that was forked while it is open must neither use nor drop it.
 pub struct Outbox {
     raw: NonNull<ffi::Outbox>,
 }
@@ -78,6 +80,7 @@ impl Outbox {
         base: u64,
         mib: u32,
     ) -> Result<Outbox, Error> {
+        fitting(version())?;
         let path = path_text(path.as_ref())?;
         let source = source.map(CString::new).transpose();
         let source = source.map_err(|_| Error::BadSource)?;

@@ -1,11 +1,7 @@
 """A site of events in one's own process, over libjumbetai: a set of CloudEvents that keeps each once, its answers, its
-summary, and what another site lacks of it. It wants nothing but Python 3.8 and the shared object that a C compiler makes
-of the static library:
-
-    cc -shared -o libjumbetai.so -Wl,--whole-archive libjumbetai.a -Wl,--no-whole-archive
-
-which is looked for where the variable JUMBETAI_LIB of the environment says, else beside this file, else where the
-system's loader looks.
+summary, and what another site lacks of it. It wants nothing but Python 3.8 and the shared object of the library, which
+the wheel brings. It is loaded when the first call needs it: from where the variable JUMBETAI_LIB of the environment
+says, else from beside this file, else by its name libjumbetai.so.0 from where the system's loader looks.
 
     >>> north, south = Site(), Site()
     >>> north.take(b'{"specversion":"1.0","id":"1","source":"/shop","type":"sold","sequence":"00000000000000000001"}')
@@ -41,14 +37,24 @@ transaction, and hands those events on:
     >>> folder.cleanup()
 
 Sites that took the same events, in whatever order and however often, give the same bytes for every answer. That is
-proved of the library; this module, which calls it through C, is only tested. Threads may share a site or an outbox: a
+proved of the library; this package, which calls it through C, is only tested. Threads may share a site or an outbox: a
 call on it waits for the one before, while other threads of Python run.
+
+A process that was made by os.fork has copies of what was open. Those over a file, sites and outboxes, are the parent's:
+each call on one raises ValueError, and to close it leaves the file to the parent. A site in memory is a copy from then
+on, but for one that another thread was using in the moment of the fork, which raises ValueError too.
 """
+from __future__ import annotations
+
 import ctypes
 import enum
 import os
 import threading
-from collections import namedtuple
+import weakref
+from types import TracebackType
+from typing import Any, Iterator, NamedTuple, Optional, Type, TypeVar, Union
+
+from . import _c
 
 __all__ = ["PAGE", "QUESTIONS", "Error", "OrderCounts", "Outbox", "Page", "Rows", "Site", "Status", "Taken", "version"]
 
@@ -57,15 +63,43 @@ QUESTIONS = ("cover", "shown", "conflicts", "latest", "kinds", "days", "gaps")
 # The most events of a page.
 PAGE = 100
 
-# How many events were new, and how many were there.
-Taken = namedtuple("Taken", "fresh repeated")
-# At which place of the whole list its first event stands, how many it has, and the events as a batch.
-Page = namedtuple("Page", "start events json")
-# The number of its last row, behind which the next page begins, how many rows it has, and their events as a batch.
-Rows = namedtuple("Rows", "last events json")
-# The number before that of the first row, that of the last, which is the base where there is none, and how many orders
-# there are, whatever became of them.
-OrderCounts = namedtuple("OrderCounts", "base last orders")
+# What is taken for bytes: a text is its UTF-8.
+Given = Union[str, bytes, bytearray, memoryview]
+FilePath = Union[str, bytes, "os.PathLike[str]", "os.PathLike[bytes]"]
+Self = TypeVar("Self", bound="_Open")
+
+
+class Taken(NamedTuple):
+    """How many events were new, and how many were there."""
+
+    fresh: int
+    repeated: int
+
+
+class Page(NamedTuple):
+    """At which place of the whole list its first event stands, how many it has, and the events as a batch."""
+
+    start: int
+    events: int
+    json: bytes
+
+
+class Rows(NamedTuple):
+    """The number of its last row, behind which the next page begins, how many rows it has, and their events as a
+    batch."""
+
+    last: int
+    events: int
+    json: bytes
+
+
+class OrderCounts(NamedTuple):
+    """The number before that of the first row, that of the last, which is the base where there is none, and how many
+    orders there are, whatever became of them."""
+
+    base: int
+    last: int
+    orders: int
 
 
 class Status(enum.IntEnum):
@@ -98,113 +132,95 @@ class Status(enum.IntEnum):
     ANOTHER_SOURCE = 28  # the outbox that is there has another source than was given
 
 
-class _Counts(ctypes.Structure):
-    _fields_ = [("fresh", ctypes.c_uint64), ("repeated", ctypes.c_uint64)]
-
-
-class _OrderCounts(ctypes.Structure):
-    _fields_ = [(name, ctypes.c_uint64) for name in OrderCounts._fields]
-
-
-class _Text(ctypes.Structure):
-    _fields_ = [("bytes", ctypes.c_void_p), ("length", ctypes.c_size_t), ("events", ctypes.c_uint64)]
-
-
-def _loaded():
-    name = "libjumbetai.so"
-    beside = os.path.join(os.path.dirname(os.path.abspath(__file__)), name)
-    library = ctypes.CDLL(os.environ.get("JUMBETAI_LIB") or (beside if os.path.exists(beside) else name))
-    raw, text, counts = ctypes.c_void_p, ctypes.POINTER(_Text), ctypes.POINTER(_Counts)
-    given, size, number, status = ctypes.c_char_p, ctypes.c_size_t, ctypes.c_uint64, ctypes.c_int
-    made, order_counts = ctypes.POINTER(raw), ctypes.POINTER(_OrderCounts)
-    calls = {
-        "open": (raw, []),
-        "open_file": (status, [given, ctypes.c_uint32, made]),
-        "close": (None, [raw]),
-        "count": (number, [raw]),
-        "take": (status, [raw, given, size, counts]),
-        "check": (status, [raw, given, size, text]),
-        "keep_views": (status, [raw]),
-        "ask": (status, [raw, status, text]),
-        "summary": (status, [raw, text]),
-        "delta": (status, [raw, given, size, number, text]),
-        "page": (status, [raw, number, text]),
-        "open_outbox": (status, [given, given, number, ctypes.c_uint32, made]),
-        "close_outbox": (None, [raw]),
-        "order": (status, [raw, status, number, given, text]),
-        "rows": (status, [raw, number, text]),
-        "outbox_counts": (None, [raw, order_counts]),
-        "free": (None, [text]),
-        "words": (ctypes.c_char_p, [status]),
-        "version": (ctypes.c_char_p, []),
-    }
-    for call, (result, arguments) in calls.items():
-        function = getattr(library, f"jumbetai_{call}")
-        function.restype, function.argtypes = result, arguments
-    return library
-
-
-_library = _loaded()
-
-
 class Error(Exception):
     """A call that isn't done: its status, one of Status where it is known, and that in words."""
 
-    def __init__(self, status):
-        super().__init__(_library.jumbetai_words(status).decode())
+    def __init__(self, status: int) -> None:
+        super().__init__(_c.library().jumbetai_words(status).decode())
         self.status = Status(status) if status in set(Status) else status
 
 
-def version():
+def version() -> str:
     """The version of the library."""
-    return _library.jumbetai_version().decode()
+    told: bytes = _c.library().jumbetai_version()
+    return told.decode()
 
 
 class _Open:
     """What is opened and closed: one call at a time."""
 
-    def __init__(self, opened, close, owner):
-        self._lock = threading.Lock()
-        self._raw, self._close, self._owner = opened, close, owner
-        if not opened:
-            raise MemoryError("jumbetai")
+    def __init__(self, close: str, is_over_file: bool) -> None:
+        # C writes the handle here, so that it has an owner whenever an interrupt comes.
+        self._raw = ctypes.c_void_p()
+        self._closes, self._is_over_file, self._process = close, is_over_file, os.getpid()
+        self._lock, self._is_torn = threading.Lock(), False
+        _all.add(self)
 
-    def close(self):
+    def close(self) -> None:
         """Gives its memory back, and its file. No other call is possible then."""
+        # What isn't this process's is looked at before the lock, which nobody may be left to give back.
+        if self._fault():
+            self._raw.value = None
+            return
         with self._lock:
-            raw, self._raw = self._raw, None
-            if raw and self._is_ours():
-                self._close(raw)
+            raw, self._raw.value = self._raw.value, None
+            if raw:
+                getattr(_c.library(), self._closes)(raw)
 
-    def __enter__(self):
+    def __enter__(self: Self) -> Self:
         return self
 
-    def __exit__(self, *_):
+    def __exit__(
+        self, kind: Optional[Type[BaseException]], why: Optional[BaseException], at: Optional[TracebackType]
+    ) -> None:
         self.close()
 
-    def __del__(self):
+    def __del__(self) -> None:
         if getattr(self, "_raw", None):
             self.close()
 
-    def _is_ours(self):
-        # What two processes wrote to one file by their copies would garble it.
-        return self._owner is None or self._owner == os.getpid()
+    def __bool__(self) -> bool:
+        return True
 
-    def _call(self, function, *arguments):
+    def _fault(self) -> Optional[str]:
+        """Why this process may not use it."""
+        # What two processes wrote to one file by their copies would garble it.
+        if self._is_over_file and self._process != os.getpid():
+            return "is over a file, and another process's"
+        return "was in use as this process was forked" if self._is_torn else None
+
+    def _come_to_child(self) -> None:
+        self._lock, self._is_torn = threading.Lock(), self._is_torn or self._lock.locked()
+
+    def _call(self, name: str, *arguments: Any) -> int:
+        fault = self._fault()
+        if fault:
+            raise ValueError(f"the {type(self).__name__.lower()} {fault}")
         with self._lock:
             if not self._raw:
                 raise ValueError(f"the {type(self).__name__.lower()} is closed")
-            if not self._is_ours():
-                raise ValueError(f"the {type(self).__name__.lower()} is over a file, and another process's")
-            return function(self._raw, *arguments)
+            answer: int = getattr(_c.library(), name)(self._raw, *arguments)
+            return answer
 
-    def _text(self, call, *arguments):
-        text = _Text()
-        _judge(self._call(call, *arguments, ctypes.byref(text)))
+    def _text(self, name: str, *arguments: Any) -> "tuple[bytes, int]":
+        text = _c.Text()
         try:
-            return ctypes.string_at(text.bytes, text.length), text.events
+            _judge(self._call(name, *arguments, ctypes.byref(text)))
+            return _c.bytes_at(text.bytes, text.length).raw, text.events
         finally:
-            _library.jumbetai_free(ctypes.byref(text))
+            _c.library().jumbetai_free(ctypes.byref(text))
+
+
+# All that is open, of which a forked process is told.
+_all: "weakref.WeakSet[_Open]" = weakref.WeakSet()
+
+
+def _come_to_child() -> None:
+    for it in list(_all):
+        it._come_to_child()
+
+
+os.register_at_fork(after_in_child=_come_to_child)
 
 
 class Site(_Open):
@@ -218,61 +234,71 @@ class Site(_Open):
     it, or is killed, leaves a log beside it (`-wal`), which belongs to it and is read by all of these.
     A process made by os.fork can't use a site over a file: it raises ValueError there.
 
+    The module sqlite3 may have the file open in the same process. Each finds it busy while the other
+    uses it, and Status.BUSY takes none of sqlite3's locks away: where they may be this process's own,
+    a descriptor of the file stays open for the next opening. In the moment in which a site is closed
+    no other thread is to open or lock its file by sqlite3.
+
     Of the file at most `cache_mib` MiB are kept in memory, 0 for as many as it has and 16 more, at
     most 256; beside the events, which all are. To open takes time in proportion to the events."""
 
-    def __init__(self, path=None, cache_mib=0):
+    def __init__(self, path: Optional[FilePath] = None, cache_mib: int = 0) -> None:
+        super().__init__("jumbetai_close", path is not None)
         if path is None:
-            opened, owner = _library.jumbetai_open(), None
+            self._raw.value = _c.library().jumbetai_open()
         else:
-            opened, owner = _opened(_library.jumbetai_open_file, path, cache_mib), os.getpid()
-        super().__init__(opened, _library.jumbetai_close, owner)
+            _open(self._raw, "jumbetai_open_file", path, cache_mib)
+        if not self._raw:
+            raise MemoryError("jumbetai")
 
-    def __len__(self):
-        """How many events the site has, each counted once."""
-        return self._call(_library.jumbetai_count)
+    def __len__(self) -> int:
+        """How many events the site has, each counted once. A site without events is true all the same."""
+        return self._call("jumbetai_count")
 
-    def take(self, given):
-        """Takes an event, or a batch of events, in the JSON format of CloudEvents 1.0.2, as bytes or as a text, of at most
-        33,554,432 bytes. Where they are at fault nothing is taken. At want of memory (MemoryError) the first of them may
-        have been taken: the same may be given again. Over a file all of them are kept, in one transaction, or none."""
-        given, counts = _bytes(given), _Counts()
-        _judge(self._call(_library.jumbetai_take, given, len(given), ctypes.byref(counts)))
+    def take(self, given: Given) -> Taken:
+        """Takes an event, or a batch of events, in the JSON format of CloudEvents 1.0.2, as bytes or as a text, of at
+        most 33,554,432 bytes. Where they are at fault nothing is taken. At want of memory (MemoryError) the first of
+        them may have been taken: the same may be given again. Over a file all of them are kept, in one transaction, or
+        none."""
+        given, counts = _bytes(given), _c.Counts()
+        _judge(self._call("jumbetai_take", given, len(given), ctypes.byref(counts)))
         return Taken(counts.fresh, counts.repeated)
 
-    def check(self, given):
-        """What is wrong with what `take` refuses: a line of JSON for each event at fault, as `site check -` prints it."""
+    def check(self, given: Given) -> bytes:
+        """What is wrong with what `take` refuses: a line of JSON for each event at fault, as `site check -` prints
+        it."""
         given = _bytes(given)
-        return self._text(_library.jumbetai_check, given, len(given))[0]
+        return self._text("jumbetai_check", given, len(given))[0]
 
-    def keep_views(self):
+    def keep_views(self) -> None:
         """Keeps views of the events from now on: kinds, days and latest then take the time that the answer takes, in
         place of a pass over all events, and each event that comes takes a little more. No answer changes."""
-        _judge(self._call(_library.jumbetai_keep_views))
+        _judge(self._call("jumbetai_keep_views"))
 
-    def ask(self, question):
+    def ask(self, question: str) -> bytes:
         """The answer to one of QUESTIONS, in the lines that the program `site` prints."""
         if question not in QUESTIONS:
             raise ValueError(f"no such question: {question!r}")
-        return self._text(_library.jumbetai_ask, QUESTIONS.index(question) + 1)[0]
+        return self._text("jumbetai_ask", QUESTIONS.index(question) + 1)[0]
 
-    def summary(self):
+    def summary(self) -> bytes:
         """The summary, by which another site finds what this one lacks: `delta` there."""
-        return self._text(_library.jumbetai_summary)[0]
+        return self._text("jumbetai_summary")[0]
 
-    def delta(self, summary, start=0):
-        """What a peer lacks by its summary, from a place on, a Page at a time. Where events come to the site between two
-        pages, some may be passed over: the peer has all when nothing comes by its new summary."""
+    def delta(self, summary: Given, start: int = 0) -> Iterator[Page]:
+        """What a peer lacks by its summary, from a place on, a Page at a time. Where events come to the site between
+        two pages, some may be passed over: the peer has all when nothing comes by its new summary. ValueError of a
+        place below 0."""
         summary = _bytes(summary)
-        return self._pages(start, _library.jumbetai_delta, summary, len(summary))
+        return self._pages(_place(start), "jumbetai_delta", summary, len(summary))
 
-    def pages(self, start=0):
-        """The events in key order, from a place on, a Page at a time."""
-        return self._pages(start, _library.jumbetai_page)
+    def pages(self, start: int = 0) -> Iterator[Page]:
+        """The events in key order, from a place on, a Page at a time. ValueError of a place below 0."""
+        return self._pages(_place(start), "jumbetai_page")
 
-    def _pages(self, start, call, *arguments):
-        while True:
-            json, events = self._text(call, *arguments, start)
+    def _pages(self, start: int, name: str, *arguments: Any) -> Iterator[Page]:
+        while start <= _MOST:
+            json, events = self._text(name, *arguments, start)
             if not events:
                 return
             yield Page(start, events, json)
@@ -295,83 +321,89 @@ class Outbox(_Open):
     there; the events of a site may lie in the same file. A process made by os.fork can't use the outbox: it raises
     ValueError there. To open takes time and memory in proportion to the rows, which are all tested."""
 
-    def __init__(self, path, source=None, base=0, cache_mib=0):
-        if source is not None:
-            source = _text_of(source, Status.BAD_SOURCE)
+    def __init__(self, path: FilePath, source: Optional[Given] = None, base: int = 0, cache_mib: int = 0) -> None:
+        super().__init__("jumbetai_close_outbox", True)
+        named = None if source is None else _text_of(source, Status.BAD_SOURCE)
         base = _number(base, Status.BAD_SOURCE)
-        opened = _opened(_library.jumbetai_open_outbox, path, source, base, cache_mib)
-        super().__init__(opened, _library.jumbetai_close_outbox, os.getpid())
+        _open(self._raw, "jumbetai_open_outbox", path, named, base, cache_mib)
 
-    def place(self, order, time):
-        """Places an order of this number, 1 to 2**63 - 1, at this moment, as "2024-02-29T10:00:00Z". Answers the line of
-        its event, with its line end."""
+    def place(self, order: int, time: Given) -> bytes:
+        """Places an order of this number, 1 to 2**63 - 1, at this moment, as "2024-02-29T10:00:00Z". Answers the line
+        of its event, with its line end."""
         return self._order(1, order, time)
 
-    def ship(self, order, time):
+    def ship(self, order: int, time: Given) -> bytes:
         """Ships an order that was placed."""
         return self._order(2, order, time)
 
-    def cancel(self, order, time):
+    def cancel(self, order: int, time: Given) -> bytes:
         """Cancels an order that was placed."""
         return self._order(3, order, time)
 
-    def rows(self, after=0):
+    def rows(self, after: int = 0) -> Iterator[Rows]:
         """The rows with a number above this one, a page of Rows at a time. Who hands them on keeps the number of the
         last one that was taken; from any number before, rows come again, which a site only counts as repeated."""
         while True:
-            json, events = self._text(_library.jumbetai_rows, min(max(after, 0), _MOST))
+            json, events = self._text("jumbetai_rows", min(max(after, 0), _MOST))
             if not events:
                 return
             after = max(after, self.counts().base) + events
             yield Rows(after, events, json)
 
-    def counts(self):
+    def counts(self) -> OrderCounts:
         """How many rows and orders there are, as OrderCounts."""
-        counts = _OrderCounts()
-        self._call(_library.jumbetai_outbox_counts, ctypes.byref(counts))
+        counts = _c.OrderCounts()
+        self._call("jumbetai_outbox_counts", ctypes.byref(counts))
         return OrderCounts(counts.base, counts.last, counts.orders)
 
-    def _order(self, action, order, time):
+    def _order(self, action: int, order: int, time: Given) -> bytes:
         order, time = _number(order, Status.BAD_ORDER), _text_of(time, Status.BAD_TIME)
-        return self._text(_library.jumbetai_order, action, order, time)[0]
+        return self._text("jumbetai_order", action, order, time)[0]
 
 
 # The largest number that a call takes.
 _MOST = (1 << 64) - 1
 
 
-def _number(given, fault):
+def _number(given: int, fault: Status) -> int:
     """A number as C has it, which would cut off what doesn't fit."""
     if not 0 <= given <= _MOST:
         raise Error(fault)
     return given
 
 
-def _text_of(given, fault):
-    """A text as C has it, which would end at a zero byte."""
-    given = _bytes(given)
-    if b"\0" in given:
-        raise Error(fault)
+def _place(given: int) -> int:
+    """A place of a list, which C would count from the end of all numbers where it is below 0."""
+    if given < 0:
+        raise ValueError(f"no such place: {given!r}")
     return given
 
 
-def _opened(call, path, *more):
-    name, made = os.fsencode(path), ctypes.c_void_p()
-    if b"\0" in name:
+def _text_of(given: Given, fault: Status) -> bytes:
+    """A text as C has it, which would end at a zero byte."""
+    text = _bytes(given)
+    if b"\0" in text:
+        raise Error(fault)
+    return text
+
+
+def _open(raw: ctypes.c_void_p, name: str, path: FilePath, *more: Any) -> None:
+    """Opens a file; the handle is in `raw` as soon as it is done."""
+    file = os.fsencode(path)
+    if b"\0" in file:
         raise ValueError("embedded null byte")
     if not 0 <= more[-1] < 1 << 32:
         raise ValueError(f"no such cache: {more[-1]!r}")
-    _judge(call(name, *more, ctypes.byref(made)))
-    return made.value
+    _judge(getattr(_c.library(), name)(file, *more, ctypes.byref(raw)))
 
 
-def _bytes(given):
+def _bytes(given: Given) -> bytes:
     if isinstance(given, str):
         return given.encode()
     return given if isinstance(given, bytes) else bytes(memoryview(given))
 
 
-def _judge(status):
+def _judge(status: int) -> None:
     if status == 1:
         raise MemoryError("jumbetai")
     if status:

@@ -3,7 +3,7 @@
 
     service.py [--port N] [--db FILE] [--peer URL].. [--every SECONDS]  by default port 8000, and every second
 
-    POST /events            takes the body, an event or a batch: {"new":1,"repeated":0}, or 400 with what is wrong with it
+    POST /events            takes the body, an event or a batch: {"new":1,"repeated":0}, or 400 with what is wrong
     GET /summary            the site's summary
     POST /delta?from=N      the events from a place on that a site with the summary of the body lacks, at most 100
     GET /cover, /shown, ..  the answer to a question

@@ -1,0 +1,116 @@
+/* What libFuzzer calls with bytes of its own: `take`, `check` and `delta` of a site in memory, and
+ * `open_file` of a file that has them. The first byte says which. Whatever the bytes are, each call
+ * answers a status of its own and no two answers contradict each other. tools/fuzz_library.py
+ * compiles and runs it. */
+#define _DEFAULT_SOURCE /* unlink */
+#include "jumbetai.h"
+#include <stdio.h>
+#include <stdlib.h>
+#include <string.h>
+#include <unistd.h>
+
+int LLVMFuzzerTestOneInput(const unsigned char *bytes, size_t length);
+
+static void must(int holds, const char *what) {
+    if (holds) return;
+    fprintf(stderr, "wrong: %s\n", what);
+    abort();
+}
+
+static int is_one_of(int status, const int *those) {
+    while (*those >= 0 && *those != status)
+        those++;
+    return *those == status;
+}
+
+/* What `take` takes `check` finds nothing wrong with, and the other way round; once it is there, it
+ * is there. */
+static void try_take(const unsigned char *bytes, size_t length) {
+    static const int answers[] = {JUMBETAI_DONE, JUMBETAI_NO_EVENTS, JUMBETAI_NO_NUMBER, -1};
+    jumbetai_counts counts, again;
+    jumbetai_text told, summary, page;
+    jumbetai_site *site = jumbetai_open();
+    must(site != NULL, "a site");
+    must(!jumbetai_check(site, bytes, length, &told), "a check");
+    int status = jumbetai_take(site, bytes, length, &counts);
+    must(is_one_of(status, answers), "the status of a take");
+    must((status == JUMBETAI_DONE) == (told.length == 0), "a check that says what the take says");
+    must(jumbetai_count(site) == counts.fresh, "the count");
+    if (!status) {
+        must(!jumbetai_take(site, bytes, length, &again) && !again.fresh, "a second take");
+        must(again.repeated == counts.fresh + counts.repeated, "how many are repeated");
+        must(!jumbetai_page(site, 0, &page) && page.events <= counts.fresh, "a page");
+        must(!jumbetai_take(site, page.bytes, page.length, &again) && !again.fresh, "its events");
+        jumbetai_free(&page);
+        must(!jumbetai_summary(site, &summary), "a summary");
+        must(!jumbetai_delta(site, summary.bytes, summary.length, 0, &page) && !page.events,
+             "what its own summary lacks");
+        jumbetai_free(&page);
+        jumbetai_free(&summary);
+    }
+    jumbetai_free(&told);
+    jumbetai_close(site);
+}
+
+/* Bytes that are a summary have their delta, which a peer takes. */
+static void try_delta(const unsigned char *bytes, size_t length) {
+    static const int answers[] = {JUMBETAI_DONE,
+                                  JUMBETAI_SUMMARY_NOT_JSON,
+                                  JUMBETAI_SUMMARY_SHAPE,
+                                  JUMBETAI_SUMMARY_VERSION,
+                                  JUMBETAI_SUMMARY_NOT_CANONICAL,
+                                  -1};
+    static const char events[] =
+        "[{\"specversion\":\"1.0\",\"id\":\"1\",\"source\":\"/a\",\"type\":\"t\","
+        "\"sequence\":\"00000000000000000001\"},"
+        "{\"specversion\":\"1.0\",\"id\":\"2\",\"source\":\"/b\",\"type\":\"t\","
+        "\"sequence\":\"00000000000000000007\"}]";
+    jumbetai_text page = {0};
+    jumbetai_counts counts;
+    jumbetai_site *site = jumbetai_open();
+    must(site && !jumbetai_take(site, events, sizeof events - 1, NULL), "a site");
+    int status = jumbetai_delta(site, bytes, length, 0, &page);
+    must(is_one_of(status, answers), "the status of a delta");
+    must((status == JUMBETAI_DONE) == (page.bytes != NULL) && page.events <= 2, "a page");
+    if (!status) {
+        must(!jumbetai_take(site, page.bytes, page.length, &counts) && !counts.fresh &&
+                 counts.repeated == page.events,
+             "the events of a page");
+    }
+    jumbetai_free(&page);
+    jumbetai_close(site);
+}
+
+static long long count_in(const char *path, int *status) {
+    jumbetai_site *site;
+    *status = jumbetai_open_file(path, 1, &site);
+    must((*status == JUMBETAI_DONE) == (site != NULL), "a site without an answer");
+    long long count = site ? (long long)jumbetai_count(site) : -1;
+    jumbetai_close(site);
+    return count;
+}
+
+/* A file of whatever bytes, in the folder where this runs, is opened or refused, each time alike. */
+static void try_file(const unsigned char *bytes, size_t length) {
+    static const int answers[] = {
+        JUMBETAI_DONE,    JUMBETAI_NO_DATABASE,   JUMBETAI_DAMAGED,   JUMBETAI_STORE,
+        JUMBETAI_FOREIGN, JUMBETAI_OUT_OF_MEMORY, JUMBETAI_NO_EVENTS, -1};
+    static const char path[] = "fuzzed.db";
+    int first, second;
+    unlink("fuzzed.db-wal");
+    FILE *file = fopen(path, "wb");
+    must(file && fwrite(bytes, 1, length, file) == length && !fclose(file), "a file");
+    long long count = count_in(path, &first);
+    must(is_one_of(first, answers), "the status of an opening");
+    must(count_in(path, &second) == count && second == first, "the same opening again");
+}
+
+int LLVMFuzzerTestOneInput(const unsigned char *bytes, size_t length) {
+    if (!length) return 0;
+    switch (bytes[0] % 3) {
+    case 0: try_take(bytes + 1, length - 1); break;
+    case 1: try_delta(bytes + 1, length - 1); break;
+    default: try_file(bytes + 1, length - 1);
+    }
+    return 0;
+}
