@@ -295,7 +295,7 @@ def try_rust(tries, batch, orders):
     more = {"JUMBETAI_BATCH": batch, "JUMBETAI_ORDERS": str(orders), "CARGO_TARGET_DIR": f"{tries.folder}/cargo"}
     status, out = tries.run(["cargo", "test", *manifest], f"{TOP}/bindings/rust", **more)
     passed = [int(it) for it in re.findall(rb"test result: ok\. (\d+) passed; 0 failed", out)]
-    is_right = status == 0 and sum(passed) >= 36 and b"warning:" not in out
+    is_right = status == 0 and sum(passed) >= 33 and b"warning:" not in out
     tries.judge("Rust: tests and the examples of its page", is_right, out.decode(errors="replace"))
     linters = {
         "cargo-clippy": ["clippy", *manifest, "--all-targets", "--", "-D", "warnings"],
