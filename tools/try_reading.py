@@ -41,10 +41,10 @@ ROWS = (
     ("events without data", ["cover"], batch(""), 0, 7),
     ("events with data", ["cover"], batch(DATA), 0, 6),
     ("events with nested data", ["cover"], batch(NESTED), 0, 8),
-    ("a bad last member", ["cover"], batch(DATA, "{}"), 1, 7),
-    ("a bad last member, nested", ["cover"], batch(NESTED, "{}"), 1, 9),
-    ("what is wrong with each member", ["check"], batch(DATA, "{}"), 1, 7),
-    ("events that are kept", ["take", "--db", "new.db"], batch(DATA), 0, 9),
+    ("a bad last member", ["cover"], batch(DATA, "{}"), 1, 11),
+    ("a bad last member, nested", ["cover"], batch(NESTED, "{}"), 1, 13),
+    ("what is wrong with each member", ["check"], batch(DATA, "{}"), 1, 8),
+    ("events that are kept", ["take", "--db", "new.db"], batch(DATA), 0, 14),
 )
 
 
