@@ -38,7 +38,7 @@ NESTED = ',"data":' + "[" * 40 + "]" * 40
 DATA = ',"data":{"amount":17,"lines":[' + ",".join(['{"sku":"a-17","count":3}'] * 8) + "]}"
 # What a row is of, its words before the file, its batch, the status that is wanted, and the bytes a byte.
 ROWS = (
-    ("events without data", ["cover"], batch(""), 0, 7),
+    ("events without data", ["cover"], batch(""), 0, 14),
     ("events with data", ["cover"], batch(DATA), 0, 6),
     ("events with nested data", ["cover"], batch(NESTED), 0, 8),
     ("a bad last member", ["cover"], batch(DATA, "{}"), 1, 11),
