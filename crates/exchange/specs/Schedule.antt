@@ -35,12 +35,11 @@ abbrev pub IsShortOfNext : List EventValue → ℕ → List EventValue → Type 
 IsShortOfNext E n L = (n < length L) × LacksAt (union E (take n L)) L n
 
 -- want of memory may stop the step after its site took the first n events that it gives: a delivery
--- for the copy of its batch, before the first event, or for one that the site hasn't; a gossip for
--- what the giver has, and a scrub for an event of it that the taker hasn't, if they are two sites;
--- a restart for what was flushed, before the site changes; and a flush for nothing
+-- for an event that the site hasn't; a gossip for what the giver has, and a scrub for an event of it
+-- that the taker hasn't, if they are two sites; a restart for what was flushed, before the site
+-- changes; and a flush for nothing
 abbrev pub StopsAt : ℕ → Step → List Place → Type 0
-StopsAt n (Deliver i L) w =
-    (n < length L) × ((n ≡ 0) ⊎ IsShortOfNext (place_at w i).taken n L)
+StopsAt n (Deliver i L) w = IsShortOfNext (place_at w i).taken n L
 StopsAt n (Gossip i j) w =
     (i ≢ j) × ((place_at w i).taken ≢ [])
     × IsCutShort n (lacking (place_at w i).taken (place_at w j).taken)

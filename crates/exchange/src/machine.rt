@@ -37,30 +37,18 @@ pub struct Stopped {
     pub part: u64,
 }
 
-/// A copy of a batch.
-fn copy_of(alloc: Global, batch: &Batch) -> Result<Batch, AllocError>
-    ensures ok { IfOk result (λ copy. copy ≡ batch.now) }
-    ensures err { OnErr result (0 < length batch.now) }
-{
-    let mut copy = Batch::empty(alloc);
-    for i in 0..batch.len() {
-        copy.push(batch.at(i).copy()?)?;
-    }
-    Ok(copy)
-}
-
-/// A site takes a batch. After want of memory the answer is how many events it took.
-fn deliver(hosts: &mut Vec<Hosted>, to: usize, mut batch: Batch) -> Result<(), u64>
+/// A site takes copies of a batch. After want of memory the answer is how many events it took.
+fn deliver(hosts: &mut Vec<Hosted>, to: usize, batch: &Batch) -> Result<(), u64>
     requires { to < vec_len hosts.old }
     ensures sites { vec_len hosts.new ≡ vec_len hosts.old }
-    ensures gives { Gives hosts.old.items hosts.new.items to batch result }
+    ensures gives { Gives hosts.old.items hosts.new.items to batch.now result }
     ensures short { IfErr result (λ part.
-        IsShortOfNext (set_of (site_at hosts.old.items to)) part batch) }
+        IsShortOfNext (set_of (site_at hosts.old.items to)) part batch.now) }
 {
     // A site has what its set has.
     sets_are_members();
     let host = &mut hosts[to];
-    match host.site.take_batch(&mut batch) {
+    match host.site.take_copies(batch) {
         Ok(_) => Ok(()),
         Err(short) => Err(short.taken),
     }
@@ -142,12 +130,7 @@ fn make_step(alloc: Global, hosts: &mut Vec<Hosted>, step: &Step) -> Result<(), 
     // A site keeps each event once, and what it has already adds nothing.
     sets_are_members();
     match step {
-        Step::Deliver { site, batch } => {
-            let Ok(copy) = copy_of(alloc, batch) else {
-                return Err(0);
-            };
-            deliver(hosts, *site as usize, copy)
-        }
+        Step::Deliver { site, batch } => deliver(hosts, *site as usize, batch),
         Step::Gossip { from, to } => {
             if *from == *to {
                 return Ok(());

@@ -64,3 +64,22 @@ module _ {K : Type 0} (R : K → K → Ordering) where
 
   pub set_next : (E F L : List K) (i : ℕ) (x : K) (G : List K) → slice_get L i ≡ Some x → F ≡ add_all R E (take i L) → G ≡ add_all R F (x ∷ []) → G ≡ add_all R E (take (i + 1) L)
   set_next E F L i x G h f g = g ∙ ap (λ z. add_all R z (x ∷ [])) f ∙ sym (ap (add_all R E) (take_next L i x h) ∙ add_all-append R E (take i L) (x ∷ []))
+
+module _ {K : Type 0} where
+  -- what stands at a place of a list stands there when more is put behind it
+  get_front : (A B : List K) (n : ℕ) (x : K) → slice_get A n ≡ Some x → slice_get (A ++ B) n ≡ Some x
+  get_front [] B n x h = absurd (some_of_none n x h)
+    where
+      some_of_none : (n : ℕ) (x : K) → slice_get [] n ≡ Some x → ⊥
+      some_of_none n x h = absurd (omega (arith, slice_get_within [] n x h))
+  get_front (a ∷ A) B zero x h = h
+  get_front (a ∷ A) B (suc n) x h = get_front A B n x h
+
+module _ {K : Type 0} (R : K → K → Ordering) where
+  pub arrival_stays : (A L : List K) (n : ℕ) (x : K) → slice_get A n ≡ Some x → slice_get (append_new R A L) n ≡ Some x
+  arrival_stays A [] n x h = h
+  arrival_stays A (y ∷ L) n x h =
+      elim (has R A y) as (λ b. slice_get (append_new R (if b then A else A ++ y ∷ []) L) n ≡ Some x) [
+        | true ↦ arrival_stays A L n x h
+        | false ↦ arrival_stays (A ++ y ∷ []) L n x (get_front A (y ∷ []) n x h)
+      ]

@@ -1,5 +1,5 @@
 -- What holds of sites, whatever they took.
-use Rattle.std.specs.Prelude.{◌≡◌, ℕ, List, ◌||◌, Contains, take}
+use Rattle.std.specs.Prelude.{◌≡◌, ℕ, List, ◌||◌, Contains, Some, slice_get, take}
 use Rattle.attributes.specs.Event.{EventValue}
 use Rattle.coverage.specs.Digests.{Digests}
 use Rattle.coverage.specs.Summary.{Sources}
@@ -46,3 +46,8 @@ PagesSkipNone =
     (A L : List EventValue) (n : ℕ) (e : EventValue) → AreEvents A → AreEvents L
     → Contains (set_of A) e → ¬ Contains (take n (set_of A)) e
     → ¬ Contains (take n (set_of (append_new key_cmp A L))) e
+
+-- the event that came as the n-th is the n-th for ever, whatever is taken
+abbrev pub ArrivalsStay : Type 0
+ArrivalsStay = (A L : List EventValue) (n : ℕ) (e : EventValue) → slice_get A n ≡ Some e
+    → slice_get (append_new key_cmp A L) n ≡ Some e

@@ -1,6 +1,6 @@
 //! Laws of sites, each as the contract of a function that does nothing.
 
-ghost use Rattle.site.specs.Law.{PagesSkipNone, SitesAnswerAlike, TakingUnites};
+ghost use Rattle.site.specs.Law.{ArrivalsStay, PagesSkipNone, SitesAnswerAlike, TakingUnites};
 
 use coverage::laws::sets_have_one_summary;
 use inbox::laws::{arrivals_unite, sets_are_members, unions_are_sets};
@@ -34,3 +34,9 @@ pub fn pages_skip_none()
     sets_are_members();
     arrivals_unite();
 }
+
+/// The event that came as the n-th is the n-th for ever, whatever is taken: who read the first n goes
+/// on behind them.
+pub fn arrivals_stay()
+    ensures { ArrivalsStay }
+{}

@@ -1,16 +1,18 @@
 //! Views that are kept as events come.
 
-ghost use Rattle.std.specs.Prelude.{◌≡◌, ◌∷◌, [], IfSome, false};
+ghost use Rattle.std.specs.Prelude.{◌≡◌, ◌∷◌, ◌++◌, [], IfSome, IsSomeAnd, None, OnErr, OnOk, Some, false, replicate, true};
 ghost use Rattle.inbox.specs.Kept.{events};
 ghost use Rattle.inbox.specs.KeyOrder.{key_cmp};
 ghost use Rattle.inbox.specs.Ordered.{IsGapFor, append_new, has};
+ghost use Rattle.inbox.specs.Sets.{set_of};
+ghost use Rattle.inbox.specs.Shown.{is_shown};
 ghost use Rattle.kept_views.specs.Tables.{StandsFor};
 
 use super::Site;
 use attributes::Sequenced;
 use inbox::Inbox;
 use kept_views::Views;
-use std::alloc::AllocError;
+use std::alloc::{AllocError, Global};
 use std::hash::RandomState;
 
 /// An event that isn't there comes to the views, where they are kept, before the inbox takes it at
@@ -20,8 +22,15 @@ pub(super) fn bring(views: &mut Option<Box<Views>>, inbox: &Inbox, event: &Seque
     requires views { IfSome views.old (λ v. StandsFor inbox.now.arrivals v.value) }
     requires new { has key_cmp inbox.now.arrivals event.now ≡ false }
     requires gap { IsGapFor key_cmp (events inbox.now) event.now gap }
-    ensures { IfSome views.new
+    ensures stand { IfSome views.new
         (λ v. StandsFor (append_new key_cmp inbox.now.arrivals (event.now ∷ [])) v.value) }
+    ensures none { views.old ≡ None → views.new ≡ None }
+
+    // They are let go only at an event that is shown: no other wants memory.
+    ensures let_go { views.new ≡ None → IfSome views.old
+        (λ _. is_shown (set_of (inbox.now.arrivals ++ event.now ∷ [])) event.now ≡ true) }
+    ensures states { IfSome views.new
+        (λ v. IfSome views.old (λ o. v.value.states ≡ o.value.states)) }
 {
     let is_refused = match views {
         Some(kept) => kept.put_at(inbox, event, gap).is_err(),
@@ -30,6 +39,23 @@ pub(super) fn bring(views: &mut Option<Box<Views>>, inbox: &Inbox, event: &Seque
     if is_refused {
         *views = None;
     }
+}
+
+/// Makes the views of what came anew, by the random state. After want of memory those that are kept
+/// stay.
+fn renew(
+    views: &mut Option<Box<Views>>,
+    alloc: Global,
+    state: RandomState,
+    inbox: &Inbox,
+) -> Result<(), AllocError>
+    ensures kept { OnOk result (IsSomeAnd views.new (λ v. StandsFor inbox.now.arrivals v.value
+        × (v.value.states ≡ replicate 3 (Some state)))) }
+    ensures same { OnErr result (views.new ≡ views.old) }
+{
+    let made = Views::of(alloc, state, inbox)?;
+    *views = Some(Box::new(alloc, made)?);
+    Ok(())
 }
 
 impl Site {
@@ -44,9 +70,10 @@ impl Site {
     pub fn keep_views(&mut self, state: RandomState) -> Result<(), AllocError>
         ensures { self.new ≡ self.old }
     {
-        let views = Views::of(self.alloc, state, &self.inbox)?;
-        self.views = Some(Box::new(self.alloc, views)?);
-        Ok(())
+        match renew(&mut self.views, self.alloc, state, &self.inbox) {
+            Ok(()) => Ok(()),
+            Err(error) => Err(error),
+        }
     }
 
     /// Whether the site keeps views.

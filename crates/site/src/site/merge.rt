@@ -1,6 +1,6 @@
-//! Another site's events taken.
+//! Events taken of which another keeps its own.
 
-ghost use Rattle.std.specs.Prelude.{◌≡◌, ◌<◌, [], ◌∷◌, false, length, IfErr, OnErr, OnOk};
+ghost use Rattle.std.specs.Prelude.{◌≡◌, ◌≢◌, ◌<◌, [], ◌∷◌, false, length, IfErr, IfOk, OnErr, OnOk};
 ghost use Rattle.inbox.specs.KeyOrder.{key_cmp};
 ghost use Rattle.inbox.specs.Ordered.{append_new, has};
 ghost use Rattle.inbox.specs.Sets.{set_of, union};
@@ -8,7 +8,7 @@ ghost use Rattle.site.specs.Arrival.{Brings, LacksAt};
 
 use super::Site;
 use super::take::grow;
-use attributes::Sequenced;
+use attributes::{Batch, Sequenced};
 use inbox::laws::sets_are_members;
 use inbox::{Counts, Short};
 use std::alloc::AllocError;
@@ -39,6 +39,31 @@ impl Site {
         Ok(())
     }
 
+    /// Takes copies of the events of a batch, which stays as it is, from its front on. Those that are
+    /// there are not copied, and need no memory. After want of memory those before it stay. The time
+    /// is that of `take_batch`, and one search more for each new event.
+    pub fn take_copies(&mut self, batch: &Batch) -> Result<Counts, Short>
+        ensures brings { Brings self.old self.new batch.now result }
+        ensures short_taken { IfErr result (λ s. s.taken < length batch.now) }
+
+        // Memory was wanted for a new event.
+        ensures short_of_new { IfErr result (λ s. LacksAt self.new batch.now s.taken) }
+    {
+        let before = self.arrived();
+        let len = batch.len();
+        for i in 0..len {
+            let Ok(_) = self.take_copy(batch.at(i)) else {
+                let fresh = self.arrived() - before;
+                return Err(Short { taken: i, fresh });
+            };
+        }
+        let fresh = self.arrived() - before;
+        Ok(Counts {
+            fresh,
+            repeated: len - fresh,
+        })
+    }
+
     /// Takes copies of the other site's events, in key order. Those that are there are not copied,
     /// and need no memory. After want of memory those before it stay. The time is that of
     /// `take_batch`, and one search more for each new event.
@@ -61,5 +86,20 @@ impl Site {
             fresh,
             repeated: other.len() - fresh,
         })
+    }
+
+    /// A site with the same events, which came in the same order. It keeps no views. Time and memory
+    /// in proportion to the events.
+    pub fn copy(&self) -> Result<Site, AllocError>
+        ensures copy { IfOk result (λ copy. copy ≡ self.now) }
+
+        // A site without events wants no memory.
+        ensures err { OnErr result (self.now ≢ []) }
+    {
+        let mut copy = Site::empty(self.alloc);
+        for i in 0..self.arrived() {
+            copy.take_copy(self.arrived_at(i))?;
+        }
+        Ok(copy)
     }
 }

@@ -4,7 +4,7 @@ ghost use Rattle.std.specs.Prelude.{◌≡◌, ◌≢◌, [], IfOk, OnErr};
 ghost use Rattle.coverage.specs.Digests.{Digests};
 ghost use Rattle.inbox.specs.Sets.{set_of};
 ghost use Rattle.views.specs.Number.{Sums};
-ghost use Rattle.views.specs.Question.{IsAnswer, IsTrueOf, query_of};
+ghost use Rattle.views.specs.Question.{IsAnswer, IsTrueOf, MayWantMemory, query_of};
 
 use super::Site;
 use attributes::Text;
@@ -77,6 +77,7 @@ impl Site {
         ensures query { IfOk result (λ a. query_of a ≡ query) }
         ensures answer { IfOk result (IsTrueOf (set_of self.now)) }
         ensures err { OnErr result (set_of self.now ≢ []) }
+        ensures rows { OnErr result (MayWantMemory query (set_of self.now)) }
     {
         match &self.views {
             Some(views) => views.answer(&self.inbox, query),
@@ -91,8 +92,9 @@ impl Site {
         ensures query { IfOk result (λ a. query_of a ≡ query) }
         ensures answer { IfOk result (IsTrueOf (set_of self.now)) }
 
-        // A site without events wants no memory.
+        // A site without events wants no memory, nor does one without conflicts or days for these.
         ensures err { OnErr result (set_of self.now ≢ []) }
+        ensures rows { OnErr result (MayWantMemory query (set_of self.now)) }
     {
         match query {
             Query::Cover => Ok(Answer::Cover(self.numbers()?)),
@@ -101,13 +103,16 @@ impl Site {
     }
 
     /// The lines of the answer to a question about the set: what `views::print` makes of `query`,
-    /// but the shown events are printed where they stand, without a copy of each.
+    /// but shown events and conflicts are printed where they stand, without a copy of each, and so
+    /// are the latest events where no views are kept.
     pub fn lines(&self, query: Query) -> Result<Text, AllocError>
         ensures lines { IfOk result (IsAnswer query (set_of self.now)) }
 
         // Where there are no events, memory is wanted for a text alone that isn't empty.
         ensures err { OnErr result (IsAnswer query (set_of self.now) []
             → set_of self.now ≢ []) }
+        ensures rows { OnErr result (IsAnswer query (set_of self.now) []
+            → MayWantMemory query (set_of self.now)) }
     {
         // A law that the clauses rest on; the call does nothing.
         answers_are_alike();
@@ -116,6 +121,8 @@ impl Site {
         }
         match query {
             Query::Shown => answer_lines(self.alloc, &self.inbox, query),
+            Query::Conflicts => answer_lines(self.alloc, &self.inbox, query),
+            Query::Latest if self.views.is_none() => answer_lines(self.alloc, &self.inbox, query),
             _ => print(self.alloc, &self.query(query)?),
         }
     }

@@ -1,10 +1,11 @@
 //! Events taken.
 
-ghost use Rattle.std.specs.Prelude.{◌≡◌, ◌+◌, ◌<◌, [], ◌∷◌, drop, false, length, take, IfErr, IfOk, IfSome, OnErr, OnOk};
+ghost use Rattle.std.specs.Prelude.{◌≡◌, ◌+◌, ◌<◌, [], ◌∷◌, ◌++◌, drop, false, length, take, true, IfErr, IfOk, IfSome, None, OnErr, OnOk};
 ghost use Rattle.inbox.specs.Kept.{events};
 ghost use Rattle.inbox.specs.KeyOrder.{key_cmp};
 ghost use Rattle.inbox.specs.Ordered.{IsGapFor, append_new, has};
 ghost use Rattle.inbox.specs.Sets.{set_of, union};
+ghost use Rattle.inbox.specs.Shown.{is_shown};
 ghost use Rattle.block_digests.specs.Kept.{IsKeptOf};
 ghost use Rattle.coverage.specs.Summary.{version_of};
 ghost use Rattle.kept_views.specs.Tables.{StandsFor};
@@ -52,6 +53,10 @@ pub(super) fn grow(
         (append_new key_cmp inbox.old.arrivals (event.now ∷ [])) blocks.new) }
     ensures views { OnOk result (IfSome views.new
         (λ v. StandsFor (append_new key_cmp inbox.old.arrivals (event.now ∷ [])) v.value)) }
+    ensures let_go { OnOk result (views.new ≡ None → IfSome views.old
+        (λ _. is_shown (set_of (inbox.old.arrivals ++ event.now ∷ [])) event.now ≡ true)) }
+    ensures states { OnOk result (IfSome views.new
+        (λ v. IfSome views.old (λ o. v.value.states ≡ o.value.states))) }
     ensures err { OnErr result (summary.new ≡ summary.old) }
     ensures still_kept { OnErr result (IsKeptOf inbox.old.arrivals blocks.new) }
     ensures same_views { OnErr result (views.new ≡ views.old) }

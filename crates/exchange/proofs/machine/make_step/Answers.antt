@@ -1,4 +1,4 @@
-use Rattle.std.proofs.Common.{◌≡◌, ◌≢◌, ◌<◌, List, [], length, set, take, vec_len, refl, sym, ap, ap₂, ◌∙◌, subst, arith, inr}
+use Rattle.std.proofs.Common.{◌≡◌, ◌≢◌, ◌<◌, List, [], length, set, take, vec_len, refl, sym, ap, ap₂, ◌∙◌, subst, arith}
 use Rattle.std.proofs.lemmas.Result.{IfErr-weaker}
 use Rattle.inbox.specs.Sets.{set_of, union}
 use Rattle.exchange.specs.Lacking.{lacking}
@@ -11,14 +11,13 @@ use Rattle.exchange.proofs.SelfLemmas.{lacking-self, union-self}
 use Rattle.exchange.proofs.StandingLemmas.{flush_at, makes, restart_at, same_stands, site_taken, stands_at, stops_both}
 use Rattle.exchange.proofs.machine.make_step.Goals as goal
 
-pub returns-in-Ok-clause-made : goal.returns-in-Ok-clause-made
-returns-in-Ok-clause-made c w s =
+pub returns-in-Deliver-clause-made : goal.returns-in-Deliver-clause-made
+returns-in-Deliver-clause-made c w s =
     let old = c.args.hosts.now.items in
     let new = c.deliver.new.hosts.items in
     let to = c.in-Deliver.site in
     subst (λ st. Stands new (after_made c.deliver.result st w)) (sym c.in-Deliver.is)
-    (makes c.sets_are_members.ensures old new w (Deliver to c.in-Deliver.batch) to c.in-Deliver.batch refl (λ n. refl) c.deliver.result
-    (subst (λ L. Gives old new to L c.deliver.result) c.in-Ok.ensures.ok c.deliver.ensures.gives) s)
+    (makes c.sets_are_members.ensures old new w (Deliver to c.in-Deliver.batch) to c.in-Deliver.batch refl (λ n. refl) c.deliver.result c.deliver.ensures.gives s)
 
 pub returns-then-from-to-clause-made : goal.returns-then-from-to-clause-made
 returns-then-from-to-clause-made c w s =
@@ -69,25 +68,23 @@ returns-in-Flush-clause-made c w s =
     subst (λ st. Stands (set old i (record { site = c.index_mut-host.result.now.site; kept = c.arrived-host.result })) (after st w)) (sym c.in-Flush.is)
     (flush_at old w i c.index_mut-host.result.now c.arrived-host.result i_in c.index_mut-host.ensures.value c.arrived-host.ensures.count s)
 
-pub returns-in-Ok-restarted-clause-made : goal.returns-in-Ok-restarted-clause-made
-returns-in-Ok-restarted-clause-made c w s =
+pub returns-in-Ok-clause-made : goal.returns-in-Ok-clause-made
+returns-in-Ok-clause-made c w s =
     let old = c.args.hosts.now.items in
     let i = c.in-Restart.site in
     let h = c.index_mut-host-in-Restart.result.now in
     let i_in : i < length old = subst (λ n. i < n) c.args.hosts.now.ok.0 (subst (FitsIn (vec_len c.args.hosts.now)) c.in-Restart.is c.requires) in
-    subst (λ st. Stands (set old i (record { site = c.in-Ok-restarted.again; kept = h.kept })) (after st w)) (sym c.in-Restart.is)
-    (restart_at c.sets_are_members.ensures old w i h c.in-Ok-restarted.again i_in c.index_mut-host-in-Restart.ensures.value c.in-Ok-restarted.ensures.arrivals c.in-Ok-restarted.ensures.set s)
+    subst (λ st. Stands (set old i (record { site = c.in-Ok.again; kept = h.kept })) (after st w)) (sym c.in-Restart.is)
+    (restart_at c.sets_are_members.ensures old w i h c.in-Ok.again i_in c.index_mut-host-in-Restart.ensures.value c.in-Ok.ensures.arrivals c.in-Ok.ensures.set s)
 
-pub returns-in-Ok-clause-stops : goal.returns-in-Ok-clause-stops
-returns-in-Ok-clause-stops c =
+pub returns-in-Deliver-clause-stops : goal.returns-in-Deliver-clause-stops
+returns-in-Deliver-clause-stops c =
     let old = c.args.hosts.now.items in
     let to = c.in-Deliver.site in
     let batch = c.in-Deliver.batch in
     let to_in : to < length old = subst (λ n. to < n) c.args.hosts.now.ok.0 (subst (FitsIn (vec_len c.args.hosts.now)) c.in-Deliver.is c.requires) in
-    IfErr-weaker c.deliver.result (λ part. IsShortOfNext (set_of (site_at old to)) part c.in-Ok.copy) (λ part. (w : List Place) → Stands old w → StopsAt part c.args.step.now w)
-    (λ part short w s. subst (λ st. StopsAt part st w) (sym c.in-Deliver.is)
-    (let own = subst (λ b. IsShortOfNext (set_of (site_at old to)) part b) c.in-Ok.ensures.ok short in
-    (own.0, inr (subst (λ E. IsShortOfNext E part batch) (site_taken old w to s to_in) own))))
+    IfErr-weaker c.deliver.result (λ part. IsShortOfNext (set_of (site_at old to)) part batch) (λ part. (w : List Place) → Stands old w → StopsAt part c.args.step.now w)
+    (λ part short w s. subst (λ st. StopsAt part st w) (sym c.in-Deliver.is) (subst (λ E. IsShortOfNext E part batch) (site_taken old w to s to_in) short))
     c.deliver.ensures.short
 
 pub returns-else-from-to-clause-stops : goal.returns-else-from-to-clause-stops
@@ -116,12 +113,12 @@ returns-else-from-to-2-clause-stops c =
     (c.if-from-to-2.false, subst (λ E. IsShortOfNext E part (place_at w from).taken) (site_taken old w to s to_in) (subst (IsShortOfNext (set_of (site_at old to)) part) (site_taken old w from s from_in) short)))
     c.scrub_between.ensures.short
 
-pub returns-in_default-restarted-clause-stops : goal.returns-in_default-restarted-clause-stops
-returns-in_default-restarted-clause-stops c w s =
+pub returns-in_default-clause-stops : goal.returns-in_default-clause-stops
+returns-in_default-clause-stops c w s =
     let old = c.args.hosts.now.items in
     let i = c.in-Restart.site in
     let h = c.index_mut-host-in-Restart.result.now in
     let i_in : i < length old = subst (λ n. i < n) c.args.hosts.now.ok.0 (subst (FitsIn (vec_len c.args.hosts.now)) c.in-Restart.is c.requires) in
     let one = stands_at old w i h s i_in c.index_mut-host-in-Restart.ensures.value in
     subst (λ st. StopsAt 0 st w) (sym c.in-Restart.is)
-    (refl, λ none. absurd (omega (arith, c.in_default-restarted.ensures.err, one.mark, ap length none)))
+    (refl, λ none. absurd (omega (arith, c.in_default.ensures.err, one.mark, ap length none)))
