@@ -37,6 +37,28 @@ run delta --db s.db nothing.json
 is 'a summary with a line end' 0 "[$e1,$e2,$e3]$lf" ''
 run delta --db new.db nothing.json
 is 'a new file' 0 "[]$lf" ''
+# What came, in the order in which it came: here not that of the keys.
+run take --db came.db two.json
+run take --db came.db three.json
+run arrivals --db came.db --after 0
+is 'what came' 0 "[$e2,$e3,$e1]$lf" ''
+run arrivals --db came.db --after 2
+is 'what came behind the second' 0 "[$e1]$lf" ''
+run arrivals --db came.db --after 1 --all
+is 'all that came behind the first' 0 "[$e3,$e1]$lf" ''
+run arrivals --db came.db --after 3
+is 'nothing came behind the last' 0 "[]$lf" ''
+run arrivals --db came.db --after 18446744073709551615 --all
+is 'nor far behind it' 0 '' ''
+run arrivals --db none.db --after 0
+is 'no file is made for what came' 1 '' "site: none.db: cannot read$lf"
+for words in 'arrivals --db came.db' 'arrivals --db came.db --after -1' 'arrivals --db came.db --after 0 --all 1' 'arrivals --after 0'; do
+    # shellcheck disable=SC2086
+    run $words
+    [ -s got.err ] || status='nothing is said'
+    : >got.err
+    is "faulty words: $words" 2 '' ''
+done
 # A summary at fault is named, and no file is made.
 while IFS='|' read -r name summary; do
     printf %s "$summary" >faulty.json
@@ -86,13 +108,15 @@ for row in '0 100' '100 100' '200 50' '250 0'; do
     done
 done
 # Every page, each a line: 100, 100 and 50 events, in the order of the pages one by one.
-for words in 'delta --db many.db --all nothing.json' 'scrub --db many.db --all'; do
+for words in 'delta --db many.db --all nothing.json' 'scrub --db many.db --all' 'arrivals --db many.db --all --after 0'; do
     # shellcheck disable=SC2086
     run $words
     mv got.out all.out
     awk '{ n += gsub(/"id"/, "&"); printf "%d ", n; n = 0 }' all.out >got.out
     is "$words" 0 '100 100 50 ' ''
-    for from in 0 100 200; do "$program" "${words%% *}" --db many.db --from "$from" $(printf '%s' "$words" | grep -o 'nothing.json'); done >got.out 2>got.err
+    place=--from
+    [ "${words%% *}" != arrivals ] || place=--after
+    for from in 0 100 200; do "$program" "${words%% *}" --db many.db "$place" "$from" $(printf '%s' "$words" | grep -o 'nothing.json'); done >got.out 2>got.err
     status=$?
     cmp -s got.out all.out || status='other bytes'
     : >got.out
@@ -150,7 +174,7 @@ cmp served.db served.before
 status=$?
 : >got.out
 is 'nothing is made beside it' 0 '' ''
-for words in 'summary' 'scrub --all' 'delta --all nothing.json' 'cover' 'kinds three.json'; do
+for words in 'summary' 'scrub --all' 'arrivals --after 0' 'delta --all nothing.json' 'cover' 'kinds three.json'; do
     set -- $words
     word=$1
     shift
@@ -478,7 +502,7 @@ for words in 'scrub --db old.db' 'delta --db old.db nothing.json'; do
     is 'as SQLite tests it' 0 "ok$lf" ''
 done
 before high.db old.db
-for words in summary 'scrub --all' 'delta --all nothing.json' cover shown kinds latest days gaps conflicts; do
+for words in summary 'scrub --all' 'arrivals --after 0' 'arrivals --after 0 --all' 'delta --all nothing.json' cover shown kinds latest days gaps conflicts; do
     # shellcheck disable=SC2086
     set -- $words
     word=$1

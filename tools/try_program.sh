@@ -351,7 +351,7 @@ run --help
 options site <got.out >named
 awk '/^[A-Z][a-z]*:$/ { part = $1; next } part == "Commands:" && NF { print $1 }' got.out >words
 tr '\n' ' ' <words >got.out
-commands='cover gaps shown latest kinds days conflicts check take follow summary delta scrub run service order relay'
+commands='cover gaps shown latest kinds days conflicts check take follow summary delta scrub arrivals run service order relay'
 is 'the commands of help' 2 "$commands help " ''
 for word in $commands; do "$program" "$word" --help | options "$word"; done >>named
 LC_ALL=C sort words named -o named

@@ -157,6 +157,8 @@ WRITES = (
     Row(["delta", "--db", "s.db", "one.summary"]),
     Row(["scrub", "--db", "m.db", "--all"], by_line=True),
     Row(["delta", "--db", "m.db", "--all", "one.summary"], by_line=True),
+    Row(["arrivals", "--db", "s.db", "--after", "1"]),
+    Row(["arrivals", "--db", "m.db", "--after", "0", "--all"], by_line=True),
     Row(["service", "--db", "o.db"]),
     Row(["service", "--db", "n.db", "--source", "/west", "--base", "5"]),
     Row(["order", "--db", "o.db", "--at", AT, "ship", "7"]),

@@ -27,6 +27,8 @@ enum Wanted<'a> {
     Ask(Query, &'a str, &'a [&'a str]),
     /// These pages of all events.
     Scrub(Pages),
+    /// What came behind so many, a page of it or all.
+    Arrivals(u64, bool),
     /// The lines of this file.
     Follow(&'a str),
     /// The service with the source `/orders`, whether the words name it, and the base.
@@ -63,6 +65,9 @@ fn is_once(once: &Once, wanted: Wanted<'_>) -> bool {
             *query == asked && is_given(db, name) && are(files.as_slice(), names)
         }
         (Once::Scrub { db, pages }, Wanted::Scrub(held)) => db.as_str() == "d" && *pages == held,
+        (Once::Arrivals { db, after, is_all }, Wanted::Arrivals(passed, all)) => {
+            db.as_str() == "d" && *after == passed && *is_all == all
+        }
         (
             Once::Service {
                 db,
@@ -115,7 +120,7 @@ fn plans(alloc: Global, words: &[&str], wanted: Wanted<'_>) -> bool {
 }
 
 /// Words, and what they come to.
-static WORDS: [(&[&str], Wanted<'static>); 16] = [
+static WORDS: [(&[&str], Wanted<'static>); 19] = [
     (
         &["shown", "f", "-", "--", "-g"],
         Wanted::Ask(Query::Shown, "", &["f", "-", "-g"]),
@@ -137,6 +142,15 @@ static WORDS: [(&[&str], Wanted<'static>); 16] = [
         &["scrub", "--db", "d", "--all", "--from", "0"],
         Wanted::Fault,
     ),
+    (
+        &["arrivals", "--after", "7", "--db", "d"],
+        Wanted::Arrivals(7, false),
+    ),
+    (
+        &["arrivals", "--all", "--db", "d", "--after", "0"],
+        Wanted::Arrivals(0, true),
+    ),
+    (&["arrivals", "--db", "d", "--all"], Wanted::Fault),
     // Lines come from standard input where no file is named.
     (&["follow", "--db", "d"], Wanted::Follow("-")),
     (&["follow", "f", "--db", "d"], Wanted::Follow("f")),

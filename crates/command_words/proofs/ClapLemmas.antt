@@ -11,7 +11,7 @@ use Rattle.command_words.specs.declared.fault.Faulty.TheVariants.{OutOfMemory, W
 use Rattle.command_words.specs.Commands.{app_for, word_of}
 use Rattle.command_words.specs.Plans.{Blames}
 use Rattle.command_words.specs.declared.command.Command.{Command}
-use Rattle.command_words.specs.declared.command.Command.TheVariants.{Ask, Check, Delta, Follow, Order, Relay, Run, Scrub, Service, Summary, Take}
+use Rattle.command_words.specs.declared.command.Command.TheVariants.{Arrivals, Ask, Check, Delta, Follow, Order, Relay, Run, Scrub, Service, Summary, Take}
 use Rattle.views.specs.declared.query.Query.TheVariants.{Conflicts, Cover, Days, Gaps, Kinds, Latest, Shown}
 
 -- what a command that is b matched at the words
@@ -45,6 +45,7 @@ app_for-simple Take = refl
 app_for-simple Follow = refl
 app_for-simple Delta = refl
 app_for-simple Scrub = refl
+app_for-simple Arrivals = refl
 app_for-simple Run = refl
 app_for-simple Service = refl
 app_for-simple Order = refl
@@ -60,6 +61,7 @@ of_word word =
     else if bytes_eq word (codes "follow") then Follow else if bytes_eq word (codes "check") then Check
     else if bytes_eq word (codes "summary") then Summary
     else if bytes_eq word (codes "delta") then Delta else if bytes_eq word (codes "scrub") then Scrub
+    else if bytes_eq word (codes "arrivals") then Arrivals
     else if bytes_eq word (codes "service") then Service
     else if bytes_eq word (codes "order") then Order
     else if bytes_eq word (codes "run") then Run else Relay
@@ -78,6 +80,7 @@ of_word_back Take = refl
 of_word_back Follow = refl
 of_word_back Delta = refl
 of_word_back Scrub = refl
+of_word_back Arrivals = refl
 of_word_back Run = refl
 of_word_back Service = refl
 of_word_back Order = refl

@@ -4,7 +4,7 @@ use Rattle.clap.specs.Words.{App, Rule, app_of, new_app, new_rule, with_rule}
 use Rattle.clap.specs.declared.builder.command.Command as clap
 use Rattle.clap.specs.declared.builder.action.ArgAction.TheVariants.{Append, SetTrue}
 use Rattle.command_words.specs.declared.command.Command.{Command}
-use Rattle.command_words.specs.declared.command.Command.TheVariants.{Ask, Check, Delta, Follow, Order, Relay, Run, Scrub, Service, Summary, Take}
+use Rattle.command_words.specs.declared.command.Command.TheVariants.{Arrivals, Ask, Check, Delta, Follow, Order, Relay, Run, Scrub, Service, Summary, Take}
 use Rattle.views.specs.declared.query.Query.TheVariants.{Conflicts, Cover, Days, Gaps, Kinds, Latest, Shown}
 
 -- the word of a command
@@ -22,6 +22,7 @@ word_of Take = codes "take"
 word_of Follow = codes "follow"
 word_of Delta = codes "delta"
 word_of Scrub = codes "scrub"
+word_of Arrivals = codes "arrivals"
 word_of Run = codes "run"
 word_of Service = codes "service"
 word_of Order = codes "order"
@@ -91,6 +92,8 @@ app_for Follow = with_rule (with_db Follow) lines_rule
 app_for Delta = with_rule (with_rule (with_rule (with_db Delta) from_rule)
     (flag_rule (codes "all"))) (place_rule (codes "summary"))
 app_for Scrub = with_rule (with_rule (with_db Scrub) from_rule) (flag_rule (codes "all"))
+app_for Arrivals =
+    with_rule (with_rule (with_db Arrivals) (needed_rule (codes "after"))) (flag_rule (codes "all"))
 app_for Run = with_rule (with_rule (with_db Run) (option_rule (codes "peer"))) files_rule
 app_for Service = with_rule (with_rule (with_db Service)
     (default_rule (codes "source") (codes "/orders"))) (option_rule (codes "base"))

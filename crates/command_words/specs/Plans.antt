@@ -32,6 +32,7 @@ once_of (once.Summary db) = command.Summary
 once_of (once.Take db files) = command.Take
 once_of (once.Delta db which summary) = command.Delta
 once_of (once.Scrub db which) = command.Scrub
+once_of (once.Arrivals db after is_all) = command.Arrivals
 once_of (once.Service db source is_named base) = command.Service
 once_of (once.Order request) = command.Order
 once_of (once.Relay db after is_all) = command.Relay
@@ -145,6 +146,8 @@ HasTextsOnce rows (once.Delta db which summary) = (db ≡ text_in rows (codes "d
     × HasPages rows which × (summary ≡ text_in rows (codes "summary"))
 HasTextsOnce rows (once.Scrub db which) =
     (db ≡ text_in rows (codes "db")) × HasPages rows which
+HasTextsOnce rows (once.Arrivals db after is_all) = (db ≡ text_in rows (codes "db"))
+    × IsNumber (text_in rows (codes "after")) after × (is_all ≡ is_given rows (codes "all"))
 HasTextsOnce rows (once.Service db source is_named base) = (db ≡ text_in rows (codes "db"))
     × (source ≡ text_in rows (codes "source")) × (is_named ≡ is_given rows (codes "source"))
     × IsServiceSource source × IsBase (first_of (codes "base") rows) base

@@ -238,3 +238,15 @@ pub fn after<'a>(alloc: Global) -> Arg<'a>
         .help("The number of the last row that was sent, 0 for none")
         .required(true)
 }
+
+/// `--after N` of events that came.
+pub fn arrived<'a>(alloc: Global) -> Arg<'a>
+    ensures rule { rule_of result ≡ needed_rule (codes "after") }
+    ensures local { result.global ≡ false }
+{
+    Arg::new(alloc, "after")
+        .long("after")
+        .value_name("N")
+        .help("How many events were read already: the number of the last one, 0 for none")
+        .required(true)
+}

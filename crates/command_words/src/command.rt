@@ -5,7 +5,7 @@ ghost use Rattle.command_words.specs.Commands.{app_for, app_in, word_of};
 ghost use Rattle.command_words.specs.declared.command.Command.{Command};
 
 use crate::argument::{
-    action, after, all, at, base, checked_db, checked_files, db, files, from, lines,
+    action, after, all, arrived, at, base, checked_db, checked_files, db, files, from, lines,
     numbered_files, order, paged_db, peer, question_db, question_files, read_db, source, summary,
 };
 use clap::Arg;
@@ -31,6 +31,8 @@ pub enum Command {
     Delta,
     /// `scrub --db DB [--from N | --all]`: all events.
     Scrub,
+    /// `arrivals --db DB --after N [--all]`: the events that came behind the first N.
+    Arrivals,
     /// `run --db DB [--peer FILE] FILE..`: takes files side by side into a database.
     Run,
     /// `service --db DB [--source S] [--base N]`: the service of a database, made where there is
@@ -55,7 +57,7 @@ pub struct Row<'a> {
 }
 
 /// The words of all commands, in the order in which help lists them.
-pub static WORDS: [&str; 17] = [
+pub static WORDS: [&str; 18] = [
     "cover",
     "gaps",
     "shown",
@@ -69,6 +71,7 @@ pub static WORDS: [&str; 17] = [
     "summary",
     "delta",
     "scrub",
+    "arrivals",
     "run",
     "service",
     "order",
@@ -160,6 +163,12 @@ pub fn row_of<'a>(word: &str) -> Option<Row<'a>>
             full_name: "site scrub",
             about: "Prints a batch of all events, page by page, to mend what a delta can't find",
         }),
+        "arrivals" => Some(Row {
+            command: Command::Arrivals,
+            word: "arrivals",
+            full_name: "site arrivals",
+            about: "Prints a batch of the events that came after those that were read, in their order",
+        }),
         "run" => Some(Row {
             command: Command::Run,
             word: "run",
@@ -216,6 +225,9 @@ impl<'a> Row<'a> {
                 with(with(begun, all(alloc)), summary(alloc))
             }
             Command::Scrub => with(with(with(bare, paged_db(alloc)), from(alloc)), all(alloc)),
+            Command::Arrivals => {
+                with(with(with(bare, read_db(alloc)), arrived(alloc)), all(alloc))
+            }
             Command::Run => with(with(with(bare, db(alloc)), peer(alloc)), files(alloc)),
             Command::Service => with(with(with(bare, db(alloc)), source(alloc)), base(alloc)),
             Command::Order => {

@@ -52,6 +52,12 @@ pub enum Once {
         db: Text,
         pages: Pages,
     },
+    /// The events of a database that came behind the first `after`: the next page of them, or all.
+    Arrivals {
+        db: Text,
+        after: u64,
+        is_all: bool,
+    },
     /// The service of a database, made where there is none.
     Service {
         db: Text,

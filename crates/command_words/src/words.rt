@@ -105,6 +105,14 @@ fn matched(alloc: Global, command: Command, matches: &ArgMatches<'_>) -> Result<
                 Err(faulty) => Err(faulty),
             }
         }
+        Command::Arrivals => {
+            let db = text_of(alloc, matches, "db")?;
+            let is_all = is_given(matches, "all");
+            match number(alloc, "--after <N>", str_of(matches, "after")) {
+                Ok(after) => Ok(once(Once::Arrivals { db, after, is_all })),
+                Err(faulty) => Err(faulty),
+            }
+        }
         Command::Run => run(alloc, matches),
         Command::Service => service(alloc, matches),
         Command::Order => match request(alloc, matches) {

@@ -72,3 +72,10 @@ pub pages_left : (E : List EventValue) (both : Option Compared) (place n : ℕ) 
 pages_left E both place n es is count =
     let same : length es ≡ length (left_of E both place) = ap length is in
     all_pages n es (omega (arith, left_within E both place, same, count))
+
+-- and so where the first ones are passed
+pub pages_dropped : (es : List EventValue) (place n : ℕ) (left : List EventValue) → left ≡ drop place es → n ≡ length es
+    → pages_text left ≡ pages_below n left
+pages_dropped es place n left is count =
+    let same : length left ≡ length (drop place es) = ap length is in
+    all_pages n left (omega (arith, length-drop place es, same, count))

@@ -58,6 +58,10 @@ pub record MayHold (old : Database) (trees : Trees) : Type 0 where
   pub was : Holds old events
   pub is : Holds db events
 
+-- these are all that the database held but the first so many, in the order in which they came
+abbrev pub ShowsArrived : ℕ → Database → List EventValue → Type 0
+ShowsArrived after db events = (held : List EventValue) → Holds db held → events ≡ drop after held
+
 -- the database has the events that were held and behind them those of L that weren't there, and the
 -- text says how many those are
 pub record IsTaken (L held : List EventValue) (new : Database) (text : List ℕ) : Type 0 where
@@ -88,6 +92,12 @@ abbrev pub ShowsPage : ℕ → Database → List ℕ → Type 0
 ShowsPage from db text = (held : List EventValue) → Holds db held
     → text ≡ batch_line (page (set_of held) from max_page)
 
+-- the text is the batch of the page of all that the database held behind the first so many, in the
+-- order in which they came
+abbrev pub ShowsArrivals : ℕ → Database → List ℕ → Type 0
+ShowsArrivals after db text = (held : List EventValue) → Holds db held
+    → text ≡ batch_line (page held after max_page)
+
 -- the text is the batch of such a page of some events
 abbrev pub SaysDelta : Sources → ℕ → List ℕ → Type 0
 SaysDelta summary from text = (events : List EventValue)
@@ -96,6 +106,10 @@ SaysDelta summary from text = (events : List EventValue)
 abbrev pub SaysPage : ℕ → List ℕ → Type 0
 SaysPage from text = (events : List EventValue)
     × (text ≡ batch_line (page (set_of events) from max_page))
+
+abbrev pub SaysArrivals : ℕ → List ℕ → Type 0
+SaysArrivals after text = (events : List EventValue)
+    × (text ≡ batch_line (page events after max_page))
 
 -- the text is the line of the summary that digests these events
 abbrev pub SaysSummaryOf : List EventValue → List ℕ → Type 0
@@ -112,6 +126,10 @@ SaysSummary text = (events : List EventValue) × SaysSummaryOf (set_of events) t
 -- these are all of some events, in key order
 abbrev pub HasEvents : List EventValue → Type 0
 HasEvents es = (events : List EventValue) × (es ≡ set_of events)
+
+-- these are all but the first so many of some events
+abbrev pub HasArrived : ℕ → List EventValue → Type 0
+HasArrived after es = (events : List EventValue) × (es ≡ drop after events)
 
 -- these are what the summary lacks of some events
 abbrev pub HasDelta : Sources → List EventValue → Type 0

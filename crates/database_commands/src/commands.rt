@@ -5,14 +5,14 @@ ghost use Rattle.attributes.specs.Character.{is_filled};
 ghost use Rattle.attributes.specs.Sequence.{max_sequence};
 ghost use Rattle.database_commands.specs.Described.{SaysDatabase};
 ghost use Rattle.database_commands.specs.Effect.{DescribeEffect, HeldEffect, LookEffect, OrderEffect, PageEffect, RelayAllEffect, RelayEffect, ServiceEffect, TakeEffect};
-ghost use Rattle.database_commands.specs.Held.{HasDelta, HasEvents, SaysAllRows, SaysDelta, SaysOrder, SaysPage, SaysRows, SaysSummary, ShowsDelta, ShowsLacking, ShowsPage, ShowsSet, ShowsSummary};
+ghost use Rattle.database_commands.specs.Held.{HasArrived, HasDelta, HasEvents, SaysAllRows, SaysArrivals, SaysDelta, SaysOrder, SaysPage, SaysRows, SaysSummary, ShowsArrivals, ShowsArrived, ShowsDelta, ShowsLacking, ShowsPage, ShowsSet, ShowsSummary};
 ghost use Rattle.database_commands.specs.Print.{counts_line};
 ghost use Rattle.database_commands.specs.Service.{SaysService};
 
 use crate::command::{Command, CommandEnd};
 use crate::described::describe;
 use crate::intake::take;
-use crate::page::{delta, delta_pages, held, scrub, scrub_pages, summary};
+use crate::page::{arrival_pages, arrivals, delta, delta_pages, held, scrub, scrub_pages, summary};
 use crate::pages::EventPages;
 use crate::service::{order, relay, relay_all};
 use crate::told::tell_service;
@@ -150,6 +150,46 @@ impl Command for ScrubPage {
 
     fn perform<S: Alter + Drop>(self, alloc: Global, conn: Connection<S>) -> CommandEnd<S, Text> {
         scrub(alloc, conn, self.from)
+    }
+}
+
+/// Asks for a page of the events behind the first so many: [`arrivals`].
+#[derive(Drop)]
+pub struct ArrivalPage {
+    pub after: u64,
+}
+
+impl Command for ArrivalPage {
+    type Answer = Text;
+
+    ghost does = { λ c. LookEffect (ShowsArrivals c.after) };
+
+    ghost says = { λ c. SaysArrivals c.after };
+
+    fn perform<S: Alter + Drop>(self, alloc: Global, conn: Connection<S>) -> CommandEnd<S, Text> {
+        arrivals(alloc, conn, self.after)
+    }
+}
+
+/// Asks for all events behind the first so many: [`arrival_pages`].
+#[derive(Drop)]
+pub struct ArrivalPages {
+    pub after: u64,
+}
+
+impl Command for ArrivalPages {
+    type Answer = EventPages;
+
+    ghost does = { λ c. LookEffect (ShowsArrived c.after) };
+
+    ghost says = { λ c. HasArrived c.after };
+
+    fn perform<S: Alter + Drop>(
+        self,
+        alloc: Global,
+        conn: Connection<S>,
+    ) -> CommandEnd<S, EventPages> {
+        arrival_pages(alloc, conn, self.after)
     }
 }
 

@@ -4,15 +4,15 @@ ghost use Rattle.attributes.specs.Character.{is_filled};
 ghost use Rattle.attributes.specs.Sequence.{max_sequence};
 ghost use Rattle.line_intake.specs.Acknowledged.{TellsAll};
 ghost use Rattle.database_commands.specs.Described.{SaysDatabase};
-ghost use Rattle.database_commands.specs.Held.{HasDelta, HasEvents, SaysAllRows, SaysDelta, SaysOrder, SaysPage, SaysRows, SaysSummary};
+ghost use Rattle.database_commands.specs.Held.{HasArrived, HasDelta, HasEvents, SaysAllRows, SaysArrivals, SaysDelta, SaysOrder, SaysPage, SaysRows, SaysSummary};
 ghost use Rattle.database_commands.specs.Print.{counts_line};
 ghost use Rattle.database_commands.specs.Service.{SaysService};
 ghost use Rattle.database_commands.specs.Streams.{AcknowledgesUntil};
 
 use crate::command::CommandEnd;
 use crate::commands::{
-    DeltaPage, DeltaPages, GiveOrder, HeldEvents, RelayAll, RelayPage, ScrubPage, ScrubPages,
-    SummaryLine, TakeEvents, TellService,
+    ArrivalPage, ArrivalPages, DeltaPage, DeltaPages, GiveOrder, HeldEvents, RelayAll, RelayPage,
+    ScrubPage, ScrubPages, SummaryLine, TakeEvents, TellService,
 };
 use crate::fault::CommandFault;
 use crate::named::{describe_named, follow_named, perform_named, perform_there};
@@ -94,6 +94,19 @@ pub trait Databases {
     /// As [`crate::scrub`].
     fn scrub(&self, alloc: Global, name: &str, from: u64) -> Result<Text, CommandFault>
         ensures { IfOk result (SaysPage from) };
+
+    /// As [`crate::arrivals`]. A file that isn't there is not made: `CannotRead`.
+    fn arrivals(&self, alloc: Global, name: &str, after: u64) -> Result<Text, CommandFault>
+        ensures { IfOk result (SaysArrivals after) };
+
+    /// As [`crate::arrival_pages`]. A file that isn't there is not made: `CannotRead`.
+    fn arrival_pages(
+        &self,
+        alloc: Global,
+        name: &str,
+        after: u64,
+    ) -> Result<EventPages, CommandFault>
+        ensures { IfOk result (HasArrived after) };
 
     /// As [`crate::order`].
     fn order(
@@ -215,6 +228,19 @@ impl Databases for HostRuntime {
 
     fn scrub(&self, alloc: Global, name: &str, from: u64) -> Result<Text, CommandFault> {
         closed(perform_named(self, alloc, name, 0, Unknown, ScrubPage { from }))
+    }
+
+    fn arrivals(&self, alloc: Global, name: &str, after: u64) -> Result<Text, CommandFault> {
+        closed(perform_there(self, alloc, name, Unknown, ArrivalPage { after }))
+    }
+
+    fn arrival_pages(
+        &self,
+        alloc: Global,
+        name: &str,
+        after: u64,
+    ) -> Result<EventPages, CommandFault> {
+        closed(perform_there(self, alloc, name, Unknown, ArrivalPages { after }))
     }
 
     fn order(

@@ -19,8 +19,8 @@ mod trouble;
 
 pub use command::{Command, CommandEnd};
 pub use commands::{
-    DeltaPage, DeltaPages, Describe, GiveOrder, HeldEvents, RelayAll, RelayPage, ScrubPage,
-    ScrubPages, SummaryLine, TakeEvents, TellService,
+    ArrivalPage, ArrivalPages, DeltaPage, DeltaPages, Describe, GiveOrder, HeldEvents, RelayAll,
+    RelayPage, ScrubPage, ScrubPages, SummaryLine, TakeEvents, TellService,
 };
 pub use databases::Databases;
 pub use described::describe;
@@ -29,7 +29,7 @@ pub use file::{open, open_over};
 pub use intake::{loaded, take};
 pub use named::{describe_named, follow_named, perform_named, perform_there};
 pub use outbox::Status;
-pub use page::{delta, delta_pages, held, scrub, scrub_pages, summary};
+pub use page::{arrival_pages, arrivals, delta, delta_pages, held, scrub, scrub_pages, summary};
 pub use pages::EventPages;
 pub use service::{order, relay, relay_all};
 pub use stream::{StreamFault, Streamed, follow};

@@ -10,13 +10,13 @@ ghost use Rattle.site.specs.Page.{max_page, page};
 ghost use Rattle.database_layout.specs.Layout.{has_inbox};
 ghost use Rattle.outbox.specs.Call.{Leaves};
 ghost use Rattle.database_commands.specs.Effect.{LookEffect, PageEffect};
-ghost use Rattle.database_commands.specs.Held.{HasDelta, HasEvents, KeepsEvents, KeepsRows, SaysDelta, SaysPage, SaysSummary, SaysSummaryOf, ShowsDelta, ShowsEvents, ShowsLacking, ShowsPage, ShowsSet, ShowsSummary};
+ghost use Rattle.database_commands.specs.Held.{HasArrived, HasDelta, HasEvents, KeepsEvents, KeepsRows, SaysArrivals, SaysDelta, SaysPage, SaysSummary, SaysSummaryOf, ShowsArrivals, ShowsArrived, ShowsDelta, ShowsEvents, ShowsLacking, ShowsPage, ShowsSet, ShowsSummary};
 ghost use Rattle.database_commands.specs.Print.{batch_line};
 
 use crate::command::CommandEnd;
 use crate::fault::{CommandFault, of_table};
 use crate::intake::loaded;
-use crate::pages::EventPages;
+use crate::pages::{EventPages, page_behind};
 use crate::text::batch_line;
 use attributes::{Batch, Text};
 use coverage::Summary;
@@ -104,6 +104,61 @@ pub fn summary<S: Alter + Drop>(alloc: Global, conn: Connection<S>) -> CommandEn
             let outcome = summary_line(alloc, events);
             CommandEnd { conn, outcome }
         }
+        Err(fault) => CommandEnd {
+            conn,
+            outcome: Err(fault),
+        },
+    }
+}
+
+/// The page of the events of a database behind the first so many, at most 100, in the order in which
+/// they came. What came as the n-th is the n-th for ever. Nothing is written, also where it is
+/// refused. Time in proportion to all events.
+pub fn arrivals<S: Alter + Drop>(
+    alloc: Global,
+    conn: Connection<S>,
+    after: u64,
+) -> CommandEnd<S, Text>
+    ensures did { LookEffect (ShowsArrivals after) result.outcome (state S.Store conn)
+        (state S.Store result.conn) }
+    ensures line { IfOk result.outcome (SaysArrivals after) }
+{
+    let CommandEnd {
+        conn,
+        outcome: events,
+    } = held(alloc, conn);
+    match events {
+        Ok(events) => {
+            let outcome = arrivals_line(alloc, &events, after);
+            CommandEnd { conn, outcome }
+        }
+        Err(fault) => CommandEnd {
+            conn,
+            outcome: Err(fault),
+        },
+    }
+}
+
+/// The events of a database behind the first so many, in the order in which they came, to be printed
+/// page after page. Nothing is written, also where it is refused. Time in proportion to all events.
+pub fn arrival_pages<S: Alter + Drop>(
+    alloc: Global,
+    conn: Connection<S>,
+    after: u64,
+) -> CommandEnd<S, EventPages>
+    ensures did { LookEffect (ShowsArrived after) result.outcome (state S.Store conn)
+        (state S.Store result.conn) }
+    ensures some { IfOk result.outcome (HasArrived after) }
+{
+    let CommandEnd {
+        conn,
+        outcome: events,
+    } = held(alloc, conn);
+    match events {
+        Ok(events) => CommandEnd {
+            conn,
+            outcome: Ok(EventPages::of_arrivals(alloc, events, after)),
+        },
         Err(fault) => CommandEnd {
             conn,
             outcome: Err(fault),
@@ -234,6 +289,14 @@ fn summary_line(alloc: Global, events: Batch) -> Result<Text, CommandFault>
     let mut line = summary.to_text()?.into_string();
     line.push_str("\n")?;
     Ok(Text::from_string(line))
+}
+
+/// The line of a page of the events behind the first so many.
+fn arrivals_line(alloc: Global, events: &Batch, after: u64) -> Result<Text, CommandFault>
+    ensures { IfOk result (λ text. text ≡ batch_line (page events.now after max_page)) }
+{
+    let page = page_behind(alloc, events, after)?;
+    Ok(batch_line(alloc, &page)?)
 }
 
 /// All of the events.

@@ -184,6 +184,7 @@ once_allowed words (once.Summary db) h = tt
 once_allowed words (once.Take db files) h = tt
 once_allowed words (once.Delta db which summary) h = tt
 once_allowed words (once.Scrub db which) h = tt
+once_allowed words (once.Arrivals db after is_all) h = tt
 once_allowed words (once.Service db source is_named base) h = let t = h.1.texts in (t.3.filled, t.3.short, base_low _ base t.4)
 once_allowed words (once.Order request) h = let r = h.1.texts in record {
   filled = r.allowed.filled;

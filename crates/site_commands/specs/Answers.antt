@@ -16,7 +16,7 @@ use Rattle.command_words.specs.declared.request.Action.{Action}
 use Rattle.command_words.specs.declared.request.Action.TheVariants as action
 use Rattle.command_words.specs.declared.request.Pages.{Pages}
 use Rattle.command_words.specs.declared.request.Pages.TheVariants as pages
-use Rattle.database_commands.specs.Held.{HasDelta, HasEvents, SaysAllRows, SaysDelta, SaysOrder, SaysPage, SaysRows, SaysSummary}
+use Rattle.database_commands.specs.Held.{HasArrived, HasDelta, HasEvents, SaysAllRows, SaysArrivals, SaysDelta, SaysOrder, SaysPage, SaysRows, SaysSummary}
 use Rattle.database_commands.specs.Pages.{pages_text}
 use Rattle.database_commands.specs.Print.{WithoutLineEnd, counts_line}
 use Rattle.database_commands.specs.Service.{SaysService}
@@ -122,6 +122,12 @@ SaysPages (pages.Behind n) text = SaysPage n text
 SaysPages pages.All text =
     (events : List EventValue) × HasEvents events × (text ≡ pages_text events)
 
+-- the text is the page of some events behind the first so many, or all pages
+abbrev pub SaysArrived : ℕ → Bool → List ℕ → Type 0
+SaysArrived after false text = SaysArrivals after text
+SaysArrived after true text =
+    (events : List EventValue) × HasArrived after events × (text ≡ pages_text events)
+
 -- the file has a summary, and the text has the pages that are asked for of what it lacks of some
 -- events
 abbrev pub AnswersDelta : (List ℕ → List ℕ → Type 0) → Pages → List ℕ → List ℕ → Type 0
@@ -200,6 +206,7 @@ AnswersOnce C (once.Summary db) text = SaysSummary text
 AnswersOnce C (once.Take db files) text = AnswersTake C files text
 AnswersOnce C (once.Delta db which summary) text = AnswersDelta C which summary text
 AnswersOnce C (once.Scrub db which) text = SaysPages which text
+AnswersOnce C (once.Arrivals db after is_all) text = SaysArrived after is_all text
 AnswersOnce C (once.Service db source is_named base) text = SaysService is_named source base text
 AnswersOnce C (once.Order request) text = AnswersOrder request text
 AnswersOnce C (once.Relay db after is_all) text = SaysRelay after is_all text
@@ -219,6 +226,7 @@ RefusesOnce C U (once.Summary db) refusal = IsOfDatabase refusal
 RefusesOnce C U (once.Take db files) refusal = RefusesTake C U files refusal
 RefusesOnce C U (once.Delta db which summary) refusal = RefusesDelta C U summary refusal
 RefusesOnce C U (once.Scrub db which) refusal = IsOfDatabase refusal
+RefusesOnce C U (once.Arrivals db after is_all) refusal = IsOfDatabase refusal
 RefusesOnce C U (once.Service db source is_named base) refusal = IsOfDatabase refusal
 RefusesOnce C U (once.Order request) refusal = IsOfDatabase refusal
 RefusesOnce C U (once.Relay db after is_all) refusal = IsOfDatabase refusal
@@ -238,6 +246,7 @@ IsAllowed (once.Summary db) = Unit {0}
 IsAllowed (once.Take db files) = Unit {0}
 IsAllowed (once.Delta db which summary) = Unit {0}
 IsAllowed (once.Scrub db which) = Unit {0}
+IsAllowed (once.Arrivals db after is_all) = Unit {0}
 IsAllowed (once.Service db source is_named base) = (is_filled source ≡ true)
     × (length source ≤ 1024) × IfSome base (λ n. n ≤ max_sequence)
 IsAllowed (once.Order request) = IsAllowedRequest request

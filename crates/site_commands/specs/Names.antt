@@ -29,6 +29,7 @@ of_once (once.Summary db) = record { db = db; order = 0; files = [] }
 of_once (once.Take db files) = record { db = db; order = 0; files = files }
 of_once (once.Delta db which name) = record { db = db; order = 0; files = name ∷ [] }
 of_once (once.Scrub db which) = record { db = db; order = 0; files = [] }
+of_once (once.Arrivals db after is_all) = record { db = db; order = 0; files = [] }
 of_once (once.Service db source is_named base) = record { db = db; order = 0; files = [] }
 of_once (once.Order request) = record { db = request.db; order = request.order; files = [] }
 of_once (once.Relay db after is_all) = record { db = db; order = 0; files = [] }

@@ -4,7 +4,7 @@ ghost use Rattle.attributes.specs.Character.{is_filled};
 ghost use Rattle.attributes.specs.Sequence.{max_sequence};
 ghost use Rattle.database_commands.specs.Held.{SaysSummary};
 ghost use Rattle.database_commands.specs.Service.{SaysService};
-ghost use Rattle.site_commands.specs.Answers.{AnswersDelta, AnswersOrder, AnswersTake, HasSummary, IsAllowedRequest, IsOfDatabase, RefusesDelta, RefusesTake, SaysLacking, SaysPages, SaysRelay, status_of};
+ghost use Rattle.site_commands.specs.Answers.{AnswersDelta, AnswersOrder, AnswersTake, HasSummary, IsAllowedRequest, IsOfDatabase, RefusesDelta, RefusesTake, SaysArrived, SaysLacking, SaysPages, SaysRelay, status_of};
 ghost use Rattle.site_commands.specs.Printed.{printed};
 
 use crate::line::Refusal;
@@ -131,6 +131,30 @@ pub fn scrub<D: Databases>(
             Ok(events) => Ok(Printed::Pages(events)),
             Err(why) => Err(Refusal::Database(why)),
         },
+    }
+}
+
+/// The events of a database behind the first so many, in the order in which they came: the next page
+/// of at most 100, or all pages, each as a line.
+pub fn arrivals<D: Databases>(
+    alloc: Global,
+    databases: &D,
+    db: &str,
+    after: u64,
+    is_all: bool,
+) -> Result<Printed, Refusal>
+    ensures ok { IfOk result (λ p. SaysArrived after is_all (printed p)) }
+    ensures err { IfErr result IsOfDatabase }
+{
+    if is_all {
+        return match databases.arrival_pages(alloc, db, after) {
+            Ok(events) => Ok(Printed::Pages(events)),
+            Err(why) => Err(Refusal::Database(why)),
+        };
+    }
+    match databases.arrivals(alloc, db, after) {
+        Ok(text) => Ok(Printed::Line(text)),
+        Err(why) => Err(Refusal::Database(why)),
     }
 }
 

@@ -56,6 +56,7 @@ impl<'a> Names<'a> {
                 files: &[],
             },
             Once::Scrub { db, .. } => Names::of_db(db.as_str()),
+            Once::Arrivals { db, .. } => Names::of_db(db.as_str()),
             Once::Service { db, .. } => Names::of_db(db.as_str()),
             Once::Order(request) => Names {
                 db: request.db.as_str(),

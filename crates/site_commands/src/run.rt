@@ -10,7 +10,7 @@ ghost use Rattle.site_commands.specs.declared.printed.Printed.TheVariants as Pri
 ghost use Rattle.site_commands.specs.Runs.{EndsUnheard, IsOnceEnding, IsRunEnding, IsUnheard, PrintsAnswer, RunsAlone, RunsBeside, RunsWords, said};
 
 use crate::check::ending_of_check;
-use crate::database::{delta, order, relay, scrub, service, summary, take};
+use crate::database::{arrivals, delta, order, relay, scrub, service, summary, take};
 use crate::ending::{Ending, finish, refused};
 use crate::files::SystemFiles;
 use crate::line::Refusal;
@@ -276,6 +276,9 @@ fn carried_out<S: Shelf, F: EventReader, D: Databases, P: Progress>(
             summary.as_str(),
         ),
         Once::Scrub { db, pages } => scrub(alloc, databases, db.as_str(), *pages),
+        Once::Arrivals { db, after, is_all } => {
+            arrivals(alloc, databases, db.as_str(), *after, *is_all)
+        }
         Once::Service {
             db,
             source,
