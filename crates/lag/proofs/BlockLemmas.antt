@@ -1,5 +1,5 @@
 -- Blocks counted, interval by interval.
-use Rattle.std.proofs.Common.{◌≡◌, ◌≤◌, ◌<◌, ◌-◌, ◌+◌, ◌⊎◌, ◌&&◌, ◌∙◌, ℕ, zero, suc, add-one, List, [], ◌∷◌, ◌++◌, Bool, true, false, drop, filter, length, length-append, get_or, refl, sym, ap, subst, arith, inl, inr, not-suc-le-zero, le_of_suc-le-suc}
+use Rattle.std.proofs.Common.{◌≡◌, ◌≤◌, ◌<◌, ◌-◌, ◌+◌, ◌∙◌, ℕ, zero, suc, List, [], ◌∷◌, ◌++◌, Bool, true, false, drop, filter, length, length-append, refl, sym, ap, subst, arith, inl, inr, not-suc-le-zero, le_of_suc-le-suc}
 use Rattle.std.proofs.lemmas.Bool.{and_parts, cases_lt}
 use Rattle.std.proofs.lemmas.Bool.Decides.{nat_tests}
 use Rattle.std.proofs.lemmas.List.{drop_more}

@@ -1,5 +1,5 @@
 -- In how many blocks two summaries differ.
-use Rattle.std.specs.Prelude.{◌≡◌, ◌+◌, ◌-◌, ℕ, zero, suc, List, [], ◌∷◌, ◌++◌, Bool, true, false, filter, is_none, length, max, not, if◌then◌else◌}
+use Rattle.std.specs.Prelude.{◌+◌, ◌-◌, ℕ, zero, suc, List, [], ◌∷◌, ◌++◌, Bool, true, false, filter, is_none, length, max, not, if◌then◌else◌}
 use Rattle.block_digests.specs.Block.{block_of}
 use Rattle.block_digests.specs.Digest.{is_one_digest}
 use Rattle.coverage.specs.Digests.{digest_at}

@@ -1,5 +1,5 @@
 -- What a call leaves in the room that a site over a file lies in, and what it replies.
-use Rattle.std.specs.Prelude.{◌≡◌, ◌≢◌, ◌-◌, ◌<◌, ◌⊎◌, ℕ, List, [], ◌∷◌, drop, length, take, IsTrue, MatchResult, None, Option, Result, Some}
+use Rattle.std.specs.Prelude.{◌≡◌, ◌≢◌, ◌-◌, ◌<◌, ◌⊎◌, ℕ, List, [], ◌∷◌, drop, length, take, IsTrue, MatchResult, None, Result, Some}
 use Rattle.sqlite_disk.specs.declared.Disk as disk
 use Rattle.sqlite_wal.specs.Recovery.{Image}
 use Rattle.sqlite_store.specs.declared.store.FileStore.{FileStore}

@@ -1,6 +1,6 @@
 -- Bodies of several callers that come in one transaction: each is offered, all are kept, and then
 -- it is asked what became of each.
-use Rattle.std.specs.Prelude.{◌≡◌, ◌≢◌, ◌-◌, ◌==◌, ◌⊎◌, ℕ, List, [], ◌∷◌, ◌++◌, length, IsTrue, MatchOption, MatchResult, None, Option, Result, Some, slice_get, if◌then◌else◌}
+use Rattle.std.specs.Prelude.{◌≡◌, ◌-◌, ◌==◌, ◌⊎◌, ℕ, List, [], ◌∷◌, ◌++◌, length, IsTrue, MatchOption, MatchResult, Option, Result, Some, slice_get, if◌then◌else◌}
 use Rattle.sqlite_disk.specs.declared.Disk as disk
 use Rattle.sqlite_store.specs.declared.store.FileStore.{FileStore}
 use Rattle.sqlite.specs.Files.{file_state}

@@ -1,4 +1,4 @@
-use Rattle.std.proofs.Common.{rules, arith, ◌≡◌, ◌<◌, ◌+◌, ◌∙◌, ℕ, [], ◌∷◌, drop, length, refl, subst, sym, ap, map, ◌≤◌}
+use Rattle.std.proofs.Common.{rules, arith, ◌≡◌, ◌<◌, ◌+◌, [], ◌∷◌, drop, length, refl, subst, sym, map, ◌≤◌}
 use Rattle.std.proofs.lemmas.List.{length-map}
 use Rattle.std.proofs.lemmas.List.{drop_all}
 use Rattle.std.specs.Map.Iter.{deref_pair}

@@ -1,5 +1,4 @@
-use Rattle.std.proofs.Common.{◌≡◌, ◌<◌, ℕ, ◌+◌, ◌≤◌, drop, length, map}
-use Rattle.std.specs.Map.Iter.{deref_pair}
+use Rattle.std.proofs.Common.{◌<◌, ℕ, ◌+◌, drop}
 use Rattle.coverage.specs.Summary.{entries_of}
 use Rattle.lag.specs.Lacking.{Lacks}
 use Rattle.lag.proofs.lacking.Given as goal

@@ -1,7 +1,7 @@
-use Rattle.std.proofs.Common.{rules, arith, ◌≡◌, ◌<◌, ◌+◌, ◌∙◌, ℕ, [], ◌∷◌, drop, length, map, refl, subst, sym, ap}
+use Rattle.std.proofs.Common.{rules, arith, ◌≡◌, ◌<◌, ◌+◌, ◌∷◌, drop, length, subst, ap}
 use Rattle.std.specs.Map.Iter.{deref_pair}
-use Rattle.coverage.specs.Summary.{Entries, entries_of}
-use Rattle.lag.specs.Blocks.{apart, apart_of}
+use Rattle.coverage.specs.Summary.{Entries}
+use Rattle.lag.specs.Blocks.{apart}
 use Rattle.lag.proofs.Entries.{entry_at}
 use Rattle.lag.proofs.blocks.apart.Goals as goal
 

@@ -1,5 +1,5 @@
-use Rattle.std.proofs.Common.{◌≡◌, ◌≤◌, ◌<◌, ◌-◌, ◌+◌, ◌∙◌, ℕ, Bool, arith, sym, length, filter}
-use Rattle.lag.specs.Blocks.{is_apart, span}
+use Rattle.std.proofs.Common.{◌<◌, ◌∙◌, ℕ, Bool, arith, sym}
+use Rattle.lag.specs.Blocks.{is_apart}
 use Rattle.lag.proofs.BlockLemmas.{span_counts, span_passes}
 use Rattle.lag.proofs.blocks.apart_in.Goals as goal
 use Rattle.lag.proofs.blocks.apart_in.Goals.{then-is_apart, else-is_apart}

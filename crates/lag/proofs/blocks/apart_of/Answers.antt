@@ -1,8 +1,8 @@
-use Rattle.std.proofs.Common.{rules, arith, ◌≡◌, ◌≤◌, ◌<◌, ◌-◌, ◌+◌, ◌/◌, ◌∙◌, ℕ, Bool, List, [], ◌∷◌, drop, filter, length, max, refl, sym, ap, subst, Fits, w64}
+use Rattle.std.proofs.Common.{arith, ◌≡◌, ◌≤◌, ◌<◌, ◌-◌, ◌+◌, ◌/◌, ◌∙◌, ℕ, Bool, List, drop, filter, length, max, ap}
 use Rattle.std.proofs.lemmas.List.{drop_all}
 use Rattle.coverage.specs.Intervals.{Interval}
-use Rattle.lag.specs.Blocks.{apart_in, apart_of, blocks_from, is_apart, span}
-use Rattle.lag.proofs.BlockLemmas.{IsAt, both_count, few, next_is, none_left}
+use Rattle.lag.specs.Blocks.{blocks_from, is_apart, span}
+use Rattle.lag.proofs.BlockLemmas.{both_count, few, next_is}
 use Rattle.lag.proofs.blocks.apart_of.Goals as goal
 
 pub overflow_add-from : goal.overflow_add-from

@@ -1,4 +1,4 @@
-use Rattle.std.proofs.Common.{◌≡◌, ◌∙◌, ap, List, ℕ, [], subst, sym, Ok}
+use Rattle.std.proofs.Common.{◌≡◌, ◌∙◌, ap, List, [], subst, sym, Ok}
 use Rattle.sqlite.specs.Held.{state}
 use Rattle.attributes.specs.Event.{EventValue}
 use Rattle.inbox.specs.KeyOrder.{key_cmp}

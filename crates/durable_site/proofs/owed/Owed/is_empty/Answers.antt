@@ -1,4 +1,4 @@
-use Rattle.std.proofs.Common.{rules, ◌≡◌, ◌<◌, ◌+◌, ◌∙◌, ◌++◌, ◌∷◌, List, [], ap, drop, length, sym, true≢false}
+use Rattle.std.proofs.Common.{rules, ◌≡◌, ◌<◌, ◌+◌, ◌∙◌, ◌++◌, List, ap, drop, length, sym, true≢false}
 use Rattle.std.proofs.lemmas.List.{drop_more}
 use Rattle.attributes.specs.Event.{EventValue}
 use Rattle.inbox_table.specs.Calls.{joined}
