@@ -1,11 +1,13 @@
 /* What the calls answer that a service stands on, of a site in memory and of one over a file, well
  * given and not. It makes its files in the folder where it is run. The last line is 'N passed, M
  * failed'. */
-#define _DEFAULT_SOURCE /* mkdtemp */
+#define _DEFAULT_SOURCE /* mkdtemp, usleep */
 #include "jumbetai.h"
+#include <signal.h>
 #include <stdio.h>
 #include <stdlib.h>
 #include <string.h>
+#include <sys/wait.h>
 #include <unistd.h>
 
 static int passed, failed;
@@ -278,6 +280,63 @@ static void try_again(void) {
     jumbetai_close(site);
 }
 
+/* Bodies of a transaction, and the events of each. */
+enum { BODIES = 8, EVENTS = 2, TOGETHER = BODIES * EVENTS };
+
+/* Takes bodies together and tells how many events were answered, until it is killed. */
+static void take_on(const char *path, int from, int to) {
+    static char bytes[BODIES][400];
+    jumbetai_body bodies[BODIES];
+    jumbetai_answer answers[BODIES];
+    jumbetai_site *site;
+    if (jumbetai_open_file(path, 0, &site)) _exit(1);
+    for (int next = from;; next += TOGETHER) {
+        for (int i = 0; i < BODIES; i++) {
+            int first = next + i * EVENTS;
+            snprintf(bytes[i], sizeof bytes[i],
+                     "[{\"id\":\"%d\",\"source\":\"/k\",\"specversion\":\"1.0\",\"sequence\":"
+                     "\"%020d\",\"type\":\"t\"},{\"id\":\"%d\",\"source\":\"/k\","
+                     "\"specversion\":\"1.0\",\"sequence\":\"%020d\",\"type\":\"t\"}]",
+                     first, first, first + 1, first + 1);
+            bodies[i] = body(bytes[i]);
+        }
+        if (jumbetai_take_each(site, bodies, BODIES, answers)) _exit(1);
+        for (int i = 0; i < BODIES; i++)
+            if (!is_answer(answers + i, JUMBETAI_DONE, EVENTS, 0)) _exit(1);
+        int answered = next + TOGETHER - 1;
+        if (write(to, &answered, sizeof answered) != sizeof answered) _exit(1);
+    }
+}
+
+/* A process that is killed leaves all bodies that were answered, and all of the next ones or none.
+ */
+static void try_kills(void) {
+    int answered = 0, rounds = getenv("JUMBETAI_KILLS") ? atoi(getenv("JUMBETAI_KILLS")) : 20;
+    for (int round = 0; round < rounds; round++) {
+        int ends[2], last;
+        jumbetai_site *site = NULL;
+        if (pipe(ends)) return;
+        pid_t child = fork();
+        if (child == 0) take_on("killed.db", answered + 1, ends[1]);
+        close(ends[1]);
+        for (int i = 0; i < 1 + round % 5; i++)
+            if (read(ends[0], &last, sizeof last) == sizeof last) answered = last;
+        usleep((unsigned)(round * 137 % 900));
+        kill(child, SIGKILL);
+        while (read(ends[0], &last, sizeof last) == sizeof last)
+            answered = last;
+        waitpid(child, NULL, 0);
+        close(ends[0]);
+        int status = jumbetai_open_file("killed.db", 0, &site);
+        int has = (int)jumbetai_count(site);
+        jumbetai_close(site);
+        must(!status && (has == answered || has == answered + TOGETHER), "the killed file",
+             "what was answered, and all of a transaction or none");
+        answered = has;
+    }
+    must(answered > 0, "the killed file", "some events");
+}
+
 int main(void) {
     char folder[] = "test-service-XXXXXX";
     if (!mkdtemp(folder) || chdir(folder)) return 2;
@@ -287,6 +346,7 @@ int main(void) {
     must(jumbetai_open_file("service.db", 0, &site) == JUMBETAI_DONE, "the file", "opened");
     try_all(site, "the file");
     try_again();
+    try_kills();
     printf("%d passed, %d failed\n", passed, failed);
     return failed > 0;
 }
