@@ -17,6 +17,14 @@ says, else from beside this file, else by its name libjumbetai.so.0 from where t
 Site(path) is over a database file: what it takes is in the file, and synced, before it is counted.
 Once it is closed the file is opened by Site(path), by the program `site` and by sqlite3.
 
+A service takes the bodies of several callers in one transaction, and answers each; a consumer keeps the number of the
+last event that it has, and asks what came behind it:
+
+    >>> south.take_each(['{"specversion":"1.0","id":"2","source":"/a","type":"t","sequence":"%020d"}' % 2, "{}"])
+    [Taken(fresh=1, repeated=0), Error('the bytes spell no events')]
+    >>> [(page.start, page.events) for page in south.arrivals(after=1)]
+    [(1, 1)]
+
 Outbox(path) has the orders of a service in a database file, each written with the event that tells of it in one
 transaction, and hands those events on:
 
@@ -33,7 +41,7 @@ transaction, and hands those events on:
     >>> mark
     2
     >>> south.ask("kinds")
-    b'["order.placed",1]\\n["order.shipped",1]\\n["sold",1]\\n'
+    b'["order.placed",1]\\n["order.shipped",1]\\n["sold",1]\\n["t",1]\\n'
     >>> folder.cleanup()
 
 Sites that took the same events, in whatever order and however often, give the same bytes for every answer. That is

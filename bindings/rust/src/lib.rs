@@ -42,6 +42,28 @@
 //! # Ok::<(), Error>(())
 //! ```
 //!
+//! A service takes the bodies of several callers in one transaction, and answers each; a consumer keeps the number of
+//! the last event that it has, and asks what came behind it:
+//!
+//! ```
+//! use jumbetai::{Error, Site};
+//!
+//! let event = br#"{"specversion":"1.0","id":"1","source":"/shop","type":"order.placed",
+//!     "sequence":"00000000000000000001"}"#;
+//! let mut site = Site::new()?;
+//! let answers = site.take_each(&[event, b"{}", event])?;
+//! assert_eq!(answers[0].map(|taken| taken.fresh), Ok(1));
+//! assert_eq!(answers[1], Err(Error::NoEvents));
+//! assert_eq!(answers[2].map(|taken| taken.repeated), Ok(1));
+//!
+//! let mut mark = 0;
+//! while let Some(page) = site.arrivals(mark)? {
+//!     mark = page.from + page.events;
+//! }
+//! assert_eq!(mark, site.len());
+//! # Ok::<(), Error>(())
+//! ```
+//!
 //! An [`Outbox`] has the orders of a service in a database file, each written with the event that tells of it in one
 //! transaction, and hands those events on:
 //!

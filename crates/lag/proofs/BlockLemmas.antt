@@ -86,10 +86,10 @@ same_place : (ps : List Interval) (i from k : ℕ) (p : Interval) → IsAt ps i 
     → ((j : ℕ) → j < k → (interval_at ps j).0 < from) → i ≡ k
 same_place ps i from k p at low hk is none =
     elim (cases_lt i k) [
-      inl less ↦ (let one = at.behind i (omega arith) (omega (arith, less, hk)) in let two = none i less in absurd (omega (arith, one, two)))
-    | inr not ↦ elim (cases_lt k i) [
-        inl less ↦ (let one = at.before k less in let two : from ≤ (interval_at ps k).0 = subst (λ (q : Interval). from ≤ q.0) (sym is) low in absurd (omega (arith, one, two)))
-      | inr neither ↦ omega (arith, not, neither)
+      | inl less ↦ (let one = at.behind i (omega arith) (omega (arith, less, hk)) in let two = none i less in absurd (omega (arith, one, two)))
+      | inr not ↦ elim (cases_lt k i) [
+        | inl less ↦ (let one = at.before k less in let two : from ≤ (interval_at ps k).0 = subst (λ (q : Interval). from ≤ q.0) (sym is) low in absurd (omega (arith, one, two)))
+        | inr neither ↦ omega (arith, not, neither)
       ]
     ]
 
@@ -112,18 +112,18 @@ next_is ps i from p h at next =
       at = record {
         within = omega (arith, inside);
         before = λ j lt. elim (cases_lt j i) [
-            inl less ↦ (let one = at.before j less in omega (arith, one, next.0, ordered))
+          | inl less ↦ (let one = at.before j less in omega (arith, one, next.0, ordered))
           | inr not ↦ (let e : i ≡ j = omega (arith, not, lt) in let one : (interval_at ps j).0 ≡ p.0 = ap (λ n. (interval_at ps n).0) (sym e) ∙ ap (λ (q : Interval). q.0) is in omega (arith, one, ordered))
-          ];
+        ];
         behind = λ j low hj. (let one : p.1 + 1 < (interval_at ps j).0 = subst (λ (q : Interval). q.1 + 1 < (interval_at ps j).0) is (gap_at 1 ps i j h (omega (arith, low)) hj) in omega (arith, one));
       };
     }
 
 pub none_left : (ps : List Interval) (i from : ℕ) → IsAt ps i from → AllStartBefore ps from → length ps ≤ i
 none_left ps i from at all = elim (cases_lt i (length ps)) [
-    inl less ↦ (let one = at.behind i (omega arith) less in let two = all i less in absurd (omega (arith, one, two)))
+  | inl less ↦ (let one = at.behind i (omega arith) less in let two = all i less in absurd (omega (arith, one, two)))
   | inr not ↦ not
-  ]
+]
 
 -- intervals are no more than their numbers
 pub few : (ps : List Interval) → length ps ≤ size_of ps

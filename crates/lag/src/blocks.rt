@@ -34,14 +34,7 @@ fn is_apart(first: &Summary, second: &Summary, alone: bool, source: &str, block:
 }
 
 /// How many blocks count from one on and below another.
-fn apart_in(
-    first: &Summary,
-    second: &Summary,
-    alone: bool,
-    source: &str,
-    from: u64,
-    to: u64,
-) -> u64
+fn apart_in(first: &Summary, second: &Summary, alone: bool, source: &str, from: u64, to: u64) -> u64
     ensures count { result ≡ apart_in first.now second.now alone source.now (span from (to - from)) }
 {
     let mut count = 0u64;

@@ -9,8 +9,11 @@ whole false = refl
 pub returns-in-None : goal.returns-in-None
 unfolding holds
 returns-in-None c =
-    let numbers = c.args.numbers.now in
-    (numbers, record {
-      canonical = c.size-in-None.ensures.canonical;
-      members = λ n. whole (holds numbers n) ∙ ap (λ held. holds numbers n && not (holds held n)) (sym c.in-None.ensures.numbers);
-    }, c.size-in-None.ensures.size)
+    let numbers = c.args.numbers.now in (
+      numbers,
+      record {
+        canonical = c.size-in-None.ensures.canonical;
+        members = λ n. whole (holds numbers n) ∙ ap (λ held. holds numbers n && not (holds held n)) (sym c.in-None.ensures.numbers);
+      },
+      c.size-in-None.ensures.size,
+    )

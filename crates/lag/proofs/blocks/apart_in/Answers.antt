@@ -11,10 +11,10 @@ loop-block-preserved c =
     let inv = c.loop-block.invariant in
     let inside : k < c.args.to = c.loop-block-test.true in
     elim c.if-is_apart.branch [
-      then-is_apart w ↦ (
-        let step = span_counts f k c.args.to inside (sym c.is_apart.ensures ∙ w.if-is_apart.true) in
-        (omega (arith, inv.0), omega (arith, inv.0, inv.1, w.count-is), omega (arith, inv.2, step, w.count-is)))
-    | else-is_apart w ↦ (
-        let step = span_passes f k c.args.to inside (sym c.is_apart.ensures ∙ w.if-is_apart.false) in
-        (omega (arith, inv.0), omega (arith, inv.0, inv.1, w.count-is), omega (arith, inv.2, step, w.count-is)))
+      | then-is_apart w ↦ (
+          let step = span_counts f k c.args.to inside (sym c.is_apart.ensures ∙ w.if-is_apart.true) in
+          (omega (arith, inv.0), omega (arith, inv.0, inv.1, w.count-is), omega (arith, inv.2, step, w.count-is)))
+      | else-is_apart w ↦ (
+          let step = span_passes f k c.args.to inside (sym c.is_apart.ensures ∙ w.if-is_apart.false) in
+          (omega (arith, inv.0), omega (arith, inv.0, inv.1, w.count-is), omega (arith, inv.2, step, w.count-is)))
     ]
