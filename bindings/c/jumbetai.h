@@ -217,9 +217,10 @@ int jumbetai_compare(jumbetai_site *site, const void *summary, size_t length, ju
  * file also when it is opened again: so a consumer keeps that number, and asks what is new. */
 int jumbetai_arrivals(jumbetai_site *site, uint64_t after, jumbetai_text *text);
 
-/* A site in memory that has the same events, come in the same order, for a reader beside the
- * writer: the two have nothing in common. Time and memory in proportion to the events, which are
- * read as by jumbetai_take, a page at a time. `*copy` is null where it isn't done. */
+/* A site in memory with the same events, come in the same order, for a reader beside the writer:
+ * the two have nothing in common. Time and memory in proportion to the events, which are read as by
+ * jumbetai_take, a page at a time: where one has more than 33,554,432 bytes the status is
+ * JUMBETAI_NO_EVENTS. `*copy` is null where it isn't done. */
 int jumbetai_copy(jumbetai_site *site, jumbetai_site **copy);
 
 /* Gives back what a site keeps of its last answer, at most 64 KiB. A null pointer is let through.

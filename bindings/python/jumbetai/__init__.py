@@ -362,7 +362,8 @@ class Site(_Open):
 
     def copy(self) -> "Site":
         """A site in memory that has the same events, come in the same order, for a reader beside the writer. Time and
-        memory in proportion to the events, which are read as by `take`."""
+        memory in proportion to the events, which are read as by `take`, a page at a time: where one has more than
+        33,554,432 bytes it is Status.NO_EVENTS."""
         site = Site.__new__(Site)
         _Open.__init__(site, "jumbetai_close", False)
         _judge(self._call("jumbetai_copy", ctypes.byref(site._raw)))

@@ -523,7 +523,8 @@ impl Site {
     }
 
     /// A site in memory that has the same events, come in the same order, for a reader beside the
-    /// writer. Time and memory in proportion to the events, which are read as by [`Site::take`].
+    /// writer. Time and memory in proportion to the events, which are read as by [`Site::take`], a page
+    /// at a time: where one has more than 33,554,432 bytes it is [`Error::NoEvents`].
     pub fn copy(&mut self) -> Result<Site, Error> {
         let mut raw = null_mut();
         // SAFETY: the site is open.
