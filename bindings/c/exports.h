@@ -21,6 +21,19 @@ struct jumbetai_piece {
     unsigned char bytes[4096];
 };
 
+/* The SHA-256 of the text of a set's summary; as it was where status isn't 0. */
+struct jumbetai_set_name {
+    uint32_t status;
+    unsigned char bytes[32];
+};
+
+/* lacking: how many numbers a peer has that the site lacks. ahead: the other way round. blocks: how
+ * many blocks differ or are on one side alone. All three are 0 where status isn't. */
+struct jumbetai_set_lag {
+    uint32_t status;
+    uint64_t lacking, ahead, blocks;
+};
+
 size_t jumbetai_site_size(void);
 void jumbetai_site_open(void *at);
 void jumbetai_site_take(void *at, const unsigned char *bytes, size_t length,
@@ -34,8 +47,21 @@ void jumbetai_site_delta(void *at, const unsigned char *summary, size_t length, 
 void jumbetai_site_page(void *at, uint64_t from, struct jumbetai_reply *reply);
 void jumbetai_site_keep_views(void *at, const unsigned char *seed, size_t length,
                               struct jumbetai_reply *reply);
+/* as jumbetai_file_tell */
+void jumbetai_site_tell(void *at, uint32_t what, const unsigned char *bytes, size_t length,
+                        uint64_t from, struct jumbetai_reply *reply);
+/* A part of what a peer lacks: at most so many events, 0 for a page, and up to the page with which
+ * their texts have `size` bytes, where that isn't 0. */
+void jumbetai_site_part(void *at, const unsigned char *summary, size_t length, uint64_t from,
+                        uint64_t most, uint64_t size, struct jumbetai_reply *reply);
+void jumbetai_site_name(void *at, struct jumbetai_set_name *name);
+void jumbetai_site_compare(void *at, const unsigned char *summary, size_t length,
+                           struct jumbetai_set_lag *lag);
 void jumbetai_site_read(void *at, uint32_t piece, struct jumbetai_piece *out);
 void jumbetai_site_close(void *at);
+
+/* What taking bytes would come to, without a site; `listed` is how many events they spell. */
+void jumbetai_bytes_test(const unsigned char *bytes, size_t length, struct jumbetai_reply *reply);
 
 /* Two open files of a database, for reading and writing, by their descriptors: its log, and the
  * database file. Both are locked and nobody else's, hold what the disk holds, and are the library's
@@ -53,9 +79,22 @@ void jumbetai_file_open(void *at, struct jumbetai_files *files, struct jumbetai_
 void jumbetai_file_take(void *at, const unsigned char *bytes, size_t length,
                         struct jumbetai_reply *reply);
 /* what: 1 to 7 a question; 8 the summary; 9 what a peer lacks, whose summary the bytes are; 10 a
- * page; 11 what is wrong with bytes; 12 that views be kept, by sixteen random bytes. */
+ * page; 11 what is wrong with bytes; 12 that views be kept, by sixteen random bytes; 13 a page of
+ * arrivals; 14 that the text be let go. */
 void jumbetai_file_tell(void *at, uint32_t what, const unsigned char *bytes, size_t length,
                         uint64_t from, struct jumbetai_reply *reply);
+void jumbetai_file_part(void *at, const unsigned char *summary, size_t length, uint64_t from,
+                        uint64_t most, uint64_t size, struct jumbetai_reply *reply);
+void jumbetai_file_name(void *at, struct jumbetai_set_name *name);
+void jumbetai_file_compare(void *at, const unsigned char *summary, size_t length,
+                           struct jumbetai_set_lag *lag);
+/* Bodies of one transaction: each is offered, and refused (2, 3) or not; all are kept; it is asked
+ * what became of the one at a place. At want of memory (1) all that were offered are let go, as by
+ * any call but these three. */
+void jumbetai_file_offer(void *at, const unsigned char *bytes, size_t length,
+                         struct jumbetai_reply *reply);
+void jumbetai_file_keep(void *at, struct jumbetai_reply *reply);
+void jumbetai_file_answer(void *at, uint64_t place, struct jumbetai_reply *reply);
 void jumbetai_file_read(void *at, uint32_t piece, struct jumbetai_piece *out);
 void jumbetai_file_close(void *at);
 

@@ -13,8 +13,8 @@
 /* The status of the call of the system that just failed. */
 static int failed(void) { return errno == ENOMEM ? JUMBETAI_OUT_OF_MEMORY : JUMBETAI_SYSTEM; }
 
-/* SQLite's pending and reserved locks, and its shared ones from SHARED on. */
-enum { FIRST = 1 << 30, SHARED = FIRST + 2, LENGTH = 512 };
+/* SQLite's pending, reserved and shared locks. */
+enum { FIRST = 1 << 30, LENGTH = 512 };
 
 static struct flock whole_range(short type) {
     return (struct flock){.l_type = type, .l_whence = SEEK_SET, .l_start = FIRST, .l_len = LENGTH};
@@ -82,17 +82,6 @@ static int take_kept(const char *path) {
     return -1;
 }
 
-/* Lets go of what couldn't be locked. It is closed where another process, or another opening, has
- * the whole range for itself, since nobody here has a lock beside that. */
-static void let_go(int fd) {
-    struct flock found = whole_range(F_WRLCK);
-    if (!fcntl(fd, F_OFD_GETLK, &found) && found.l_type == F_WRLCK && found.l_pid != getpid() &&
-        found.l_start <= SHARED && (!found.l_len || found.l_start + found.l_len >= FIRST + LENGTH))
-        close(fd);
-    else
-        keep(fd);
-}
-
 /* Whether what is open is a regular file with one name, which stands there and is no link. */
 static int is_its_own(int fd, const char *path) {
     struct stat found, named;
@@ -154,7 +143,8 @@ static int open_locked(const char *path, mode_t mode, int *to, int *is_new) {
     int is_named = is_its_own(fd, path);
     status = lock(fd);
     if (status) {
-        let_go(fd);
+        /* Whoever has the lock, another thread may have one by SQLite in the next moment. */
+        keep(fd);
         return is_named ? status : JUMBETAI_NO_FILE;
     }
     /* It may have been moved, and another put there, before it was locked. */

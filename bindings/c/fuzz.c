@@ -34,6 +34,9 @@ static void try_take(const unsigned char *bytes, size_t length) {
     must(!jumbetai_check(site, bytes, length, &told), "a check");
     int status = jumbetai_take(site, bytes, length, &counts);
     must(is_one_of(status, answers), "the status of a take");
+    uint64_t events;
+    must(jumbetai_test(bytes, length, &events) == status, "a test that says what the take says");
+    must(events == counts.fresh + counts.repeated, "how many events a test finds");
     must((status == JUMBETAI_DONE) == (told.length == 0), "a check that says what the take says");
     must(jumbetai_count(site) == counts.fresh, "the count");
     if (!status) {

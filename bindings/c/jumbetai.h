@@ -82,6 +82,26 @@ typedef struct jumbetai_counts {
     uint64_t repeated;
 } jumbetai_counts;
 
+/* Bytes of one caller, and what came of them: the status and the counts that jumbetai_take would
+ * answer. */
+typedef struct jumbetai_body {
+    const void *bytes;
+    size_t length;
+} jumbetai_body;
+typedef struct jumbetai_answer {
+    int status;
+    jumbetai_counts counts;
+} jumbetai_answer;
+
+/* How far a site and a peer are apart: how many numbers of its sources the peer has that the site
+ * lacks, how many the site has that the peer lacks, and how many blocks of 1,024 numbers differ, or
+ * are on one side alone. */
+typedef struct jumbetai_lag {
+    uint64_t lacking;
+    uint64_t ahead;
+    uint64_t blocks;
+} jumbetai_lag;
+
 /* An outbox. Made by jumbetai_open_outbox and given back by jumbetai_close_outbox. */
 typedef struct jumbetai_outbox jumbetai_outbox;
 
@@ -117,9 +137,9 @@ jumbetai_site *jumbetai_open(void);
  * site is open neither uses nor closes it. `*site` is null where it isn't done.
  *
  * SQLite's own library may have the file open in the same process. Each then finds it busy while
- * the other uses it, and JUMBETAI_BUSY takes none of SQLite's locks away: where they may be this
- * process's own, a descriptor of the file stays open for the next call. In the moment in which a
- * site is closed no other thread is to open or lock its file by SQLite. */
+ * the other uses it, and JUMBETAI_BUSY takes none of SQLite's locks away: a descriptor of the file
+ * stays open for the next opening. As a site is closed, or an opening refused otherwise, the system
+ * drops what locks another thread takes on the file by SQLite in that moment: none is to. */
 int jumbetai_open_file(const char *path, uint32_t cache_mib, jumbetai_site **site);
 
 /* Gives a site and its memory back. A null pointer is let through. */
@@ -134,6 +154,19 @@ uint64_t jumbetai_count(const jumbetai_site *site);
  * file all are kept, in one transaction, or none; JUMBETAI_OWED says that they are kept, and that
  * the rest is counted at the next take. `counts` may be null. */
 int jumbetai_take(jumbetai_site *site, const void *bytes, size_t length, jumbetai_counts *counts);
+
+/* Takes the bodies of several callers, each as jumbetai_take takes its bytes, in their order, and
+ * answers each: `answers` has room for `count` of them. A body at fault is refused alone. `fresh`
+ * counts what wasn't there before that body. Over a file the others are kept in one transaction:
+ * where that isn't done, none is, and its status is the call's and each of their answers'; a crash
+ * leaves all of them, or none. In memory they are taken one by one, up to one that memory is
+ * refused to. The status tells of no fault of bytes; JUMBETAI_OWED is as in jumbetai_take. */
+int jumbetai_take_each(jumbetai_site *site, const jumbetai_body *bodies, size_t count,
+                       jumbetai_answer *answers);
+
+/* What jumbetai_take would say of these bytes, and how many events they spell, 0 where they are
+ * refused. It needs no site, and any thread may call it at any time. `events` may be null. */
+int jumbetai_test(const void *bytes, size_t length, uint64_t *events);
 
 /* What is wrong with bytes that are refused: a line of JSON for each event at fault, as `site
  * check` prints of a file `-`; the empty text where nothing is. Takes nothing. */
@@ -160,6 +193,40 @@ int jumbetai_summary(jumbetai_site *site, jumbetai_text *text);
 int jumbetai_delta(jumbetai_site *site, const void *summary, size_t length, uint64_t from,
                    jumbetai_text *text);
 
+/* As jumbetai_delta, in larger parts: at most `events` events, 2,000 where it is more, and
+ * JUMBETAI_PAGE where it is 0. Where `bytes` isn't 0, the part ends with the 100 events with which
+ * their texts have so many bytes. */
+int jumbetai_delta_part(jumbetai_site *site, const void *summary, size_t length, uint64_t from,
+                        uint64_t events, uint64_t bytes, jumbetai_text *text);
+
+/* The summary of version 1, without digests, as jumbetai_ask(site, JUMBETAI_COVER, text) answers
+ * it: which numbers each source has. Time in proportion to it alone. */
+int jumbetai_cover(jumbetai_site *site, jumbetai_text *text);
+
+/* The name of the set of events: the SHA-256 of the text of jumbetai_summary, without its line end.
+ * Two sites of one name have the same events, or two texts have one SHA-256. */
+int jumbetai_name(jumbetai_site *site, unsigned char name[32]);
+
+/* How far the site and a peer are apart, by the peer's summary, whose final line end may be left
+ * out; one of version 1 tells of no blocks, which are 0 then. Where it isn't done all three are 0.
+ */
+int jumbetai_compare(jumbetai_site *site, const void *summary, size_t length, jumbetai_lag *lag);
+
+/* The events that came after the first `after`, in the order in which they came, at most
+ * JUMBETAI_PAGE, as a batch. The last of them is number `after` and `events` more, for ever, over a
+ * file also when it is opened again: so a consumer keeps that number, and asks what is new. */
+int jumbetai_arrivals(jumbetai_site *site, uint64_t after, jumbetai_text *text);
+
+/* A site in memory with the same events, come in the same order, for a reader beside the writer:
+ * the two have nothing in common. Time and memory in proportion to the events, which are read as by
+ * jumbetai_take, a page at a time: where one has more than 33,554,432 bytes the status is
+ * JUMBETAI_NO_EVENTS. `*copy` is null where it isn't done. */
+int jumbetai_copy(jumbetai_site *site, jumbetai_site **copy);
+
+/* Gives back what a site keeps of its last answer, at most 64 KiB. A null pointer is let through.
+ */
+void jumbetai_release(jumbetai_site *site);
+
 /* All events in key order, by pages of the same kind. */
 int jumbetai_page(jumbetai_site *site, uint64_t from, jumbetai_text *text);
 
@@ -169,9 +236,10 @@ int jumbetai_page(jumbetai_site *site, uint64_t from, jumbetai_text *text);
  * one are numbered from `base` + 1 on, with a base of 0 to 2^63-1; one that is there keeps its own.
  *
  * The file is made, opened and kept busy as by jumbetai_open_file, beside SQLite too, with a cache
- * of the same kind; a process that was forked leaves it alone. It may have the events of a site too; one of the two is
- * open at a time. Time and memory in proportion to the rows, which are all tested; the memory is
- * given back. `*outbox` is null where it isn't done; a file that was made then stays. */
+ * of the same kind; a process that was forked leaves it alone. It may have the events of a site
+ * too; one of the two is open at a time. Time and memory in proportion to the rows, which are all
+ * tested; the memory is given back. `*outbox` is null where it isn't done; a file that was made
+ * then stays. */
 int jumbetai_open_outbox(const char *path, const char *source, uint64_t base, uint32_t cache_mib,
                          jumbetai_outbox **outbox);
 

@@ -87,8 +87,8 @@ int jumbetai_rows(jumbetai_outbox *outbox, uint64_t after, jumbetai_text *text) 
     jumbetai_outbox_rows(outbox->room, after, &reply);
     int status = note(outbox, &reply);
     if (!status) {
-        status =
-            jumbetai_copy(outbox->room, jumbetai_outbox_read, reply.length, reply.listed, text);
+        status = jumbetai_copy_text(outbox->room, jumbetai_outbox_read, reply.length, reply.listed,
+                                    text);
         /* The last text stays in the room: a page without rows is in place of a large one. */
         if (reply.length > JUMBETAI_LARGE) jumbetai_outbox_rows(outbox->room, UINT64_MAX, &unread);
     }

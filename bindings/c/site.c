@@ -16,21 +16,14 @@ static const unsigned char *start_of(const void *bytes) {
     return bytes ? bytes : (const unsigned char *)"";
 }
 
-/* What a site over files is asked by: the numbers of the questions, and these behind them. */
-enum { SUMMARY = 8, DELTA, PAGE, CHECK, KEEP_VIEWS };
+/* What a site is asked by: the numbers of the questions, and these behind them. */
+enum { SUMMARY = 8, DELTA, PAGE, CHECK, KEEP_VIEWS, ARRIVALS, RELEASE };
 
-/* Asks a site over files. */
+/* Asks a site. */
 static void tell(jumbetai_site *site, uint32_t what, const void *bytes, size_t length,
                  uint64_t from, struct jumbetai_reply *reply) {
-    jumbetai_file_tell(site->room, what, start_of(bytes), length, from, reply);
-}
-
-/* Asks for a page. */
-static void ask_page(jumbetai_site *site, uint64_t from, struct jumbetai_reply *reply) {
-    if (site->is_file)
-        tell(site, PAGE, NULL, 0, from, reply);
-    else
-        jumbetai_site_page(site->room, from, reply);
+    (site->is_file ? jumbetai_file_tell : jumbetai_site_tell)(site->room, what, start_of(bytes),
+                                                              length, from, reply);
 }
 
 void jumbetai_write(void *room, void (*read)(void *, uint32_t, struct jumbetai_piece *),
@@ -44,8 +37,8 @@ void jumbetai_write(void *room, void (*read)(void *, uint32_t, struct jumbetai_p
     bytes[length] = 0;
 }
 
-int jumbetai_copy(void *room, void (*read)(void *, uint32_t, struct jumbetai_piece *),
-                  uint64_t length, uint64_t listed, jumbetai_text *text) {
+int jumbetai_copy_text(void *room, void (*read)(void *, uint32_t, struct jumbetai_piece *),
+                       uint64_t length, uint64_t listed, jumbetai_text *text) {
     char *bytes = length < PTRDIFF_MAX ? malloc((size_t)length + 1) : NULL;
     if (!bytes) return JUMBETAI_OUT_OF_MEMORY;
     jumbetai_write(room, read, (size_t)length, bytes);
@@ -56,11 +49,11 @@ int jumbetai_copy(void *room, void (*read)(void *, uint32_t, struct jumbetai_pie
 /* The text that the site keeps since the call that replied so. */
 static int copy_text(jumbetai_site *site, const struct jumbetai_reply *reply, jumbetai_text *text) {
     if (reply->status != JUMBETAI_DONE) return (int)reply->status;
-    int status = jumbetai_copy(site->room, site->is_file ? jumbetai_file_read : jumbetai_site_read,
-                               reply->length, reply->listed, text);
-    /* The site keeps its last text: a page without events is in place of a large one. */
-    struct jumbetai_reply unread;
-    if (reply->length > JUMBETAI_LARGE) ask_page(site, UINT64_MAX, &unread);
+    int status =
+        jumbetai_copy_text(site->room, site->is_file ? jumbetai_file_read : jumbetai_site_read,
+                           reply->length, reply->listed, text);
+    /* The site keeps its last text, but for a large one. */
+    if (reply->length > JUMBETAI_LARGE) jumbetai_release(site);
     return status;
 }
 
@@ -125,14 +118,77 @@ int jumbetai_take(jumbetai_site *site, const void *bytes, size_t length, jumbeta
     return (int)reply.status;
 }
 
+/* Sets the statuses of the answers from a place on, but for those of bodies that are refused. */
+static void refuse_all(jumbetai_answer *answers, size_t count, int status) {
+    for (size_t i = 0; i < count; i++) {
+        int is_refused =
+            answers[i].status == JUMBETAI_NO_EVENTS || answers[i].status == JUMBETAI_NO_NUMBER;
+        answers[i] = (jumbetai_answer){is_refused ? answers[i].status : status, {0, 0}};
+    }
+}
+
+/* Takes the bodies into a file, in one transaction. */
+static int take_together(jumbetai_site *site, const jumbetai_body *bodies, size_t count,
+                         jumbetai_answer *answers) {
+    struct jumbetai_reply reply;
+    jumbetai_release(site); /* nothing is offered */
+    for (size_t i = 0; i < count; i++) {
+        jumbetai_file_offer(site->room, start_of(bodies[i].bytes), bodies[i].length, &reply);
+        answers[i].status = (int)reply.status;
+        if (reply.status == JUMBETAI_OUT_OF_MEMORY) {
+            refuse_all(answers, count, JUMBETAI_OUT_OF_MEMORY);
+            return JUMBETAI_OUT_OF_MEMORY;
+        }
+    }
+    jumbetai_file_keep(site->room, &reply);
+    int status = (int)reply.status;
+    site->events = reply.events;
+    for (size_t i = 0; i < count; i++) {
+        jumbetai_file_answer(site->room, i, &reply);
+        answers[i] = (jumbetai_answer){(int)reply.status, {reply.fresh, reply.repeated}};
+    }
+    jumbetai_release(site);
+    return status;
+}
+
+int jumbetai_take_each(jumbetai_site *site, const jumbetai_body *bodies, size_t count,
+                       jumbetai_answer *answers) {
+    if (count > PTRDIFF_MAX / sizeof *answers || (count && !answers)) return JUMBETAI_BAD_ARGUMENT;
+    for (size_t i = 0; i < count; i++)
+        answers[i] = (jumbetai_answer){JUMBETAI_DONE, {0, 0}};
+    int is_wrong = !site || (count && !bodies);
+    for (size_t i = 0; i < count && !is_wrong; i++)
+        is_wrong = !is_range(bodies[i].bytes, bodies[i].length);
+    if (is_wrong) {
+        refuse_all(answers, count, JUMBETAI_BAD_ARGUMENT);
+        return JUMBETAI_BAD_ARGUMENT;
+    }
+    if (site->is_file) return take_together(site, bodies, count, answers);
+    for (size_t i = 0; i < count; i++) {
+        answers[i].status =
+            jumbetai_take(site, bodies[i].bytes, bodies[i].length, &answers[i].counts);
+        if (answers[i].status == JUMBETAI_OUT_OF_MEMORY) {
+            refuse_all(answers + i + 1, count - i - 1, JUMBETAI_OUT_OF_MEMORY);
+            return JUMBETAI_OUT_OF_MEMORY;
+        }
+    }
+    return JUMBETAI_DONE;
+}
+
+int jumbetai_test(const void *bytes, size_t length, uint64_t *events) {
+    struct jumbetai_reply reply;
+    if (events) *events = 0;
+    if (!is_range(bytes, length)) return JUMBETAI_BAD_ARGUMENT;
+    jumbetai_bytes_test(start_of(bytes), length, &reply);
+    if (events) *events = reply.listed;
+    return (int)reply.status;
+}
+
 int jumbetai_check(jumbetai_site *site, const void *bytes, size_t length, jumbetai_text *text) {
     struct jumbetai_reply reply;
     if (text) *text = (jumbetai_text){0};
     if (!site || !text || !is_range(bytes, length)) return JUMBETAI_BAD_ARGUMENT;
-    if (site->is_file)
-        tell(site, CHECK, bytes, length, 0, &reply);
-    else
-        jumbetai_site_check(site->room, start_of(bytes), length, &reply);
+    tell(site, CHECK, bytes, length, 0, &reply);
     return copy_text(site, &reply, text);
 }
 
@@ -141,10 +197,7 @@ int jumbetai_keep_views(jumbetai_site *site) {
     struct jumbetai_reply reply;
     if (!site) return JUMBETAI_BAD_ARGUMENT;
     if (getentropy(seed, sizeof seed)) return JUMBETAI_NO_RANDOM;
-    if (site->is_file)
-        tell(site, KEEP_VIEWS, seed, sizeof seed, 0, &reply);
-    else
-        jumbetai_site_keep_views(site->room, seed, sizeof seed, &reply);
+    tell(site, KEEP_VIEWS, seed, sizeof seed, 0, &reply);
     return (int)reply.status;
 }
 
@@ -152,10 +205,7 @@ int jumbetai_ask(jumbetai_site *site, int question, jumbetai_text *text) {
     struct jumbetai_reply reply;
     if (text) *text = (jumbetai_text){0};
     if (!site || !text) return JUMBETAI_BAD_ARGUMENT;
-    if (site->is_file)
-        tell(site, (uint32_t)question < SUMMARY ? (uint32_t)question : 0, NULL, 0, 0, &reply);
-    else
-        jumbetai_site_ask(site->room, (uint32_t)question, &reply);
+    tell(site, (uint32_t)question < SUMMARY ? (uint32_t)question : 0, NULL, 0, 0, &reply);
     return copy_text(site, &reply, text);
 }
 
@@ -163,10 +213,7 @@ int jumbetai_summary(jumbetai_site *site, jumbetai_text *text) {
     struct jumbetai_reply reply;
     if (text) *text = (jumbetai_text){0};
     if (!site || !text) return JUMBETAI_BAD_ARGUMENT;
-    if (site->is_file)
-        tell(site, SUMMARY, NULL, 0, 0, &reply);
-    else
-        jumbetai_site_summary(site->room, &reply);
+    tell(site, SUMMARY, NULL, 0, 0, &reply);
     return copy_text(site, &reply, text);
 }
 
@@ -175,10 +222,7 @@ int jumbetai_delta(jumbetai_site *site, const void *summary, size_t length, uint
     struct jumbetai_reply reply;
     if (text) *text = (jumbetai_text){0};
     if (!site || !text || !is_range(summary, length)) return JUMBETAI_BAD_ARGUMENT;
-    if (site->is_file)
-        tell(site, DELTA, summary, length, from, &reply);
-    else
-        jumbetai_site_delta(site->room, start_of(summary), length, from, &reply);
+    tell(site, DELTA, summary, length, from, &reply);
     return copy_text(site, &reply, text);
 }
 
@@ -186,8 +230,79 @@ int jumbetai_page(jumbetai_site *site, uint64_t from, jumbetai_text *text) {
     struct jumbetai_reply reply;
     if (text) *text = (jumbetai_text){0};
     if (!site || !text) return JUMBETAI_BAD_ARGUMENT;
-    ask_page(site, from, &reply);
+    tell(site, PAGE, NULL, 0, from, &reply);
     return copy_text(site, &reply, text);
+}
+
+int jumbetai_arrivals(jumbetai_site *site, uint64_t after, jumbetai_text *text) {
+    struct jumbetai_reply reply;
+    if (text) *text = (jumbetai_text){0};
+    if (!site || !text) return JUMBETAI_BAD_ARGUMENT;
+    tell(site, ARRIVALS, NULL, 0, after, &reply);
+    return copy_text(site, &reply, text);
+}
+
+int jumbetai_delta_part(jumbetai_site *site, const void *summary, size_t length, uint64_t from,
+                        uint64_t events, uint64_t bytes, jumbetai_text *text) {
+    struct jumbetai_reply reply;
+    if (text) *text = (jumbetai_text){0};
+    if (!site || !text || !is_range(summary, length)) return JUMBETAI_BAD_ARGUMENT;
+    (site->is_file ? jumbetai_file_part : jumbetai_site_part)(site->room, start_of(summary), length,
+                                                              from, events, bytes, &reply);
+    return copy_text(site, &reply, text);
+}
+
+int jumbetai_cover(jumbetai_site *site, jumbetai_text *text) {
+    return jumbetai_ask(site, JUMBETAI_COVER, text);
+}
+
+int jumbetai_name(jumbetai_site *site, unsigned char name[32]) {
+    struct jumbetai_set_name it = {0};
+    if (name) memset(name, 0, sizeof it.bytes);
+    if (!site || !name) return JUMBETAI_BAD_ARGUMENT;
+    (site->is_file ? jumbetai_file_name : jumbetai_site_name)(site->room, &it);
+    memcpy(name, it.bytes, sizeof it.bytes);
+    return (int)it.status;
+}
+
+int jumbetai_compare(jumbetai_site *site, const void *summary, size_t length, jumbetai_lag *lag) {
+    struct jumbetai_set_lag it = {0};
+    if (lag) *lag = (jumbetai_lag){0, 0, 0};
+    if (!site || !lag || !is_range(summary, length)) return JUMBETAI_BAD_ARGUMENT;
+    (site->is_file ? jumbetai_file_compare : jumbetai_site_compare)(site->room, start_of(summary),
+                                                                    length, &it);
+    *lag = (jumbetai_lag){it.lacking, it.ahead, it.blocks};
+    return (int)it.status;
+}
+
+/* Takes the events of a site into another, in the order in which they came, by pages. */
+static int take_over(jumbetai_site *site, jumbetai_site *to) {
+    for (;;) {
+        jumbetai_text page;
+        int status = jumbetai_arrivals(site, to->events, &page);
+        uint64_t events = page.events;
+        if (!status && events) status = jumbetai_take(to, page.bytes, page.length, NULL);
+        jumbetai_free(&page);
+        if (status || !events) return status;
+    }
+}
+
+int jumbetai_copy(jumbetai_site *site, jumbetai_site **copy) {
+    if (copy) *copy = NULL;
+    if (!site || !copy) return JUMBETAI_BAD_ARGUMENT;
+    jumbetai_site *made = jumbetai_open();
+    if (!made) return JUMBETAI_OUT_OF_MEMORY;
+    int status = take_over(site, made);
+    if (status)
+        jumbetai_close(made);
+    else
+        *copy = made;
+    return status;
+}
+
+void jumbetai_release(jumbetai_site *site) {
+    struct jumbetai_reply unread;
+    if (site) tell(site, RELEASE, NULL, 0, 0, &unread);
 }
 
 void jumbetai_free(jumbetai_text *text) {

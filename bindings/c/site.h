@@ -28,7 +28,7 @@ void jumbetai_write(void *room, void (*read)(void *, uint32_t, struct jumbetai_p
                     size_t length, char *bytes);
 
 /* The same as a text of the caller's, of which `listed` is told. */
-int jumbetai_copy(void *room, void (*read)(void *, uint32_t, struct jumbetai_piece *),
-                  uint64_t length, uint64_t listed, jumbetai_text *text);
+int jumbetai_copy_text(void *room, void (*read)(void *, uint32_t, struct jumbetai_piece *),
+                       uint64_t length, uint64_t listed, jumbetai_text *text);
 
 #endif

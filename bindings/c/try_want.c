@@ -71,7 +71,7 @@ static bool try_take(jumbetai_site *site, long requests) {
 }
 
 /* The calls that answer a text: the questions, then these. */
-enum { SUMMARY = JUMBETAI_GAPS + 1, DELTA, PAGE, CHECK, VIEWS, CALLS };
+enum { SUMMARY = JUMBETAI_GAPS + 1, DELTA, PAGE, CHECK, VIEWS, PART, ARRIVALS, CALLS };
 
 static int call(jumbetai_site *site, int which, jumbetai_text *text) {
     int status;
@@ -79,6 +79,8 @@ static int call(jumbetai_site *site, int which, jumbetai_text *text) {
     case SUMMARY: return jumbetai_summary(site, text);
     case DELTA: return jumbetai_delta(site, nothing, sizeof nothing - 1, 0, text);
     case PAGE: return jumbetai_page(site, 0, text);
+    case PART: return jumbetai_delta_part(site, nothing, sizeof nothing - 1, 0, 2000, 0, text);
+    case ARRIVALS: return jumbetai_arrivals(site, 0, text);
     /* Views, and an answer that they give. */
     case VIEWS:
         *text = (jumbetai_text){0};
@@ -109,6 +111,55 @@ static bool try_text(jumbetai_site *site, int which, const jumbetai_text *want, 
     return status == JUMBETAI_DONE;
 }
 
+/* Bodies taken with a request refused: those that were answered are there, and all after they are
+ * given again. Answers whether all were taken at once. */
+static bool try_bodies(jumbetai_site *site, long requests) {
+    jumbetai_body bodies[] = {
+        {three, sizeof three - 1}, {unnumbered, sizeof unnumbered - 1}, {three, sizeof three - 1}};
+    jumbetai_answer first[3], again[3];
+    granted = requests;
+    int status = jumbetai_take_each(site, bodies, 3, first);
+    must(status == JUMBETAI_DONE || status == JUMBETAI_OUT_OF_MEMORY, "status of bodies", requests);
+    must(jumbetai_count(site) == first[0].counts.fresh + first[2].counts.fresh, "the bodies",
+         requests);
+    must(status || (first[0].counts.fresh == 3 && first[1].status == JUMBETAI_NO_NUMBER &&
+                    first[2].counts.repeated == 3),
+         "the answers", requests);
+    granted = ENOUGH;
+    must(!jumbetai_take_each(site, bodies, 3, again) &&
+             again[0].counts.fresh + again[0].counts.repeated == 3 &&
+             again[1].status == JUMBETAI_NO_NUMBER && jumbetai_count(site) == 3,
+         "the bodies again", requests);
+    return !status;
+}
+
+/* Calls without a text, with a request refused: a name, a lag, a copy and a test of bytes. Answers
+ * whether all were done. */
+static bool try_others(jumbetai_site *site, long requests) {
+    unsigned char name[32], want[32];
+    jumbetai_lag lag;
+    jumbetai_site *copy;
+    uint64_t events;
+    granted = ENOUGH;
+    must(!jumbetai_name(site, want), "a name with memory", requests);
+    granted = requests;
+    int status = jumbetai_name(site, name);
+    must(status || !memcmp(name, want, sizeof name), "a name", requests);
+    if (!status) status = jumbetai_compare(site, nothing, sizeof nothing - 1, &lag);
+    must(status || (lag.ahead == 3 && lag.blocks == 1 && !lag.lacking), "a lag", requests);
+    if (!status) status = jumbetai_test(three, sizeof three - 1, &events);
+    must(status || events == 3, "a test", requests);
+    if (!status) {
+        status = jumbetai_copy(site, &copy);
+        must((status == JUMBETAI_DONE) == (copy != NULL), "a copy", requests);
+        must(status || jumbetai_count(copy) == 3, "the events of a copy", requests);
+        jumbetai_close(copy);
+    }
+    must(status == JUMBETAI_DONE || status == JUMBETAI_OUT_OF_MEMORY, "a status", requests);
+    must(jumbetai_count(site) == 3, "count", requests);
+    return !status;
+}
+
 int main(void) {
     long refused = 0;
     bool done = false;
@@ -131,6 +182,19 @@ int main(void) {
             jumbetai_close(site);
         }
         jumbetai_free(&want);
+    }
+    done = false;
+    for (long n = 0; !done; n++, refused += !done) {
+        jumbetai_site *site = jumbetai_open();
+        done = try_bodies(site, n);
+        jumbetai_close(site);
+    }
+    done = false;
+    for (long n = 0; !done; n++, refused += !done) {
+        jumbetai_site *site = jumbetai_open();
+        try_take(site, ENOUGH);
+        done = try_others(site, n);
+        jumbetai_close(site);
     }
     printf("%ld requests refused\n", refused);
     return 0;

@@ -17,6 +17,14 @@ says, else from beside this file, else by its name libjumbetai.so.0 from where t
 Site(path) is over a database file: what it takes is in the file, and synced, before it is counted.
 Once it is closed the file is opened by Site(path), by the program `site` and by sqlite3.
 
+A service takes the bodies of several callers in one transaction, and answers each; a consumer keeps the number of the
+last event that it has, and asks what came behind it:
+
+    >>> south.take_each(['{"specversion":"1.0","id":"2","source":"/a","type":"t","sequence":"%020d"}' % 2, "{}"])
+    [Taken(fresh=1, repeated=0), Error('the bytes spell no events')]
+    >>> [(page.start, page.events) for page in south.arrivals(after=1)]
+    [(1, 1)]
+
 Outbox(path) has the orders of a service in a database file, each written with the event that tells of it in one
 transaction, and hands those events on:
 
@@ -33,7 +41,7 @@ transaction, and hands those events on:
     >>> mark
     2
     >>> south.ask("kinds")
-    b'["order.placed",1]\\n["order.shipped",1]\\n["sold",1]\\n'
+    b'["order.placed",1]\\n["order.shipped",1]\\n["sold",1]\\n["t",1]\\n'
     >>> folder.cleanup()
 
 Sites that took the same events, in whatever order and however often, give the same bytes for every answer. That is
@@ -52,11 +60,25 @@ import os
 import threading
 import weakref
 from types import TracebackType
-from typing import Any, Iterator, NamedTuple, Optional, Type, TypeVar, Union
+from typing import Any, Iterator, NamedTuple, Optional, Sequence, Type, TypeVar, Union
 
 from . import _c
 
-__all__ = ["PAGE", "QUESTIONS", "Error", "OrderCounts", "Outbox", "Page", "Rows", "Site", "Status", "Taken", "version"]
+__all__ = [
+    "PAGE",
+    "QUESTIONS",
+    "Error",
+    "Lag",
+    "OrderCounts",
+    "Outbox",
+    "Page",
+    "Rows",
+    "Site",
+    "Status",
+    "Taken",
+    "test",
+    "version",
+]
 
 # The questions, each at its number less one.
 QUESTIONS = ("cover", "shown", "conflicts", "latest", "kinds", "days", "gaps")
@@ -74,6 +96,15 @@ class Taken(NamedTuple):
 
     fresh: int
     repeated: int
+
+
+class Lag(NamedTuple):
+    """How many numbers of its sources a peer has that a site lacks, how many the site has that the peer lacks, and how
+    many blocks of 1,024 numbers differ, or are on one side alone."""
+
+    lacking: int
+    ahead: int
+    blocks: int
 
 
 class Page(NamedTuple):
@@ -144,6 +175,14 @@ def version() -> str:
     """The version of the library."""
     told: bytes = _c.library().jumbetai_version()
     return told.decode()
+
+
+def test(given: Given) -> int:
+    """How many events `take` would find in these bytes; where it would refuse them, the same error. No site is
+    needed."""
+    given, events = _bytes(given), ctypes.c_uint64()
+    _judge(_c.library().jumbetai_test(given, len(given), ctypes.byref(events)))
+    return events.value
 
 
 class _Open:
@@ -235,9 +274,9 @@ class Site(_Open):
     A process made by os.fork can't use a site over a file: it raises ValueError there.
 
     The module sqlite3 may have the file open in the same process. Each finds it busy while the other
-    uses it, and Status.BUSY takes none of sqlite3's locks away: where they may be this process's own,
-    a descriptor of the file stays open for the next opening. In the moment in which a site is closed
-    no other thread is to open or lock its file by sqlite3.
+    uses it, and Status.BUSY takes none of sqlite3's locks away: a descriptor of the file stays open for
+    the next opening. As a site is closed, or an opening refused otherwise, the system drops what locks
+    another thread takes on the file by sqlite3 in that moment: none is to.
 
     Of the file at most `cache_mib` MiB are kept in memory, 0 for as many as it has and 16 more, at
     most 256; beside the events, which all are. To open takes time in proportion to the events."""
@@ -263,6 +302,20 @@ class Site(_Open):
         given, counts = _bytes(given), _c.Counts()
         _judge(self._call("jumbetai_take", given, len(given), ctypes.byref(counts)))
         return Taken(counts.fresh, counts.repeated)
+
+    def take_each(self, bodies: Sequence[Given]) -> "list[Union[Taken, Exception]]":
+        """Takes the bodies of several callers in their order, each as `take` does, and answers each: a Taken, or why it
+        wasn't taken, an Error or MemoryError. A body at fault is refused alone. `fresh` counts what wasn't there before
+        that body. Over a file the others are kept in one transaction: where that isn't done, none of them is, and each
+        of their answers is why (Status.OWED where they are kept); a crash leaves all or none. In memory they are taken
+        one by one, up to one that memory is refused to."""
+        texts = [_bytes(body) for body in bodies]
+        given = (_c.Body * len(texts))(*((text, len(text)) for text in texts))
+        answers = (_c.Answer * len(texts))()
+        status = self._call("jumbetai_take_each", given, len(texts), answers)
+        if status == _BAD_ARGUMENT:
+            _judge(status)
+        return [_answer(answer) for answer in answers]
 
     def check(self, given: Given) -> bytes:
         """What is wrong with what `take` refuses: a line of JSON for each event at fault, as `site check -` prints
@@ -291,6 +344,52 @@ class Site(_Open):
         place below 0."""
         summary = _bytes(summary)
         return self._pages(_place(start), "jumbetai_delta", summary, len(summary))
+
+    def delta_part(self, summary: Given, start: int = 0, events: int = 0, size: int = 0) -> Optional[Page]:
+        """The part of that from a place on: at most so many events, PAGE where it is 0, and 2,000 where it is more.
+        Where `size` isn't 0, it ends with the 100 events with which their texts have so many bytes. None where nothing
+        is lacking there. ValueError of a number below 0."""
+        given = _bytes(summary)
+        numbers = [min(_place(it), _MOST) for it in (start, events, size)]
+        json, count = self._text("jumbetai_delta_part", given, len(given), *numbers)
+        return Page(start, count, json) if count else None
+
+    def arrivals(self, after: int = 0) -> Iterator[Page]:
+        """The events that came after the first `after`, in the order in which they came, a Page at a time. Its `start`
+        is how many came before it. The same number is the same event for ever, over a file when it is opened again too:
+        who has taken a page keeps its `start` and `events` together. ValueError of a number below 0."""
+        return self._pages(_place(after), "jumbetai_arrivals")
+
+    def copy(self) -> "Site":
+        """A site in memory that has the same events, come in the same order, for a reader beside the writer. Time and
+        memory in proportion to the events, which are read as by `take`, a page at a time: where one has more than
+        33,554,432 bytes it is Status.NO_EVENTS."""
+        site = Site.__new__(Site)
+        _Open.__init__(site, "jumbetai_close", False)
+        _judge(self._call("jumbetai_copy", ctypes.byref(site._raw)))
+        return site
+
+    def cover(self) -> bytes:
+        """The summary of version 1, without digests, as `ask("cover")` answers it: which numbers each source has."""
+        return self._text("jumbetai_cover")[0]
+
+    def name(self) -> bytes:
+        """The name of the set of events: the SHA-256 of the text of `summary`, without its line end. Two sites of one
+        name have the same events, or two texts have one SHA-256."""
+        name = ctypes.create_string_buffer(32)
+        _judge(self._call("jumbetai_name", name))
+        return name.raw
+
+    def compare(self, summary: Given) -> Lag:
+        """How far the site and a peer are apart, by the peer's summary. One of version 1 tells of no blocks, which are
+        0 then."""
+        given, lag = _bytes(summary), _c.Lag()
+        _judge(self._call("jumbetai_compare", given, len(given), ctypes.byref(lag)))
+        return Lag(lag.lacking, lag.ahead, lag.blocks)
+
+    def release(self) -> None:
+        """Gives back what the site keeps of its last answer, at most 64 KiB."""
+        self._call("jumbetai_release")
 
     def pages(self, start: int = 0) -> Iterator[Page]:
         """The events in key order, from a place on, a Page at a time. ValueError of a place below 0."""
@@ -403,8 +502,19 @@ def _bytes(given: Given) -> bytes:
     return given if isinstance(given, bytes) else bytes(memoryview(given))
 
 
+# A null pointer, or a length that no bytes have.
+_BAD_ARGUMENT = 9
+
+
+def _fault(status: int) -> Exception:
+    return MemoryError("jumbetai") if status == 1 else Error(status)
+
+
+def _answer(answer: _c.Answer) -> Union[Taken, Exception]:
+    """What came of one body of several."""
+    return _fault(answer.status) if answer.status else Taken(answer.counts.fresh, answer.counts.repeated)
+
+
 def _judge(status: int) -> None:
-    if status == 1:
-        raise MemoryError("jumbetai")
     if status:
-        raise Error(status)
+        raise _fault(status)

@@ -18,6 +18,18 @@ class OrderCounts(ctypes.Structure):
     _fields_ = [("base", ctypes.c_uint64), ("last", ctypes.c_uint64), ("orders", ctypes.c_uint64)]
 
 
+class Body(ctypes.Structure):
+    _fields_ = [("bytes", ctypes.c_char_p), ("length", ctypes.c_size_t)]
+
+
+class Answer(ctypes.Structure):
+    _fields_ = [("status", ctypes.c_int), ("counts", Counts)]
+
+
+class Lag(ctypes.Structure):
+    _fields_ = [("lacking", ctypes.c_uint64), ("ahead", ctypes.c_uint64), ("blocks", ctypes.c_uint64)]
+
+
 class Text(ctypes.Structure):
     _fields_ = [("bytes", ctypes.c_void_p), ("length", ctypes.c_size_t), ("events", ctypes.c_uint64)]
 
@@ -40,11 +52,20 @@ def library() -> Any:
         "close": (None, [raw]),
         "count": (number, [raw]),
         "take": (status, [raw, given, size, counts]),
+        "take_each": (status, [raw, ctypes.POINTER(Body), size, ctypes.POINTER(Answer)]),
+        "test": (status, [given, size, ctypes.POINTER(number)]),
         "check": (status, [raw, given, size, text]),
         "keep_views": (status, [raw]),
         "ask": (status, [raw, status, text]),
         "summary": (status, [raw, text]),
         "delta": (status, [raw, given, size, number, text]),
+        "delta_part": (status, [raw, given, size, number, number, number, text]),
+        "cover": (status, [raw, text]),
+        "name": (status, [raw, given]),
+        "compare": (status, [raw, given, size, ctypes.POINTER(Lag)]),
+        "arrivals": (status, [raw, number, text]),
+        "copy": (status, [raw, made]),
+        "release": (None, [raw]),
         "page": (status, [raw, number, text]),
         "open_outbox": (status, [given, given, number, ctypes.c_uint32, made]),
         "close_outbox": (None, [raw]),

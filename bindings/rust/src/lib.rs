@@ -42,6 +42,28 @@
 //! # Ok::<(), Error>(())
 //! ```
 //!
+//! A service takes the bodies of several callers in one transaction, and answers each; a consumer keeps the number of
+//! the last event that it has, and asks what came behind it:
+//!
+//! ```
+//! use jumbetai::{Error, Site};
+//!
+//! let event = br#"{"specversion":"1.0","id":"1","source":"/shop","type":"order.placed",
+//!     "sequence":"00000000000000000001"}"#;
+//! let mut site = Site::new()?;
+//! let answers = site.take_each(&[event, b"{}", event])?;
+//! assert_eq!(answers[0].map(|taken| taken.fresh), Ok(1));
+//! assert_eq!(answers[1], Err(Error::NoEvents));
+//! assert_eq!(answers[2].map(|taken| taken.repeated), Ok(1));
+//!
+//! let mut mark = 0;
+//! while let Some(page) = site.arrivals(mark)? {
+//!     mark = page.from + page.events;
+//! }
+//! assert_eq!(mark, site.len());
+//! # Ok::<(), Error>(())
+//! ```
+//!
 //! An [`Outbox`] has the orders of a service in a database file, each written with the event that tells of it in one
 //! transaction, and hands those events on:
 //!
@@ -277,12 +299,23 @@ pub struct Taken {
     pub repeated: u64,
 }
 
+/// How far a site and a peer are apart.
+#[derive(Clone, Copy, PartialEq, Eq, Debug)]
+pub struct Lag {
+    /// How many numbers of its sources the peer has that the site lacks.
+    pub lacking: u64,
+    /// How many the site has that the peer lacks.
+    pub ahead: u64,
+    /// How many blocks of 1,024 numbers differ, or are on one side alone.
+    pub blocks: u64,
+}
+
 /// A page of a site's events.
 #[derive(Clone, PartialEq, Eq, Debug)]
 pub struct Page {
     /// At which place of the whole list its first event stands, counted from 0.
     pub from: u64,
-    /// How many events it has, 1 to [`PAGE`].
+    /// How many events it has, 1 or more.
     pub events: u64,
     /// The events as a batch, a line of JSON that [`Site::take`] takes.
     pub json: String,
@@ -326,9 +359,9 @@ impl Site {
     /// and is read by all of these.
     ///
     /// SQLite's own library may have the file open in the same process. Each finds it busy while the
-    /// other uses it, and [`Error::Busy`] takes none of SQLite's locks away: where they may be this
-    /// process's own, a descriptor of the file stays open for the next opening. In the moment in which
-    /// a site is dropped no other thread is to open or lock its file by SQLite.
+    /// other uses it, and [`Error::Busy`] takes none of SQLite's locks away: a descriptor of the file
+    /// stays open for the next opening. As a site is dropped, or an opening refused otherwise, the
+    /// system drops what locks another thread takes on the file by SQLite in that moment: none is to.
     ///
     /// Of the file at most 256 MiB are kept in memory, beside the events, which all are. Time and
     /// memory in proportion to the events that are there.
@@ -384,6 +417,33 @@ impl Site {
         }
     }
 
+    /// Takes the bodies of several callers in their order, each as [`Site::take`] takes its bytes, and
+    /// answers each. One at fault is refused alone. `fresh` counts what wasn't there before that body.
+    ///
+    /// Over a file the others are kept in one transaction: where that isn't done, none of them is, and
+    /// each of their answers is why ([`Error::Owed`] where they are kept); a crash leaves all or none.
+    /// In memory they are taken one by one, up to one that memory is refused to. The call itself is an
+    /// error only where nothing could be asked, and then nothing was taken.
+    pub fn take_each(&mut self, bodies: &[&[u8]]) -> Result<Vec<Result<Taken, Error>>, Error> {
+        let given: Vec<ffi::Body> = bodies
+            .iter()
+            .map(|body| ffi::Body {
+                bytes: body.as_ptr().cast(),
+                length: body.len(),
+            })
+            .collect();
+        let mut answers = vec![ffi::Answer::default(); given.len()];
+        let (raw, count) = (self.raw.as_ptr(), given.len());
+        // SAFETY: the site is open, the bodies are lent for the call, and there is room for as many
+        // answers.
+        let status =
+            unsafe { ffi::jumbetai_take_each(raw, given.as_ptr(), count, answers.as_mut_ptr()) };
+        match status {
+            9 => Err(Error::of(status)),
+            _ => Ok(answers.into_iter().map(taken).collect()),
+        }
+    }
+
     /// What is wrong with bytes that are refused: a line of JSON for each event at fault, as `site check -` prints
     /// it; empty where nothing is. Nothing is taken.
     pub fn check(&mut self, bytes: &[u8]) -> Result<String, Error> {
@@ -428,6 +488,95 @@ impl Site {
         let (json, events) =
             self.text(|raw, text| unsafe { ffi::jumbetai_delta(raw, at, length, from, text) })?;
         Ok((events > 0).then_some(Page { from, events, json }))
+    }
+
+    /// The same, of a larger size: at most so many events, [`PAGE`] where it is 0, and 2,000 where it
+    /// is more. Where `bytes` isn't 0, it ends with the 100 events with which their texts have so many
+    /// bytes.
+    pub fn delta_part(
+        &mut self,
+        summary: &str,
+        from: u64,
+        events: u64,
+        bytes: u64,
+    ) -> Result<Option<Page>, Error> {
+        let (at, length) = (summary.as_ptr().cast(), summary.len());
+        // SAFETY: the site is open, and the summary is lent for the call.
+        let (json, events) = self.text(|raw, text| unsafe {
+            ffi::jumbetai_delta_part(raw, at, length, from, events, bytes, text)
+        })?;
+        Ok((events > 0).then_some(Page { from, events, json }))
+    }
+
+    /// The events that came after the first `after`, in the order in which they came, at most
+    /// [`PAGE`]; none where no more came. The same number is the same event for ever, over a file also
+    /// when it is opened again: who has taken a page keeps `from` and `events` together.
+    pub fn arrivals(&mut self, after: u64) -> Result<Option<Page>, Error> {
+        // SAFETY: the site is open.
+        let (json, events) =
+            self.text(|raw, text| unsafe { ffi::jumbetai_arrivals(raw, after, text) })?;
+        Ok((events > 0).then_some(Page {
+            from: after,
+            events,
+            json,
+        }))
+    }
+
+    /// A site in memory that has the same events, come in the same order, for a reader beside the
+    /// writer. Time and memory in proportion to the events, which are read as by [`Site::take`], a page
+    /// at a time: where one has more than 33,554,432 bytes it is [`Error::NoEvents`].
+    pub fn copy(&mut self) -> Result<Site, Error> {
+        let mut raw = null_mut();
+        // SAFETY: the site is open.
+        match unsafe { ffi::jumbetai_copy(self.raw.as_ptr(), &mut raw) } {
+            0 => NonNull::new(raw)
+                .map(|raw| Site { raw })
+                .ok_or(Error::OutOfMemory),
+            status => Err(Error::of(status)),
+        }
+    }
+
+    /// The summary of version 1, without digests, as [`Question::Cover`] answers it: which numbers each
+    /// source has. Time in proportion to it alone.
+    pub fn cover(&mut self) -> Result<String, Error> {
+        // SAFETY: the site is open.
+        Ok(self
+            .text(|raw, text| unsafe { ffi::jumbetai_cover(raw, text) })?
+            .0)
+    }
+
+    /// The name of the set of events: the SHA-256 of the text of [`Site::summary`], without its line
+    /// end. Two sites of one name have the same events, or two texts have one SHA-256.
+    pub fn name(&mut self) -> Result<[u8; 32], Error> {
+        let mut name = [0; 32];
+        // SAFETY: the site is open, and the name has room for 32 bytes.
+        match unsafe { ffi::jumbetai_name(self.raw.as_ptr(), &mut name) } {
+            0 => Ok(name),
+            status => Err(Error::of(status)),
+        }
+    }
+
+    /// How far the site and a peer are apart, by the peer's summary. One of version 1 tells of no
+    /// blocks, which are 0 then.
+    pub fn compare(&mut self, summary: &str) -> Result<Lag, Error> {
+        let (raw, mut lag) = (self.raw.as_ptr(), ffi::Lag::default());
+        // SAFETY: the site is open, and the summary is lent for the call.
+        let status =
+            unsafe { ffi::jumbetai_compare(raw, summary.as_ptr().cast(), summary.len(), &mut lag) };
+        match status {
+            0 => Ok(Lag {
+                lacking: lag.lacking,
+                ahead: lag.ahead,
+                blocks: lag.blocks,
+            }),
+            status => Err(Error::of(status)),
+        }
+    }
+
+    /// Gives back what the site keeps of its last answer, at most 64 KiB.
+    pub fn release(&mut self) {
+        // SAFETY: the site is open.
+        unsafe { ffi::jumbetai_release(self.raw.as_ptr()) }
     }
 
     /// The page from a place of key order on; none where there are no more events.
@@ -498,6 +647,27 @@ impl Iterator for Pages<'_> {
         let page = found.transpose()?;
         self.from = page.as_ref().ok().map(|page| from + page.events);
         Some(page)
+    }
+}
+
+/// What [`Site::take`] would say of these bytes, and how many events they spell. It needs no site.
+pub fn test(bytes: &[u8]) -> Result<u64, Error> {
+    let mut events = 0;
+    // SAFETY: the bytes are lent for the call.
+    match unsafe { ffi::jumbetai_test(bytes.as_ptr().cast(), bytes.len(), &mut events) } {
+        0 => Ok(events),
+        status => Err(Error::of(status)),
+    }
+}
+
+/// What came of one body of several.
+fn taken(answer: ffi::Answer) -> Result<Taken, Error> {
+    match answer.status {
+        0 => Ok(Taken {
+            fresh: answer.counts.fresh,
+            repeated: answer.counts.repeated,
+        }),
+        status => Err(Error::of(status)),
     }
 }
 

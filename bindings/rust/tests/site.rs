@@ -6,7 +6,7 @@
 mod common;
 
 use common::{printed, program, Folder};
-use jumbetai::{Error, Page, Question, Site, Taken};
+use jumbetai::{Error, Lag, Page, Question, Site, Taken, PAGE};
 use std::path::Path;
 use std::process::Command;
 use std::sync::{Arc, Mutex};
@@ -114,6 +114,182 @@ fn two_sites_come_together() {
     for question in Question::ALL {
         assert_eq!(north.ask(question), south.ask(question), "{question:?}");
     }
+}
+
+/// A site in memory, and one over a file of the folder.
+fn both(folder: &Folder) -> [Site; 2] {
+    [
+        Site::new().unwrap(),
+        Site::open(folder.file("service.db")).unwrap(),
+    ]
+}
+
+#[test]
+fn bodies_of_several_callers_are_answered_each() {
+    let folder = Folder::new("bodies");
+    for mut site in both(&folder) {
+        let taken = |fresh, repeated| Ok(Taken { fresh, repeated });
+        let (one, two, three) = (batch([1, 2]), batch([2, 3]), event(9));
+        let unnumbered = event(4).replace(&format!("{:020}", 4), "4");
+        let bodies: [&[u8]; 6] = [&one, b"{}", &two, unnumbered.as_bytes(), b"[]", &one];
+        let answers = [
+            taken(2, 0),
+            Err(Error::NoEvents),
+            taken(1, 1),
+            Err(Error::NoNumber),
+            taken(0, 0),
+            taken(0, 2),
+        ];
+        assert_eq!(site.take_each(&bodies).unwrap(), answers);
+        assert_eq!(site.len(), 3);
+        assert_eq!(site.take_each(&[]).unwrap(), []);
+        assert_eq!(site.take_each(&[three.as_bytes()]).unwrap(), [taken(1, 0)]);
+        // As many as a service may have waiting.
+        let many: Vec<Vec<u8>> = (100..612).map(|number| batch([number, 1])).collect();
+        let many: Vec<&[u8]> = many.iter().map(Vec::as_slice).collect();
+        assert_eq!(site.take_each(&many).unwrap(), vec![taken(1, 1); 512]);
+        assert_eq!(site.len(), 516);
+    }
+    assert_eq!(Site::open(folder.file("service.db")).unwrap().len(), 516);
+}
+
+#[test]
+fn arrivals_keep_their_numbers() {
+    let folder = Folder::new("arrivals");
+    let ids = |page: &Page| -> Vec<u64> {
+        let texts = page.json.split("\"id\":\"").skip(1);
+        texts
+            .map(|it| it.split('"').next().unwrap().parse().unwrap())
+            .collect()
+    };
+    for mut site in both(&folder) {
+        site.take(&batch([7, 3, 5])).unwrap();
+        site.take(&batch((1..=120).rev())).unwrap();
+        let first = site.arrivals(0).unwrap().unwrap();
+        assert_eq!((first.from, first.events), (0, 100));
+        assert_eq!(ids(&first)[..6], [7, 3, 5, 120, 119, 118]);
+        let rest = site.arrivals(100).unwrap().unwrap();
+        assert_eq!((rest.from, rest.events), (100, 20));
+        assert_eq!(ids(&rest)[17..], [4, 2, 1]);
+        assert_eq!(site.arrivals(120).unwrap(), None);
+        assert_eq!(site.arrivals(u64::MAX).unwrap(), None);
+        // A copy has the same events at the same numbers, and goes on alone.
+        let mut copy = site.copy().unwrap();
+        assert_eq!(copy.arrivals(0).unwrap(), Some(first));
+        assert_eq!(copy.arrivals(100).unwrap(), Some(rest));
+        assert_eq!(copy.summary(), site.summary());
+        copy.take(&batch([121])).unwrap();
+        assert_eq!((copy.len(), site.len()), (121, 120));
+    }
+    let mut again = Site::open(folder.file("service.db")).unwrap();
+    again.take(&batch([130])).unwrap();
+    assert_eq!(ids(&again.arrivals(1).unwrap().unwrap())[..3], [3, 5, 120]);
+    assert_eq!(ids(&again.arrivals(120).unwrap().unwrap()), [130]);
+}
+
+#[test]
+fn a_set_has_one_name() {
+    let folder = Folder::new("names");
+    let mut names = Vec::new();
+    for mut site in both(&folder) {
+        let none = site.name().unwrap();
+        site.take(&batch(1..=1500)).unwrap();
+        names.push(site.name().unwrap());
+        assert_ne!(names.last(), Some(&none));
+        assert_eq!(site.name().unwrap(), *names.last().unwrap());
+        assert_eq!(site.cover(), site.ask(Question::Cover));
+        site.release();
+        assert_eq!(
+            site.cover().unwrap(),
+            "{\"sources\":{\"/shop\":[[1,1500]]},\"version\":1}\n"
+        );
+    }
+    let mut other = Site::new().unwrap();
+    other.take(&batch((1..=1500).rev())).unwrap();
+    names.push(other.name().unwrap());
+    assert_eq!(names[0], names[1]);
+    assert_eq!(names[0], names[2]);
+    other.take(&batch([1501])).unwrap();
+    assert_ne!(names[0], other.name().unwrap());
+}
+
+#[test]
+fn a_lag_is_told_both_ways() {
+    let folder = Folder::new("lags");
+    for mut site in both(&folder) {
+        site.take(&batch((1..=3000).chain(5000..=5009))).unwrap();
+        let mut peer = Site::new().unwrap();
+        peer.take(&batch((1001..=3000).chain(4001..=4050))).unwrap();
+        let lag = |lacking, ahead, blocks| {
+            Ok(Lag {
+                lacking,
+                ahead,
+                blocks,
+            })
+        };
+        // The first block of three differs, the fourth of the peer and the fifth are on one side.
+        let summary = peer.summary().unwrap();
+        assert_eq!(site.compare(&summary), lag(50, 1010, 3));
+        assert_eq!(peer.compare(&site.summary().unwrap()), lag(1010, 50, 3));
+        assert_eq!(site.compare(&peer.cover().unwrap()), lag(50, 1010, 0));
+        let own = site.summary().unwrap();
+        assert_eq!(site.compare(&own), lag(0, 0, 0));
+        assert_eq!(site.compare("{}"), Err(Error::SummaryShape));
+    }
+}
+
+#[test]
+fn parts_have_the_size_that_is_asked_for() {
+    let folder = Folder::new("parts");
+    for mut site in both(&folder) {
+        site.take(&batch(1..=2500)).unwrap();
+        let nothing = "{\"sources\":{},\"version\":1}";
+        for (from, events, bytes, come) in [
+            (0, 0, 0, 100),
+            (0, 1, 0, 1),
+            (0, 2000, 0, 2000),
+            (0, u64::MAX, 0, 2000),
+            (2000, 2000, 0, 500),
+            (0, 2000, 1, 100),
+            (0, 150, 1 << 30, 150),
+        ] {
+            let part = site
+                .delta_part(nothing, from, events, bytes)
+                .unwrap()
+                .unwrap();
+            assert_eq!((part.from, part.events), (from, come));
+            // The events of the pages from there on, and no others.
+            let inner = |json: &str| json.trim_end()[1..json.len() - 2].to_string();
+            let mut pages = Vec::new();
+            while pages.len() as u64 * PAGE < come {
+                let at = from + pages.len() as u64 * PAGE;
+                pages.push(inner(&site.delta_page(nothing, at).unwrap().unwrap().json));
+            }
+            let (all, had) = (pages.join(","), inner(&part.json));
+            assert!(all.starts_with(&had));
+            assert_eq!(had.matches("specversion").count() as u64, come);
+        }
+        assert_eq!(site.delta_part(nothing, 2500, 2000, 0).unwrap(), None);
+        assert_eq!(
+            site.delta_part(nothing, u64::MAX, u64::MAX, u64::MAX)
+                .unwrap(),
+            None
+        );
+        let own = site.summary().unwrap();
+        assert_eq!(site.delta_part(&own, 0, 2000, 0).unwrap(), None);
+        let later = site.delta_part("{\"version\":3}", 0, 1, 0);
+        assert_eq!(later, Err(Error::SummaryVersion));
+    }
+}
+
+#[test]
+fn bytes_are_tested_without_a_site() {
+    assert_eq!(jumbetai::test(&batch(1..=250)), Ok(250));
+    assert_eq!(jumbetai::test(event(1).as_bytes()), Ok(1));
+    assert_eq!(jumbetai::test(b"[]"), Ok(0));
+    assert_eq!(jumbetai::test(b""), Err(Error::NoEvents));
+    let unnumbered = event(4).replace(&format!("{:020}", 4), "4");
+    assert_eq!(jumbetai::test(unnumbered.as_bytes()), Err(Error::NoNumber));
 }
 
 #[test]

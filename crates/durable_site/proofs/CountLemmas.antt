@@ -18,3 +18,18 @@ rest_is_some L n h none =
     let left = length-drop n L in
     let nothing = ap (λ (l : List EventValue). length l) none in
     omega arith
+
+-- what comes behind one list and then another comes behind both
+pub append_both : (A L M : List EventValue)
+    → append_new key_cmp (append_new key_cmp A L) M ≡ append_new key_cmp A (L ++ M)
+append_both A [] M = refl
+append_both A (e ∷ L) M = append_both (if has key_cmp A e then A else A ++ e ∷ []) L M
+
+-- nothing stands in a list without values
+pub first_none : (L M : List EventValue) → L ++ M ≡ [] → L ≡ []
+first_none [] M none = refl
+first_none (e ∷ L) M none = absurd (cc)
+
+pub second_none : (L M : List EventValue) → L ++ M ≡ [] → M ≡ []
+second_none [] M none = none
+second_none (e ∷ L) M none = absurd (cc)

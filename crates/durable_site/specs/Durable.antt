@@ -5,7 +5,7 @@ use Rattle.sqlite.specs.State.{State, HasCleanDisk}
 use Rattle.attributes.specs.Event.{EventValue}
 use Rattle.inbox.specs.KeyOrder.{key_cmp}
 use Rattle.inbox.specs.Ordered.{append_new}
-use Rattle.inbox_table.specs.Calls.{IsSettled}
+use Rattle.inbox_table.specs.Calls.{AreFreshEach, IsSettled, joined}
 use Rattle.inbox_table.specs.Fault.{IsOfStore}
 use Rattle.inbox_table.specs.Rows.{IsInbox}
 use Rattle.inbox_table.specs.declared.fault.TableFault.{TableFault}
@@ -41,6 +41,29 @@ pub record TakeEffect (batch old new : List EventValue) (was is : State)
     (result : Result ℕ TableFault) : Type 0 where
   pub whole : IsWhole was old → IsWhole is new
   pub fresh : IsWhole was old → IfOk result (λ fresh. length old + fresh ≡ length new)
+  -- a crash leaves what was taken
+  pub stays_open : OnOk result (IsTrue is.is_open)
+  pub settled : OnOk result (IsSettled is)
+  -- refused, the database is as it was
+  pub same : IsTrue is.is_open → OnErr result (is.now ≡ was.now)
+
+-- ---- several batches taken
+
+-- the batches came one behind the other behind what there was, each event in its turn and where it
+-- wasn't there by then; or they are refused, and there is what there was
+pub record TakesEach (lists : List (List EventValue)) (old new : List EventValue)
+    (result : Result (List ℕ) TableFault) : Type 0 where
+  pub taken : OnOk result (new ≡ append_new key_cmp old (joined lists))
+  pub one_each : IfOk result (λ each. length each ≡ length lists)
+  pub refused : OnErr result (new ≡ old)
+  pub fault : IfErr result IsOfStore
+
+-- and what that does to the database, while the disk gives back what was written
+pub record TakeEachEffect (lists : List (List EventValue)) (old new : List EventValue)
+    (was is : State) (result : Result (List ℕ) TableFault) : Type 0 where
+  pub whole : IsWhole was old → IsWhole is new
+  -- so many of each batch were not there by then, those of the batches before it included
+  pub fresh : IsWhole was old → IfOk result (AreFreshEach old lists)
   -- a crash leaves what was taken
   pub stays_open : OnOk result (IsTrue is.is_open)
   pub settled : OnOk result (IsSettled is)

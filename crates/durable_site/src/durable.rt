@@ -4,10 +4,11 @@ ghost use Rattle.sqlite.specs.Held.{state};
 ghost use Rattle.sqlite.specs.State.{HasCleanDisk, Survives};
 ghost use Rattle.inbox.specs.KeyOrder.{key_cmp};
 ghost use Rattle.inbox.specs.Ordered.{append_new};
-ghost use Rattle.inbox_table.specs.Calls.{MayTake};
+ghost use Rattle.inbox_table.specs.Calls.{MayTake, joined};
 ghost use Rattle.inbox_table.specs.Opening.{MayOpen, Opens, RejectsOpening};
 
-use attributes::Batch;
+use crate::owed::Owed;
+use attributes::{Batch, List};
 use inbox_table::{Loaded, NotMade, Table, TableFault, Unwatched};
 use site::Site;
 use sqlite::{Alter, Connection};
@@ -19,23 +20,12 @@ use std::alloc::{AllocError, Global};
 pub struct DurableSite<S: Alter> {
     pub table: Table<S>,
     pub site: Site,
-    pub owed: Batch,
-}
-
-/// Counts what is owed to a site. An error where memory runs out; then the rest is owed still.
-fn count(site: &mut Site, owed: &mut Batch) -> Result<(), AllocError>
-    ensures all { append_new key_cmp site.new owed.new ≡ append_new key_cmp site.old owed.old }
-    ensures done { OnOk result (owed.new ≡ []) }
-    ensures short { OnErr result (owed.new ≢ []) }
-{
-    match site.take_batch(owed) {
-        Ok(_) => Ok(()),
-        Err(_) => Err(AllocError),
-    }
+    pub owed: Owed,
+    pub alloc: Global,
 }
 
 impl<S: Alter + Drop> DurableSite<S> {
-    ghost use Rattle.durable_site.specs.Durable.{CatchesUp, IsWhole, TakeEffect, Takes, events_of};
+    ghost use Rattle.durable_site.specs.Durable.{CatchesUp, IsWhole, TakeEachEffect, TakeEffect, Takes, TakesEach, events_of};
 
     /// Opens the table of a database, as [`Table::open_and_load`] does, and counts its events. Time
     /// and memory in proportion to them.
@@ -58,9 +48,14 @@ impl<S: Alter + Drop> DurableSite<S> {
         };
         let Loaded { table, events } = loaded;
         let mut site = Site::empty(alloc);
-        let mut owed = events;
-        let _counted = count(&mut site, &mut owed);
-        Ok(DurableSite { table, site, owed })
+        let mut owed = Owed::of(alloc, events);
+        let _counted = owed.count_to(&mut site);
+        Ok(DurableSite {
+            table,
+            site,
+            owed,
+            alloc,
+        })
     }
 
     /// Counts what is owed. An error where memory runs out again; what was counted by then stays.
@@ -68,7 +63,7 @@ impl<S: Alter + Drop> DurableSite<S> {
         ensures counts { CatchesUp self.old self.new result }
         ensures table { self.new.table ≡ self.old.table }
     {
-        count(&mut self.site, &mut self.owed)
+        self.owed.count_to(&mut self.site)
     }
 
     /// Takes the events of a batch: they are kept in the table, in one transaction that is synced,
@@ -89,8 +84,30 @@ impl<S: Alter + Drop> DurableSite<S> {
     {
         self.catch_up()?;
         let fresh = self.table.keep(&batch)?;
-        self.owed = batch;
-        let _counted = count(&mut self.site, &mut self.owed);
+        self.owed = Owed::of(self.alloc, batch);
+        let _counted = self.owed.count_to(&mut self.site);
         Ok(fresh)
+    }
+
+    /// Takes the events of several batches, one behind the other, as [`DurableSite::take`] does
+    /// those of one: all of them in one transaction. It answers of each batch how many were not
+    /// there by then. Time as that of [`Table::keep_each`] and of [`Site::take_batch`].
+    ///
+    /// Refused as `take` is, and then nothing of any batch is taken.
+    pub fn take_each(&mut self, lists: List<Batch>) -> Result<List<u64>, TableFault>
+        ensures takes { TakesEach lists (events_of self.old) (events_of self.new) result }
+        ensures effect { HasCleanDisk (state S.Store self.new.table.conn)
+            → TakeEachEffect lists (events_of self.old) (events_of self.new)
+            (state S.Store self.old.table.conn) (state S.Store self.new.table.conn) result }
+        ensures crash { Survives
+            (state S.Store self.old.table.conn) (state S.Store self.new.table.conn)
+            (λ trees. IsTrue (state S.Store self.old.table.conn).is_open
+            → MayTake (joined lists) (state S.Store self.old.table.conn).now trees) }
+    {
+        self.catch_up()?;
+        let each = self.table.keep_each(&lists)?;
+        self.owed = Owed::of_each(self.alloc, lists);
+        let _counted = self.owed.count_to(&mut self.site);
+        Ok(each)
     }
 }

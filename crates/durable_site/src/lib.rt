@@ -5,9 +5,11 @@
 mod durable;
 mod fault;
 mod file;
+mod owed;
 
 pub use durable::DurableSite;
 pub use fault::OpenFault;
 pub use file::{FileSite, GivenFiles, connect, open_files};
 pub use file_disk::{FileFrom, Unknown};
 pub use inbox_table::{NotMade, TableFault};
+pub use owed::Owed;

@@ -8,14 +8,18 @@ use denote.Param.Send.{AllSend, IsSend, Quiet, owning_send, sendable, struct_sen
 use Rattle.std.proofs.Crossing as heap
 use Rattle.std.proofs.MapsCrossing as maps
 use Rattle.attributes.specs.contracts.batch.Batch as events
+use Rattle.attributes.specs.contracts.list.List as lists
 use Rattle.attributes.specs.contracts.text.Text as text
 use Rattle.durable_site.specs.contracts.durable.DurableSite as durable
+use Rattle.durable_site.specs.contracts.owed.Owed as owed
 use Rattle.file_disk.specs.contracts.system.OpenFile as open_file
 use Rattle.file_disk.specs.contracts.system.record.Record as calls
 use Rattle.file_disk.specs.contracts.system_file.SystemFile as system_file
 use Rattle.inbox_table.specs.contracts.table.Table as inbox
 use Rattle.outbox.specs.contracts.service.Service as service
 use Rattle.site.specs.contracts.site.Site as site
+use Rattle.site_c.specs.contracts.offers.Head as head
+use Rattle.site_c.specs.contracts.offers.Offers as offers
 use Rattle.sqlite.specs.contracts.cache.Entry as entry
 use Rattle.sqlite.specs.contracts.connection.Connection as connection
 use Rattle.sqlite.specs.contracts.history.History as history
@@ -241,6 +245,18 @@ text_send = search (heap.crosses, sendable) depth 30
 events_send : IsSend (events.the_field).row
 events_send = search (heap.crosses, sendable) depth 60 fits 20000
 
+owed_send : IsSend (owed.the_field).row
+owed_send = search (events_send, heap.crosses, both, sendable) depth 60 fits 20000
+
+list_send : (T : RattleType) → IsSend T → IsSend (lists.the_field T).row
+list_send T s = search (heap.Vec-send, both, sendable) depth 20
+
+head_send : IsSend (head.the_field).row
+head_send = search plain depth 20
+
+pub offers_send : IsSend (offers.the_field).row
+offers_send = search (list_send, head_send, events_send, both, sendable) depth 60 fits 20000
+
 -- without the text of its last answer
 pub site_send : IsSend site.the_row
 site_send = search (maps.crosses, heap.crosses, sendable) depth 80 fits 20000
@@ -253,7 +269,7 @@ module _ (S : RattleType) (g : store.Ghosts S.Denot) (s : IsSend S) where
   inbox_send = search (connection_send, plain) depth 40
 
   durable_send : IsSend (durable.the_field S g).row
-  durable_send = search (inbox_send, site_send, events_send, plain) depth 40
+  durable_send = search (inbox_send, site_send, owed_send, plain) depth 40
 
   service_send : IsSend (service.the_field S g).row
   service_send = search (connection_send, text_send, plain) depth 40

@@ -221,6 +221,19 @@ module _ {M : Type 1} {𝓤 : Ura M} (𝓛 : Logic 𝓤) (R : RattleType) (one :
           sets ! (of_opd ! (unit_lit !)) refl (tt, tt) $
           returns ! (look_at ! 0 refl) $ free_all ! refl $ leaves_it r ws told b o u))))
 
+      -- with four arguments before the reply
+      pub keeps_4 : (σ : Ty) (x : Val) → Has σ x → (ς : Ty) (y : Val) → Has ς y → (τ₃ : Ty) (z : Val) → Has τ₃ z → (τ₄ : Ty) (w : Val) → Has τ₄ w → Called (x ∷ y ∷ z ∷ w ∷ vptr rb ro ∷ []) Back → Walks (keeping lives 6 (local σ value_local ∷ local ς value_local ∷ local τ₃ value_local ∷ local τ₄ value_local ∷ reply ∷ []) τ ϱ α k (copy (place 2 []) ∷ copy (place 3 []) ∷ copy (place 4 []) ∷ copy (place 5 []) ∷ [])) (x ∷ y ∷ z ∷ w ∷ vptr rb ro ∷ [])
+      keeps_4 σ x tx ς y ty τ₃ z tz τ₄ w tw met = starts _ _ (λ b o v t.
+          enter ! _ _ _ _ _ $ alloc_all ! (λ l. pass_all ! refl ((tt, tt), (tx, (ty, (tz, (tw, (given, tt)))))) $
+          sets ! (of_opd ! (get ! refl)) refl (tt, tt) $
+          sets ! (of_opd ! (load ! (through ! refl (stop !)) (look ! 1 refl))) refl t $
+          sets ! (addr ! (through ! refl (stop !))) refl lent $ hands ! v $
+          calls_from ! fm (Given v) (v ∷ x ∷ y ∷ z ∷ w ∷ vptr rb ro ∷ []) Back (met v) (and_then ! (get ! refl) (and_then ! (get ! refl) (and_then ! (get ! refl) (and_then ! (get ! refl) (and_then ! (get ! refl) (and_then ! (get ! refl) (no_more !))))))) (λ u.
+          back ! tt u (λ r ws told t'. lands_as ! refl refl t' $
+          assigns ! (of_opd ! (get ! refl)) (through ! refl (stop !)) (store ! 3 refl t') $
+          sets ! (of_opd ! (unit_lit !)) refl (tt, tt) $
+          returns ! (look_at ! 0 refl) $ free_all ! refl $ leaves_it r ws told b o u))))
+
 -- an export that takes a number beside the place: its contract, that of what it calls, and its proof
 module _ (R A : RattleType) (w : Width) (Rel : ℕ → R.Denot → R.Denot → A.Denot → A.Denot → Type 0) where
   abbrev pub Number : Ended

@@ -1,11 +1,12 @@
 -- What a call leaves in the room that a site over a file lies in, and what it replies.
-use Rattle.std.specs.Prelude.{◌≡◌, ◌≢◌, ◌-◌, ◌<◌, ◌⊎◌, ℕ, List, [], ◌∷◌, drop, length, take, MatchResult, None, Option, Result, Some}
+use Rattle.std.specs.Prelude.{◌≡◌, ◌≢◌, ◌-◌, ◌<◌, ◌⊎◌, ℕ, List, [], ◌∷◌, drop, length, take, IsTrue, MatchResult, None, Result, Some}
 use Rattle.sqlite_disk.specs.declared.Disk as disk
 use Rattle.sqlite_wal.specs.Recovery.{Image}
 use Rattle.sqlite_store.specs.declared.store.FileStore.{FileStore}
 use Rattle.sqlite.specs.Files.{file_state}
-use Rattle.sqlite.specs.State.{HasCleanDisk}
+use Rattle.sqlite.specs.State.{HasCleanDisk, Survives}
 use Rattle.attributes.specs.Event.{EventValue}
+use Rattle.inbox_table.specs.Calls.{MayTake}
 use Rattle.inbox_table.specs.declared.fault.TableFault.{TableFault}
 use Rattle.inbox_table.specs.declared.fault.TableFault.TheVariants as table
 use Rattle.durable_site.specs.Durable.{TakeEffect, Takes, events_of}
@@ -16,6 +17,7 @@ use Rattle.durable_site.specs.declared.fault.OpenFault.TheVariants as opening
 use Rattle.file_reports.specs.Numbers.{fault_number}
 use Rattle.file_reports.specs.Reports.{IsRefusal, SpellAll}
 use Rattle.file_reports.specs.declared.refusal.Refused.{Refused}
+use Rattle.site_c.specs.Sets.{Arrived, Released}
 use Rattle.site_c.specs.Calls.{Asked, Checked, Lacked, Paged, Summed, Viewed, piece_of}
 use Rattle.site_c.specs.declared.calls.Piece.{Piece}
 use Rattle.site_c.specs.declared.calls.Reply.{Reply}
@@ -45,11 +47,15 @@ TellsNone reply = (reply.fresh ≡ 0) × (reply.repeated ≡ 0) × (reply.listed
 abbrev pub untold : Image
 untold = record { log = []; db = [] }
 
--- the reply to what the table came to, of so many events, after which so many are owed
-abbrev pub RepliesKept : ℕ → Result ℕ TableFault → ℕ → Reply → Type 0
+-- the status of events that are kept, by what is owed then
+abbrev pub IsCounted : ℕ → List EventValue → Type 0
+IsCounted status owed = ((status ≡ 0) × (owed ≡ [])) ⊎ ((status ≡ 20) × (owed ≢ []))
+
+-- the reply to what the table came to, of so many events, after which these are owed
+abbrev pub RepliesKept : ℕ → Result ℕ TableFault → List EventValue → Reply → Type 0
 RepliesKept count result owed reply = MatchResult result
     (λ fresh. (reply.fresh ≡ fresh) × (reply.repeated ≡ count - fresh)
-    × (((reply.status ≡ 0) × (owed ≡ 0)) ⊎ ((reply.status ≡ 20) × (0 < owed))))
+    × IsCounted reply.status owed)
     (λ fault. (reply.status ≡ table_status fault) × (reply.fresh ≡ 0) × (reply.repeated ≡ 0))
 
 module _ {D : Type 0} {g : disk.Ghosts D} where
@@ -68,7 +74,11 @@ module _ {D : Type 0} {g : disk.Ghosts D} where
     pub takes : Takes batch (events_of d) (events_of e) result
     pub effect : HasCleanDisk (file_state e.table.conn) → TakeEffect batch (events_of d)
         (events_of e) (file_state d.table.conn) (file_state e.table.conn) result
-    pub replies : RepliesKept (length batch) result (length e.owed) reply
+    -- a crash leaves none of the batch, or all
+    pub crash : Survives (file_state d.table.conn) (file_state e.table.conn)
+        (λ trees. IsTrue (file_state d.table.conn).is_open
+        → MayTake batch (file_state d.table.conn).now trees)
+    pub replies : RepliesKept (length batch) result e.owed reply
     pub listed : reply.listed ≡ 0
     pub events : reply.events ≡ length e.site
 
@@ -122,7 +132,9 @@ pub record Answered (what : ℕ) (bytes : List ℕ) (from : ℕ) (held kept : He
   pub page : what ≡ 10 → Paged from held kept reply
   pub check : what ≡ 11 → Checked bytes held kept reply
   pub views : what ≡ 12 → Viewed held kept reply
-  pub other : 12 < what → Asked what held kept reply
+  pub arrivals : what ≡ 13 → Arrived from held kept reply
+  pub release : what ≡ 14 → Released held kept reply
+  pub other : 14 < what → Asked what held kept reply
 
 -- what `jumbetai_file_tell` leaves and replies; the table stays, and what is owed
 pub record Told (what : ℕ) (bytes : List ℕ) (from : ℕ) (held kept : FileHeld) (reply : Reply)

@@ -112,7 +112,7 @@ fn settle(site: &mut Site, read: Result<Batch, Refused>, reply: &mut Reply)
 }
 
 /// Keeps the text that was made in place of the last one, or tells why there is none.
-fn keep(held: &mut Held, made: Result<Answered, u32>, reply: &mut Reply)
+pub(crate) fn keep(held: &mut Held, made: Result<Answered, u32>, reply: &mut Reply)
     ensures ok { IfOk made (λ m. KeepsText m.text m.listed held.old held.new reply.new) }
     ensures err { IfErr made (λ status. LeavesText status held.old held.new reply.new) }
 {
@@ -226,7 +226,7 @@ fn status_of(fault: SummaryFault) -> u32
 }
 
 /// The summary that the bytes are the line or the text of, or the status.
-fn peer_of(alloc: Global, bytes: &[u8]) -> Result<Summary, u32>
+pub(crate) fn peer_of(alloc: Global, bytes: &[u8]) -> Result<Summary, u32>
     ensures ok { IfOk result (IsPeer bytes.now) }
     ensures err { IfErr result (IsRefusedPeer bytes.now) }
 {

@@ -1,7 +1,11 @@
 //! What each call does to the site over a file that lies in the room.
 
-ghost use Rattle.std.specs.Prelude.{◌≡◌, ◌≢◌, IfErr, IfOk};
-ghost use Rattle.site_c.specs.Files.{Answered, HasReadFile, IsOpenedFile, KeepsBatch, KeepsBytes, KeepsNone, OpenedFile, RepliesKept, Told, TookFile, open_status, table_status};
+ghost use Rattle.std.specs.Prelude.{◌≡◌, ◌≢◌, List, IfErr, IfOk, OnErr};
+ghost use Rattle.site_c.specs.Files.{Answered, HasReadFile, IsCounted, IsOpenedFile, KeepsBatch, KeepsBytes, KeepsNone, OpenedFile, RepliesKept, Told, TookFile, open_status, table_status};
+ghost use Rattle.site_c.specs.FileSets.{ComparedFile, NamedFile, PartLackedFile};
+ghost use Rattle.site_c.specs.Offers.{HasAnswer, IsBehind, KeepsOffers, KeptOffers, Offered, Reads};
+ghost use Rattle.site_c.specs.declared.offers.Head.{Head};
+ghost use Rattle.attributes.specs.Event.{EventValue};
 
 use crate::calls::{
     DONE, OUT_OF_MEMORY, Piece, Reply, asked, batch_of, checked, copied, lacked, paged, summed,
@@ -9,10 +13,14 @@ use crate::calls::{
 };
 use crate::file_held::FileHeld;
 use crate::held::Held;
-use attributes::{Batch, Text};
-use durable_site::{DurableSite, FileSite, GivenFiles, OpenFault, TableFault, Unknown, open_files};
+use crate::offers::{Offers, body_of};
+use crate::set_calls::{Lag, Name, arrived, compared, named, part_lacked, released};
+use attributes::{Batch, List, Text};
+use durable_site::{
+    DurableSite, FileSite, GivenFiles, OpenFault, Owed, TableFault, Unknown, open_files,
+};
 use file_reports::Refused;
-use std::alloc::Global;
+use std::alloc::{AllocError, Global};
 
 /// The site wasn't opened.
 pub(crate) const NOT_OPEN: u32 = 11;
@@ -71,7 +79,7 @@ fn made(alloc: Global, given: GivenFiles) -> Result<FileSite<Unknown>, u32>
 {
     match open_files(alloc, given, Unknown) {
         Ok(durable) => {
-            if durable.owed.len() == 0 {
+            if durable.owed.is_empty() {
                 Ok(durable)
             } else {
                 Err(OUT_OF_MEMORY)
@@ -93,6 +101,7 @@ pub(crate) fn file_opened(alloc: Global, given: GivenFiles, reply: &mut Reply) -
             FileHeld {
                 durable: Some(durable),
                 text,
+                offers: Offers::none(alloc),
                 alloc,
             }
         }
@@ -101,24 +110,39 @@ pub(crate) fn file_opened(alloc: Global, given: GivenFiles, reply: &mut Reply) -
             FileHeld {
                 durable: None,
                 text,
+                offers: Offers::none(alloc),
                 alloc,
             }
         }
     }
 }
 
-/// Tells what the table came to, of so many events, after which so many are owed.
-fn reply_kept(kept: Result<u64, TableFault>, count: u64, owed: u64, length: u64, reply: &mut Reply)
-    ensures replies { RepliesKept count kept owed reply.new }
+/// The status of events that are kept, by what is owed then.
+fn kept_status(owed: &Owed) -> u32
+    ensures { IsCounted result owed.now }
+{
+    if owed.is_empty() {
+        return DONE;
+    }
+    OWED
+}
+
+/// Tells what the table came to, of so many events, after which these are owed.
+fn reply_kept(
+    kept: Result<u64, TableFault>,
+    count: u64,
+    owed: &Owed,
+    length: u64,
+    reply: &mut Reply,
+)
+    ensures replies { RepliesKept count kept owed.now reply.new }
     ensures listed { reply.new.listed ≡ 0 }
     ensures length { reply.new.length ≡ length }
 {
     tell_nothing(DONE, length, reply);
     match kept {
         Ok(fresh) => {
-            if owed > 0 {
-                reply.status = OWED;
-            }
+            reply.status = kept_status(owed);
             reply.fresh = fresh;
             reply.repeated = count.saturating_sub(fresh);
         }
@@ -133,7 +157,7 @@ fn keep_batch(durable: &mut FileSite<Unknown>, batch: Batch, length: u64, reply:
 {
     let count = batch.len();
     let kept = durable.take(batch);
-    reply_kept(kept, count, durable.owed.len(), length, reply);
+    reply_kept(kept, count, &durable.owed, length, reply);
     reply.events = durable.site.arrived();
 }
 
@@ -179,6 +203,7 @@ pub(crate) fn file_taken(held: FileHeld, bytes: &[u8], reply: &mut Reply) -> Fil
     let FileHeld {
         durable,
         text,
+        offers: _,
         alloc,
     } = held;
     let length = text.as_str().len() as u64;
@@ -188,6 +213,7 @@ pub(crate) fn file_taken(held: FileHeld, bytes: &[u8], reply: &mut Reply) -> Fil
             FileHeld {
                 durable: Some(durable),
                 text,
+                offers: Offers::none(alloc),
                 alloc,
             }
         }
@@ -196,6 +222,7 @@ pub(crate) fn file_taken(held: FileHeld, bytes: &[u8], reply: &mut Reply) -> Fil
             FileHeld {
                 durable: None,
                 text,
+                offers: Offers::none(alloc),
                 alloc,
             }
         }
@@ -203,8 +230,9 @@ pub(crate) fn file_taken(held: FileHeld, bytes: &[u8], reply: &mut Reply) -> Fil
 }
 
 /// Answers what is asked of a site, by a number: 1 to 7 a question, 8 its summary, 9 what a peer
-/// lacks, 10 a page, 11 what is wrong with bytes, 12 that it keep views.
-fn answered(held: Held, what: u32, bytes: &[u8], from: u64, reply: &mut Reply) -> Held
+/// lacks, 10 a page, 11 what is wrong with bytes, 12 that it keep views, 13 a page of arrivals, 14
+/// that it let the text of its last answer go.
+pub(crate) fn answered(held: Held, what: u32, bytes: &[u8], from: u64, reply: &mut Reply) -> Held
     ensures { Answered what bytes.now from held result reply.new }
 {
     match what {
@@ -213,6 +241,8 @@ fn answered(held: Held, what: u32, bytes: &[u8], from: u64, reply: &mut Reply) -
         10 => paged(held, from, reply),
         11 => checked(held, bytes, reply),
         12 => viewed(held, bytes, reply),
+        13 => arrived(held, from, reply),
+        14 => released(held, reply),
         _ => asked(held, what, reply),
     }
 }
@@ -230,16 +260,28 @@ pub(crate) fn told(
     let FileHeld {
         durable,
         text,
+        offers: _,
         alloc,
     } = held;
     match durable {
         Some(durable) => {
-            let DurableSite { table, site, owed } = durable;
+            let DurableSite {
+                table,
+                site,
+                owed,
+                alloc,
+            } = durable;
             let asked = Held { site, text, alloc };
             let Held { site, text, alloc } = answered(asked, what, bytes, from, reply);
             FileHeld {
-                durable: Some(DurableSite { table, site, owed }),
+                durable: Some(DurableSite {
+                    table,
+                    site,
+                    owed,
+                    alloc,
+                }),
                 text,
+                offers: Offers::none(alloc),
                 alloc,
             }
         }
@@ -248,10 +290,266 @@ pub(crate) fn told(
             FileHeld {
                 durable: None,
                 text,
+                offers: Offers::none(alloc),
                 alloc,
             }
         }
     }
+}
+
+/// Tells the name of the site's set.
+pub(crate) fn file_named(held: FileHeld, name: &mut Name) -> FileHeld
+    ensures { NamedFile held result name.old name.new }
+{
+    let FileHeld {
+        durable,
+        text,
+        offers: _,
+        alloc,
+    } = held;
+    match durable {
+        Some(durable) => {
+            let DurableSite {
+                table,
+                site,
+                owed,
+                alloc,
+            } = durable;
+            let Held { site, text, alloc } = named(Held { site, text, alloc }, name);
+            FileHeld {
+                durable: Some(DurableSite {
+                    table,
+                    site,
+                    owed,
+                    alloc,
+                }),
+                text,
+                offers: Offers::none(alloc),
+                alloc,
+            }
+        }
+        None => {
+            name.status = NOT_OPEN;
+            FileHeld {
+                durable: None,
+                text,
+                offers: Offers::none(alloc),
+                alloc,
+            }
+        }
+    }
+}
+
+/// Tells how far the site and the peer of the bytes are apart.
+pub(crate) fn file_compared(held: FileHeld, peer: &[u8], lag: &mut Lag) -> FileHeld
+    ensures { ComparedFile peer.now held result lag.new }
+{
+    let FileHeld {
+        durable,
+        text,
+        offers: _,
+        alloc,
+    } = held;
+    match durable {
+        Some(durable) => {
+            let DurableSite {
+                table,
+                site,
+                owed,
+                alloc,
+            } = durable;
+            let Held { site, text, alloc } = compared(Held { site, text, alloc }, peer, lag);
+            FileHeld {
+                durable: Some(DurableSite {
+                    table,
+                    site,
+                    owed,
+                    alloc,
+                }),
+                text,
+                offers: Offers::none(alloc),
+                alloc,
+            }
+        }
+        None => {
+            *lag = Lag {
+                status: NOT_OPEN,
+                lacking: 0,
+                ahead: 0,
+                blocks: 0,
+            };
+            FileHeld {
+                durable: None,
+                text,
+                offers: Offers::none(alloc),
+                alloc,
+            }
+        }
+    }
+}
+
+/// Keeps the part of what a peer lacks, from a place on.
+pub(crate) fn file_part_lacked(
+    held: FileHeld,
+    peer: &[u8],
+    from: u64,
+    most: u64,
+    size: u64,
+    reply: &mut Reply,
+) -> FileHeld
+    ensures { PartLackedFile peer.now from most size held result reply.new }
+{
+    let FileHeld {
+        durable,
+        text,
+        offers: _,
+        alloc,
+    } = held;
+    match durable {
+        Some(durable) => {
+            let DurableSite {
+                table,
+                site,
+                owed,
+                alloc,
+            } = durable;
+            let asked = Held { site, text, alloc };
+            let Held { site, text, alloc } = part_lacked(asked, peer, from, most, size, reply);
+            FileHeld {
+                durable: Some(DurableSite {
+                    table,
+                    site,
+                    owed,
+                    alloc,
+                }),
+                text,
+                offers: Offers::none(alloc),
+                alloc,
+            }
+        }
+        None => {
+            tell_nothing(NOT_OPEN, text.as_str().len() as u64, reply);
+            FileHeld {
+                durable: None,
+                text,
+                offers: Offers::none(alloc),
+                alloc,
+            }
+        }
+    }
+}
+
+/// Offers a body, which stands behind those that were offered.
+pub(crate) fn offered(held: FileHeld, bytes: &[u8], reply: &mut Reply) -> FileHeld
+    ensures { Offered bytes.now held result reply.new }
+{
+    let FileHeld {
+        durable,
+        text,
+        offers,
+        alloc,
+    } = held;
+    tell_nothing(OUT_OF_MEMORY, text.as_str().len() as u64, reply);
+    let offers = match with_bytes(alloc, offers, bytes, reply) {
+        Ok(offers) => offers,
+        Err(_) => Offers::none(alloc),
+    };
+    FileHeld {
+        durable,
+        text,
+        offers,
+        alloc,
+    }
+}
+
+/// Puts a body behind those that were offered, and tells what it came to; at want of memory all
+/// are let go.
+fn with_bytes(
+    alloc: Global,
+    offers: Offers,
+    bytes: &[u8],
+    reply: &mut Reply,
+) -> Result<Offers, AllocError>
+    ensures ok { IfOk result (λ o. (head : Head) × (batch : List EventValue)
+        × Reads bytes.now head batch × IsBehind head batch offers o
+        × (reply.new ≡ record { status = head.status; fresh = reply.old.fresh; repeated = reply.old.repeated; listed = head.count; events = reply.old.events; length = reply.old.length })) }
+    ensures err { OnErr result (reply.new ≡ reply.old) }
+{
+    let body = body_of(alloc, bytes)?;
+    let head = body.head;
+    let offers = offers.with(body)?;
+    reply.status = head.status;
+    reply.listed = head.count;
+    Ok(offers)
+}
+
+/// Keeps the bodies that were offered.
+fn keep_offers(durable: &mut FileSite<Unknown>, alloc: Global, offers: Offers) -> Offers
+    ensures { KeepsOffers offers result durable.old durable.new }
+{
+    let Offers {
+        heads,
+        batches,
+        each: _,
+        status: _,
+    } = offers;
+    match durable.take_each(batches) {
+        Ok(each) => Offers {
+            heads,
+            batches: List::empty(alloc),
+            each,
+            status: kept_status(&durable.owed),
+        },
+        Err(fault) => Offers {
+            heads,
+            batches: List::empty(alloc),
+            each: List::empty(alloc),
+            status: table_status(fault),
+        },
+    }
+}
+
+/// Keeps the bodies that were offered, in one transaction.
+pub(crate) fn offers_kept(held: FileHeld, reply: &mut Reply) -> FileHeld
+    ensures { KeptOffers held result reply.new }
+{
+    let FileHeld {
+        durable,
+        text,
+        offers,
+        alloc,
+    } = held;
+    let length = text.as_str().len() as u64;
+    match durable {
+        Some(mut durable) => {
+            let offers = keep_offers(&mut durable, alloc, offers);
+            tell_nothing(offers.status, length, reply);
+            reply.events = durable.site.arrived();
+            FileHeld {
+                durable: Some(durable),
+                text,
+                offers,
+                alloc,
+            }
+        }
+        None => {
+            tell_nothing(NOT_OPEN, length, reply);
+            FileHeld {
+                durable: None,
+                text,
+                offers: Offers::none(alloc),
+                alloc,
+            }
+        }
+    }
+}
+
+/// Tells what became of the body at a place of those that were offered.
+pub(crate) fn offer_told(held: FileHeld, place: u64, reply: &mut Reply) -> FileHeld
+    ensures { HasAnswer place held result reply.new }
+{
+    held.offers.answer(place, reply);
+    held
 }
 
 /// Copies a piece of the answer's text, counted from 0; a piece behind the text's end has no bytes.
@@ -267,6 +565,7 @@ pub(crate) fn file_let_go(held: FileHeld) {
     let FileHeld {
         durable,
         text: _,
+        offers: _,
         alloc: _,
     } = held;
     if let Some(durable) = durable {
@@ -274,6 +573,7 @@ pub(crate) fn file_let_go(held: FileHeld) {
             table,
             site: _,
             owed: _,
+            alloc: _,
         } = durable;
         let _closed = table.into_connection().close();
     }

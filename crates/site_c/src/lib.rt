@@ -6,8 +6,11 @@ ghost use Rattle.std.specs.Mem.{type_size};
 ghost use Rattle.std.specs.Prelude.{◌≡◌};
 ghost use Rattle.std.specs.Ptr.{lies_at, room_at};
 ghost use Rattle.site_c.specs.Calls.{Asked, Checked, HasRead, IsEmpty, Lacked, Paged, Summed, Took, Viewed};
-ghost use Rattle.site_c.specs.Files.{HasReadFile, OpenedFile, Told, TookFile};
+ghost use Rattle.site_c.specs.FileSets.{ComparedFile, NamedFile, PartLackedFile};
+ghost use Rattle.site_c.specs.Files.{Answered, HasReadFile, OpenedFile, Told, TookFile};
+ghost use Rattle.site_c.specs.Offers.{HasAnswer, KeptOffers, Offered};
 ghost use Rattle.site_c.specs.Outboxes.{HasReadOutbox, OpenedOutbox, OrderedOutbox, ShownOutbox};
+ghost use Rattle.site_c.specs.Sets.{Compared, Named, PartLacked, Tested};
 ghost use Rattle.site_c.specs.contracts.file_held.FileHeld.{the_row as file_row};
 ghost use Rattle.site_c.specs.contracts.held.Held.{the_row};
 ghost use Rattle.site_c.specs.contracts.outbox_held.OutboxHeld.{the_row as outbox_row};
@@ -19,18 +22,26 @@ mod file_calls;
 mod file_held;
 mod held;
 pub mod laws;
+mod offers;
 mod outbox_calls;
 mod outbox_held;
+mod set_calls;
 
 pub use calls::{PIECE, Piece, Reply};
 use calls::{asked, checked, lacked, let_go, paged, read, summed, taken, viewed};
 use durable_site::GivenFiles;
-use file_calls::{file_let_go, file_opened, file_read, file_taken, told};
+use file_calls::{
+    answered, file_compared, file_let_go, file_named, file_opened, file_part_lacked, file_read,
+    file_taken, offer_told, offered, offers_kept, told,
+};
 pub use file_held::FileHeld;
 pub use held::Held;
+pub use offers::{Head, Offers};
 pub use outbox_calls::OutboxReply;
 use outbox_calls::{outbox_let_go, outbox_opened, outbox_ordered, outbox_read, outbox_shown};
 pub use outbox_held::OutboxHeld;
+pub use set_calls::{Lag, Name};
+use set_calls::{compared, named, part_lacked, tested};
 use std::alloc::Global;
 
 /// How many bytes of room a site needs.
@@ -140,6 +151,81 @@ pub unsafe extern "C" fn jumbetai_site_keep_views(at: *mut u8, seed: &[u8], repl
     std::ptr::write(to, viewed(std::ptr::read(to), seed, reply));
 }
 
+/// Tells what is asked of the site by a number, as `jumbetai_file_tell` does.
+#[unsafe(no_mangle)]
+pub unsafe extern "C" fn jumbetai_site_tell(
+    at: *mut u8,
+    what: u32,
+    bytes: &[u8],
+    from: u64,
+    reply: &mut Reply,
+)
+    ghost held: { Held }
+    requires* { sem 𝓛 (lies_at the_row full_share at held) }
+    ensures* { ∃ₛ λ kept. sem 𝓛 (lies_at the_row full_share at kept)
+        ∗ ⌜ Answered what bytes.now from held kept reply.new ⌝ }
+{
+    let to = at as *mut Held;
+    std::ptr::write(to, answered(std::ptr::read(to), what, bytes, from, reply));
+}
+
+/// Asks for the part from a place on of what a peer lacks by its summary, as a batch: at most so
+/// many events, 2,000 or fewer, or a page where `most` is 0; where `size` isn't 0, the page with
+/// which their texts have so many bytes is the last. Its text stays in the site as an answer's
+/// does.
+#[unsafe(no_mangle)]
+pub unsafe extern "C" fn jumbetai_site_part(
+    at: *mut u8,
+    peer: &[u8],
+    from: u64,
+    most: u64,
+    size: u64,
+    reply: &mut Reply,
+)
+    ghost held: { Held }
+    requires* { sem 𝓛 (lies_at the_row full_share at held) }
+    ensures* { ∃ₛ λ kept. sem 𝓛 (lies_at the_row full_share at kept)
+        ∗ ⌜ PartLacked peer.now from most size held kept reply.new ⌝ }
+{
+    let to = at as *mut Held;
+    std::ptr::write(
+        to,
+        part_lacked(std::ptr::read(to), peer, from, most, size, reply),
+    );
+}
+
+/// Tells the name of the site's set, by which two sites are the same.
+#[unsafe(no_mangle)]
+pub unsafe extern "C" fn jumbetai_site_name(at: *mut u8, name: &mut Name)
+    ghost held: { Held }
+    requires* { sem 𝓛 (lies_at the_row full_share at held) }
+    ensures* { ∃ₛ λ kept. sem 𝓛 (lies_at the_row full_share at kept)
+        ∗ ⌜ Named held kept name.old name.new ⌝ }
+{
+    let to = at as *mut Held;
+    std::ptr::write(to, named(std::ptr::read(to), name));
+}
+
+/// Tells how far the site and a peer are apart, by its summary.
+#[unsafe(no_mangle)]
+pub unsafe extern "C" fn jumbetai_site_compare(at: *mut u8, peer: &[u8], lag: &mut Lag)
+    ghost held: { Held }
+    requires* { sem 𝓛 (lies_at the_row full_share at held) }
+    ensures* { ∃ₛ λ kept. sem 𝓛 (lies_at the_row full_share at kept)
+        ∗ ⌜ Compared peer.now held kept lag.new ⌝ }
+{
+    let to = at as *mut Held;
+    std::ptr::write(to, compared(std::ptr::read(to), peer, lag));
+}
+
+/// Tells what taking bytes would come to, and how many events they spell.
+#[unsafe(no_mangle)]
+pub extern "C" fn jumbetai_bytes_test(alloc: Global, bytes: &[u8], reply: &mut Reply)
+    ensures { Tested bytes.now reply.new }
+{
+    tested(alloc, bytes, reply);
+}
+
 /// Copies a piece of the answer's text, counted from 0.
 #[unsafe(no_mangle)]
 pub unsafe extern "C" fn jumbetai_site_read(at: *mut u8, piece: u32, out: &mut Piece)
@@ -203,7 +289,8 @@ pub unsafe extern "C" fn jumbetai_file_take(at: *mut u8, bytes: &[u8], reply: &m
 
 /// Tells what is asked of the site by a number: 1 to 7 a question, 8 the summary, 9 what the peer
 /// of this summary lacks, 10 a page, 11 what is wrong with bytes, 12 that views be kept, by random
-/// bytes. The text stays in the site until it is asked again.
+/// bytes, 13 a page of arrivals, 14 that the text be let go. The text stays in the site until it is
+/// asked again.
 #[unsafe(no_mangle)]
 pub unsafe extern "C" fn jumbetai_file_tell(
     at: *mut u8,
@@ -219,6 +306,89 @@ pub unsafe extern "C" fn jumbetai_file_tell(
 {
     let to = at as *mut FileHeld;
     std::ptr::write(to, told(std::ptr::read(to), what, bytes, from, reply));
+}
+
+/// Asks for a part of what a peer lacks, as `jumbetai_site_part` does.
+#[unsafe(no_mangle)]
+pub unsafe extern "C" fn jumbetai_file_part(
+    at: *mut u8,
+    peer: &[u8],
+    from: u64,
+    most: u64,
+    size: u64,
+    reply: &mut Reply,
+)
+    ghost held: { FileHeld }
+    requires* { sem 𝓛 (lies_at file_row full_share at held) }
+    ensures* { ∃ₛ λ kept. sem 𝓛 (lies_at file_row full_share at kept)
+        ∗ ⌜ PartLackedFile peer.now from most size held kept reply.new ⌝ }
+{
+    let to = at as *mut FileHeld;
+    std::ptr::write(
+        to,
+        file_part_lacked(std::ptr::read(to), peer, from, most, size, reply),
+    );
+}
+
+/// Tells the name of the site's set, as `jumbetai_site_name` does.
+#[unsafe(no_mangle)]
+pub unsafe extern "C" fn jumbetai_file_name(at: *mut u8, name: &mut Name)
+    ghost held: { FileHeld }
+    requires* { sem 𝓛 (lies_at file_row full_share at held) }
+    ensures* { ∃ₛ λ kept. sem 𝓛 (lies_at file_row full_share at kept)
+        ∗ ⌜ NamedFile held kept name.old name.new ⌝ }
+{
+    let to = at as *mut FileHeld;
+    std::ptr::write(to, file_named(std::ptr::read(to), name));
+}
+
+/// Tells how far the site and a peer are apart, as `jumbetai_site_compare` does.
+#[unsafe(no_mangle)]
+pub unsafe extern "C" fn jumbetai_file_compare(at: *mut u8, peer: &[u8], lag: &mut Lag)
+    ghost held: { FileHeld }
+    requires* { sem 𝓛 (lies_at file_row full_share at held) }
+    ensures* { ∃ₛ λ kept. sem 𝓛 (lies_at file_row full_share at kept)
+        ∗ ⌜ ComparedFile peer.now held kept lag.new ⌝ }
+{
+    let to = at as *mut FileHeld;
+    std::ptr::write(to, file_compared(std::ptr::read(to), peer, lag));
+}
+
+/// Offers a body of events, which stands behind those that were offered until they are kept.
+/// Nothing is taken. Any other call than these three lets go what was offered.
+#[unsafe(no_mangle)]
+pub unsafe extern "C" fn jumbetai_file_offer(at: *mut u8, bytes: &[u8], reply: &mut Reply)
+    ghost held: { FileHeld }
+    requires* { sem 𝓛 (lies_at file_row full_share at held) }
+    ensures* { ∃ₛ λ kept. sem 𝓛 (lies_at file_row full_share at kept)
+        ∗ ⌜ Offered bytes.now held kept reply.new ⌝ }
+{
+    let to = at as *mut FileHeld;
+    std::ptr::write(to, offered(std::ptr::read(to), bytes, reply));
+}
+
+/// Keeps the bodies that were offered, one behind the other, in one transaction that is synced.
+#[unsafe(no_mangle)]
+pub unsafe extern "C" fn jumbetai_file_keep(at: *mut u8, reply: &mut Reply)
+    ghost held: { FileHeld }
+    requires* { sem 𝓛 (lies_at file_row full_share at held) }
+    ensures* { ∃ₛ λ kept. sem 𝓛 (lies_at file_row full_share at kept)
+        ∗ ⌜ KeptOffers held kept reply.new ⌝ }
+{
+    let to = at as *mut FileHeld;
+    std::ptr::write(to, offers_kept(std::ptr::read(to), reply));
+}
+
+/// Tells what became of the body at a place of those that were kept.
+#[unsafe(no_mangle)]
+pub unsafe extern "C" fn jumbetai_file_answer(at: *mut u8, place: u64, reply: &mut Reply)
+    ghost held: { FileHeld }
+    requires* { sem 𝓛 (lies_at file_row full_share at held) }
+    ensures* { ∃ₛ λ kept. sem 𝓛 (lies_at file_row full_share at kept)
+        ∗ ⌜ HasAnswer place held kept reply.new ⌝ }
+{
+    let to = at as *mut FileHeld;
+    std::ptr::write(to, offer_told(std::ptr::read(to), place, reply));
 }
 
 /// Copies a piece of the text, counted from 0.

@@ -34,6 +34,38 @@ pub struct Counts {
     pub repeated: u64,
 }
 
+/// The bytes of one caller.
+#[repr(C)]
+#[derive(Clone, Copy, Debug)]
+pub struct Body {
+    /// Where they lie.
+    pub bytes: *const c_void,
+    /// How many they are.
+    pub length: usize,
+}
+
+/// What came of the bytes of one caller.
+#[repr(C)]
+#[derive(Clone, Copy, Debug, Default)]
+pub struct Answer {
+    /// Whether they were taken, or why they weren't.
+    pub status: c_int,
+    /// How many events were new, and how many were there.
+    pub counts: Counts,
+}
+
+/// How far a site and a peer are apart.
+#[repr(C)]
+#[derive(Clone, Copy, Debug, Default)]
+pub struct Lag {
+    /// How many numbers the peer has that the site lacks.
+    pub lacking: u64,
+    /// How many the site has that the peer lacks.
+    pub ahead: u64,
+    /// How many blocks differ, or are on one side alone.
+    pub blocks: u64,
+}
+
 /// A text of the caller's, which is given back by [`jumbetai_free`].
 #[repr(C)]
 #[derive(Debug)]
@@ -74,6 +106,15 @@ extern "C" {
         length: usize,
         counts: *mut Counts,
     ) -> c_int;
+    /// Takes the bodies of several callers, with an answer each.
+    pub fn jumbetai_take_each(
+        site: *mut Site,
+        bodies: *const Body,
+        count: usize,
+        answers: *mut Answer,
+    ) -> c_int;
+    /// What `jumbetai_take` would say, without a site.
+    pub fn jumbetai_test(bytes: *const c_void, length: usize, events: *mut u64) -> c_int;
     /// What is wrong with bytes that are refused.
     pub fn jumbetai_check(
         site: *mut Site,
@@ -95,6 +136,33 @@ extern "C" {
         from: u64,
         text: *mut Text,
     ) -> c_int;
+    /// A part of the events that a peer lacks: so many events, and about so many bytes.
+    pub fn jumbetai_delta_part(
+        site: *mut Site,
+        summary: *const c_void,
+        length: usize,
+        from: u64,
+        events: u64,
+        bytes: u64,
+        text: *mut Text,
+    ) -> c_int;
+    /// The summary of version 1.
+    pub fn jumbetai_cover(site: *mut Site, text: *mut Text) -> c_int;
+    /// The name of the set of events.
+    pub fn jumbetai_name(site: *mut Site, name: *mut [u8; 32]) -> c_int;
+    /// How far the site and a peer are apart, by its summary.
+    pub fn jumbetai_compare(
+        site: *mut Site,
+        summary: *const c_void,
+        length: usize,
+        lag: *mut Lag,
+    ) -> c_int;
+    /// A page of the events that came after so many.
+    pub fn jumbetai_arrivals(site: *mut Site, after: u64, text: *mut Text) -> c_int;
+    /// A site in memory that has the same events.
+    pub fn jumbetai_copy(site: *mut Site, copy: *mut *mut Site) -> c_int;
+    /// Gives back what a site keeps of its last answer; null is let through.
+    pub fn jumbetai_release(site: *mut Site);
     /// A page of all events in key order.
     pub fn jumbetai_page(site: *mut Site, from: u64, text: *mut Text) -> c_int;
     /// The outbox of a database file; the source may be null.

@@ -1,5 +1,5 @@
 -- The files are read, so that their room is left, and handed on with the reply; what comes back is written into the room.
-use Rattle.site_c.proofs.Steps.{List, [], ◌∷◌, ◌++◌, refl, proved, leaves, full_share, id⊢, emp, ex, ex_i, sep, ftrue, fsep, fat, named, Val, vunit, fact, fact_i, tables, WpFn, sem, ‵, raw, ◌⊛◌, some, later, prop, ◌$◌, ◌∵◌, !, qed, by, move, keep, drop, use0, use1, split, join, fsplit, fjoin, feq_i, pick, await, regoal, enter, of_opd, unit_lit, addr, load, look, init, forget, stop, no_more, and_then, assigns, returns, alloc_all, pass_all, free_all, look_at, get, through, sets, lands_as, yes, Is, shows, part_at, lone, owns, MutRef, Ptr, RawPtr, block_ptr, lies_at, room_at, in_a_block, rawptr_vals, rawptr_Tells, mut_vals, mut_Tells, plain, nothing, heard, peeks, calls_at, lasts, Lasts, alive, triple_of, framed, Stays, walk_of, stay_dropped, gave_ref, Goes-dropped, Goes-gave_ref, part_out, part_in}
+use Rattle.site_c.proofs.Steps.{List, [], ◌∷◌, ◌++◌, refl, proved, leaves, full_share, id⊢, emp, ex, ex_i, sep, fsep, fat, named, Val, vunit, fact, fact_i, tables, WpFn, sem, ‵, raw, ◌⊛◌, some, later, prop, ◌$◌, ◌∵◌, !, qed, by, move, keep, drop, use0, use1, split, join, fsplit, fjoin, feq_i, pick, await, regoal, enter, of_opd, unit_lit, addr, load, look, init, forget, stop, no_more, and_then, assigns, returns, alloc_all, pass_all, free_all, look_at, get, through, sets, lands_as, yes, Is, shows, part_at, lone, owns, MutRef, Ptr, RawPtr, block_ptr, lies_at, room_at, in_a_block, rawptr_vals, rawptr_Tells, mut_vals, mut_Tells, plain, nothing, heard, peeks, calls_at, lasts, Lasts, alive, triple_of, framed, Stays, walk_of, stay_dropped, gave_ref, Goes-dropped, Goes-gave_ref, part_out, part_in}
 use Rattle.site_c.specs.Files.{OpenedFile}
 use Rattle.std.proofs.alloc.Calls.{Goes-blank}
 use Rattle.std.specs.contracts.alloc.Global as heap

@@ -13,11 +13,12 @@ returns-clause-effect g c clean =
     let old = events_of c.args.self.now in
     let caught = c.in_ok-catch_up.ensures in
     let is = state g.S.Store c.keep.new.self.conn in
-    let new = events_of {S = g.row.S.Denot} (record { table = c.keep.new.self; site = c.count-counted.new.site; owed = c.count-counted.new.owed }) in
+    let new = events_of {S = g.row.S.Denot} (record { table = c.keep.new.self; site = c.count_to-counted.new.site; owed = c.count_to-counted.new.self; alloc = c.catch_up.new.self.alloc }) in
     let none : append_new key_cmp c.catch_up.new.self.site [] ≡ old =
     sym (ap (λ (L : List EventValue). append_new key_cmp c.catch_up.new.self.site L) caught.counts.done) ∙ caught.counts.all in
     let all : append_new key_cmp old c.args.batch ≡ new =
-    ap (λ (A : List EventValue). append_new key_cmp A c.args.batch) (sym none) ∙ sym c.count-counted.ensures.all in
+    ap (λ (A : List EventValue). append_new key_cmp A c.args.batch) (sym none)
+    ∙ ap (λ (L : List EventValue). append_new key_cmp c.catch_up.new.self.site L) (sym c.of.ensures) ∙ sym c.count_to-counted.ensures.all in
     let did = kept_takes c.args.batch old (state g.S.Store c.catch_up.new.self.table.conn) is _ c.in_ok-fresh.fresh
     c.in_ok-fresh.ensures.crash (c.in_ok-fresh.ensures.effect clean) clean in
     subst (λ (t : Kept g.row.S.Denot). TakeEffect c.args.batch old new (state g.S.Store t.conn) is (Ok c.in_ok-fresh.fresh)) c.catch_up.ensures.table

@@ -1,0 +1,2 @@
+mod BlockLemmas
+mod Entries
