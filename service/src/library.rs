@@ -1,0 +1,18 @@
+//! All that the service has of the library: what events are, whether they are sound, and which a site has, is decided
+//! there.
+
+#[cfg(feature = "calls")]
+pub use jumbetai::{test, Lag, Site};
+#[cfg(not(feature = "calls"))]
+pub use today::{test, Lag, Site};
+
+pub use jumbetai::{version, Error, Page, Question};
+
+#[cfg(not(feature = "calls"))]
+mod today;
+
+/// What is wrong with bytes that aren't taken, a line of JSON for each event at fault, in the words of `site check`.
+/// Time and memory in proportion to the bytes; the memory is given back.
+pub fn faults(bytes: &[u8]) -> Result<String, Error> {
+    jumbetai::Site::new()?.check(bytes)
+}

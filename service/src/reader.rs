@@ -1,0 +1,188 @@
+//! The thread that answers, from a copy in memory of what is kept; and what was answered last, for whoever asks again.
+
+use crate::keeper::{give_up, State};
+use crate::library::{Error, Lag, Page, Question, Site};
+use crate::metrics::Metrics;
+use hyper::body::Bytes;
+use std::collections::HashMap;
+use std::sync::{Arc, Mutex};
+use std::time::{Duration, Instant};
+use tokio::sync::{mpsc, oneshot, watch};
+
+/// What an answer is to.
+#[derive(Clone, Copy, PartialEq, Eq, Debug)]
+pub enum What {
+    Question(Question),
+    Summary,
+    Cover,
+}
+
+/// All of them, each with its name, which is its path.
+pub const ALL: [(&str, What); 8] = [
+    ("summary", What::Summary),
+    ("cover", What::Cover),
+    ("shown", What::Question(Question::Shown)),
+    ("conflicts", What::Question(Question::Conflicts)),
+    ("latest", What::Question(Question::Latest)),
+    ("kinds", What::Question(Question::Kinds)),
+    ("days", What::Question(Question::Days)),
+    ("gaps", What::Question(Question::Gaps)),
+];
+
+/// The name of what an answer is to.
+pub fn name_of(what: What) -> &'static str {
+    ALL.iter().find(|it| it.1 == what).map_or("cover", |it| it.0)
+}
+
+/// An answer, of the set of events that `tag` names.
+pub struct Answer {
+    pub text: Bytes,
+    pub count: u64,
+    /// The SHA-256 of the summary: two sites with one tag have the same events, and the same answers.
+    pub tag: Arc<str>,
+    made: Instant,
+    took: Duration,
+}
+
+/// What the reader is told and asked, in the order in which it is done.
+pub enum Ask {
+    /// These bodies were kept, and the database has so many events since.
+    Applied(Vec<Bytes>, Option<u64>),
+    Answer(What, u64, Reply<Arc<Answer>>),
+    Delta(String, u64, u64, u64, Reply<Option<Page>>),
+    Compare(String, Reply<Lag>),
+    Get(String, String, Reply<String>),
+    Arrivals(u64, Reply<Option<Arc<Page>>>),
+}
+
+type Reply<T> = oneshot::Sender<Result<T, Error>>;
+
+/// The last answer to each question.
+pub struct Cache {
+    had: Mutex<HashMap<&'static str, Arc<Answer>>>,
+    stale: Duration,
+}
+
+impl Cache {
+    pub fn new(stale_ms: u64) -> Cache {
+        Cache { had: Mutex::default(), stale: Duration::from_millis(stale_ms) }
+    }
+
+    /// The last answer, where it is of so many events as there are; or where it is young and of as many as are wanted.
+    pub fn get(&self, what: What, count: u64, at_least: u64) -> Option<Arc<Answer>> {
+        let had = self.had.lock().unwrap().get(name_of(what))?.clone();
+        // Where events come all the time, the reader spends a fifth of its time on one question at most.
+        let is_young = had.made.elapsed() < (had.took * 4).min(self.stale) && had.count >= at_least;
+        (had.count == count || is_young).then_some(had)
+    }
+
+    fn put(&self, what: What, answer: Arc<Answer>) {
+        self.had.lock().unwrap().insert(name_of(what), answer);
+    }
+}
+
+pub struct Reader {
+    site: Site,
+    count: watch::Sender<u64>,
+    state: Arc<State>,
+    metrics: Arc<Metrics>,
+    /// The name of the set that had so many events.
+    name: Option<(u64, Arc<str>)>,
+    /// The last page of arrivals, with the mark that it is behind and how many events there were.
+    page: Option<(u64, u64, Option<Arc<Page>>)>,
+}
+
+impl Reader {
+    pub fn new(site: Site, count: watch::Sender<u64>, state: Arc<State>, metrics: Arc<Metrics>) -> Reader {
+        Reader { site, count, state, metrics, name: None, page: None }
+    }
+
+    /// Answers until nobody can ask any more.
+    pub fn run(mut self, mut asked: mpsc::Receiver<Ask>) {
+        while let Some(ask) = asked.blocking_recv() {
+            let start = Instant::now();
+            let label = match ask {
+                Ask::Applied(bodies, count) => {
+                    self.apply(&bodies, count);
+                    "applied"
+                }
+                Ask::Answer(what, at_least, reply) => {
+                    let _ = reply.send(self.answer(what, at_least));
+                    name_of(what)
+                }
+                Ask::Delta(summary, from, events, bytes, reply) => {
+                    let _ = reply.send(self.site.delta_part(&summary, from, events, bytes));
+                    "delta"
+                }
+                Ask::Compare(summary, reply) => {
+                    let _ = reply.send(self.site.compare(&summary));
+                    "compare"
+                }
+                Ask::Get(source, id, reply) => {
+                    let _ = reply.send(self.site.get(&source, &id));
+                    "get"
+                }
+                Ask::Arrivals(after, reply) => {
+                    let _ = reply.send(self.arrivals(after));
+                    "arrivals"
+                }
+            };
+            let time = start.elapsed().as_secs_f64();
+            self.metrics.reader_seconds.with_label_values(&[label]).observe(time);
+        }
+    }
+
+    fn apply(&mut self, bodies: &[Bytes], count: Option<u64>) {
+        let bodies: Vec<&[u8]> = bodies.iter().map(|it| &it[..]).collect();
+        let taken = self.site.take_each(&bodies);
+        // Where memory ran out in either site the sets differ, and answers would be of another set than is kept.
+        if taken.is_err() || count.map_or(false, |it| it != self.site.len()) {
+            give_up("the set that is answered from isn't the one that is kept");
+        }
+        let _ = self.count.send(self.site.len());
+    }
+
+    fn answer(&mut self, what: What, at_least: u64) -> Result<Arc<Answer>, Error> {
+        let count = self.site.len();
+        if let Some(had) = self.state.cache.get(what, count, at_least) {
+            return Ok(had);
+        }
+        let start = Instant::now();
+        let text = match what {
+            What::Question(question) => self.site.ask(question)?,
+            What::Summary => self.site.summary()?,
+            What::Cover => self.site.cover()?,
+        };
+        let answer = Arc::new(Answer {
+            text: text.into(),
+            count,
+            tag: self.tag()?,
+            made: Instant::now(),
+            took: start.elapsed(),
+        });
+        self.state.cache.put(what, answer.clone());
+        Ok(answer)
+    }
+
+    fn tag(&mut self) -> Result<Arc<str>, Error> {
+        let count = self.site.len();
+        if let Some((_, name)) = self.name.as_ref().filter(|it| it.0 == count) {
+            return Ok(name.clone());
+        }
+        let name: String = self.site.name()?.iter().map(|it| format!("{it:02x}")).collect();
+        let name: Arc<str> = name.into();
+        self.name = Some((count, name.clone()));
+        Ok(name)
+    }
+
+    fn arrivals(&mut self, after: u64) -> Result<Option<Arc<Page>>, Error> {
+        let count = self.site.len();
+        // Consumers that have everything all ask for the same page next.
+        if let Some((_, _, page)) = self.page.as_ref().filter(|it| (it.0, it.1) == (after, count)) {
+            return Ok(page.clone());
+        }
+        let page = self.site.arrivals(after)?.map(Arc::new);
+        self.page = Some((after, count, page.clone()));
+        Ok(page)
+    }
+}
