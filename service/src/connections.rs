@@ -5,11 +5,12 @@ use hyper::server::conn::Http;
 use hyper::service::service_fn;
 use std::convert::Infallible;
 use std::io::{self, IoSlice};
+use std::mem::MaybeUninit;
 use std::net::SocketAddr;
 use std::pin::Pin;
-use std::sync::atomic::{AtomicU64, Ordering::Relaxed};
+use std::sync::atomic::{AtomicBool, AtomicU64, Ordering::Relaxed};
 use std::sync::Arc;
-use std::task::{Context, Poll};
+use std::task::{ready, Context, Poll};
 use std::time::{Duration, Instant};
 use tokio::io::{AsyncRead, AsyncWrite, ReadBuf};
 use tokio::net::{TcpListener, TcpStream};
@@ -17,7 +18,7 @@ use tokio::sync::Semaphore;
 
 /// How often a connection is looked at.
 const LOOK: Duration = Duration::from_millis(250);
-/// How long a connection may be idle where others wait for its place, or the service ends.
+/// How long a connection may be idle where others wait for its place, all is written, or the service ends.
 const CROWDED: Duration = Duration::from_secs(1);
 
 /// Listens at an address, which may be one that was used just now.
@@ -46,7 +47,7 @@ pub async fn serve(listener: TcpListener, service: Arc<Service>) -> Result<(), S
     let limits = service.settings.limits.clone();
     let mut ends = service.ends.clone();
     let mut http = Http::new();
-    http.http1_only(true).max_buf_size(limits.head_bytes).pipeline_flush(true);
+    http.http1_only(true).max_buf_size(limits.head_bytes);
     let shared = Shared {
         #[cfg(feature = "tls")]
         acceptor: service.settings.tls.as_ref().map(crate::tls::acceptor).transpose()?,
@@ -122,7 +123,7 @@ impl Shared {
                 Ok::<_, Infallible>(service.answer(request, from).await)
             }
         });
-        let watched = Watched { stream, seen: seen.clone() };
+        let watched = Watched { stream, seen: seen.clone(), is_shut: false };
         let mut connection = std::pin::pin!(self.http.serve_connection(watched, answering));
         let mut is_ending = false;
         loop {
@@ -133,7 +134,7 @@ impl Shared {
                     connection.as_mut().graceful_shutdown();
                 }
                 _ = tokio::time::sleep(LOOK) => {
-                    let is_crowded = is_ending || self.places.available_permits() == 0;
+                    let is_crowded = is_ending || seen.lingers.load(Relaxed) || self.places.available_permits() == 0;
                     if seen.idle() > if is_crowded { CROWDED.min(idle) } else { idle } {
                         return;
                     }
@@ -150,6 +151,8 @@ struct Activity {
     last: AtomicU64,
     /// How many requests are under way.
     under_way: AtomicU64,
+    /// All is written, and what the client still sends is thrown away.
+    lingers: AtomicBool,
 }
 
 /// A request that is under way, until it is dropped.
@@ -157,7 +160,12 @@ struct UnderWay(Arc<Activity>);
 
 impl Activity {
     fn new() -> Activity {
-        Activity { start: Instant::now(), last: AtomicU64::new(0), under_way: AtomicU64::new(0) }
+        Activity {
+            start: Instant::now(),
+            last: AtomicU64::new(0),
+            under_way: AtomicU64::new(0),
+            lingers: AtomicBool::new(false),
+        }
     }
 
     fn begin(self: &Arc<Self>) -> UnderWay {
@@ -185,10 +193,13 @@ impl Drop for UnderWay {
     }
 }
 
-/// A stream that notes when something is written to it.
+/// A stream that notes when something is written to it, and that is closed in two steps: what is written is told to be
+/// all, and what still comes is thrown away until the client closes. Else a client that is still sending, as a body that
+/// is too large, would lose the answer.
 struct Watched<S> {
     stream: S,
     seen: Arc<Activity>,
+    is_shut: bool,
 }
 
 impl<S> Watched<S> {
@@ -206,7 +217,7 @@ impl<S: AsyncRead + Unpin> AsyncRead for Watched<S> {
     }
 }
 
-impl<S: AsyncWrite + Unpin> AsyncWrite for Watched<S> {
+impl<S: AsyncRead + AsyncWrite + Unpin> AsyncWrite for Watched<S> {
     fn poll_write(mut self: Pin<&mut Self>, cx: &mut Context<'_>, buf: &[u8]) -> Poll<io::Result<usize>> {
         let wrote = Pin::new(&mut self.stream).poll_write(cx, buf);
         self.noted(wrote)
@@ -230,7 +241,20 @@ impl<S: AsyncWrite + Unpin> AsyncWrite for Watched<S> {
     }
 
     fn poll_shutdown(mut self: Pin<&mut Self>, cx: &mut Context<'_>) -> Poll<io::Result<()>> {
-        Pin::new(&mut self.stream).poll_shutdown(cx)
+        if !self.is_shut {
+            ready!(Pin::new(&mut self.stream).poll_shutdown(cx))?;
+            self.is_shut = true;
+            self.seen.note();
+            self.seen.lingers.store(true, Relaxed);
+        }
+        let mut scratch = [MaybeUninit::uninit(); 4096];
+        loop {
+            let mut rest = ReadBuf::uninit(&mut scratch);
+            let read = ready!(Pin::new(&mut self.stream).poll_read(cx, &mut rest));
+            if read.is_err() || rest.filled().is_empty() {
+                return Poll::Ready(Ok(()));
+            }
+        }
     }
 }
 

@@ -33,7 +33,7 @@ pub const ACCEPTED: &str = "application/cloudevents+json, application/cloudevent
 
 /// The mode that the headers of a request say.
 pub fn mode_of(headers: &HeaderMap) -> Result<Mode, Unread> {
-    if headers.get(CONTENT_ENCODING).map_or(false, |it| it.as_bytes() != b"identity") {
+    if headers.get(CONTENT_ENCODING).is_some_and(|it| it.as_bytes() != b"identity") {
         return Err(Unread::Media("a content coding isn't read here".into()));
     }
     let given = headers.get(CONTENT_TYPE).map(HeaderValue::to_str).transpose();

@@ -45,7 +45,7 @@ impl Service {
             Err(refused) => return refused,
         };
         let bytes = given.bytes.clone();
-        match on_thread(bytes.clone(), |it| library::test(it)).await {
+        match on_thread(bytes.clone(), library::test).await {
             Ok(events) => plain(StatusCode::OK, JSON, format!("{}\n", json!({"events": events, "faults": 0}))),
             Err(Error::NoEvents | Error::NoNumber) => self.faulty(mode, bytes).await,
             Err(why) => self.refused(Refusal::Store(why)),
@@ -172,7 +172,7 @@ impl Service {
 
     /// The problem of a body at fault, with an entry for each event at fault, in the words of `site check`.
     async fn faulty(&self, mode: Mode, bytes: Bytes) -> Answered {
-        let lines = match on_thread(bytes, |it| library::faults(it)).await {
+        let lines = match on_thread(bytes, library::faults).await {
             Ok(lines) => lines,
             Err(why) => return self.refused(Refusal::Store(why)),
         };

@@ -4,7 +4,7 @@
 //! The other has a copy in memory, which takes what was kept, and answers all questions, so that no question holds up
 //! what comes.
 
-use crate::library::{Error, Lag, Page, Site};
+use crate::library::{Error, Lag, Page, Site, Taken};
 use crate::metrics::Metrics;
 use crate::reader::{self, Answer, Ask, What};
 use crate::settings::Limits;
@@ -319,7 +319,7 @@ impl Writer {
             Ok(answers) => {
                 self.metrics.commits.inc();
                 *self.state.trouble.lock().unwrap() = None;
-                let has_new = |it: &Result<jumbetai::Taken, Error>| it.map_or(false, |taken| taken.fresh > 0);
+                let has_new = |it: &Result<Taken, Error>| matches!(it, Ok(taken) if taken.fresh > 0);
                 let new = group.iter().zip(&answers).filter(|it| has_new(it.1));
                 self.hand_on(new.map(|it| it.0.bytes.clone()).collect(), Some(count));
                 for (take, answer) in group.into_iter().zip(answers) {

@@ -6,7 +6,7 @@ pub use jumbetai::{test, Lag, Site};
 #[cfg(not(feature = "calls"))]
 pub use today::{test, Lag, Site};
 
-pub use jumbetai::{version, Error, Page, Question};
+pub use jumbetai::{version, Error, Page, Question, Taken};
 
 #[cfg(not(feature = "calls"))]
 mod today;

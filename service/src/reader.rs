@@ -136,7 +136,7 @@ impl Reader {
         let bodies: Vec<&[u8]> = bodies.iter().map(|it| &it[..]).collect();
         let taken = self.site.take_each(&bodies);
         // Where memory ran out in either site the sets differ, and answers would be of another set than is kept.
-        if taken.is_err() || count.map_or(false, |it| it != self.site.len()) {
+        if taken.is_err() || count.is_some_and(|it| it != self.site.len()) {
             give_up("the set that is answered from isn't the one that is kept");
         }
         let _ = self.count.send(self.site.len());

@@ -151,6 +151,12 @@ impl Service {
 
     async fn route(self: Arc<Self>, route: Route, request: Request<Body>) -> Answered {
         let headers = request.headers();
+        let head: usize = headers.iter().map(|(name, value)| name.as_str().len() + value.len()).sum();
+        if head > self.settings.limits.head_bytes {
+            let detail = format!("at most {} bytes", self.settings.limits.head_bytes);
+            let status = StatusCode::REQUEST_HEADER_FIELDS_TOO_LARGE;
+            return problem(status, "head", "The head is too large", detail).into();
+        }
         if headers.contains_key(TRANSFER_ENCODING) && headers.contains_key(CONTENT_LENGTH) {
             let detail = "Content-Length and Transfer-Encoding both say how long the body is";
             return problem(StatusCode::BAD_REQUEST, "two-lengths", "No request", detail).into();

@@ -1,10 +1,10 @@
 //! Comes to one view with each peer, by pulling from it. Each peer has a task of its own, so that one that hangs holds up
 //! nobody.
 //!
-//! A round: the peer is asked for its cover, unless its set has this site's name; where it has, it waits a while for a
-//! change. What it has of numbers that this site lacks it is asked for by this site's cover, page by page. Where both
-//! have the same numbers and their sets other names, which is what two events of one number are, it is asked by the
-//! summary, whose digests find them.
+//! A round: the peer is asked for its cover, unless its set has the name of this site's or the one that it had; where it
+//! has, it waits a while for a change. What it has of numbers that this site lacks it is asked for by this site's cover,
+//! page by page. Where both have the same numbers and their sets other names, which is what two events of one number are,
+//! it is asked by the summary, whose digests find them.
 
 use crate::keeper::{Body as Given, Keeper, Refusal};
 use crate::library::{faults, Lag};
@@ -103,7 +103,9 @@ impl Tasks {
             peers: self.peers.clone(),
             settings: self.settings.clone(),
             last_repair: Instant::now(),
-            was_equal: false,
+            is_equal: false,
+            is_behind: true,
+            last: Default::default(),
         })
     }
 
@@ -125,7 +127,12 @@ struct Peer {
     peers: Arc<Peers>,
     settings: settings::Sync,
     last_repair: Instant,
-    was_equal: bool,
+    /// Whether the sets had one name when they were last compared.
+    is_equal: bool,
+    /// Whether the peer had numbers then that this site lacks.
+    is_behind: bool,
+    /// The name of the peer's set and its cover, as it last told them.
+    last: (String, String),
 }
 
 /// By what a peer is told what this site has.
@@ -196,60 +203,69 @@ impl Peer {
 
     async fn round(&mut self, is_first: bool) -> Result<(), String> {
         let own = self.own(What::Cover, 0).await?;
-        // An answer is wanted at once to see whether the peer is there, and whether its set is still another.
-        let wait = if is_first || !self.was_equal { 0 } else { self.settings.wait_seconds };
-        let answer = self.cover_of_peer(&own, wait).await?;
-        if answer.status() == StatusCode::NOT_MODIFIED {
-            self.compared(self.keeper.count() == own.count, Lag::default());
-            return Ok(());
-        }
-        let answer = expect(answer, StatusCode::OK)?;
+        // An answer is wanted at once to see whether the peer is there, and where it has what this site lacks.
+        let wait = if is_first || self.is_behind { 0 } else { self.settings.wait_seconds };
+        let answer = self.poll(&own, wait).await?;
         let tag = answer.headers().get(header::ETAG).and_then(|it| it.to_str().ok());
         let tag = tag.unwrap_or("").trim_matches('"').to_owned();
-        let cover = String::from_utf8(self.body(answer).await?.to_vec()).map_err(|it| it.to_string())?;
-        let cover = cover.trim_end_matches('\n').to_owned();
-        let lag = self.compare(&cover, &tag).await?;
+        if answer.status() == StatusCode::NOT_MODIFIED {
+            if tag == *own.tag {
+                self.compared(self.keeper.count() == own.count, Lag::default());
+                return Ok(());
+            }
+        } else {
+            let body = self.body(expect(answer, StatusCode::OK)?).await?;
+            let cover = String::from_utf8(body.to_vec()).map_err(|it| it.to_string())?;
+            self.last = (tag, cover.trim_end_matches('\n').to_owned());
+        }
+        let mut lag = self.compare().await?;
         if lag.lacking > 0 {
             self.pull(By::Numbers).await?;
-            self.compare(&cover, &tag).await?;
+            lag = self.compare().await?;
         }
+        self.is_behind = lag.lacking > 0;
         // Digests tell a block of 1,024 numbers, so that a source that is being written would send all of them again
         // with each new event: numbers come first.
         let is_due = self.last_repair.elapsed() > Duration::from_secs(self.settings.repair_seconds);
-        if !self.was_equal && (lag.lacking + lag.ahead == 0 || is_due) {
+        if !self.is_equal && (lag.lacking + lag.ahead == 0 || is_due) {
             self.last_repair = Instant::now();
             self.pull(By::Digests).await?;
+            self.compare().await?;
         }
         Ok(())
     }
 
-    /// Asks the peer for its cover, or for 304 where its set has the name of this site's.
-    async fn cover_of_peer(&mut self, own: &Answer, wait: u64) -> Result<Response<Body>, String> {
+    /// Asks the peer for its cover, or for 304 where its set is this site's or what it was.
+    async fn poll(&mut self, own: &Answer, wait: u64) -> Result<Response<Body>, String> {
+        let known = format!("\"{}\", \"{}\"", own.tag, self.last.0);
         let asked = Request::get(format!("{}/cover", self.of.url))
-            .header(header::IF_NONE_MATCH, format!("\"{}\"", own.tag))
+            .header(header::IF_NONE_MATCH, known)
             .header("prefer", format!("wait={wait}"));
         let asking = self.send(asked, Body::empty(), wait);
         let mut asking = std::pin::pin!(asking);
         let mut counted = self.keeper.counted.clone();
         loop {
+            let look = async {
+                tokio::time::sleep(Duration::from_millis(self.settings.every_ms)).await;
+                counted.changed().await
+            };
             tokio::select! {
                 answer = asking.as_mut() => return answer,
-                // While the peer waits for a change of its own this site has one: they aren't equal any more.
-                changed = counted.changed() => {
-                    if changed.is_err() || *counted.borrow() != own.count {
-                        self.tell_equal(false);
-                        return asking.await;
-                    }
+                // While the peer waits for a change, this site has one: they may have come apart, or together.
+                changed = look => {
+                    changed.map_err(|it| it.to_string())?;
+                    let own = self.own(What::Cover, 0).await?;
+                    self.tell_equal(*own.tag == *self.last.0);
                 }
             }
         }
     }
 
-    /// How the numbers stand beside the peer's, and whether the sets have one name.
-    async fn compare(&mut self, cover: &str, tag: &str) -> Result<Lag, String> {
+    /// How the numbers stand beside those that the peer told last, and whether the sets have one name.
+    async fn compare(&mut self) -> Result<Lag, String> {
         let own = self.own(What::Cover, self.keeper.count()).await?;
-        let lag = self.keeper.compare(cover.to_owned()).await.map_err(|it| it.to_string())?;
-        self.compared(*own.tag == *tag, lag);
+        let lag = self.keeper.compare(self.last.1.clone()).await.map_err(|it| it.to_string())?;
+        self.compared(*own.tag == *self.last.0, lag);
         Ok(lag)
     }
 
@@ -274,7 +290,7 @@ impl Peer {
     }
 
     fn note_equal(&mut self, equal: bool) {
-        self.was_equal = equal;
+        self.is_equal = equal;
         self.tell_equal(equal);
     }
 
