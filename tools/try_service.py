@@ -1,11 +1,11 @@
 #!/usr/bin/env python3
 """Tries jumbetaid, the service, as its clients, its peers and its operator meet it: over loopback alone.
 
-    tools/try_service.py [--program FILE | --library FOLDER] [--lint] [TRY..]
+    tools/try_service.py [--program FILE | --library FOLDER] [TRY..]
 
-Without --program it is built, over the library of FOLDER or over one that is made, and its tests in Rust are run; with
---lint clippy and rustfmt look at it too. TRY names some of the tries below. Each takes below ten seconds. What is left
-out since a tool or a right isn't there is told. The last line is 'N of M tries of the service were right'.
+Without --program it is built, over the library of FOLDER or over one that is made; its tests in Rust are run, clippy and
+rustfmt look at it, and docs/SERVICE.md is run. TRY names some of the tries below. Each takes below ten seconds. What is
+left out since a tool or a right isn't there is told. The last line is 'N of M tries of the service were right'.
 """
 import argparse
 import contextlib
@@ -855,12 +855,18 @@ def built(folder, given, tries):
     ran = service.cargo(["test", "--release", "--features", "tls"], given.library, f"{folder}/cargo", capture_output=True, text=True)
     passed = re.search(r"test result: ok\. (\d+) passed; 0 failed", ran.stdout)
     tries.judge("tests in Rust", passed and int(passed[1]) > 20, ran.stdout + ran.stderr)
-    if given.lint:
-        for words in (["clippy", "--release", "--all-targets", *more, "--", "-D", "warnings"] for more in ([], ["--features", "tls"])):
+    linters = {
+        "cargo-clippy": ["clippy", "--release", "--all-targets", "--features", "tls", "--", "-D", "warnings"],
+        "rustfmt": ["fmt", "--check"],
+    }
+    for tool, words in linters.items():
+        if shutil.which(tool):
             ran = service.cargo(words, given.library, f"{folder}/cargo", capture_output=True, text=True)
-            tries.judge("clippy", ran.returncode == 0, ran.stderr)
-        ran = service.cargo(["fmt", "--check"], given.library, f"{folder}/cargo", capture_output=True, text=True)
-        tries.judge("rustfmt", ran.returncode == 0, ran.stdout)
+            tries.judge(tool, ran.returncode == 0, ran.stdout + ran.stderr)
+        else:
+            tries.skip(f"the service by {tool}", "it isn't there")
+    ran = subprocess.run([f"{TOP}/tools/run_guide.py", "docs/SERVICE.md"], capture_output=True, text=True, timeout=150, check=False)
+    tries.judge("docs/SERVICE.md", ran.returncode == 0, ran.stdout + ran.stderr)
     return program
 
 
@@ -868,7 +874,6 @@ def main():
     words = argparse.ArgumentParser(description=__doc__, formatter_class=argparse.RawDescriptionHelpFormatter)
     words.add_argument("--program")
     words.add_argument("--library")
-    words.add_argument("--lint", action="store_true")
     words.add_argument("tries", nargs="*", metavar="TRY", choices=[[], *TRIES])
     given = words.parse_args()
     with tempfile.TemporaryDirectory() as folder:
