@@ -4,8 +4,8 @@
     hand_on.py DB URL MARK [--token FILE]      as: hand_on.py orders.db http://127.0.0.1:8087 orders.mark
 
 The file MARK has the number of the last row that was taken; without one it begins at the first row. A page of rows is
-given again until the service answers that it is kept, and then the mark moves on: however this ends, nothing is lost, and
-what is given twice is kept once. It ends once there are no more rows, with how many events were handed on.
+given again until the service answers that it is kept, and then the mark moves on: however this ends, nothing is lost,
+and what is given twice is kept once. It ends once there are no more rows, with how many events were handed on.
 """
 import argparse
 import os

@@ -32,9 +32,9 @@ pub fn listen(at: SocketAddr) -> io::Result<TcpListener> {
     TcpListener::from_std(socket.into())
 }
 
-/// What each connection has of the listener.
+/// What accepts connections, and what each of them has of it.
 #[derive(Clone)]
-struct Shared {
+pub struct Front {
     service: Arc<Service>,
     http: Http,
     places: Arc<Semaphore>,
@@ -42,55 +42,59 @@ struct Shared {
     acceptor: Option<tokio_rustls::TlsAcceptor>,
 }
 
-/// Accepts connections until the service ends, and then lets them end, so long as the settings say.
-pub async fn serve(listener: TcpListener, service: Arc<Service>) -> Result<(), String> {
-    let limits = service.settings.limits.clone();
-    let mut ends = service.ends.clone();
-    let mut http = Http::new();
-    http.http1_only(true).max_buf_size(limits.head_bytes);
-    let shared = Shared {
-        #[cfg(feature = "tls")]
-        acceptor: service.settings.tls.as_ref().map(crate::tls::acceptor).transpose()?,
-        places: Arc::new(Semaphore::new(limits.connections)),
-        service,
-        http,
-    };
-    loop {
-        let next = async {
-            let place = shared.places.clone().acquire_owned().await;
-            (place, listener.accept().await)
-        };
-        let (place, accepted) = tokio::select! {
-            next = next => next,
-            _ = ends.changed() => break,
-        };
-        match accepted {
-            Ok((stream, from)) => {
-                let shared = shared.clone();
-                tokio::spawn(async move {
-                    let _place = place;
-                    let open = shared.service.metrics.connections.clone();
-                    open.inc();
-                    shared.greet(stream, from).await;
-                    open.dec();
-                });
-            }
-            Err(why) => {
-                // As where no descriptor is left: what is open goes on.
-                tracing::warn!(%why, "no connection is accepted");
-                tokio::time::sleep(Duration::from_millis(50)).await;
+impl Front {
+    /// The front of a service, or why its certificate can't be used.
+    pub fn new(service: Arc<Service>) -> Result<Front, String> {
+        let limits = &service.settings.limits;
+        let mut http = Http::new();
+        http.http1_only(true).max_buf_size(limits.head_bytes);
+        Ok(Front {
+            #[cfg(feature = "tls")]
+            acceptor: service.settings.tls.as_ref().map(crate::tls::acceptor).transpose()?,
+            places: Arc::new(Semaphore::new(limits.connections)),
+            http,
+            service,
+        })
+    }
+
+    /// Accepts connections until the service ends, and then lets them end, so long as the settings say.
+    pub async fn serve(self, listener: TcpListener) {
+        let mut ends = self.service.ends.clone();
+        loop {
+            let next = async {
+                let place = self.places.clone().acquire_owned().await;
+                (place, listener.accept().await)
+            };
+            let (place, accepted) = tokio::select! {
+                next = next => next,
+                _ = ends.changed() => break,
+            };
+            match accepted {
+                Ok((stream, from)) => {
+                    let front = self.clone();
+                    tokio::spawn(async move {
+                        let _place = place;
+                        let open = front.service.metrics.connections.clone();
+                        open.inc();
+                        front.greet(stream, from).await;
+                        open.dec();
+                    });
+                }
+                Err(why) => {
+                    // As where no descriptor is left: what is open goes on.
+                    tracing::warn!(%why, "no connection is accepted");
+                    tokio::time::sleep(Duration::from_millis(50)).await;
+                }
             }
         }
+        drop(listener);
+        let limits = &self.service.settings.limits;
+        let all = self.places.acquire_many(limits.connections as u32);
+        if tokio::time::timeout(Duration::from_secs(limits.shutdown_seconds), all).await.is_err() {
+            tracing::warn!("connections are cut that didn't end in time");
+        }
     }
-    drop(listener);
-    let all = shared.places.acquire_many(limits.connections as u32);
-    if tokio::time::timeout(Duration::from_secs(limits.shutdown_seconds), all).await.is_err() {
-        tracing::warn!("connections are cut that didn't end in time");
-    }
-    Ok(())
-}
 
-impl Shared {
     async fn greet(self, stream: TcpStream, from: SocketAddr) {
         let _ = stream.set_nodelay(true);
         #[cfg(feature = "tls")]

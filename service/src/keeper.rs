@@ -362,3 +362,76 @@ fn refusal_of(why: Error) -> Refusal {
         other => Refusal::Store(other),
     }
 }
+
+#[cfg(test)]
+mod tests {
+    use super::*;
+    use std::path::PathBuf;
+
+    struct Folder(PathBuf);
+
+    impl Folder {
+        fn new(name: &str) -> Folder {
+            let path = std::env::temp_dir().join(format!("jumbetaid-{}-{name}", std::process::id()));
+            std::fs::create_dir_all(&path).unwrap();
+            Folder(path)
+        }
+
+        fn open(&self, limits: &Limits) -> (Arc<Keeper>, Threads) {
+            open(&self.0.join("site.db"), 0, limits, Arc::new(Metrics::new())).unwrap()
+        }
+    }
+
+    impl Drop for Folder {
+        fn drop(&mut self) {
+            let _ = std::fs::remove_dir_all(&self.0);
+        }
+    }
+
+    fn event(number: u64) -> String {
+        format!(r#"{{"specversion":"1.0","id":"{number}","source":"/a","type":"t","sequence":"{number:020}"}}"#)
+    }
+
+    async fn give(keeper: &Keeper, text: String) -> Result<Kept, Refusal> {
+        let room = keeper.room(text.len()).await?;
+        keeper.take(Body { bytes: text.into(), room }).await
+    }
+
+    #[tokio::test(flavor = "multi_thread")]
+    async fn bodies_are_kept_each_for_itself() {
+        let folder = Folder::new("kept");
+        let (keeper, threads) = folder.open(&Limits::default());
+        let kept = give(&keeper, format!("[{},{}]", event(1), event(2))).await.unwrap();
+        assert_eq!((kept.fresh, kept.repeated, kept.count), (2, 0, 2));
+        let both = format!("[{},{}]", event(2), event(3));
+        let (known, bad) = tokio::join!(give(&keeper, both), give(&keeper, "{}".into()));
+        let known = known.unwrap();
+        assert_eq!((known.fresh, known.repeated, known.count), (1, 1, 3));
+        assert!(matches!(bad, Err(Refusal::Faulty)));
+        let cover = keeper.ask(What::Cover, 3).await.unwrap();
+        assert_eq!((&cover.text[..], cover.count), (&b"{\"sources\":{\"/a\":[[1,3]]},\"version\":1}\n"[..], 3));
+        assert_eq!(keeper.ask(What::Summary, 0).await.unwrap().tag, cover.tag);
+        keeper.close();
+        assert!(matches!(give(&keeper, event(4)).await, Err(Refusal::Closing)));
+        assert!(keeper.ask(What::Summary, 4).await.is_err());
+        threads.join();
+        let (keeper, threads) = folder.open(&Limits::default());
+        assert_eq!(keeper.count(), 3);
+        keeper.close();
+        threads.join();
+    }
+
+    #[tokio::test(flavor = "multi_thread")]
+    async fn what_finds_no_room_is_refused_in_its_time() {
+        let folder = Folder::new("room");
+        let limits = Limits { waiting_bytes: 8 << 10, waiting_ms: 50, ..Limits::default() };
+        let (keeper, threads) = folder.open(&limits);
+        // More than there is room for takes all of it, and not more.
+        let room = keeper.room(1 << 30).await.unwrap();
+        assert!(matches!(give(&keeper, event(1)).await, Err(Refusal::Full)));
+        drop(room);
+        assert_eq!(give(&keeper, event(1)).await.unwrap().fresh, 1);
+        keeper.close();
+        threads.join();
+    }
+}

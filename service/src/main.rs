@@ -60,8 +60,15 @@ fn run(flags: &Flags) -> Result<(), String> {
     done
 }
 
-/// Tells whether the database can be opened; one that isn't there isn't made.
+/// Tells whether the files that the settings name can be read; a database that isn't there isn't made.
 fn check(settings: &Settings) -> Result<(), String> {
+    for file in settings.peers.iter().filter_map(|it| it.token_file.as_deref()) {
+        settings::text_of(file)?;
+    }
+    #[cfg(feature = "tls")]
+    if let Some(tls) = &settings.tls {
+        tls::acceptor(tls)?;
+    }
     let db = settings.db.display();
     let told = if !settings.db.exists() {
         "isn't there, and will be made".to_owned()
@@ -86,9 +93,9 @@ fn log_to_stderr(settings: &Settings) -> Result<(), String> {
     Ok(())
 }
 
-/// Opens the site, serves until a signal ends it, and closes the site.
+/// Opens the site, serves until a signal ends it, and closes the site, whatever came between.
 async fn serve(flags: &Flags, settings: Settings, live: Live) -> Result<(), String> {
-    let mut signals = Signals::new().map_err(|it| it.to_string())?;
+    let signals = Signals::new().map_err(|it| it.to_string())?;
     let metrics = Arc::new(metrics::Metrics::new());
     let start = Instant::now();
     let opened = {
@@ -99,58 +106,56 @@ async fn serve(flags: &Flags, settings: Settings, live: Live) -> Result<(), Stri
     let (keeper, threads) = opened.map_err(|why| format!("{}: {why}", settings.db.display()))?;
     let (events, ms) = (keeper.count(), start.elapsed().as_millis() as u64);
     tracing::info!(db = %settings.db.display(), events, ms, "the database is open");
-
-    let listener = connections::listen(settings.listen).map_err(|it| format!("{}: {it}", settings.listen))?;
-    let at = listener.local_addr().map_err(|it| it.to_string())?;
     let (end, ends) = watch::channel(false);
     let service = Arc::new(Service {
         held: Arc::new(Semaphore::new(settings.limits.connections / 2)),
         live: RwLock::new(Arc::new(live)),
         keeper: keeper.clone(),
-        metrics: metrics.clone(),
+        metrics,
         peers: Arc::default(),
-        ends: ends.clone(),
+        ends,
         settings,
     });
-    let mut tasks = sync::Tasks::new(&service.settings, keeper.clone(), metrics, service.peers.clone())?;
-    tasks.set(&service.settings.peers, &ends)?;
-    let mut connections = tokio::spawn(connections::serve(listener, service.clone()));
-    notify(NotifyState::Ready);
-    tracing::info!(name = service.settings.name, listen = %at, "ready");
+    let served = serve_until_signal(flags, &service, signals, &end).await;
+    keeper.close();
+    tokio::task::spawn_blocking(move || threads.join()).await.map_err(|it| it.to_string())?;
+    tracing::info!("the database is closed");
+    served
+}
 
-    loop {
-        tokio::select! {
-            is_end = signals.next() => match is_end {
-                true => break,
-                false => match reload(flags, &service, &mut tasks, &ends) {
-                    Ok(()) => tracing::info!("the settings are read again"),
-                    Err(why) => tracing::error!(why, "the settings stay as they were"),
-                },
-            },
-            failed = &mut connections => return failed.map_err(|it| it.to_string())?,
+async fn serve_until_signal(
+    flags: &Flags,
+    service: &Arc<Service>,
+    mut signals: Signals,
+    end: &watch::Sender<bool>,
+) -> Result<(), String> {
+    let settings = &service.settings;
+    let mut tasks = sync::Tasks::new(service)?;
+    let front = connections::Front::new(service.clone())?;
+    let listener = connections::listen(settings.listen).map_err(|it| format!("{}: {it}", settings.listen))?;
+    let at = listener.local_addr().map_err(|it| it.to_string())?;
+    tasks.set(&settings.peers)?;
+    let connections = tokio::spawn(front.serve(listener));
+    notify(NotifyState::Ready);
+    tracing::info!(name = settings.name, listen = %at, "ready");
+    while !signals.next().await {
+        match reload(flags, service, &mut tasks) {
+            Ok(()) => tracing::info!("the settings are read again"),
+            Err(why) => tracing::error!(why, "the settings stay as they were"),
         }
     }
     tracing::info!("ends: what is under way is done first");
     notify(NotifyState::Stopping);
     let _ = end.send(true);
     tasks.end().await;
-    connections.await.map_err(|it| it.to_string())??;
-    keeper.close();
-    tokio::task::spawn_blocking(move || threads.join()).await.map_err(|it| it.to_string())?;
-    tracing::info!("the database is closed");
-    Ok(())
+    connections.await.map_err(|it| it.to_string())
 }
 
 /// Takes up what of the settings may change while the service runs.
-fn reload(
-    flags: &Flags,
-    service: &Service,
-    tasks: &mut sync::Tasks,
-    ends: &watch::Receiver<bool>,
-) -> Result<(), String> {
+fn reload(flags: &Flags, service: &Service, tasks: &mut sync::Tasks) -> Result<(), String> {
     let settings = Settings::of(flags)?;
     let live = Live::of(&settings)?;
-    tasks.set(&settings.peers, ends)?;
+    tasks.set(&settings.peers)?;
     *service.live.write().unwrap() = Arc::new(live);
     let fixed = service.settings.fixed_changes(&settings);
     if !fixed.is_empty() {

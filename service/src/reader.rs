@@ -186,3 +186,32 @@ impl Reader {
         Ok(page)
     }
 }
+
+#[cfg(test)]
+mod tests {
+    use super::*;
+
+    fn answer(count: u64, took_ms: u64) -> Arc<Answer> {
+        let took = Duration::from_millis(took_ms);
+        Arc::new(Answer { text: Bytes::new(), count, tag: "a".into(), made: Instant::now(), took })
+    }
+
+    #[test]
+    fn answers_are_given_again_while_they_are_young() {
+        let cache = Cache::new(60_000);
+        let has = |count, at_least| cache.get(What::Summary, count, at_least).is_some();
+        assert!(!has(0, 0));
+        cache.put(What::Summary, answer(7, 0));
+        assert!(has(7, 0) && !has(8, 0));
+        cache.put(What::Summary, answer(7, 60_000));
+        assert!(has(8, 0) && has(8, 7) && !has(8, 8));
+        assert!(cache.get(What::Cover, 7, 0).is_none());
+    }
+
+    #[test]
+    fn each_answer_has_a_name_of_its_own() {
+        let names: std::collections::HashSet<&str> = ALL.iter().map(|it| name_of(it.1)).collect();
+        assert_eq!(names.len(), ALL.len());
+        assert!(ALL.iter().all(|it| name_of(it.1) == it.0));
+    }
+}

@@ -11,7 +11,8 @@ use crate::library::{faults, Lag};
 use crate::metrics::Metrics;
 use crate::peers::{now, Peers};
 use crate::reader::{Answer, What};
-use crate::settings::{self, text_of, Settings};
+use crate::routes::Service;
+use crate::settings::{self, text_of};
 use hyper::body::{Bytes, HttpBody};
 use hyper::client::HttpConnector;
 use hyper::{header, Body, Client, Request, Response, StatusCode};
@@ -35,17 +36,15 @@ pub struct Tasks {
     keeper: Arc<Keeper>,
     metrics: Arc<Metrics>,
     peers: Arc<Peers>,
+    ends: watch::Receiver<bool>,
     settings: settings::Sync,
     running: BTreeMap<String, (settings::Peer, JoinHandle<()>)>,
 }
 
 impl Tasks {
-    pub fn new(
-        settings: &Settings,
-        keeper: Arc<Keeper>,
-        metrics: Arc<Metrics>,
-        peers: Arc<Peers>,
-    ) -> Result<Tasks, String> {
+    /// None yet, or why peers can't be connected to.
+    pub fn new(service: &Service) -> Result<Tasks, String> {
+        let settings = &service.settings;
         let mut tcp = HttpConnector::new();
         tcp.set_connect_timeout(Some(Duration::from_secs(settings.sync.connect_seconds)));
         tcp.set_keepalive(Some(Duration::from_secs(15)));
@@ -54,9 +53,10 @@ impl Tasks {
         let tcp = crate::tls::connector(tcp, settings.sync.ca.as_deref())?;
         Ok(Tasks {
             client: Client::builder().pool_idle_timeout(Duration::from_secs(15)).pool_max_idle_per_host(2).build(tcp),
-            keeper,
-            metrics,
-            peers,
+            keeper: service.keeper.clone(),
+            metrics: service.metrics.clone(),
+            peers: service.peers.clone(),
+            ends: service.ends.clone(),
             settings: settings.sync.clone(),
             running: BTreeMap::new(),
         })
@@ -64,7 +64,7 @@ impl Tasks {
 
     /// Lets exactly these peers be pulled from: tasks of others end, and those of new or changed ones begin. Where a
     /// token can't be read nothing changes.
-    pub fn set(&mut self, wanted: &[settings::Peer], ends: &watch::Receiver<bool>) -> Result<(), String> {
+    pub fn set(&mut self, wanted: &[settings::Peer]) -> Result<(), String> {
         let mut begin = Vec::new();
         for peer in wanted {
             if self.running.get(&peer.name).map_or(true, |it| it.0 != *peer) {
@@ -85,7 +85,7 @@ impl Tasks {
             let (name, settings) = (peer.name.clone(), peer.of.clone());
             self.peers.note(&name, |it| it.state = "new");
             tracing::info!(peer = name, url = settings.url, "the peer is pulled from");
-            let task = tokio::spawn(peer.run(ends.clone()));
+            let task = tokio::spawn(peer.run(self.ends.clone()));
             self.running.insert(name, (settings, task));
         }
         Ok(())
@@ -210,6 +210,7 @@ impl Peer {
         let tag = tag.unwrap_or("").trim_matches('"').to_owned();
         if answer.status() == StatusCode::NOT_MODIFIED {
             if tag == *own.tag {
+                self.last = (tag, String::from_utf8_lossy(&own.text).trim_end_matches('\n').to_owned());
                 self.compared(self.keeper.count() == own.count, Lag::default());
                 return Ok(());
             }
