@@ -366,6 +366,7 @@ fn refusal_of(why: Error) -> Refusal {
 #[cfg(test)]
 mod tests {
     use super::*;
+    use crate::library::Question;
     use std::path::PathBuf;
 
     struct Folder(PathBuf);
@@ -413,7 +414,7 @@ mod tests {
         assert_eq!(keeper.ask(What::Summary, 0).await.unwrap().tag, cover.tag);
         keeper.close();
         assert!(matches!(give(&keeper, event(4)).await, Err(Refusal::Closing)));
-        assert!(keeper.ask(What::Summary, 4).await.is_err());
+        assert!(keeper.ask(What::Question(Question::Kinds), 0).await.is_err());
         threads.join();
         let (keeper, threads) = folder.open(&Limits::default());
         assert_eq!(keeper.count(), 3);
