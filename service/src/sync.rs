@@ -142,6 +142,13 @@ enum By {
     Digests,
 }
 
+/// A page of what a peer has: batches, a line each, and its places in the whole list.
+struct Page {
+    lines: Bytes,
+    from: u64,
+    behind: u64,
+}
+
 impl Peer {
     /// Rounds until the service ends.
     async fn run(mut self, mut ends: watch::Receiver<bool>) {
@@ -300,22 +307,31 @@ impl Peer {
         self.peers.note(&self.name, |it| it.equal = equal);
     }
 
-    /// Takes what the peer has and this site lacks, page by page: while one is kept the next is asked for. What the peer
-    /// gets meanwhile may shift its pages: the next round finds what was passed over.
+    /// Takes what the peer has and this site lacks, page by page: while one is kept the next is asked for. What either
+    /// gets meanwhile may shift the pages: the next round finds what was passed over.
     async fn pull(&self, by: By) -> Result<(), String> {
         let what = if by == By::Numbers { What::Cover } else { What::Summary };
-        let own = self.own(what, self.keeper.count()).await?;
+        let mut own = self.own(what, self.keeper.count()).await?;
         let mut next = self.page(own.text.clone(), 0).await?;
-        while let Some((pages, from)) = next {
-            let (kept, page) = tokio::join!(self.keep(pages), self.page(own.text.clone(), from));
+        while let Some(page) = next {
+            let from = match by {
+                // This site's cover gets what was kept, so that only the page that is under way is to be passed over.
+                By::Numbers => page.behind - page.from,
+                // A block is told again until both have the same of it, which may never be: places go on.
+                By::Digests => page.behind,
+            };
+            let (kept, asked) = tokio::join!(self.keep(page.lines), self.page(own.text.clone(), from));
             kept?;
-            next = page?;
+            next = asked?;
+            if by == By::Numbers {
+                own = self.own(what, self.keeper.count()).await?;
+            }
         }
         Ok(())
     }
 
-    /// The page from a place on of what the peer has beyond a summary, and the place behind it.
-    async fn page(&self, summary: Bytes, from: u64) -> Result<Option<(Bytes, u64)>, String> {
+    /// The page from a place on of what the peer has beyond a summary.
+    async fn page(&self, summary: Bytes, from: u64) -> Result<Option<Page>, String> {
         let asked = Request::post(format!("{}/delta?from={from}", self.of.url))
             .header(header::CONTENT_TYPE, "application/json");
         let answer = self.send(asked, Body::from(summary), 0).await?;
@@ -323,9 +339,9 @@ impl Peer {
             return Ok(None);
         }
         let answer = expect(answer, StatusCode::OK)?;
-        let next = answer.headers().get("site-next").and_then(|it| it.to_str().ok()?.parse().ok());
-        let next = next.filter(|it| *it > from).ok_or("the peer's page doesn't say where the next one begins")?;
-        Ok(Some((self.body(answer).await?, next)))
+        let behind = answer.headers().get("site-next").and_then(|it| it.to_str().ok()?.parse().ok());
+        let behind = behind.filter(|it| *it > from).ok_or("the peer's page doesn't say where the next one begins")?;
+        Ok(Some(Page { lines: self.body(answer).await?, from, behind }))
     }
 
     /// Keeps the events of pages, a batch a line; they are joined as other bodies are.
