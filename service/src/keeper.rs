@@ -311,36 +311,32 @@ impl Writer {
         let start = Instant::now();
         *self.state.busy.lock().unwrap() = Some(start);
         let bodies: Vec<&[u8]> = group.iter().map(|it| &it.bytes[..]).collect();
-        let taken = self.site.take_each(&bodies);
+        let answers = self.site.take_each(&bodies).unwrap_or_else(|why| vec![Err(why); group.len()]);
         *self.state.busy.lock().unwrap() = None;
         self.metrics.commit_seconds.observe(start.elapsed().as_secs_f64());
+        self.note(&answers);
         let count = self.site.len();
-        match taken {
-            Ok(answers) => {
-                self.metrics.commits.inc();
-                *self.state.trouble.lock().unwrap() = None;
-                let has_new = |it: &Result<Taken, Error>| matches!(it, Ok(taken) if taken.fresh > 0);
-                let new = group.iter().zip(&answers).filter(|it| has_new(it.1));
-                self.hand_on(new.map(|it| it.0.bytes.clone()).collect(), Some(count));
-                for (take, answer) in group.into_iter().zip(answers) {
-                    let kept = answer.map(|it| Kept { fresh: it.fresh, repeated: it.repeated, count });
-                    let _ = take.reply.send(kept.map_err(refusal_of));
-                }
-            }
-            Err(Error::Owed) => {
-                // They are in the file, and are counted at the next take: given again, they are repeated.
-                self.hand_on(group.iter().map(|it| it.bytes.clone()).collect(), None);
-                for take in group {
-                    let _ = take.reply.send(Err(Refusal::Unknown));
-                }
-            }
-            Err(why) => {
-                tracing::error!(%why, bodies = group.len(), "a transaction was refused");
-                *self.state.trouble.lock().unwrap() = Some((why, Instant::now()));
-                for take in group {
-                    let _ = take.reply.send(Err(refusal_of(why)));
-                }
-            }
+        // What is owed is in the file, and is counted at the next take.
+        let is_owed = answers.contains(&Err(Error::Owed));
+        let is_new = |it: &Result<Taken, Error>| it.map_or_else(|why| why == Error::Owed, |taken| taken.fresh > 0);
+        let new = group.iter().zip(&answers).filter(|it| is_new(it.1));
+        self.hand_on(new.map(|it| it.0.bytes.clone()).collect(), (!is_owed).then_some(count));
+        for (take, answer) in group.into_iter().zip(answers) {
+            let kept = answer.map(|it| Kept { fresh: it.fresh, repeated: it.repeated, count });
+            let _ = take.reply.send(kept.map_err(refusal_of));
+        }
+    }
+
+    /// Notes how the database does: by whether it refused.
+    fn note(&self, answers: &[Result<Taken, Error>]) {
+        let refused =
+            answers.iter().find_map(|it| it.err().filter(|why| matches!(refusal_of(*why), Refusal::Store(_))));
+        if let Some(why) = refused {
+            tracing::error!(%why, bodies = answers.len(), "a transaction was refused");
+            *self.state.trouble.lock().unwrap() = Some((why, Instant::now()));
+        } else if answers.iter().any(Result::is_ok) {
+            self.metrics.commits.inc();
+            *self.state.trouble.lock().unwrap() = None;
         }
     }
 
@@ -359,6 +355,7 @@ impl Writer {
 fn refusal_of(why: Error) -> Refusal {
     match why {
         Error::NoEvents | Error::NoNumber => Refusal::Faulty,
+        Error::Owed => Refusal::Unknown,
         other => Refusal::Store(other),
     }
 }

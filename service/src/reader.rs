@@ -1,7 +1,7 @@
 //! The thread that answers, from a copy in memory of what is kept; and what was answered last, for whoever asks again.
 
 use crate::keeper::{give_up, State};
-use crate::library::{Error, Lag, Page, Question, Site};
+use crate::library::{self, Error, Lag, Page, Question, Site};
 use crate::metrics::Metrics;
 use hyper::body::Bytes;
 use std::collections::HashMap;
@@ -119,7 +119,7 @@ impl Reader {
                     "compare"
                 }
                 Ask::Get(source, id, reply) => {
-                    let _ = reply.send(self.site.get(&source, &id));
+                    let _ = reply.send(library::get(&mut self.site, &source, &id));
                     "get"
                 }
                 Ask::Arrivals(after, reply) => {

@@ -218,7 +218,7 @@ impl Peer {
         if answer.status() == StatusCode::NOT_MODIFIED {
             if tag == *own.tag {
                 self.last = (tag, String::from_utf8_lossy(&own.text).trim_end_matches('\n').to_owned());
-                self.compared(self.keeper.count() == own.count, Lag::default());
+                self.compared(self.keeper.count() == own.count, Lag { lacking: 0, ahead: 0, blocks: 0 });
                 return Ok(());
             }
         } else {

@@ -1,19 +1,16 @@
-//! The calls of a site as a later library has them, over those that there are. What they can't give is
-//! [`Error::Other`] of [`ABSENT`].
+//! The calls of a site as a later library has them, over those that there are.
 
+use super::ABSENT;
 use jumbetai::{Error, Page, Question, Taken};
 use serde::Deserialize;
 use sha2::{Digest, Sha256};
 use std::collections::BTreeMap;
 use std::path::Path;
 
-/// The status of a call that this library hasn't.
-pub const ABSENT: i32 = -2;
-
 pub struct Site(jumbetai::Site);
 
 /// How the numbers of this site and of a peer stand beside one another.
-#[derive(Clone, Copy, PartialEq, Eq, Debug, Default)]
+#[derive(Clone, Copy, PartialEq, Eq, Debug)]
 pub struct Lag {
     /// How many numbers the peer has that this site lacks.
     pub lacking: u64,
@@ -40,20 +37,10 @@ impl Site {
 
     /// Each body in a transaction of its own: the shares of bodies that are taken together aren't told.
     pub fn take_each(&mut self, bodies: &[&[u8]]) -> Result<Vec<Result<Taken, Error>>, Error> {
-        bodies
-            .iter()
-            .map(|body| match self.0.take(body) {
-                Err(why @ (Error::NoEvents | Error::NoNumber)) => Ok(Err(why)),
-                taken => taken.map(Ok),
-            })
-            .collect()
+        Ok(bodies.iter().map(|body| self.0.take(body)).collect())
     }
 
     pub fn arrivals(&mut self, _after: u64) -> Result<Option<Page>, Error> {
-        Err(Error::Other(ABSENT))
-    }
-
-    pub fn get(&mut self, _source: &str, _id: &str) -> Result<String, Error> {
         Err(Error::Other(ABSENT))
     }
 
