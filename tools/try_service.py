@@ -67,8 +67,8 @@ class Told:
 class Site:
     """A running service, with its folder for the database, the settings and the log."""
 
-    def __init__(self, tries, name, settings="", words=(), prefix=()):
-        self.tries, self.name, self.words, self.prefix = tries, name, list(words), list(prefix)
+    def __init__(self, tries, name, settings=""):
+        self.tries, self.name, self.prefix = tries, name, []
         self.folder = f"{tries.folder}/{name}"
         os.makedirs(self.folder)
         self.port, self.ran, self.db = 0, None, f"{self.folder}/site.db"
@@ -79,21 +79,19 @@ class Site:
         with open(f"{self.folder}/settings.toml", "w", encoding="utf-8") as out:
             out.write(f'name = "{self.name}"\ndb = "{self.db}"\nlisten = "127.0.0.1:0"\n{settings}')
 
-    def start(self, is_same_port=False):
-        if not is_same_port:
-            self.words = [it for it in self.words if not it.startswith("--listen=")]
+    def start(self, seconds=8):
+        """Starts it, where it was before if it was, and waits until it is ready."""
         begin = os.path.getsize(f"{self.folder}/log") if os.path.exists(f"{self.folder}/log") else 0
         with open(f"{self.folder}/log", "ab") as log:
-            words = [*self.prefix, self.tries.program, "--config", f"{self.folder}/settings.toml", *self.words]
+            words = [*self.prefix, self.tries.program, "--config", f"{self.folder}/settings.toml"]
+            words += [f"--listen=127.0.0.1:{self.port}"] * bool(self.port)
             self.ran = subprocess.Popen(words, stdin=subprocess.DEVNULL, stdout=log, stderr=log)
         self.tries.running.append(self.ran)
-        end = time.monotonic() + 8
+        end = time.monotonic() + seconds
         while time.monotonic() < end and self.ran.poll() is None:
             for line in self.log(begin):
                 if line.get("message") == "ready":
                     self.port = int(line["listen"].rpartition(":")[2])
-                    # It comes again where it was.
-                    self.words = [*[it for it in self.words if not it.startswith("--listen=")], f"--listen=127.0.0.1:{self.port}"]
                     return self
             time.sleep(0.01)
         raise OSError(f"{self.name} isn't ready: {self.text_of_log()[-1000:]}")
@@ -172,8 +170,8 @@ class Tries:
     def skip(self, what, why):
         print(f"skipped: {what}, since {why}", flush=True)
 
-    def site(self, name, settings="", **more):
-        return Site(self, f"{self.what}-{name}", settings, **more)
+    def site(self, name, settings=""):
+        return Site(self, f"{self.what}-{name}", settings)
 
     def end(self):
         for it in self.running:
