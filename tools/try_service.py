@@ -35,7 +35,7 @@ ONE = {"Content-Type": "application/cloudevents+json"}
 MANY = {"Content-Type": "application/cloudevents-batch+json"}
 QUESTIONS = ("cover", "gaps", "shown", "latest", "kinds", "days", "conflicts")
 # The head of a request whose body is given by hand.
-HEAD = b"POST /events HTTP/1.1\r\nHost: x\r\nContent-Type: application/cloudevents+json\r\n"
+HEAD = b"POST /events HTTP/1.1\r\nHost: localhost\r\nContent-Type: application/cloudevents+json\r\n"
 
 
 def event(number, source="/a", **more):
@@ -340,7 +340,7 @@ def try_arrivals(tries):
             told = waits.result()
         tries.judge("a wait for the next", told.status == 200 and told.headers["site-next"] == "4", told)
         with socket.create_connection(("127.0.0.1", site.port), timeout=5) as it, it.makefile("rb") as said:
-            it.sendall(b"GET /arrivals HTTP/1.1\r\nHost: x\r\nAccept: text/event-stream\r\nLast-Event-ID: 3\r\n\r\n")
+            it.sendall(b"GET /arrivals HTTP/1.1\r\nHost: localhost\r\nAccept: text/event-stream\r\nLast-Event-ID: 3\r\n\r\n")
             seen = []
 
             def until(mark):
@@ -397,6 +397,10 @@ def try_tokens(tries):
         for path in ("/healthz", "/readyz", "/"):
             tries.judge(f"{path} is free", site.get(path).status == 200)
         tries.judge("so is the handshake", site.ask("OPTIONS", "/events").status == 200)
+    with serving(tries) as site:
+        for host, status in (("x.example.com", 403), (f"localhost:{site.port}", 200), ("10.1.2.3", 200)):
+            told = site.ask("GET", "/kinds", headers={"Host": host})
+            tries.judge(f"without tokens, by the name {host}", told.status == status, told)
     ran = subprocess.run([tries.program, "--db", "x.db", "--listen", "0.0.0.0:0"], cwd=tries.folder, capture_output=True, text=True, timeout=5, check=False)
     tries.judge("beyond loopback without tokens", ran.returncode == 1 and "tokens" in ran.stderr and not os.path.exists(f"{tries.folder}/x.db"), ran)
 
@@ -428,13 +432,13 @@ def try_limits(tries):
         tries.judge("its answer is read by who sends it all", said.startswith(b"HTTP/1.1 413") and took is not None, (said, took))
         said, took = site.raw(HEAD + b"Transfer-Encoding: chunked\r\n\r\n", *[b"4000\r\n" + b"x" * 0x4000 + b"\r\n"] * 8)
         tries.judge("chunks without end", said.startswith(b"HTTP/1.1 413"), (said, took))
-        said, took = site.raw(b"GET /kinds HTTP/1.1\r\nHost: x\r\n" + b"".join(b"X-%d: %s\r\n" % (it, b"y" * 900) for it in range(90)) + b"\r\n")
+        said, took = site.raw(b"GET /kinds HTTP/1.1\r\nHost: localhost\r\n" + b"".join(b"X-%d: %s\r\n" % (it, b"y" * 900) for it in range(90)) + b"\r\n")
         tries.judge("a head of 81 KB", said.startswith(b"HTTP/1.1 431"), said[:200])
         for what, headers in (("200 headers", b"A: b\r\n" * 200), ("a head of 8 MB", (b"A: %s\r\n" % (b"b" * 8000)) * 1000), ("a name without end", b"A" * 4_000_000)):
-            said, took = site.raw(b"GET /kinds HTTP/1.1\r\nHost: x\r\n" + headers + b"\r\n")
+            said, took = site.raw(b"GET /kinds HTTP/1.1\r\nHost: localhost\r\n" + headers + b"\r\n")
             tries.judge(what, took is not None and (not said or said.startswith(b"HTTP/1.1 431")), said[:200])
         # What a proxy may take for one request and the service for two, or the other way round.
-        behind = b"POST /events HTTP/1.1\r\nHost: x\r\n\r\n"
+        behind = b"POST /events HTTP/1.1\r\nHost: localhost\r\n\r\n"
         chunked = b"%x\r\n%s\r\n0\r\n\r\n" % (len(whole), whole)
         for what, lengths in (("length and chunks", b"Content-Length: 5\r\nTransfer-Encoding: chunked\r\n"), ("chunks and length", b"Transfer-Encoding: chunked\r\nContent-Length: 5\r\n")):
             said, took = site.raw(HEAD + lengths + b"\r\n" + chunked + behind)
@@ -444,7 +448,7 @@ def try_limits(tries):
             tries.judge(what, said.startswith(b"HTTP/1.1 400") and said.count(b"HTTP/1.1 ") == 1, (said, took))
         said, took = site.raw(HEAD + b"Transfer-Encoding: chunked\r\n\r\n" + b"%x\r\n%s\r\n" % (len(whole) // 2, whole[: len(whole) // 2]) + b"%x\r\n%s\r\n0\r\n\r\n" % (len(whole) - len(whole) // 2, whole[len(whole) // 2 :]))
         tries.judge("an event in chunks", b"HTTP/1.1 200" in said, (said, took))
-        said, _ = site.raw((HEAD + b"Content-Length: %d\r\n\r\n%s" % (len(whole), whole)) * 2 + b"GET /kinds HTTP/1.1\r\nHost: x\r\nConnection: close\r\n\r\n")
+        said, _ = site.raw((HEAD + b"Content-Length: %d\r\n\r\n%s" % (len(whole), whole)) * 2 + b"GET /kinds HTTP/1.1\r\nHost: localhost\r\nConnection: close\r\n\r\n")
         tries.judge("requests behind one another", said.count(b"HTTP/1.1 200 OK") == 3, said)
         said, _ = site.raw(b"\x16\x03\x01\x02\x00\x01\x00\x01\xfc\x03\x03 TLS at a plain port\r\n\r\n")
         tries.judge("no HTTP", said.startswith(b"HTTP/1.1 400") or not said, said)
@@ -461,7 +465,7 @@ def try_readers(tries):
             site.give([event(part * 1000 + it, "/large", data="x" * 900) for it in range(1, 1001)])
         with socket.create_connection(("127.0.0.1", site.port), timeout=8) as it:
             it.setsockopt(socket.SOL_SOCKET, socket.SO_RCVBUF, 4096)
-            it.sendall(b"GET /shown HTTP/1.1\r\nHost: x\r\n\r\n" * 4)
+            it.sendall(b"GET /shown HTTP/1.1\r\nHost: localhost\r\n\r\n" * 4)
             began = time.monotonic()
             tries.judge("others are answered meanwhile", site.give(event(1)).status == 200 and time.monotonic() - began < 1)
             gone = site.waits_for(lambda: b"jumbetai_http_connections 1\n" in site.get("/metrics").body, 6)
@@ -472,7 +476,15 @@ def try_crowds(tries):
     """A thousand idle connections, and more than there are places."""
     soft, hard = resource.getrlimit(resource.RLIMIT_NOFILE)
     resource.setrlimit(resource.RLIMIT_NOFILE, (min(hard, 4096), hard))
-    with serving(tries) as site, contextlib.ExitStack() as files:
+    for descriptors in (4096, 1024):
+        with serving(tries, prefix=["sh", "-c", f'ulimit -Sn {descriptors} && exec "$@"', "x"]) as site:
+            crowd(tries, site)
+    resource.setrlimit(resource.RLIMIT_NOFILE, (soft, hard))
+
+
+def crowd(tries, site):
+    """Beside a thousand idle connections, and where there is room for no more."""
+    with contextlib.ExitStack() as files:
         for _ in range(1000):
             files.enter_context(socket.create_connection(("127.0.0.1", site.port), timeout=5))
         began = time.monotonic()
@@ -481,7 +493,6 @@ def try_crowds(tries):
             files.enter_context(socket.create_connection(("127.0.0.1", site.port), timeout=5))
         began = time.monotonic()
         tries.judge("where all places are taken", site.give(event(2)).status == 200 and time.monotonic() - began < 4, time.monotonic() - began)
-    resource.setrlimit(resource.RLIMIT_NOFILE, (soft, hard))
 
 
 def try_counts(tries):
@@ -825,15 +836,16 @@ def try_tls(tries):
         with serving(tries, both + peers, name="second") as second:
             tries.judge("an event over TLS", ask(first, "POST", "/events", json.dumps(event(1)))[0] == 200)
             tries.judge("a peer over TLS", second.waits_for(lambda: b'"/a"' in ask(second, "GET", "/cover")[1]), ask(second, "GET", "/status"))
-            said, _ = first.raw(b"GET / HTTP/1.1\r\nHost: x\r\n\r\n")
+            said, _ = first.raw(b"GET / HTTP/1.1\r\nHost: localhost\r\n\r\n")
             tries.judge("plain HTTP at a port of TLS", b"200" not in said, said)
 
 
 @contextlib.contextmanager
-def serving(tries, settings="", name="site"):
+def serving(tries, settings="", name="site", prefix=()):
     """A service that runs, and ends well behind the block unless it was ended there."""
-    site = tries.site(f"{name}{len(tries.running)}", settings).start()
-    yield site
+    site = tries.site(f"{name}{len(tries.running)}", settings)
+    site.prefix = list(prefix)
+    yield site.start()
     if site.ran.poll() is None:
         status = site.stop()
         tries.judge(f"{name} ends well", status == 0, site.text_of_log()[-800:])

@@ -39,10 +39,15 @@ impl Access {
         Ok(Access(each.collect::<Result<_, String>>()?))
     }
 
+    /// Whether there are no tokens, so that everybody may do everything.
+    pub fn is_open(&self) -> bool {
+        self.0.is_empty()
+    }
+
     /// Whether a request with this `Authorization` may do what one of the roles is for; without tokens everybody may.
     /// Every token is compared, each in constant time.
     pub fn judge(&self, authorization: Option<&str>, roles: &[Role]) -> Verdict {
-        if self.0.is_empty() {
+        if self.is_open() {
             return Verdict::Allowed;
         }
         let token =

@@ -16,6 +16,8 @@ use tokio::io::{AsyncRead, AsyncWrite, ReadBuf};
 use tokio::net::{TcpListener, TcpStream};
 use tokio::sync::Semaphore;
 
+/// How often a fault of all connections is logged.
+const TELL: Duration = Duration::from_secs(10);
 /// How often a connection is looked at.
 const LOOK: Duration = Duration::from_millis(250);
 /// How long a connection may be idle where others wait for its place, all is written, or the service ends.
@@ -59,7 +61,7 @@ impl Front {
 
     /// Accepts connections until the service ends, and then lets them end, so long as the settings say.
     pub async fn serve(self, listener: TcpListener) {
-        let mut ends = self.service.ends.clone();
+        let (mut ends, mut told) = (self.service.ends.clone(), None::<Instant>);
         loop {
             let next = async {
                 let place = self.places.clone().acquire_owned().await;
@@ -81,9 +83,13 @@ impl Front {
                     });
                 }
                 Err(why) => {
-                    // As where no descriptor is left: what is open goes on.
-                    tracing::warn!(%why, "no connection is accepted");
-                    tokio::time::sleep(Duration::from_millis(50)).await;
+                    // As where no descriptor is left: all places are taken then, so that idle connections give theirs up.
+                    if told.map_or(true, |it| it.elapsed() > TELL) {
+                        tracing::warn!(%why, "no connection is accepted");
+                        told = Some(Instant::now());
+                    }
+                    let _all = self.places.try_acquire_many(self.places.available_permits() as u32);
+                    tokio::time::sleep(LOOK / 10).await;
                 }
             }
         }

@@ -7,10 +7,10 @@ use crate::peers::Peers;
 use crate::problems::{plain, problem, set, Answered, JSON};
 use crate::reader::{self, What};
 use crate::settings::Settings;
-use hyper::header::{AUTHORIZATION, CONTENT_LENGTH, TRANSFER_ENCODING};
+use hyper::header::{AUTHORIZATION, CONTENT_LENGTH, HOST, TRANSFER_ENCODING};
 use hyper::{Body, Method, Request, StatusCode};
 use serde_json::json;
-use std::net::SocketAddr;
+use std::net::{IpAddr, SocketAddr};
 use std::sync::{Arc, RwLock};
 use std::time::{Duration, Instant};
 use tokio::sync::{watch, Semaphore};
@@ -199,8 +199,13 @@ impl Service {
         if roles.is_empty() {
             return Ok(());
         }
-        let given = request.headers().get(AUTHORIZATION).and_then(|it| it.to_str().ok());
-        let (title, challenge) = match self.live().access.judge(given, roles) {
+        let header = |name| request.headers().get(name).and_then(|it| it.to_str().ok());
+        let live = self.live();
+        if live.access.is_open() && !self.settings.open_to_all && !is_local(header(HOST)) {
+            let detail = "without tokens ask by an address, or by localhost";
+            return Err(problem(StatusCode::FORBIDDEN, "host", "Not by this name", detail).into());
+        }
+        let (title, challenge) = match live.access.judge(header(AUTHORIZATION), roles) {
             Verdict::Allowed => return Ok(()),
             Verdict::OtherRole => {
                 let detail = "ask for a token with the role that this needs";
@@ -259,6 +264,20 @@ impl Service {
     }
 }
 
+/// Whether a request is to an address or to localhost, and not to a name: a web page can't let its own name lead here
+/// then, and ask as if it were of this service.
+fn is_local(host: Option<&str>) -> bool {
+    let Some(host) = host else {
+        return true;
+    };
+    let name = match host.rsplit_once(':') {
+        Some((name, port)) if port.bytes().all(|it| it.is_ascii_digit()) => name,
+        _ => host,
+    };
+    let bare = name.trim_start_matches('[').trim_end_matches(']');
+    name.eq_ignore_ascii_case("localhost") || bare.parse::<IpAddr>().is_ok()
+}
+
 fn page() -> Answered {
     let mut answer = plain(StatusCode::OK, "text/html; charset=utf-8", PAGE);
     set(&mut answer, "content-security-policy", PAGE_POLICY);
@@ -270,6 +289,17 @@ fn page() -> Answered {
 #[cfg(test)]
 mod tests {
     use super::*;
+
+    #[test]
+    fn names_of_others_arent_local() {
+        for host in ["localhost", "LocalHost:8087", "127.0.0.1:8087", "10.0.0.1", "[::1]:8087", "[::1]"] {
+            assert!(is_local(Some(host)), "{host}");
+        }
+        for host in ["example.com:8087", "example.com", "localhost.example.com", "1.2.3.4.example.com", "", ":8087"] {
+            assert!(!is_local(Some(host)), "{host}");
+        }
+        assert!(is_local(None));
+    }
 
     #[test]
     fn paths_have_routes_and_roles() {
