@@ -1,10 +1,11 @@
 #!/usr/bin/env python3
 """Tries jumbetaid, the service, as its clients, its peers and its operator meet it: over loopback alone.
 
-    tools/try_service.py [--program FILE | --library FOLDER] [TRY..]
+    tools/try_service.py [--program FILE | --library FOLDER] [--site FILE] [TRY..]
 
 Without --program it is built, over the library of FOLDER or over one that is made; its tests in Rust are run, clippy and
-rustfmt look at it, and docs/SERVICE.md is run. TRY names some of the tries below. Each takes below ten seconds. What is
+rustfmt look at it, and docs/SERVICE.md is run. The program `site`, by default crates/site_cli/out/site_cli, has to answer
+the same about the files that it leaves. TRY names some of the tries below. Each takes below ten seconds. What is
 left out since a tool or a right isn't there is told. The last line is 'N of M tries of the service were right'.
 """
 import argparse
@@ -157,8 +158,8 @@ class Site:
 
 
 class Tries:
-    def __init__(self, folder, program):
-        self.folder, self.program, self.right, self.all, self.running = folder, program, 0, 0, []
+    def __init__(self, folder, program, site=""):
+        self.folder, self.program, self.other, self.right, self.all, self.running = folder, program, site, 0, 0, []
         self.what = ""
 
     def judge(self, what, is_right, why=""):
@@ -315,6 +316,17 @@ def try_questions(tries):
         tries.judge("pages of 2,000", count == int(told.headers["site-next"]) and 2000 <= count < 2100, (count, told.headers))
         told = site.ask("POST", f"/delta?from={count}&limit=100", b'{"sources":{},"version":1}')
         tries.judge("the next page", told.headers["site-next"] == str(count + 100), told)
+        answers = {it: site.get(f"/{it}").body for it in (*QUESTIONS, "summary")}
+    if not os.path.exists(tries.other):
+        tries.skip("the answers of the program", "it isn't built")
+        return
+    for it, body in answers.items():
+        ran = subprocess.run([tries.other, it, "--db", site.db], capture_output=True, timeout=8, check=False)
+        tries.judge(f"{it} of the program", (ran.returncode, ran.stdout) == (0, body), ran.stderr)
+    ran = subprocess.run([tries.other, "take", "--db", site.db, "-"], input=json.dumps(event(9, "/program")).encode(), capture_output=True, timeout=8, check=False)
+    site.start()
+    tries.judge("what the program took", ran.returncode == 0 and site.cover().get("/program") == [[9, 9]], ran)
+    tries.judge("it ends well behind it", site.stop() == 0)
 
 
 def try_arrivals(tries):
@@ -884,10 +896,11 @@ def main():
     words = argparse.ArgumentParser(description=__doc__, formatter_class=argparse.RawDescriptionHelpFormatter)
     words.add_argument("--program")
     words.add_argument("--library")
+    words.add_argument("--site", default=f"{TOP}/crates/site_cli/out/site_cli")
     words.add_argument("tries", nargs="*", metavar="TRY", choices=[[], *TRIES])
     given = words.parse_args()
     with tempfile.TemporaryDirectory() as folder:
-        tries = Tries(folder, given.program and os.path.abspath(given.program))
+        tries = Tries(folder, given.program and os.path.abspath(given.program), os.path.abspath(given.site))
         if tries.program is None:
             if not service.has_crates() or not shutil.which("cargo"):
                 print("skipped: the service, since the crates that it stands on aren't there: tools/service.py --install", flush=True)
