@@ -203,9 +203,14 @@ impl Keeper {
         *self.counted.borrow()
     }
 
+    /// How many events the database has, at least: an answer that is asked for with so many has them.
+    pub fn kept(&self) -> u64 {
+        self.state.kept.load(SeqCst)
+    }
+
     /// The answer to what is asked, of at least so many events; where events come all the time it may be a little old.
     pub async fn ask(&self, what: What, at_least: u64) -> Result<Arc<Answer>, Error> {
-        match self.state.cache.get(what, self.state.kept.load(SeqCst), at_least) {
+        match self.state.cache.get(what, self.kept(), at_least) {
             Some(had) => Ok(had),
             None => self.asked(|reply| Ask::Answer(what, at_least, reply)).await,
         }

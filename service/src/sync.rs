@@ -208,10 +208,10 @@ impl Peer {
         });
     }
 
-    async fn round(&mut self, is_first: bool) -> Result<(), String> {
+    async fn round(&mut self, has_failed: bool) -> Result<(), String> {
         let own = self.own(What::Cover, 0).await?;
         // An answer is wanted at once to see whether the peer is there, and where it has what this site lacks.
-        let wait = if is_first || self.is_behind { 0 } else { self.settings.wait_seconds };
+        let wait = if has_failed || self.is_behind { 0 } else { self.settings.wait_seconds };
         let answer = self.poll(&own, wait).await?;
         let tag = answer.headers().get(header::ETAG).and_then(|it| it.to_str().ok());
         let tag = tag.unwrap_or("").trim_matches('"').to_owned();
@@ -271,7 +271,7 @@ impl Peer {
 
     /// How the numbers stand beside those that the peer told last, and whether the sets have one name.
     async fn compare(&mut self) -> Result<Lag, String> {
-        let own = self.own(What::Cover, self.keeper.count()).await?;
+        let own = self.own(What::Cover, self.keeper.kept()).await?;
         let lag = self.keeper.compare(self.last.1.clone()).await.map_err(|it| it.to_string())?;
         self.compared(*own.tag == *self.last.0, lag);
         Ok(lag)
@@ -311,7 +311,7 @@ impl Peer {
     /// gets meanwhile may shift the pages: the next round finds what was passed over.
     async fn pull(&self, by: By) -> Result<(), String> {
         let what = if by == By::Numbers { What::Cover } else { What::Summary };
-        let mut own = self.own(what, self.keeper.count()).await?;
+        let mut own = self.own(what, self.keeper.kept()).await?;
         let mut next = self.page(own.text.clone(), 0).await?;
         while let Some(page) = next {
             let from = match by {
@@ -324,7 +324,7 @@ impl Peer {
             kept?;
             next = asked?;
             if by == By::Numbers {
-                own = self.own(what, self.keeper.count()).await?;
+                own = self.own(what, self.keeper.kept()).await?;
             }
         }
         Ok(())
