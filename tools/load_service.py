@@ -122,8 +122,10 @@ class Postgres:
                 times += [int(it.split()[2]) / 1000 for it in lines]
             os.remove(file)
         times.sort()
-        rate = float(re.search(r"tps = ([\d.]+)", said)[1]) * batch
-        return rate, times[len(times) // 2], times[int((len(times) - 1) * 0.99)]
+        rate = re.search(r"tps = ([\d.]+)", said)
+        if not rate or not times:
+            sys.exit(f"pgbench did nothing in its time: {said}")
+        return float(rate[1]) * batch, times[len(times) // 2], times[int((len(times) - 1) * 0.99)]
 
 
 def main():
