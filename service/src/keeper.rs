@@ -108,7 +108,7 @@ pub fn open(path: &Path, mib: u32, limits: &Limits, metrics: Arc<Metrics>) -> Re
     let (count, counted) = watch::channel(before);
     let state = Arc::new(State {
         kept: AtomicU64::new(before),
-        cache: reader::Cache::new(limits.stale_ms),
+        cache: reader::Cache::default(),
         is_closing: AtomicBool::new(false),
         trouble: Mutex::new(None),
         busy: Mutex::new(None),
@@ -203,16 +203,12 @@ impl Keeper {
         *self.counted.borrow()
     }
 
-    /// How many events the database has, at least: an answer that is asked for with so many has them.
-    pub fn kept(&self) -> u64 {
-        self.state.kept.load(SeqCst)
-    }
-
-    /// The answer to what is asked, of at least so many events; where events come all the time it may be a little old.
-    pub async fn ask(&self, what: What, at_least: u64) -> Result<Arc<Answer>, Error> {
-        match self.state.cache.get(what, self.kept(), at_least) {
+    /// The answer to what is asked, with all that was kept before.
+    pub async fn ask(&self, what: What) -> Result<Arc<Answer>, Error> {
+        let kept = self.state.kept.load(SeqCst);
+        match self.state.cache.get(what, kept) {
             Some(had) => Ok(had),
-            None => self.asked(|reply| Ask::Answer(what, at_least, reply)).await,
+            None => self.asked(|reply| Ask::Answer(what, kept, reply)).await,
         }
     }
 
@@ -411,12 +407,12 @@ mod tests {
         let known = known.unwrap();
         assert_eq!((known.fresh, known.repeated, known.count), (1, 1, 3));
         assert!(matches!(bad, Err(Refusal::Faulty)));
-        let cover = keeper.ask(What::Cover, 3).await.unwrap();
+        let cover = keeper.ask(What::Cover).await.unwrap();
         assert_eq!((&cover.text[..], cover.count), (&b"{\"sources\":{\"/a\":[[1,3]]},\"version\":1}\n"[..], 3));
-        assert_eq!(keeper.ask(What::Summary, 0).await.unwrap().tag, cover.tag);
+        assert_eq!(keeper.ask(What::Summary).await.unwrap().tag, cover.tag);
         keeper.close();
         assert!(matches!(give(&keeper, event(4)).await, Err(Refusal::Closing)));
-        assert!(keeper.ask(What::Question(Question::Kinds), 0).await.is_err());
+        assert!(keeper.ask(What::Question(Question::Kinds)).await.is_err());
         threads.join();
         let (keeper, threads) = folder.open(&Limits::default());
         assert_eq!(keeper.count(), 3);

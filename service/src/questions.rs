@@ -22,7 +22,7 @@ const SUMMARY: usize = 33_554_432;
 
 impl Service {
     /// `GET /NAME`: the answer to a question, the summary or the cover; 304 where whoever asks has the set that it is of.
-    /// With `Prefer: wait=N` a 304 is held back so many seconds, until the set changes.
+    /// With `Prefer: wait=N` a 304 is held back so many seconds, until the set changes; with `?min=N` what has fewer events.
     pub async fn ask(&self, request: &Request<Body>, what: What) -> Answered {
         let at_least = match number_of(request, "min") {
             Ok(at_least) => at_least.unwrap_or(0),
@@ -32,12 +32,13 @@ impl Service {
         let mut wait = Wait::of(self, request.headers(), self.keeper.counted.clone());
         loop {
             wait.mark();
-            let answer = match self.keeper.ask(what, at_least).await {
+            let answer = match self.keeper.ask(what).await {
                 Ok(answer) => answer,
                 Err(why) => return self.unanswered(why),
             };
             let is_known = known.iter().any(|it| it == "*" || **it == *answer.tag);
-            if !is_known || !wait.change().await {
+            let waits = is_known || answer.count < at_least;
+            if !waits || !wait.change().await {
                 return told(&answer, what, is_known);
             }
         }

@@ -6,7 +6,7 @@ use crate::metrics::Metrics;
 use hyper::body::Bytes;
 use std::collections::HashMap;
 use std::sync::{Arc, Mutex};
-use std::time::{Duration, Instant};
+use std::time::Instant;
 use tokio::sync::{mpsc, oneshot, watch};
 
 /// What an answer is to.
@@ -40,8 +40,6 @@ pub struct Answer {
     pub count: u64,
     /// The SHA-256 of the summary: two sites with one tag have the same events, and the same answers.
     pub tag: Arc<str>,
-    made: Instant,
-    took: Duration,
 }
 
 /// What the reader is told and asked, in the order in which it is done.
@@ -58,26 +56,17 @@ pub enum Ask {
 type Reply<T> = oneshot::Sender<Result<T, Error>>;
 
 /// The last answer to each question.
-pub struct Cache {
-    had: Mutex<HashMap<&'static str, Arc<Answer>>>,
-    stale: Duration,
-}
+#[derive(Default)]
+pub struct Cache(Mutex<HashMap<&'static str, Arc<Answer>>>);
 
 impl Cache {
-    pub fn new(stale_ms: u64) -> Cache {
-        Cache { had: Mutex::default(), stale: Duration::from_millis(stale_ms) }
-    }
-
-    /// The last answer, where it is of so many events as there are; or where it is young and of as many as are wanted.
-    pub fn get(&self, what: What, count: u64, at_least: u64) -> Option<Arc<Answer>> {
-        let had = self.had.lock().unwrap().get(name_of(what))?.clone();
-        // Where events come all the time, the reader spends a fifth of its time on one question at most.
-        let is_young = had.made.elapsed() < (had.took * 4).min(self.stale) && had.count >= at_least;
-        (had.count == count || is_young).then_some(had)
+    /// The last answer, where it is of at least so many events.
+    pub fn get(&self, what: What, at_least: u64) -> Option<Arc<Answer>> {
+        self.0.lock().unwrap().get(name_of(what)).filter(|it| it.count >= at_least).cloned()
     }
 
     fn put(&self, what: What, answer: Arc<Answer>) {
-        self.had.lock().unwrap().insert(name_of(what), answer);
+        self.0.lock().unwrap().insert(name_of(what), answer);
     }
 }
 
@@ -142,24 +131,17 @@ impl Reader {
         let _ = self.count.send(self.site.len());
     }
 
+    /// The answer to a question, made once for all that ask meanwhile.
     fn answer(&mut self, what: What, at_least: u64) -> Result<Arc<Answer>, Error> {
-        let count = self.site.len();
-        if let Some(had) = self.state.cache.get(what, count, at_least) {
+        if let Some(had) = self.state.cache.get(what, at_least) {
             return Ok(had);
         }
-        let start = Instant::now();
         let text = match what {
             What::Question(question) => self.site.ask(question)?,
             What::Summary => self.site.summary()?,
             What::Cover => self.site.cover()?,
         };
-        let answer = Arc::new(Answer {
-            text: text.into(),
-            count,
-            tag: self.tag()?,
-            made: Instant::now(),
-            took: start.elapsed(),
-        });
+        let answer = Arc::new(Answer { text: text.into(), count: self.site.len(), tag: self.tag()? });
         self.state.cache.put(what, answer.clone());
         Ok(answer)
     }
@@ -191,21 +173,14 @@ impl Reader {
 mod tests {
     use super::*;
 
-    fn answer(count: u64, took_ms: u64) -> Arc<Answer> {
-        let took = Duration::from_millis(took_ms);
-        Arc::new(Answer { text: Bytes::new(), count, tag: "a".into(), made: Instant::now(), took })
-    }
-
     #[test]
-    fn answers_are_given_again_while_they_are_young() {
-        let cache = Cache::new(60_000);
-        let has = |count, at_least| cache.get(What::Summary, count, at_least).is_some();
-        assert!(!has(0, 0));
-        cache.put(What::Summary, answer(7, 0));
-        assert!(has(7, 0) && !has(8, 0));
-        cache.put(What::Summary, answer(7, 60_000));
-        assert!(has(8, 0) && has(8, 7) && !has(8, 8));
-        assert!(cache.get(What::Cover, 7, 0).is_none());
+    fn answers_are_given_again_where_they_have_all() {
+        let cache = Cache::default();
+        assert!(cache.get(What::Summary, 0).is_none());
+        cache.put(What::Summary, Arc::new(Answer { text: Bytes::new(), count: 7, tag: "a".into() }));
+        let has = |what, at_least| cache.get(what, at_least).is_some();
+        assert!(has(What::Summary, 0) && has(What::Summary, 7) && !has(What::Summary, 8));
+        assert!(!has(What::Cover, 0));
     }
 
     #[test]

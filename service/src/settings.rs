@@ -79,7 +79,6 @@ pub struct Limits {
     pub page_events: u64,
     pub page_bytes: usize,
     pub faults: usize,
-    pub stale_ms: u64,
     pub shutdown_seconds: u64,
 }
 
@@ -98,7 +97,6 @@ impl Default for Limits {
             page_events: 2000,
             page_bytes: 8 << 20,
             faults: 100,
-            stale_ms: 1000,
             shutdown_seconds: 8,
         }
     }

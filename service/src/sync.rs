@@ -209,7 +209,7 @@ impl Peer {
     }
 
     async fn round(&mut self, has_failed: bool) -> Result<(), String> {
-        let own = self.own(What::Cover, 0).await?;
+        let own = self.own(What::Cover).await?;
         // An answer is wanted at once to see whether the peer is there, and where it has what this site lacks.
         let wait = if has_failed || self.is_behind { 0 } else { self.settings.wait_seconds };
         let answer = self.poll(&own, wait).await?;
@@ -262,7 +262,7 @@ impl Peer {
                 // While the peer waits for a change, this site has one: they may have come apart, or together.
                 changed = look => {
                     changed.map_err(|it| it.to_string())?;
-                    let own = self.own(What::Cover, 0).await?;
+                    let own = self.own(What::Cover).await?;
                     self.tell_equal(*own.tag == *self.last.0);
                 }
             }
@@ -271,14 +271,14 @@ impl Peer {
 
     /// How the numbers stand beside those that the peer told last, and whether the sets have one name.
     async fn compare(&mut self) -> Result<Lag, String> {
-        let own = self.own(What::Cover, self.keeper.kept()).await?;
+        let own = self.own(What::Cover).await?;
         let lag = self.keeper.compare(self.last.1.clone()).await.map_err(|it| it.to_string())?;
         self.compared(*own.tag == *self.last.0, lag);
         Ok(lag)
     }
 
-    async fn own(&self, what: What, at_least: u64) -> Result<Arc<Answer>, String> {
-        self.keeper.ask(what, at_least).await.map_err(|it| it.to_string())
+    async fn own(&self, what: What) -> Result<Arc<Answer>, String> {
+        self.keeper.ask(what).await.map_err(|it| it.to_string())
     }
 
     fn compared(&mut self, equal: bool, lag: Lag) {
@@ -311,7 +311,7 @@ impl Peer {
     /// gets meanwhile may shift the pages: the next round finds what was passed over.
     async fn pull(&self, by: By) -> Result<(), String> {
         let what = if by == By::Numbers { What::Cover } else { What::Summary };
-        let mut own = self.own(what, self.keeper.kept()).await?;
+        let mut own = self.own(what).await?;
         let mut next = self.page(own.text.clone(), 0).await?;
         while let Some(page) = next {
             let from = match by {
@@ -324,7 +324,7 @@ impl Peer {
             kept?;
             next = asked?;
             if by == By::Numbers {
-                own = self.own(what, self.keeper.kept()).await?;
+                own = self.own(what).await?;
             }
         }
         Ok(())
