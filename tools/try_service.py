@@ -819,8 +819,12 @@ def try_watching(tries):
 def try_tls(tries):
     """Two sites over TLS, by an authority of their own and a token."""
     folder = tries.folder
-    if not shutil.which("openssl") or "[tls] needs" in subprocess.run([tries.program, "--db", "x", "--peer", "a=https://b", "--check"], capture_output=True, text=True, check=False).stderr.replace("https needs", "[tls] needs"):
-        tries.skip("TLS", "openssl isn't there, or the program is built without it")
+    asked = [tries.program, "--db", "x", "--peer", "a=https://b", "--check"]
+    if "the feature tls" in subprocess.run(asked, capture_output=True, text=True, check=False).stderr:
+        tries.skip("TLS", "the program is built without it")
+        return
+    if not shutil.which("openssl"):
+        tries.skip("TLS", "openssl isn't there")
         return
 
     def run(*words):
