@@ -7,7 +7,7 @@
 # The archive is jumbetai-VERSION-x86_64-linux.tar.xz. It has the program in bin, libjumbetai.a, jumbetai.h and
 # the wheel for Python in library, the bindings, that for Python with libjumbetai.so in it, a man page and completions for bash, zsh and
 # fish, README and the pages of docs that are for users (tools/archive_pages.py), LICENSE where there is one, the
-# examples, SHA256SUMS of all files, and ABOUT, which says the version, the commit, the kit, and what the gate said last.
+# examples, the source of the service, SHA256SUMS of all files, and ABOUT, which says the version, the commit, the kit, and what the gate said last.
 # Made twice of one commit, program and library it has the same bytes. The program wants Linux on x86-64 with the C library
 # of GNU. Without --any it is refused where ./gate hasn't passed whole for this very commit and program; with it ABOUT
 # says that no gate was asked.
@@ -46,8 +46,8 @@ mkdir -p "$here/bin" "$here/library" || exit 1
 cp -- "$program" "$here/bin/site" && cp -- "$library/libjumbetai.a" "$library/jumbetai.h" "$here/library/" || exit 1
 licence=$(git ls-tree --name-only "$commit" LICENSE) || exit 1
 git archive -o "$room/pages.tar" "$commit" README.md CHANGELOG.md SECURITY.md docs/GUIDE.md docs/OPERATIONS.md \
-    docs/PRODUCERS.md docs/FORMATS.md docs/GUARANTEES.md docs/PERFORMANCE.md docs/GLOSSARY.md examples bindings \
-    tools/make_batch.py ${licence:+"$licence"} && tar -xf "$room/pages.tar" -C "$here" || exit 1
+    docs/PRODUCERS.md docs/FORMATS.md docs/GUARANTEES.md docs/PERFORMANCE.md docs/GLOSSARY.md docs/SERVICE.md examples bindings \
+    service tools/make_batch.py ${licence:+"$licence"} && tar -xf "$room/pages.tar" -C "$here" || exit 1
 tools/archive_pages.py "$here" || fail 'a page speaks of what the archive has not'
 tools/library.py --from "$library" --object "$here/bindings/python/jumbetai/libjumbetai.so" >/dev/null &&
     tools/library.py --from "$library" --wheel "$here/library" >/dev/null || fail 'the wheel is not made'

@@ -3,8 +3,9 @@
 
     tools/run_guide.py [--program FILE] [--seconds N] [--of N] [PAGE..]
 
-The program is by default crates/site_cli/out/site_cli, the pages are README.md, docs/GUIDE.md, docs/OPERATIONS.md and
-docs/PRODUCERS.md; a page may take N seconds, 120 by default. One bash runs all of a page, so `set -o pipefail`, `cd`,
+The program is by default crates/site_cli/out/site_cli, the pages are README.md, docs/GUIDE.md, docs/OPERATIONS.md,
+docs/PRODUCERS.md; a page may take N seconds, 120 by default. docs/SERVICE.md is run where it is named, as tools/try_service.py
+does, by the service that tools/service.py left. One bash runs all of a page, so `set -o pipefail`, `cd`,
 functions and `$?` hold as they do for who types it. `site` is the program, `make_batch.py` the script beside this one,
 and `ssh HOST COMMAND` a stand-in, which gives the command to a shell here. The first word behind ``` says what a block
 is:
@@ -32,7 +33,9 @@ import tempfile
 HERE = os.path.dirname(os.path.dirname(os.path.realpath(__file__)))
 
 
-PAGES = ("README.md", "docs/GUIDE.md", "docs/OPERATIONS.md", "docs/PRODUCERS.md")
+PAGES = ("README.md", "docs/GUIDE.md", "docs/OPERATIONS.md", "docs/PRODUCERS.md", "docs/SERVICE.md")
+# The service, and its page, which is run by who built it.
+SERVICE = os.path.join(HERE, "out/service/jumbetaid")
 # What a stand-in for ssh does: it leaves out the host, and joins the words to one text for a shell, as ssh does.
 SSH = '#!/bin/sh\nshift\nexec sh -c "$*"\n'
 
@@ -56,7 +59,7 @@ def blocks(page):
 
 def absent(mark):
     """The programs that a block wants and that aren't there."""
-    return {it for it in mark[1:] if "=" not in it and not shutil.which(it)}
+    return {it for it in mark[1:] if "=" not in it and not (os.path.exists(SERVICE) if it == "jumbetaid" else shutil.which(it))}
 
 
 def of_console(mark, lines, times, of):
@@ -113,6 +116,7 @@ def room(program, ssh=SSH):
     with tempfile.TemporaryDirectory() as folder, tempfile.TemporaryDirectory() as path:
         os.symlink(os.path.realpath(program), os.path.join(path, "site"))
         os.symlink(os.path.join(HERE, "tools", "make_batch.py"), os.path.join(path, "make_batch.py"))
+        os.symlink(SERVICE, os.path.join(path, "jumbetaid"))
         with open(os.path.join(path, "ssh"), "w", encoding="utf-8") as file:
             file.write(ssh)
         os.chmod(os.path.join(path, "ssh"), 0o755)
@@ -169,7 +173,8 @@ def main():
     words.add_argument("--of", type=int, default=100)
     words.add_argument("pages", nargs="*", metavar="PAGE")
     given = words.parse_args()
-    counts = [run(page, given.program, given.seconds, given.of) for page in given.pages or PAGES]
+    pages = given.pages or [it for it in PAGES if it != "docs/SERVICE.md"]
+    counts = [run(page, given.program, given.seconds, given.of) for page in pages]
     right, every = (sum(it) for it in zip(*counts))
     print(f"{right} of {every} commands of the pages were right")
     sys.exit(0 if right == every and all(it for _, it in counts) else 1)

@@ -39,7 +39,6 @@ PROGRAMS = {
     "bindings/c/test_site.c": [],
     "bindings/c/test_file.c": [],
     "bindings/c/test_outbox.c": [],
-    "bindings/c/test_service.c": [],
     "bindings/c/try_want.c": [],
     "bindings/c/try_want_outbox.c": ["-Wl,--wrap=malloc,--wrap=realloc"],
     "examples/c/ask.c": [],
@@ -48,7 +47,7 @@ PROGRAMS = {
 VALGRIND = ["valgrind", "-q", "--error-exitcode=9", "--leak-check=full"]
 SANITIZE = ["-fsanitize=address,undefined", "-fno-sanitize-recover=all", "-fno-omit-frame-pointer"]
 # Where else the version stands.
-MANIFESTS = ("bindings/rust/jumbetai-sys/Cargo.toml", "bindings/python/pyproject.toml")
+MANIFESTS = ("bindings/rust/jumbetai-sys/Cargo.toml", "bindings/python/pyproject.toml", "service/Cargo.toml")
 DONE = re.compile(rb"(\d+) passed, 0 failed|([1-9]\d*) requests refused")
 
 
@@ -345,7 +344,7 @@ def try_python(tries, batch):
     status, out = tries.run(words, f"{TOP}/bindings/python", JUMBETAI_LIB=where, JUMBETAI_BATCH=batch)
     passed = len(re.findall(rb"\.\.\. ok$", out, re.M))
     tries.judge("Python: tests and the example of its page", status == 0 and passed >= 38, out.decode(errors="replace"))
-    files, example = ["jumbetai", "build_wheel.py", "test_jumbetai.py"], f"{TOP}/examples/python/service.py"
+    files, example = ["jumbetai", "build_wheel.py", "test_jumbetai.py"], f"{TOP}/examples/python/hand_on.py"
     for words in (["flake8", *files, example], ["black", "--check", "-q", "-l", "120", *files, example], ["mypy", "--strict", "--cache-dir", f"{tries.folder}/mypy", *files[:2]]):
         if tries.has(words[0], f"Python by {words[0]}"):
             tries.passes(f"Python by {words[0]}", words, folder=f"{TOP}/bindings/python")

@@ -39,19 +39,20 @@ LIMITS = {
     "crates/inbox_table/README.md": (60, 1050),  # what each call leaves at each exit
     "crates/site/README.md": (60, 1050),  # what all above stands on
     "crates/site_c/README.md": (60, 1050),  # twenty exports
+    "docs/SERVICE.md": (None, 1100),  # an interface, as others call it
     "docs/PRODUCERS.md": (300, 2400),  # a recipe for each kind of producer, with its faults
 }
 OF_CRATES = (60, 1000)
 OTHERS = (None, 600)
 # All of these together; what stands beside code that people copy (NOT_COUNTED) has limits of its own alone.
-ALL_WORDS = 45_000
+ALL_WORDS = 46_100
 NOT_COUNTED = ("bindings/", "examples/", "tools/")
 PAGES_WITH_DATES = ("CHANGELOG.md", "docs/PERFORMANCE.md")
 DATE = re.compile(r"\b20\d\d-[01]\d-[0-3]\d\b")
 PATH = re.compile(r"(?<![\w.])/(?:work|opt/rattle|root)\b|(?<![\w.])/tmp/")
 LINK = re.compile(r"\[[^][]*\]\(([^()\s]+)\)")
 # What a block that isn't run wants, in a page whose other blocks are.
-WANTED = ("mosquitto_", "psql ", "mariadb ", "tar -x", "./site", "./gate")
+WANTED = ("mosquitto_", "psql ", "mariadb ", "tar -x", "./site", "./gate", "tools/service.py")
 SHELLS = ("sh", "console", "bash")
 
 

@@ -8,7 +8,6 @@ import contextlib
 import ctypes
 import doctest
 import gc
-import hashlib
 import itertools
 import json
 import os
@@ -16,19 +15,16 @@ import random
 import resource
 import shutil
 import signal
-import socket
 import sqlite3
 import subprocess
 import sys
 import tempfile
 import threading
-import time
 import unittest
-import urllib.error
-import urllib.request
+from http.server import BaseHTTPRequestHandler, HTTPServer
 
 import jumbetai
-from jumbetai import QUESTIONS, Error, Lag, OrderCounts, Outbox, Page, Site, Status, Taken, _c
+from jumbetai import QUESTIONS, Error, OrderCounts, Outbox, Page, Site, Status, Taken, _c
 
 HERE = os.path.dirname(os.path.abspath(__file__))
 EXAMPLES = os.path.join(HERE, "../../examples/python")
@@ -82,93 +78,6 @@ class Sites(unittest.TestCase):
             self.assertEqual(list(site.pages(start=200)), pages[2:])
             self.assertEqual(sum(copy.take(it.json).fresh for it in pages), 250)
             self.assertEqual(copy.summary(), site.summary())
-
-    def test_bodies_are_answered_each(self):
-        with tempfile.TemporaryDirectory() as folder:
-            path = os.path.join(folder, "service.db")
-            for site in (Site(), Site(path)):
-                with site:
-                    one, two = batch([event(1), event(2)]), batch([event(2), event(3)])
-                    answers = site.take_each([one, "{}", two, batch([event(4, sequence="4")]), b"[]", bytearray(one)])
-                    taken = [it if isinstance(it, Taken) else it.status for it in answers]
-                    wanted = [(2, 0), Status.NO_EVENTS, (1, 1), Status.NO_NUMBER, (0, 0), (0, 2)]
-                    self.assertEqual(taken, wanted)
-                    self.assertEqual(site.take_each([]), [])
-                    self.assertEqual(len(site), 3)
-            with Site(path) as again:
-                self.assertEqual(len(again), 3)
-                with self.assertRaises(TypeError):
-                    again.take_each([1])
-
-    def test_arrivals_and_copies(self):
-        with tempfile.TemporaryDirectory() as folder:
-            path = os.path.join(folder, "service.db")
-            for site in (Site(), Site(path)):
-                with site:
-                    site.take(batch([event(7), event(3)]))
-                    site.take(FEW)
-                    pages = list(site.arrivals())
-                    self.assertEqual([(it.start, it.events) for it in pages], [(0, 100), (100, 100), (200, 50)])
-                    ids = [it["id"] for page in pages for it in json.loads(page.json)]
-                    self.assertEqual(ids[:5], ["7", "3", "1", "2", "4"])
-                    self.assertEqual(list(site.arrivals(after=200)), pages[2:])
-                    self.assertEqual(list(site.arrivals(after=2**64)), [])
-                    self.assertRaises(ValueError, site.arrivals, -1)
-                    with site.copy() as copy:
-                        self.assertEqual(list(copy.arrivals()), pages)
-                        self.assertEqual((copy.name(), copy.summary()), (site.name(), site.summary()))
-                        copy.take(batch([event(251)]))
-                        self.assertEqual((len(copy), len(site)), (251, 250))
-            with Site(path) as again:
-                self.assertEqual(list(again.arrivals()), pages)
-
-    def test_names_and_covers(self):
-        with Site() as site, Site() as other:
-            site.take(FEW)
-            for number in range(250, 0, -1):
-                other.take(batch([event(number)]))
-            self.assertEqual(site.name(), hashlib.sha256(site.summary().rstrip(b"\n")).digest())
-            self.assertEqual(site.name(), other.name())
-            other.take(batch([event(251)]))
-            self.assertNotEqual(site.name(), other.name())
-            self.assertEqual(site.cover(), site.ask("cover"))
-            site.release()
-            self.assertEqual(site.cover(), b'{"sources":{"/shop":[[1,250]]},"version":1}\n')
-
-    def test_lags(self):
-        with Site() as site, Site() as peer:
-            site.take(FEW)
-            peer.take(batch([event(number) for number in range(200, 301)]))
-            self.assertEqual(site.compare(peer.summary()), Lag(50, 199, 1))
-            self.assertEqual(peer.compare(site.cover()), Lag(199, 50, 0))
-            self.assertEqual(site.compare(site.summary()), Lag(0, 0, 0))
-            with self.assertRaises(Error) as refused:
-                site.compare(b"{}")
-            self.assertEqual(refused.exception.status, Status.SUMMARY_SHAPE)
-
-    def test_parts(self):
-        with Site() as site:
-            site.take(FEW)
-            nothing = '{"sources":{},"version":1}'
-            rows = [((0, 0, 0), 100), ((0, 2**70, 0), 250), ((200, 2000, 0), 50), ((0, 2000, 1), 100)]
-            for numbers, come in rows:
-                part = site.delta_part(nothing, *numbers)
-                self.assertEqual((part.start, part.events), (numbers[0], come))
-                self.assertEqual(len(json.loads(part.json)), come)
-            self.assertIsNone(site.delta_part(nothing, 250, 2000))
-            self.assertIsNone(site.delta_part(site.summary(), 0, 2000))
-            self.assertRaises(ValueError, site.delta_part, nothing, 0, -1)
-            with self.assertRaises(Error) as refused:
-                site.delta_part('{"version":3}', 0, 1)
-            self.assertEqual(refused.exception.status, Status.SUMMARY_VERSION)
-
-    def test_bytes_without_a_site(self):
-        self.assertEqual(jumbetai.test(FEW), 250)
-        self.assertEqual(jumbetai.test("[]"), 0)
-        for given, status in ((b"", Status.NO_EVENTS), (batch([event(4, sequence="4")]), Status.NO_NUMBER)):
-            with self.assertRaises(Error) as refused:
-                jumbetai.test(given)
-            self.assertEqual(refused.exception.status, status)
 
     def test_what_a_peer_lacks(self):
         with Site() as north, Site() as south:
@@ -914,64 +823,66 @@ class Outboxes(unittest.TestCase):
         self.assertEqual(json.loads(run("service", "--db", copy))["rows"], 4)
 
 
-class Services(unittest.TestCase):
-    """Services of service.py, of which one asks the other for what it lacks."""
+class HandingOn(unittest.TestCase):
+    """The example hand_on.py, at a server in the place of a service, which answers so many requests by a list."""
 
     def setUp(self):
+        held = tempfile.TemporaryDirectory()
+        self.addCleanup(held.cleanup)
+        self.folder, self.taken, self.answers = held.name, [], []
+        test = self
+
+        class Handler(BaseHTTPRequestHandler):
+            def do_POST(self):
+                body = self.rfile.read(int(self.headers["Content-Length"]))
+                status = test.answers.pop(0)
+                if status == 200:
+                    test.taken += json.loads(body)
+                test.assertEqual(self.headers["Content-Type"], "application/cloudevents-batch+json")
+                test.assertEqual((self.path, self.headers["Authorization"]), ("/events", "Bearer of a file"))
+                self.send_response(status)
+                self.send_header("Content-Length", "0")
+                self.end_headers()
+
+            def log_message(self, *_):
+                pass
+
         try:
-            with socket.create_server(("127.0.0.1", 0)) as here:
-                socket.create_connection(here.getsockname(), 1).close()
+            self.server = HTTPServer(("127.0.0.1", 0), Handler)
         except OSError as why:
-            self.skipTest(f"no port of this machine can be reached: {why}")
+            self.skipTest(f"no port of this machine can be had: {why}")
+        self.addCleanup(self.server.server_close)
+        thread = threading.Thread(target=self.server.serve_forever)
+        thread.start()
+        self.addCleanup(thread.join)
+        self.addCleanup(self.server.shutdown)
+        with open(f"{self.folder}/token", "w", encoding="ascii") as out:
+            out.write("of a file\n")
 
-    def start(self, *words):
-        command = [sys.executable, f"{EXAMPLES}/service.py", "--port", "0", "--every", "0.05", *words]
+    def hand_on(self):
+        command = [sys.executable, f"{EXAMPLES}/hand_on.py", "orders.db", f"http://127.0.0.1:{self.server.server_port}"]
         more = {**os.environ, "PYTHONPATH": HERE}
-        self.service = subprocess.Popen(command, env=more, stdout=subprocess.PIPE, text=True)
-        self.addCleanup(self.service.stdout.close)
-        self.addCleanup(self.service.wait)
-        self.addCleanup(self.service.kill)
-        return self.service.stdout.readline().split()[1]
+        words = [*command, "mark", "--token", "token"]
+        ran = subprocess.run(words, cwd=self.folder, env=more, capture_output=True, text=True, timeout=30, check=False)
+        return ran.returncode, ran.stdout, ran.stderr
 
-    def call(self, url, body=None):
-        try:
-            with urllib.request.urlopen(urllib.request.Request(url, data=body), timeout=10) as answer:
-                return answer.status, answer.read()
-        except urllib.error.HTTPError as why:
-            with why:
-                return why.code, why.read()
-
-    def test_two_services_come_to_one_view(self):
-        north = self.start()
-        south = self.start("--peer", north)
-        self.assertEqual(self.call(f"{north}/events", FEW), (200, b'{"new": 250, "repeated": 0}'))
-        self.assertEqual(self.call(f"{south}/events", batch([event(1), event(2, "/south")]))[0], 200)
-        for _ in range(200):
-            # Nobody asks for the north, so what it lacks is brought to it here.
-            _, lacking = self.call(f"{south}/delta", self.call(f"{north}/summary")[1])
-            self.assertEqual(self.call(f"{north}/events", lacking)[0], 200)
-            ends = [self.call(f"{it}/summary") for it in (north, south)]
-            if ends[0] == ends[1]:
-                break
-            time.sleep(0.05)
-        self.assertEqual(ends[0], ends[1])
-        self.assertEqual(self.call(f"{south}/kinds"), (200, b'["sold",251]\n'))
-        self.assertEqual(self.call(f"{south}/latest"), self.call(f"{north}/latest"))
-        status, said = self.call(f"{north}/events", batch([{**event(9), "sequence": "9"}]))
-        self.assertEqual((status, json.loads(said)["fault"]), (400, "BadSequence"))
-        self.assertEqual(self.call(f"{north}/delta", b"{}")[0], 400)
-        self.assertEqual(self.call(f"{north}/who")[0], 404)
-
-    def test_a_service_that_is_killed_has_what_it_answered(self):
-        with tempfile.TemporaryDirectory() as folder:
-            file = os.path.join(folder, "site.db")
-            for taken in (b'{"new": 250, "repeated": 0}', b'{"new": 0, "repeated": 250}'):
-                where = self.start("--db", file)
-                self.assertEqual(self.call(f"{where}/events", FEW), (200, taken))
-                self.service.kill()
-                self.service.wait()
-            with Site(file) as site:
-                self.assertEqual(len(site), 250)
+    def test_each_row_is_handed_on_once_it_is_taken(self):
+        with Outbox(f"{self.folder}/orders.db", "/shop") as outbox:
+            for order in range(1, 151):
+                outbox.place(order, NOON)
+        self.answers = [503, 200, 429, 200]
+        self.assertEqual(self.hand_on(), (0, "150\n", ""))
+        self.assertEqual([int(it["sequence"]) for it in self.taken], list(range(1, 151)))
+        self.assertEqual(self.hand_on(), (0, "0\n", ""))
+        with Outbox(f"{self.folder}/orders.db") as outbox:
+            outbox.ship(7, NOON)
+            # The file is busy, and then the service refuses the row for what it is: the mark stays.
+            status, _, said = self.hand_on()
+            self.assertEqual((status, said.startswith("hand_on: orders.db: ")), (1, True))
+        self.answers = [400, 200]
+        self.assertEqual(self.hand_on()[::2], (1, "hand_on: 400 \n"))
+        self.assertEqual(self.hand_on(), (0, "1\n", ""))
+        self.assertEqual([int(it["sequence"]) for it in self.taken[150:]], [151])
 
 
 class BesideTheProgram(unittest.TestCase):

@@ -1,0 +1,272 @@
+//! Events that come: bodies within their limits, `POST /events` and `/check`, and the handshake of webhooks.
+
+use crate::events::{self, Mode, Unread, ACCEPTED};
+use crate::keeper::{Body as Given, Kept, Refusal};
+use crate::library::{self, Error};
+use crate::problems::{bare, plain, problem, set, Answered, JSON};
+use crate::routes::Service;
+use hyper::body::{Body, Bytes, HttpBody};
+use hyper::{Request, StatusCode};
+use serde_json::{json, Value};
+use std::time::Duration;
+
+/// Bytes that are read on the thread of their connection; more go to a thread of their own.
+const SMALL: usize = 64 << 10;
+
+impl Service {
+    /// `POST /events`: takes all events of the request, or none, and answers once they are synced.
+    pub async fn take(&self, request: Request<Body>) -> Answered {
+        let (mode, given) = match self.read(request).await {
+            Ok(read) => read,
+            Err(refused) => return refused,
+        };
+        let bytes = given.bytes.clone();
+        match self.keeper.take(given).await {
+            Ok(kept) => self.taken(kept),
+            Err(Refusal::Faulty) => self.faulty(mode, bytes).await,
+            Err(why) => self.refused(why),
+        }
+    }
+
+    fn taken(&self, kept: Kept) -> Answered {
+        let Kept { fresh, repeated, count } = kept;
+        self.metrics.taken.with_label_values(&["new", "http"]).inc_by(fresh);
+        self.metrics.taken.with_label_values(&["repeated", "http"]).inc_by(repeated);
+        let body = json!({"events": fresh + repeated, "new": fresh, "repeated": repeated});
+        let mut answer = plain(StatusCode::OK, JSON, format!("{body}\n"));
+        set(&mut answer, "site-events", &count.to_string());
+        answer
+    }
+
+    /// `POST /check`: what `POST /events` would say of the events themselves; nothing is taken.
+    pub async fn check(&self, request: Request<Body>) -> Answered {
+        let (mode, given) = match self.read(request).await {
+            Ok(read) => read,
+            Err(refused) => return refused,
+        };
+        let bytes = given.bytes.clone();
+        match on_thread(bytes.clone(), library::test).await {
+            Ok(events) => plain(StatusCode::OK, JSON, format!("{}\n", json!({"events": events, "faults": 0}))),
+            Err(Error::NoEvents | Error::NoNumber) => self.faulty(mode, bytes).await,
+            Err(why) => self.refused(Refusal::Store(why)),
+        }
+    }
+
+    /// The events of a request, as the library takes them.
+    async fn read(&self, request: Request<Body>) -> Result<(Mode, Given), Answered> {
+        let mode = events::mode_of(request.headers()).map_err(|why| self.unread(why))?;
+        let headers = (mode == Mode::Binary).then(|| request.headers().clone());
+        let mut given = self.receive(request.into_body(), self.settings.limits.body_bytes).await?;
+        if let Some(headers) = headers {
+            given.bytes = events::of_binary(&headers, &given.bytes).map_err(|why| self.unread(why))?.into();
+        }
+        if !events::fits(mode, &given.bytes) {
+            let detail = "by its content type the body is another: an event is an object, a batch is an array";
+            return Err(problem(StatusCode::BAD_REQUEST, "mode", "No events of that mode", detail).into());
+        }
+        Ok((mode, given))
+    }
+
+    /// A body of at most so many bytes, in its time, as there is room.
+    pub async fn receive(&self, body: Body, most: usize) -> Result<Given, Answered> {
+        let limits = &self.settings.limits;
+        let received = tokio::time::timeout(Duration::from_secs(limits.body_seconds), self.collect(body, most));
+        let why = match received.await {
+            Ok(Ok(given)) => return Ok(given),
+            Ok(Err(why)) => why,
+            Err(_) => Unreceived::Slow,
+        };
+        let mut answer = match why {
+            Unreceived::Large => problem(
+                StatusCode::PAYLOAD_TOO_LARGE,
+                "too-large",
+                "The body is too large",
+                format!("at most {most} bytes: send smaller batches"),
+            )
+            .with(json!({"limit": most})),
+            Unreceived::Slow => problem(
+                StatusCode::REQUEST_TIMEOUT,
+                "too-slow",
+                "The body didn't come in time",
+                format!("within {} seconds", limits.body_seconds),
+            )
+            .into(),
+            Unreceived::Broken => {
+                problem(StatusCode::BAD_REQUEST, "broken", "The body broke off", "send it again").into()
+            }
+            Unreceived::NoRoom(why) => self.refused(why),
+        };
+        // What is left of the body isn't read.
+        set(&mut answer, "connection", "close");
+        Err(answer)
+    }
+
+    async fn collect(&self, mut body: Body, most: usize) -> Result<Given, Unreceived> {
+        if body.size_hint().lower() > most as u64 {
+            return Err(Unreceived::Large);
+        }
+        let (mut bytes, mut rest) = (Bytes::new(), Vec::new());
+        let mut room = self.keeper.room(0).await.map_err(Unreceived::NoRoom)?;
+        let mut has_room = 1 << 10;
+        while let Some(data) = body.data().await {
+            let data = data.map_err(|_| Unreceived::Broken)?;
+            let length = bytes.len() + rest.len() + data.len();
+            if length > most {
+                return Err(Unreceived::Large);
+            }
+            if length > has_room {
+                room.merge(self.keeper.room(length - has_room).await.map_err(Unreceived::NoRoom)?);
+                has_room = length;
+            }
+            // Most bodies are one piece, which isn't copied.
+            match bytes.is_empty() && rest.is_empty() {
+                true => bytes = data,
+                false => {
+                    if rest.is_empty() {
+                        rest.extend_from_slice(&std::mem::take(&mut bytes));
+                    }
+                    rest.extend_from_slice(&data);
+                }
+            }
+        }
+        let bytes = if rest.is_empty() { bytes } else { rest.into() };
+        Ok(Given { bytes, room })
+    }
+
+    fn unread(&self, why: Unread) -> Answered {
+        self.metrics.refused.with_label_values(&["unread"]).inc();
+        match why {
+            Unread::Malformed(detail) => problem(StatusCode::BAD_REQUEST, "malformed", "No event", detail).into(),
+            Unread::Media(detail) => {
+                let title = "No events by the media type";
+                let mut answer = problem(StatusCode::UNSUPPORTED_MEDIA_TYPE, "media-type", title, detail).into();
+                set(&mut answer, "accept-post", ACCEPTED);
+                answer
+            }
+        }
+    }
+
+    pub fn refused(&self, why: Refusal) -> Answered {
+        let (status, name, title, detail) = match why {
+            Refusal::Full => {
+                let detail = "nothing was taken: send it again later".to_owned();
+                (StatusCode::TOO_MANY_REQUESTS, "full", "Too much waits to be kept", detail)
+            }
+            Refusal::Closing => {
+                let detail = "nothing was taken: send it again".to_owned();
+                (StatusCode::SERVICE_UNAVAILABLE, "closing", "The service ends", detail)
+            }
+            Refusal::Faulty => (StatusCode::BAD_REQUEST, "events-at-fault", "Events at fault", String::new()),
+            Refusal::Store(why) => {
+                let detail = format!("nothing was taken: {why}");
+                (StatusCode::SERVICE_UNAVAILABLE, "store", "The database refused", detail)
+            }
+            Refusal::Unknown => {
+                let detail = "send them again: each is kept once".to_owned();
+                (StatusCode::SERVICE_UNAVAILABLE, "unknown", "It isn't known whether the events are kept", detail)
+            }
+        };
+        self.metrics.refused.with_label_values(&[name]).inc();
+        problem(status, name, title, detail).into()
+    }
+
+    /// The problem of a body at fault, with an entry for each event at fault, in the words of `site check`.
+    async fn faulty(&self, mode: Mode, bytes: Bytes) -> Answered {
+        let lines = match on_thread(bytes, library::faults).await {
+            Ok(lines) => lines,
+            Err(why) => return self.refused(Refusal::Store(why)),
+        };
+        self.metrics.refused.with_label_values(&["events-at-fault"]).inc();
+        let entries: Vec<Value> = lines.lines().filter_map(|it| serde_json::from_str(it).ok()).collect();
+        let faults = entries.len();
+        let detail = match entries.first() {
+            Some(it) if it.get("index").is_none() => it["hint"].as_str().unwrap_or_default().to_owned(),
+            _ => format!("events that can't be taken: {faults}; so none of the body was"),
+        };
+        let entries = entries.into_iter().take(self.settings.limits.faults);
+        let errors: Vec<Value> = entries.map(|it| entry_of(mode, it)).collect();
+        problem(StatusCode::BAD_REQUEST, "events-at-fault", "Events at fault", detail)
+            .with(json!({"faults": faults, "errors": errors}))
+    }
+
+    /// `OPTIONS /events`: what is taken, and the protection of CloudEvents' webhooks against abuse.
+    pub fn handshake(&self, request: &Request<Body>) -> Answered {
+        let live = self.live();
+        let header = |name| request.headers().get(name).and_then(|it| it.to_str().ok());
+        let mut answer = bare(StatusCode::OK);
+        set(&mut answer, "allow", "GET, HEAD, POST, OPTIONS");
+        set(&mut answer, "accept-post", ACCEPTED);
+        let Some(origin) = header("webhook-request-origin") else {
+            return answer;
+        };
+        if !live.webhook_origins.iter().any(|it| it == "*" || it.eq_ignore_ascii_case(origin)) {
+            let detail = "the settings name the origins whose events are";
+            return problem(StatusCode::FORBIDDEN, "origin", "Events of that origin aren't wanted", detail).into();
+        }
+        set(&mut answer, "webhook-allowed-origin", origin);
+        let asked = header("webhook-request-rate").and_then(|it| it.trim().parse().ok());
+        let rate = match live.webhook_rate {
+            0 => "*".to_owned(),
+            most => most.min(asked.unwrap_or(most)).to_string(),
+        };
+        set(&mut answer, "webhook-allowed-rate", &rate);
+        answer
+    }
+}
+
+/// Why there is no body.
+enum Unreceived {
+    Large,
+    Slow,
+    Broken,
+    NoRoom(Refusal),
+}
+
+/// Reads bytes by the library; large ones on a thread that holds up no connection.
+async fn on_thread<T, F>(bytes: Bytes, read: F) -> Result<T, Error>
+where
+    T: Send + 'static,
+    F: FnOnce(&[u8]) -> Result<T, Error> + Send + 'static,
+{
+    if bytes.len() <= SMALL {
+        return read(&bytes);
+    }
+    let done = tokio::task::spawn_blocking(move || read(&bytes)).await;
+    done.unwrap_or(Err(Error::OutOfMemory))
+}
+
+/// A line of `site check` as an entry of a problem: where it is as a pointer (RFC 6901), and its hint as the detail.
+fn entry_of(mode: Mode, mut line: Value) -> Value {
+    let Value::Object(entry) = &mut line else {
+        return line;
+    };
+    entry.remove("file");
+    let mut pointer = match (mode, entry.get("index").and_then(Value::as_u64)) {
+        (Mode::Batched, Some(index)) => format!("#/{index}"),
+        _ => "#".to_owned(),
+    };
+    if let Some(name) = entry.get("attribute").and_then(Value::as_str) {
+        pointer.push('/');
+        pointer.push_str(&name.replace('~', "~0").replace('/', "~1"));
+    }
+    entry.insert("pointer".into(), Value::String(pointer));
+    if let Some(hint) = entry.remove("hint") {
+        entry.insert("detail".into(), hint);
+    }
+    line
+}
+
+#[cfg(test)]
+mod tests {
+    use super::*;
+
+    #[test]
+    fn entries_point_to_what_is_at_fault() {
+        let line = json!({"file": "-", "index": 2, "fault": "F", "attribute": "a/b~c", "hint": "h"});
+        let batched = entry_of(Mode::Batched, line.clone());
+        let want = json!({"index": 2, "fault": "F", "attribute": "a/b~c", "pointer": "#/2/a~1b~0c", "detail": "h"});
+        assert_eq!(batched, want);
+        assert_eq!(entry_of(Mode::Structured, line)["pointer"], "#/a~1b~0c");
+        assert_eq!(entry_of(Mode::Batched, json!({"fault": "not JSON"}))["pointer"], "#");
+    }
+}

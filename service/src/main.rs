@@ -1,0 +1,197 @@
+//! `jumbetaid`: holds a site of CloudEvents open over its database, takes events over HTTP, keeps them before it answers,
+//! and comes to one view with its peers.
+//!
+//! What is decided about events is decided by the library, which is proved; the service carries bytes and is tested.
+
+mod access;
+mod connections;
+mod events;
+mod feed;
+mod intake;
+mod keeper;
+mod library;
+mod metrics;
+mod peers;
+mod problems;
+mod questions;
+mod reader;
+mod routes;
+mod settings;
+mod sync;
+#[cfg(feature = "tls")]
+mod tls;
+
+use clap::Parser;
+use library::Error;
+use routes::{Live, Service};
+use sd_notify::NotifyState;
+use settings::{Flags, Settings};
+use std::process::ExitCode;
+use std::sync::{Arc, RwLock};
+use std::time::{Duration, Instant};
+use tokio::signal::unix::{signal, Signal, SignalKind};
+use tokio::sync::{watch, Semaphore};
+
+fn main() -> ExitCode {
+    let flags = Flags::parse();
+    match run(&flags) {
+        Ok(()) => ExitCode::SUCCESS,
+        Err(why) => {
+            eprintln!("jumbetaid: {why}");
+            ExitCode::FAILURE
+        }
+    }
+}
+
+fn run(flags: &Flags) -> Result<(), String> {
+    let settings = Settings::of(flags)?;
+    let live = Live::of(&settings)?;
+    if flags.check {
+        return check(&settings);
+    }
+    log_to_stderr(&settings)?;
+    let mut runtime = tokio::runtime::Builder::new_multi_thread();
+    if settings.workers > 0 {
+        runtime.worker_threads(settings.workers);
+    }
+    let runtime = runtime.enable_all().build().map_err(|it| it.to_string())?;
+    let done = runtime.block_on(serve(flags, settings, live));
+    runtime.shutdown_timeout(Duration::from_millis(500));
+    done
+}
+
+/// Tells whether the files that the settings name can be read; a database that isn't there isn't made.
+fn check(settings: &Settings) -> Result<(), String> {
+    for file in settings.peers.iter().filter_map(|it| it.token_file.as_deref()) {
+        settings::text_of(file)?;
+    }
+    #[cfg(feature = "tls")]
+    if let Some(tls) = &settings.tls {
+        tls::acceptor(tls)?;
+    }
+    let db = settings.db.display();
+    let told = if !settings.db.exists() {
+        "isn't there, and will be made".to_owned()
+    } else {
+        match library::Site::open_with_cache(&settings.db, settings.cache_mib) {
+            Ok(site) => format!("is sound, with {} events", site.len()),
+            Err(Error::Busy) => "is in use, and wasn't tested".to_owned(),
+            Err(why) => return Err(format!("{db}: {why}")),
+        }
+    };
+    println!("the settings can be used; {db} {told}");
+    Ok(())
+}
+
+fn log_to_stderr(settings: &Settings) -> Result<(), String> {
+    let filter = tracing_subscriber::EnvFilter::try_new(&settings.log).map_err(|it| format!("log: {it}"))?;
+    let lines = tracing_subscriber::fmt().with_env_filter(filter).with_writer(std::io::stderr);
+    match settings.log_text {
+        true => lines.init(),
+        false => lines.json().flatten_event(true).with_span_list(false).init(),
+    }
+    Ok(())
+}
+
+/// Opens the site, serves until a signal ends it, and closes the site, whatever came between.
+async fn serve(flags: &Flags, settings: Settings, live: Live) -> Result<(), String> {
+    let signals = Signals::new().map_err(|it| it.to_string())?;
+    let metrics = Arc::new(metrics::Metrics::new());
+    let start = Instant::now();
+    let opened = {
+        let (settings, metrics) = (settings.clone(), metrics.clone());
+        tokio::task::spawn_blocking(move || keeper::open(&settings.db, settings.cache_mib, &settings.limits, metrics))
+    };
+    let opened = opened.await.map_err(|it| it.to_string())?;
+    let (keeper, threads) = opened.map_err(|why| format!("{}: {why}", settings.db.display()))?;
+    let (events, ms) = (keeper.count(), start.elapsed().as_millis() as u64);
+    tracing::info!(db = %settings.db.display(), events, ms, "the database is open");
+    let (end, ends) = watch::channel(false);
+    let service = Arc::new(Service {
+        held: Arc::new(Semaphore::new(settings.limits.connections / 2)),
+        live: RwLock::new(Arc::new(live)),
+        keeper: keeper.clone(),
+        metrics,
+        peers: Arc::default(),
+        ends,
+        settings,
+    });
+    let served = serve_until_signal(flags, &service, signals, &end).await;
+    keeper.close();
+    tokio::task::spawn_blocking(move || threads.join()).await.map_err(|it| it.to_string())?;
+    tracing::info!("the database is closed");
+    served
+}
+
+async fn serve_until_signal(
+    flags: &Flags,
+    service: &Arc<Service>,
+    mut signals: Signals,
+    end: &watch::Sender<bool>,
+) -> Result<(), String> {
+    let settings = &service.settings;
+    let mut tasks = sync::Tasks::new(service)?;
+    let front = connections::Front::new(service.clone())?;
+    let listener = connections::listen(settings.listen).map_err(|it| format!("{}: {it}", settings.listen))?;
+    let at = listener.local_addr().map_err(|it| it.to_string())?;
+    tasks.set(&settings.peers)?;
+    let connections = tokio::spawn(front.serve(listener));
+    notify(NotifyState::Ready);
+    tracing::info!(name = settings.name, listen = %at, "ready");
+    while !signals.next().await {
+        match reload(flags, service, &mut tasks) {
+            Ok(()) => tracing::info!("the settings are read again"),
+            Err(why) => tracing::error!(why, "the settings stay as they were"),
+        }
+    }
+    tracing::info!("ends: what is under way is done first");
+    notify(NotifyState::Stopping);
+    let _ = end.send(true);
+    tasks.end().await;
+    connections.await.map_err(|it| it.to_string())
+}
+
+/// Takes up what of the settings may change while the service runs.
+fn reload(flags: &Flags, service: &Service, tasks: &mut sync::Tasks) -> Result<(), String> {
+    let settings = Settings::of(flags)?;
+    let live = Live::of(&settings)?;
+    tasks.set(&settings.peers)?;
+    *service.live.write().unwrap() = Arc::new(live);
+    let fixed = service.settings.fixed_changes(&settings);
+    if !fixed.is_empty() {
+        tracing::warn!(settings = fixed.join(", "), "these changed, and want a restart");
+    }
+    Ok(())
+}
+
+/// Tells a supervisor of systemd's kind; without one nobody hears it.
+fn notify(state: NotifyState) {
+    if let Err(why) = sd_notify::notify(false, &[state]) {
+        tracing::warn!(%why, "the supervisor can't be told");
+    }
+}
+
+struct Signals {
+    term: Signal,
+    interrupt: Signal,
+    hangup: Signal,
+}
+
+impl Signals {
+    fn new() -> std::io::Result<Signals> {
+        Ok(Signals {
+            term: signal(SignalKind::terminate())?,
+            interrupt: signal(SignalKind::interrupt())?,
+            hangup: signal(SignalKind::hangup())?,
+        })
+    }
+
+    /// Waits for a signal: true where it ends the service, false where the settings are to be read again.
+    async fn next(&mut self) -> bool {
+        tokio::select! {
+            _ = self.term.recv() => true,
+            _ = self.interrupt.recv() => true,
+            _ = self.hangup.recv() => false,
+        }
+    }
+}

@@ -1,0 +1,45 @@
+//! What was last seen of each peer, for `/status` and the page.
+
+use serde::Serialize;
+use std::collections::BTreeMap;
+use std::sync::Mutex;
+use std::time::{SystemTime, UNIX_EPOCH};
+
+/// Times are seconds since 1970.
+#[derive(Serialize, Clone, Default, Debug)]
+pub struct Seen {
+    /// `new` before the first round, then `up` or `down`.
+    pub state: &'static str,
+    pub equal: bool,
+    pub lacking: u64,
+    pub ahead: u64,
+    pub pulled: u64,
+    pub failures: u64,
+    pub last_success: Option<f64>,
+    pub last_equal: Option<f64>,
+    pub round_ms: u64,
+    /// Why the last round failed, where it did.
+    pub why: Option<String>,
+}
+
+#[derive(Default)]
+pub struct Peers(Mutex<BTreeMap<String, Seen>>);
+
+impl Peers {
+    pub fn note(&self, name: &str, change: impl FnOnce(&mut Seen)) {
+        change(self.0.lock().unwrap().entry(name.to_owned()).or_default());
+    }
+
+    pub fn forget(&self, name: &str) {
+        self.0.lock().unwrap().remove(name);
+    }
+
+    pub fn all(&self) -> BTreeMap<String, Seen> {
+        self.0.lock().unwrap().clone()
+    }
+}
+
+/// Now, in seconds since 1970.
+pub fn now() -> f64 {
+    SystemTime::now().duration_since(UNIX_EPOCH).map_or(0.0, |it| it.as_secs_f64())
+}

@@ -1,0 +1,327 @@
+//! Which part answers a request, and who may ask it.
+
+use crate::access::{Access, Role, Verdict};
+use crate::keeper::Keeper;
+use crate::metrics::Metrics;
+use crate::peers::Peers;
+use crate::problems::{plain, problem, set, Answered, JSON};
+use crate::reader::{self, What};
+use crate::settings::Settings;
+use hyper::header::{AUTHORIZATION, CONTENT_LENGTH, HOST, TRANSFER_ENCODING};
+use hyper::{Body, Method, Request, StatusCode};
+use serde_json::json;
+use std::net::{IpAddr, SocketAddr};
+use std::sync::{Arc, RwLock};
+use std::time::{Duration, Instant};
+use tokio::sync::{watch, Semaphore};
+
+const PAGE: &str = include_str!("page.html");
+/// What the page may do: nothing but its own style and script, and questions to where it came from.
+const PAGE_POLICY: &str = "default-src 'none'; style-src 'unsafe-inline'; script-src 'unsafe-inline'; \
+    connect-src 'self'; base-uri 'none'; form-action 'none'; frame-ancestors 'none'";
+
+/// A transaction that lasts longer is stuck.
+const STUCK: Duration = Duration::from_secs(60);
+
+/// All that answers stand on.
+pub struct Service {
+    pub settings: Settings,
+    pub live: RwLock<Arc<Live>>,
+    pub keeper: Arc<Keeper>,
+    pub metrics: Arc<Metrics>,
+    pub peers: Arc<Peers>,
+    /// True once the service ends: nothing waits any more.
+    pub ends: watch::Receiver<bool>,
+    /// Room for answers that are held back or never end.
+    pub held: Arc<Semaphore>,
+}
+
+/// The settings that may change while the service runs.
+pub struct Live {
+    pub access: Access,
+    pub webhook_origins: Vec<String>,
+    pub webhook_rate: u32,
+}
+
+impl Live {
+    /// Those of the settings, or why a token can't be read.
+    pub fn of(settings: &Settings) -> Result<Live, String> {
+        Ok(Live {
+            access: Access::of(&settings.tokens)?,
+            webhook_origins: settings.webhook_origins.clone(),
+            webhook_rate: settings.webhook_rate,
+        })
+    }
+}
+
+/// What a path stands for.
+#[derive(Clone, Copy, PartialEq, Eq, Debug)]
+enum Route {
+    Page,
+    Events,
+    Check,
+    Delta,
+    Arrivals,
+    Answer(What),
+    Metrics,
+    Status,
+    Health,
+    Ready,
+    Other,
+}
+
+impl Route {
+    fn of(path: &str) -> Route {
+        match path {
+            "/" => Route::Page,
+            "/events" => Route::Events,
+            "/check" => Route::Check,
+            "/delta" => Route::Delta,
+            "/arrivals" => Route::Arrivals,
+            "/metrics" => Route::Metrics,
+            "/status" => Route::Status,
+            "/healthz" => Route::Health,
+            "/readyz" => Route::Ready,
+            _ => {
+                let what = reader::ALL.iter().find(|it| path.strip_prefix('/') == Some(it.0));
+                what.map_or(Route::Other, |it| Route::Answer(it.1))
+            }
+        }
+    }
+
+    /// Its name in metrics: what a stranger asks for makes no series of its own.
+    fn name(self) -> &'static str {
+        match self {
+            Route::Page => "page",
+            Route::Events => "events",
+            Route::Check => "check",
+            Route::Delta => "delta",
+            Route::Arrivals => "arrivals",
+            Route::Answer(what) => reader::name_of(what),
+            Route::Metrics | Route::Status | Route::Health | Route::Ready => "watch",
+            Route::Other => "other",
+        }
+    }
+
+    fn methods(self) -> &'static str {
+        match self {
+            Route::Events => "GET, HEAD, POST, OPTIONS",
+            Route::Check | Route::Delta => "POST",
+            _ => "GET, HEAD",
+        }
+    }
+
+    /// The roles of which a request needs one; none where everybody may ask.
+    fn roles(self, method: &Method) -> &'static [Role] {
+        match (self, method) {
+            // The handshake of webhooks and who watches whether the service lives have no token; the page asks for one.
+            (Route::Page | Route::Health | Route::Ready, _) | (Route::Events, &Method::OPTIONS) => &[],
+            (Route::Events, &Method::POST) => &[Role::Write],
+            (Route::Delta, _) => &[Role::Peer],
+            (Route::Answer(What::Summary | What::Cover), _) => &[Role::Read, Role::Peer],
+            _ => &[Role::Read],
+        }
+    }
+}
+
+impl Service {
+    /// Answers a request, counts it and logs it.
+    pub async fn answer(self: Arc<Self>, request: Request<Body>, from: SocketAddr) -> Answered {
+        let start = Instant::now();
+        let (method, path) = (request.method().clone(), request.uri().path().to_owned());
+        let route = Route::of(&path);
+        // A request that a proxy may have read otherwise than hyper does is the last of its connection, so that what
+        // is behind it is never taken for another one.
+        let is_last = request.headers().contains_key(TRANSFER_ENCODING);
+        let mut answer = self.clone().route(route, request).await;
+        if is_last {
+            set(&mut answer, "connection", "close");
+        }
+        let (status, time) = (answer.status().as_u16(), start.elapsed());
+        self.metrics.requests.with_label_values(&[route.name(), &status.to_string()]).inc();
+        self.metrics.request_seconds.with_label_values(&[route.name()]).observe(time.as_secs_f64());
+        let us = time.as_micros() as u64;
+        if status >= 500 {
+            tracing::warn!(%method, path, status, %from, us, "request");
+        } else {
+            tracing::debug!(%method, path, status, %from, us, "request");
+        }
+        answer
+    }
+
+    async fn route(self: Arc<Self>, route: Route, request: Request<Body>) -> Answered {
+        let headers = request.headers();
+        let head: usize = headers.iter().map(|(name, value)| name.as_str().len() + value.len()).sum();
+        if head > self.settings.limits.head_bytes {
+            let detail = format!("at most {} bytes", self.settings.limits.head_bytes);
+            let status = StatusCode::REQUEST_HEADER_FIELDS_TOO_LARGE;
+            return problem(status, "head", "The head is too large", detail).into();
+        }
+        if headers.contains_key(TRANSFER_ENCODING) && headers.contains_key(CONTENT_LENGTH) {
+            let detail = "Content-Length and Transfer-Encoding both say how long the body is";
+            return problem(StatusCode::BAD_REQUEST, "two-lengths", "No request", detail).into();
+        }
+        let method = request.method().clone();
+        if let Err(refused) = self.allow(&request, route.roles(&method)) {
+            return refused;
+        }
+        let is_get = matches!(method, Method::GET | Method::HEAD);
+        let is_post = method == Method::POST;
+        match route {
+            Route::Other => {
+                problem(StatusCode::NOT_FOUND, "not-found", "Nothing of that name", request.uri().path()).into()
+            }
+            Route::Events if is_post => self.take(request).await,
+            Route::Events if is_get => self.get(&request).await,
+            Route::Events if method == Method::OPTIONS => self.handshake(&request),
+            Route::Check if is_post => self.check(request).await,
+            Route::Delta if is_post => self.delta(request).await,
+            Route::Arrivals if is_get => self.arrivals(&request).await,
+            Route::Answer(what) if is_get => self.ask(&request, what).await,
+            Route::Page if is_get => page(),
+            Route::Metrics if is_get => {
+                plain(StatusCode::OK, "text/plain; version=0.0.4; charset=utf-8", self.metrics.text())
+            }
+            Route::Status if is_get => self.status(),
+            Route::Health if is_get => self.health(),
+            Route::Ready if is_get => self.ready(),
+            _ => {
+                let allowed = route.methods();
+                let mut answer =
+                    problem(StatusCode::METHOD_NOT_ALLOWED, "method", "Not by this method", allowed).into();
+                set(&mut answer, "allow", allowed);
+                answer
+            }
+        }
+    }
+
+    fn allow(&self, request: &Request<Body>, roles: &[Role]) -> Result<(), Answered> {
+        if roles.is_empty() {
+            return Ok(());
+        }
+        let header = |name| request.headers().get(name).and_then(|it| it.to_str().ok());
+        let live = self.live();
+        if live.access.is_open() && !self.settings.open_to_all && !is_local(header(HOST)) {
+            let detail = "without tokens ask by an address, or by localhost";
+            return Err(problem(StatusCode::FORBIDDEN, "host", "Not by this name", detail).into());
+        }
+        let (title, challenge) = match live.access.judge(header(AUTHORIZATION), roles) {
+            Verdict::Allowed => return Ok(()),
+            Verdict::OtherRole => {
+                let detail = "ask for a token with the role that this needs";
+                return Err(problem(StatusCode::FORBIDDEN, "role", "The token has another role", detail).into());
+            }
+            Verdict::NoToken => ("A bearer token is wanted", "Bearer"),
+            Verdict::Unknown => ("The token isn't known", "Bearer error=\"invalid_token\""),
+        };
+        let detail = "send Authorization: Bearer, and a token";
+        let mut answer = problem(StatusCode::UNAUTHORIZED, "token", title, detail).into();
+        set(&mut answer, "www-authenticate", challenge);
+        Err(answer)
+    }
+
+    pub fn live(&self) -> Arc<Live> {
+        self.live.read().unwrap().clone()
+    }
+
+    fn health(&self) -> Answered {
+        let busy = self.keeper.busy();
+        if busy > STUCK {
+            let detail = format!("for {} seconds", busy.as_secs());
+            return problem(StatusCode::SERVICE_UNAVAILABLE, "stuck", "A transaction doesn't end", detail).into();
+        }
+        plain(StatusCode::OK, "text/plain", "ok\n")
+    }
+
+    fn ready(&self) -> Answered {
+        match self.trouble() {
+            Some((name, title, detail)) => problem(StatusCode::SERVICE_UNAVAILABLE, name, title, detail).into(),
+            None => plain(StatusCode::OK, "text/plain", "ready\n"),
+        }
+    }
+
+    fn trouble(&self) -> Option<(&'static str, &'static str, String)> {
+        if *self.ends.borrow() {
+            return Some(("closing", "The service ends", "what is under way is done".into()));
+        }
+        self.keeper.trouble().map(|why| ("store", "The database refused", why.to_string()))
+    }
+
+    fn status(&self) -> Answered {
+        let trouble = self.trouble();
+        let status = json!({
+            "name": self.settings.name,
+            "version": env!("CARGO_PKG_VERSION"),
+            "library": crate::library::version(),
+            "events": self.metrics.events.get(),
+            "commits": self.metrics.commits.get(),
+            "queue": self.metrics.queue_bodies.get(),
+            "ready": trouble.is_none(),
+            "why": trouble.map(|it| it.2),
+            "peers": self.peers.all(),
+        });
+        plain(StatusCode::OK, JSON, format!("{status}\n"))
+    }
+}
+
+/// Whether a request is to an address or to localhost, and not to a name: a web page can't let its own name lead here
+/// then, and ask as if it were of this service.
+fn is_local(host: Option<&str>) -> bool {
+    let Some(host) = host else {
+        return true;
+    };
+    let name = match host.rsplit_once(':') {
+        Some((name, port)) if port.bytes().all(|it| it.is_ascii_digit()) => name,
+        _ => host,
+    };
+    let bare = name.trim_start_matches('[').trim_end_matches(']');
+    name.eq_ignore_ascii_case("localhost") || bare.parse::<IpAddr>().is_ok()
+}
+
+fn page() -> Answered {
+    let mut answer = plain(StatusCode::OK, "text/html; charset=utf-8", PAGE);
+    set(&mut answer, "content-security-policy", PAGE_POLICY);
+    set(&mut answer, "x-content-type-options", "nosniff");
+    set(&mut answer, "referrer-policy", "no-referrer");
+    answer
+}
+
+#[cfg(test)]
+mod tests {
+    use super::*;
+
+    #[test]
+    fn names_of_others_arent_local() {
+        for host in ["localhost", "LocalHost:8087", "127.0.0.1:8087", "10.0.0.1", "[::1]:8087", "[::1]"] {
+            assert!(is_local(Some(host)), "{host}");
+        }
+        for host in ["example.com:8087", "example.com", "localhost.example.com", "1.2.3.4.example.com", "", ":8087"] {
+            assert!(!is_local(Some(host)), "{host}");
+        }
+        assert!(is_local(None));
+    }
+
+    #[test]
+    fn paths_have_routes_and_roles() {
+        assert_eq!(Route::of("/kinds").name(), "kinds");
+        for strange in ["/kinds/", "kinds", "//", "/Events", "", "/summary2"] {
+            assert_eq!(Route::of(strange), Route::Other, "{strange}");
+        }
+        for (path, method, roles) in [
+            ("/events", Method::POST, &[Role::Write][..]),
+            ("/events", Method::GET, &[Role::Read]),
+            ("/events", Method::DELETE, &[Role::Read]),
+            ("/events", Method::OPTIONS, &[]),
+            ("/check", Method::POST, &[Role::Read]),
+            ("/delta", Method::POST, &[Role::Peer]),
+            ("/cover", Method::GET, &[Role::Read, Role::Peer]),
+            ("/shown", Method::GET, &[Role::Read]),
+            ("/arrivals", Method::GET, &[Role::Read]),
+            ("/metrics", Method::GET, &[Role::Read]),
+            ("/healthz", Method::GET, &[]),
+            ("/nothing", Method::GET, &[Role::Read]),
+        ] {
+            assert_eq!(Route::of(path).roles(&method), roles, "{method} {path}");
+        }
+    }
+}

@@ -1,0 +1,168 @@
+#!/usr/bin/env python3
+"""Durable events a second that jumbetaid takes over HTTP, beside PostgreSQL by as many clients on the same machine.
+
+    tools/load_service.py [--program FILE] [--rounds N] [--seconds N] [--shapes LIST]
+
+A shape is CONNECTIONSxBATCH, by default 1x1,16x1,64x1,256x1,16x100. By turns each gets events of 350 bytes for so many
+seconds, 3 rounds of 3: the service by wrk, each event answered once it is synced; PostgreSQL by pgbench, prepared, with
+synchronous_commit, into a table with the keys of a site's. Told are the middle of the rounds, with the least and the most
+rate, and the median and the 99th percentile of the time to an answer. It wants wrk and, for the comparison, initdb and
+pgbench (on Debian wrk, postgresql-15); as root PostgreSQL runs as the user postgres. No part of a gate.
+"""
+import argparse
+import contextlib
+import glob
+import os
+import re
+import shutil
+import statistics
+import subprocess
+import sys
+import tempfile
+import time
+
+sys.dont_write_bytecode = True
+TOP = os.path.dirname(os.path.dirname(os.path.realpath(__file__)))
+sys.path.insert(0, f"{TOP}/tools")
+from try_service import Tries  # noqa: E402
+
+# The events of a thread of wrk, from a source of its own.
+SCRIPT = """
+local threads, number = 0, 0
+function setup(thread) thread:set("id", threads) threads = threads + 1 end
+local function event()
+    number = number + 1
+    return string.format('{"specversion":"1.0","id":"/load/%d-%012d","source":"/load/%d","type":"com.example.order.placed",' ..
+        '"subject":"customer/%06d","sequence":"%020d","time":"2024-02-29T10:00:%02dZ","attempt":1,' ..
+        '"datacontenttype":"application/json","data":{"lines":[{"sku":"%08x","count":%d}]}}',
+        id, number, id, number * 7919 % 5000, number, number % 60, number * 40503 % 4294967296, number % 19 + 1)
+end
+function request()
+    if BATCH == 1 then
+        return wrk.format("POST", "/events", {["Content-Type"] = "application/cloudevents+json"}, event())
+    end
+    local all = {}
+    for at = 1, BATCH do all[at] = event() end
+    return wrk.format("POST", "/events", {["Content-Type"] = "application/cloudevents-batch+json"}, "[" .. table.concat(all, ",") .. "]")
+end
+"""
+TABLE = """CREATE TABLE inbox2 (place bigserial PRIMARY KEY, source text NOT NULL, id text NOT NULL, number bigint NOT NULL,
+body text NOT NULL, block bigint NOT NULL, UNIQUE (source, id, body))"""
+BODY = (
+    """'{"attempt":1,"data":{"lines":[{"count":' || k % 19 + 1 || ',"sku":"' || lpad(to_hex(k * 40503 % 4294967296), 8, '0') || '"}]},"""
+    """"datacontenttype":"application/json","id":"/load/' || :client_id || '-' || lpad(k::text, 12, '0') || '","sequence":"' || """
+    """lpad(k::text, 20, '0') || '","source":"/load/' || :client_id || '","specversion":"1.0","subject":"customer/' || """
+    """lpad((k * 7919 % 5000)::text, 6, '0') || '","time":"2024-02-29T10:00:00Z","type":"com.example.order.placed"}'"""
+)
+INSERT = f"""INSERT INTO inbox2 (source, id, number, body, block)
+SELECT '/load/' || :client_id, '/load/' || :client_id || '-' || lpad(k::text, 12, '0'), k, {BODY}, k / 1024
+FROM generate_series(:n::bigint - BATCH + 1, :n::bigint) AS k ON CONFLICT DO NOTHING;
+"""
+
+
+def of_service(tries, folder, shape, seconds):
+    connections, batch = shape
+    with open(f"{folder}/load.lua", "w", encoding="ascii") as out:
+        out.write(SCRIPT.replace("BATCH", str(batch)))
+    site = tries.site(f"s{time.monotonic_ns()}").start()
+    threads = str(min(2, connections))
+    words = ["wrk", "-t", threads, "-c", str(connections), "-d", f"{seconds}s", "--latency", "-s", f"{folder}/load.lua", f"http://127.0.0.1:{site.port}"]
+    said = subprocess.run(words, capture_output=True, text=True, check=True, timeout=seconds + 30).stdout
+    count = int(re.search(r"jumbetai_events (\d+)", site.get("/metrics").body.decode())[1])
+    site.stop(seconds=30)
+    shutil.rmtree(site.folder)
+    refused = re.search(r"Non-2xx or 3xx responses: (\d+)", said)
+    if refused:
+        sys.exit(f"the service refused {refused[1]} requests: {said}")
+    took = float(re.search(r"requests in ([\d.]+)s", said)[1])
+
+    def milliseconds(percent):
+        value, unit = re.search(rf"^\s+{percent}%\s+([\d.]+)(us|ms|s)$", said, re.M).groups()
+        return float(value) * {"us": 0.001, "ms": 1, "s": 1000}[unit]
+
+    return count / took, milliseconds(50), milliseconds(99)
+
+
+class Postgres:
+    """A server of its own in a folder, over a socket there."""
+
+    def __init__(self, folder):
+        self.folder, self.bin = f"{folder}/postgres", (sorted(glob.glob("/usr/lib/postgresql/*/bin")) or [""])[-1]
+        self.user = ["setpriv", "--reuid=postgres", "--regid=postgres", "--clear-groups"] if os.geteuid() == 0 else []
+
+    def is_there(self):
+        return all(os.path.exists(f"{self.bin}/{it}") for it in ("initdb", "pg_ctl", "pgbench"))
+
+    def run(self, *words):
+        command = [*self.user, f"{self.bin}/{words[0]}", *words[1:]]
+        return subprocess.run(command, cwd=self.folder, capture_output=True, text=True, check=True, timeout=120).stdout
+
+    def start(self):
+        os.chmod(os.path.dirname(self.folder), 0o755)
+        os.mkdir(self.folder)
+        if self.user:
+            shutil.chown(self.folder, "postgres", "postgres")
+        self.run("initdb", "-D", "data", "-A", "trust", "-U", "load")
+        self.run("pg_ctl", "-D", "data", "-w", "-l", "log", "-o", f"-k {self.folder} -h '' -c max_connections=300", "start")
+
+    def stop(self):
+        self.run("pg_ctl", "-D", "data", "-m", "immediate", "stop")
+
+    def load(self, shape, seconds):
+        connections, batch = shape
+        with open(f"{self.folder}/load.sql", "w", encoding="ascii") as out:
+            out.write(f"\\set n :n + {batch}\n{INSERT.replace('BATCH', str(batch))}")
+        to = ["-h", self.folder, "-U", "load"]
+        self.run("psql", *to, "-q", "-c", f"DROP TABLE IF EXISTS inbox2; {TABLE}", "postgres")
+        words = ["-n", "-M", "prepared", "-c", str(connections), "-j", "2", "-T", str(seconds), "-D", "n=0", "-f", "load.sql", "-l", "--log-prefix=times"]
+        said = self.run("pgbench", *to, *words, "postgres")
+        times = []
+        for file in glob.glob(f"{self.folder}/times*"):
+            with open(file, encoding="ascii") as lines:
+                times += [int(it.split()[2]) / 1000 for it in lines]
+            os.remove(file)
+        times.sort()
+        rate = re.search(r"tps = ([\d.]+)", said)
+        if not rate or not times:
+            sys.exit(f"pgbench did nothing in its time: {said}")
+        return float(rate[1]) * batch, times[len(times) // 2], times[int((len(times) - 1) * 0.99)]
+
+
+def main():
+    words = argparse.ArgumentParser(description=__doc__, formatter_class=argparse.RawDescriptionHelpFormatter)
+    words.add_argument("--program", default=f"{TOP}/out/service/jumbetaid")
+    words.add_argument("--rounds", type=int, default=3)
+    words.add_argument("--seconds", type=int, default=3)
+    words.add_argument("--shapes", default="1x1,16x1,64x1,256x1,16x100")
+    given = words.parse_args()
+    if not shutil.which("wrk"):
+        sys.exit("skipped: wrk isn't there")
+    shapes = [tuple(map(int, it.split("x"))) for it in given.shapes.split(",")]
+    got = {}
+    with tempfile.TemporaryDirectory() as folder, contextlib.ExitStack() as end:
+        tries = Tries(folder, os.path.abspath(given.program))
+        end.callback(tries.end)
+        systems = {"jumbetaid": lambda shape: of_service(tries, folder, shape, given.seconds)}
+        postgres = Postgres(folder)
+        if postgres.is_there():
+            postgres.start()
+            end.callback(postgres.stop)
+            systems["PostgreSQL"] = lambda shape: postgres.load(shape, given.seconds)
+        for turn in range(given.rounds):
+            for shape in shapes:
+                for name in list(systems)[:: 1 if turn % 2 else -1]:
+                    got.setdefault((shape, name), []).append(systems[name](shape))
+    with open("/proc/loadavg", encoding="ascii") as load:
+        print(f"{os.cpu_count()} threads, load {load.read().split()[0]}, {given.rounds} rounds of {given.seconds} s")
+    print("| connections x batch | system | events a second | p50, p99 ms | beside PostgreSQL |\n|---|---|---|---|---|")
+    for shape in shapes:
+        for name in systems:
+            rates, middles, lates = zip(*got[shape, name])
+            other = [it[0] for it in got.get((shape, "PostgreSQL"), [])]
+            ratio = f"{statistics.median(rates) / statistics.median(other):.2f}" if other else ""
+            told = f"{statistics.median(rates):,.0f} ({min(rates):,.0f}..{max(rates):,.0f}) | {statistics.median(middles):.1f}, {statistics.median(lates):.1f}"
+            print(f"| {shape[0]} x {shape[1]} | {name} | {told} | {ratio} |")
+
+
+if __name__ == "__main__":
+    main()

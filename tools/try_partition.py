@@ -1,0 +1,261 @@
+#!/usr/bin/env python3
+"""Tries regions of jumbetaid that lose one another: each in a network namespace of its own, by hand and as root.
+
+    tools/try_partition.py [--program FILE] [--regions N] [--seconds N] [--seed N]     by default 3 regions for 60 seconds
+
+Writers give events to each region, and note what was acknowledged, while regions are cut off, cut off one way, slowed
+down, made to lose packets, stopped and killed. Behind it all regions have to come to the same summary, which has each
+event that was acknowledged, and none that nobody gave. Some sources are written by two regions, so that there are
+conflicts. It wants `ip`, `tc` and namespaces. The last line is 'N of M tries of regions that part were right'.
+"""
+import argparse
+import contextlib
+import http.client
+import json
+import os
+import random
+import re
+import shutil
+import signal
+import subprocess
+import sys
+import tempfile
+import time
+
+sys.dont_write_bytecode = True
+TOP = os.path.dirname(os.path.dirname(os.path.realpath(__file__)))
+PORT = 8087
+QUESTIONS = ("cover", "gaps", "shown", "latest", "kinds", "days", "conflicts")
+SETTINGS = """name = "{name}"
+db = "{folder}/{name}.db"
+listen = "{address}:8087"
+open_to_all = true
+[sync]
+wait_seconds = 5
+connect_seconds = 2
+request_seconds = 5
+backoff_max_ms = 3000
+repair_seconds = 5
+"""
+# What a region sends gets through at this rate and with this burst; what waits longer than the latency is lost.
+SLOW = ("200kbit", "4k", "2s")
+LOSSY = ("500kbit", "4k", "3ms")
+NOTHING = ("8kbit", "50", "1ms")
+
+
+def run(*words, check=True, **how):
+    return subprocess.run(words, check=check, capture_output=True, timeout=30, **how)
+
+
+def write(address, source, batch, rate, region, file):
+    """Gives events of a source at a rate, each batch until it is acknowledged, and notes those; until SIGTERM."""
+    is_over = []
+    signal.signal(signal.SIGTERM, lambda *_: is_over.append(True))
+    connection, number, due = None, 0, time.monotonic()
+    with open(file, "w", encoding="utf-8") as out:
+        while not is_over:
+            events = [
+                {"specversion": "1.0", "id": str(it), "source": source, "type": "t", "subject": region, "sequence": f"{it:020d}"}
+                for it in range(number + 1, number + 1 + batch)
+            ]
+            try:
+                connection = connection or http.client.HTTPConnection(address, PORT, timeout=5)
+                connection.request("POST", "/events", json.dumps(events), {"Content-Type": "application/cloudevents-batch+json"})
+                answer = connection.getresponse()
+                said = answer.read()
+            except (OSError, http.client.HTTPException):
+                connection = None
+                time.sleep(0.05)
+                continue
+            if answer.status == 400:
+                sys.exit(f"a writer: {said!r}")
+            if answer.status == 200:
+                out.writelines(f"{source} {it['id']} {region}\n" for it in events)
+                out.flush()
+                number, due = number + batch, max(due + batch / rate, time.monotonic() - 1)
+            time.sleep(max(0.0, due - time.monotonic()))
+
+
+class Region:
+    def __init__(self, net, place):
+        self.net, self.place, self.name = net, place, f"r{place}"
+        self.space, self.address = f"{net.name}r{place}", f"10.77.0.{place + 1}"
+        self.ran = None
+
+    def inside(self, *words, **how):
+        return run("ip", "netns", "exec", self.space, *words, **how)
+
+    def started(self, *words, **how):
+        ran = subprocess.Popen(["ip", "netns", "exec", self.space, *words], stdin=subprocess.DEVNULL, **how)
+        self.net.running.append(ran)
+        return ran
+
+    def start(self):
+        with open(f"{self.net.folder}/{self.name}.log", "ab") as log:
+            self.ran = self.started(self.net.program, "--config", f"{self.net.folder}/{self.name}.toml", stdout=log, stderr=log)
+        self.net.until(lambda: self.get("/readyz", 1) is not None, 20, f"{self.name} is ready")
+
+    def get(self, path, seconds=10, body=None):
+        words = ["curl", "-sf", "--max-time", str(seconds), f"http://{self.address}:{PORT}{path}"]
+        ran = self.inside(*words, *(["--data-binary", body] if body else []), check=False)
+        return ran.stdout if ran.returncode == 0 else None
+
+    def sends(self, rate=None, burst=None, latency=None):
+        """What leaves the region: as fast as it comes, or as such a queue lets it."""
+        queue = ("tbf", "rate", rate, "burst", burst, "latency", latency) if rate else ("pfifo", "limit", "1000")
+        self.inside("tc", "qdisc", "replace", "dev", "eth0", "root", *queue)
+
+    def link(self, state):
+        run("ip", "netns", "exec", self.net.switch, "ip", "link", "set", f"p{self.place}", state)
+
+    def events(self):
+        """All that it has, as source, id and region."""
+        found, start = set(), 0
+        while page := self.get(f"/delta?from={start}", 30, '{"sources":{},"version":1}'):
+            got = [event for line in page.splitlines() for event in json.loads(line)]
+            found |= {(it["source"], it["id"], it["subject"]) for it in got}
+            start += len(got)
+        return found
+
+
+class Net:
+    """Regions around a switch, which go away in the end."""
+
+    def __init__(self, folder, program, regions):
+        self.folder, self.program, self.running = folder, program, []
+        self.name = f"jmb{os.getpid() % 10000}"
+        self.switch, self.spaces = f"{self.name}sw", []
+        self.regions = [Region(self, it) for it in range(regions)]
+
+    def make(self):
+        for it in (self.switch, *(it.space for it in self.regions)):
+            run("ip", "netns", "add", it)
+            self.spaces.append(it)
+        run("ip", "netns", "exec", self.switch, "ip", "link", "add", "br0", "type", "bridge")
+        run("ip", "netns", "exec", self.switch, "ip", "link", "set", "br0", "up")
+        for it in self.regions:
+            run("ip", "link", "add", "eth0", "netns", it.space, "type", "veth", "peer", "name", f"p{it.place}", "netns", self.switch)
+            it.inside("ip", "addr", "add", f"{it.address}/24", "dev", "eth0")
+            for link in ("eth0", "lo"):
+                it.inside("ip", "link", "set", link, "up")
+            run("ip", "netns", "exec", self.switch, "ip", "link", "set", f"p{it.place}", "master", "br0", "up")
+            with open(f"{self.folder}/{it.name}.toml", "w", encoding="utf-8") as out:
+                out.write(SETTINGS.format(name=it.name, folder=self.folder, address=it.address))
+                for peer in self.regions:
+                    if peer is not it:
+                        out.write(f'[[peers]]\nname = "{peer.name}"\nurl = "http://{peer.address}:{PORT}"\n')
+
+    def end(self):
+        for it in self.running:
+            if it.poll() is None:
+                it.kill()
+            it.wait()
+        for it in self.spaces:
+            run("ip", "netns", "del", it, check=False)
+
+    @staticmethod
+    def until(ready, seconds, what):
+        end = time.monotonic() + seconds
+        while not ready():
+            if time.monotonic() > end:
+                print(f"wrong: within {seconds} s: {what}", flush=True)
+                return False
+            time.sleep(0.05)
+        return True
+
+
+def trouble(region, dice):
+    """Something that happens to a region, for some seconds; answers what."""
+    what = dice.choice(["cut", "cut one way", "kill", "hang", "slow", "loss", "rest"])
+    seconds = dice.uniform(1, 4)
+    if what == "kill":
+        region.ran.send_signal(signal.SIGKILL)
+        region.ran.wait()
+        time.sleep(seconds / 4)
+        region.start()
+    elif what == "hang":
+        region.ran.send_signal(signal.SIGSTOP)
+        time.sleep(seconds + 3)
+        region.ran.send_signal(signal.SIGCONT)
+    elif what == "cut":
+        region.link("down")
+        time.sleep(seconds)
+        region.link("up")
+    elif what == "rest":
+        time.sleep(seconds)
+    else:
+        region.sends(*{"cut one way": NOTHING, "slow": SLOW, "loss": LOSSY}[what])
+        time.sleep(seconds)
+        region.sends()
+    return what
+
+
+def main():
+    words = argparse.ArgumentParser(description=__doc__, formatter_class=argparse.RawDescriptionHelpFormatter)
+    words.add_argument("--program", default=f"{TOP}/out/service/jumbetaid")
+    words.add_argument("--regions", type=int, default=3)
+    words.add_argument("--seconds", type=float, default=60)
+    words.add_argument("--seed", type=int, default=1)
+    given = words.parse_args()
+    dice, did, answers = random.Random(given.seed), {}, []
+    with tempfile.TemporaryDirectory() as folder, contextlib.ExitStack() as end:
+        net = Net(folder, os.path.abspath(given.program), given.regions)
+        end.callback(net.end)
+        net.make()
+        for it in net.regions:
+            it.start()
+        writers = []
+        for it in net.regions:
+            for source, batch, rate in ((f"/{it.name}/single", 1, 60), (f"/{it.name}/batch", 10, 200), ("/shared", 1, 10)):
+                file = f"{folder}/acked.{len(writers)}"
+                words = [sys.executable, os.path.realpath(__file__), "--write", it.address, source, str(batch), str(rate), it.name, file]
+                writers.append((it.started(*words), file))
+        until = time.monotonic() + given.seconds
+        while time.monotonic() < until:
+            what = trouble(dice.choice(net.regions), dice)
+            did[what] = did.get(what, 0) + 1
+        for ran, _ in writers:
+            ran.terminate()
+        for ran, _ in writers:
+            ran.wait(30)
+        began = time.monotonic()
+
+        def same():
+            texts = {it.get("/summary") for it in net.regions}
+            return len(texts) == 1 and None not in texts
+
+        answers.append(net.until(same, 60, "all summaries are the same"))
+        took, acked = time.monotonic() - began, set()
+        for _, file in writers:
+            with open(file, encoding="utf-8") as lines:
+                acked |= {tuple(it.split()) for it in lines}
+        for it in net.regions:
+            has = it.events()
+            answers.append(acked <= has)
+            # What was given and whose answer was lost may be there: of each source the event, or the batch, behind the last.
+            answers.append(len(has - acked) <= 12 * len(writers))
+            if not answers[-2]:
+                print(f"wrong: {it.name} lacks {len(acked - has)} events that were acknowledged", flush=True)
+        for question in QUESTIONS:
+            answers.append(len({it.get(f"/{question}", 30) for it in net.regions}) == 1)
+        conflicts = len((net.regions[0].get("/conflicts", 30) or b"").splitlines())
+        answers.append(conflicts > 0)
+        for it in net.regions:
+            it.ran.terminate()
+            answers.append(it.ran.wait(20) == 0)
+            with open(f"{folder}/{it.name}.log", encoding="utf-8") as log:
+                answers.append(not re.search("panicked|can't go on", log.read()))
+    print(f"{given.regions} regions for {given.seconds:.0f} s, seed {given.seed}: {did}")
+    print(f"{len(acked)} events were acknowledged, with {conflicts} conflicts; all the same {took:.1f} s behind the last")
+    print(f"{sum(map(bool, answers))} of {len(answers)} tries of regions that part were right")
+    return 0 if all(answers) else 1
+
+
+if __name__ == "__main__":
+    if sys.argv[1:2] == ["--write"]:
+        place, source_given, batch_given, rate_given, region_given, file_given = sys.argv[2:]
+        write(place, source_given, int(batch_given), float(rate_given), region_given, file_given)
+        sys.exit(0)
+    if os.geteuid() or not all(map(shutil.which, ("ip", "tc", "curl"))):
+        sys.exit("skipped: regions that part, since that wants root, ip, tc and curl")
+    sys.exit(main())

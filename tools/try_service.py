@@ -1,0 +1,932 @@
+#!/usr/bin/env python3
+"""Tries jumbetaid, the service, as its clients, its peers and its operator meet it: over loopback alone.
+
+    tools/try_service.py [--program FILE | --library FOLDER] [--site FILE] [TRY..]
+
+Without --program it is built, over the library of FOLDER or over one that is made; its tests in Rust are run, clippy and
+rustfmt look at it, and docs/SERVICE.md is run. The program `site`, by default crates/site_cli/out/site_cli, has to answer
+the same about the files that it leaves. TRY names some of the tries below. Each takes below ten seconds. What is
+left out since a tool or a right isn't there is told. The last line is 'N of M tries of the service were right'.
+"""
+import argparse
+import contextlib
+import hashlib
+import http.client
+import json
+import os
+import re
+import resource
+import shutil
+import signal
+import socket
+import subprocess
+import sys
+import tempfile
+import threading
+import time
+from concurrent.futures import ThreadPoolExecutor
+
+sys.dont_write_bytecode = True
+TOP = os.path.dirname(os.path.dirname(os.path.realpath(__file__)))
+sys.path.insert(0, f"{TOP}/tools")
+import library  # noqa: E402
+import service  # noqa: E402
+
+ONE = {"Content-Type": "application/cloudevents+json"}
+MANY = {"Content-Type": "application/cloudevents-batch+json"}
+QUESTIONS = ("cover", "gaps", "shown", "latest", "kinds", "days", "conflicts")
+# The head of a request whose body is given by hand.
+HEAD = b"POST /events HTTP/1.1\r\nHost: localhost\r\nContent-Type: application/cloudevents+json\r\n"
+
+
+def event(number, source="/a", **more):
+    return {"specversion": "1.0", "id": str(number), "source": source, "type": "t", "sequence": f"{number:020d}", **more}
+
+
+class Told:
+    """An answer: its status, its headers by their names in lower case, and its body."""
+
+    def __init__(self, status, headers, body):
+        self.status, self.body = status, body
+        self.headers = {name.lower(): value for name, value in headers}
+
+    @property
+    def json(self):
+        return json.loads(self.body)
+
+    @property
+    def problem(self):
+        """The name of a problem, and its status; none where the answer is no problem."""
+        if self.headers.get("content-type") != "application/problem+json":
+            return None
+        return self.json["type"].rpartition(":")[2] if self.json["status"] == self.status else None
+
+    def __repr__(self):
+        return f"{self.status} {self.headers} {self.body[:300]!r}"
+
+
+class Site:
+    """A running service, with its folder for the database, the settings and the log."""
+
+    def __init__(self, tries, name, settings=""):
+        self.tries, self.name, self.prefix = tries, name, []
+        self.folder = f"{tries.folder}/{name}"
+        os.makedirs(self.folder)
+        self.port, self.ran, self.db = 0, None, f"{self.folder}/site.db"
+        self.set(settings)
+
+    def set(self, settings):
+        """Writes the settings; those of a table stand behind the others."""
+        with open(f"{self.folder}/settings.toml", "w", encoding="utf-8") as out:
+            out.write(f'name = "{self.name}"\ndb = "{self.db}"\nlisten = "127.0.0.1:0"\n{settings}')
+
+    def start(self, seconds=8):
+        """Starts it, where it was before if it was, and waits until it is ready."""
+        begin = os.path.getsize(f"{self.folder}/log") if os.path.exists(f"{self.folder}/log") else 0
+        with open(f"{self.folder}/log", "ab") as log:
+            words = [*self.prefix, self.tries.program, "--config", f"{self.folder}/settings.toml"]
+            words += [f"--listen=127.0.0.1:{self.port}"] * bool(self.port)
+            self.ran = subprocess.Popen(words, stdin=subprocess.DEVNULL, stdout=log, stderr=log)
+        self.tries.running.append(self.ran)
+        end = time.monotonic() + seconds
+        while time.monotonic() < end and self.ran.poll() is None:
+            for line in self.log(begin):
+                if line.get("message") == "ready":
+                    self.port = int(line["listen"].rpartition(":")[2])
+                    return self
+            time.sleep(0.01)
+        raise OSError(f"{self.name} isn't ready: {self.text_of_log()[-1000:]}")
+
+    def text_of_log(self):
+        with open(f"{self.folder}/log", encoding="utf-8") as log:
+            return log.read()
+
+    def log(self, begin=0):
+        """The lines of the log that are whole."""
+        with open(f"{self.folder}/log", "rb") as log:
+            log.seek(begin)
+            lines = log.read().split(b"\n")[:-1]
+        return [json.loads(it) for it in lines if it.startswith(b"{")]
+
+    def stop(self, how=signal.SIGTERM, seconds=12):
+        """Ends it, and answers its status."""
+        self.ran.send_signal(how)
+        return self.ran.wait(seconds)
+
+    def ask(self, method, path, body=None, headers=None, seconds=20):
+        connection = http.client.HTTPConnection("127.0.0.1", self.port, timeout=seconds)
+        with contextlib.closing(connection):
+            connection.request(method, path, body, headers or {})
+            answer = connection.getresponse()
+            return Told(answer.status, answer.getheaders(), answer.read())
+
+    def get(self, path, **headers):
+        return self.ask("GET", path, headers={name.replace("_", "-"): value for name, value in headers.items()})
+
+    def give(self, what, headers=None):
+        """Gives an event, or a list of them."""
+        body = what if isinstance(what, (str, bytes)) else json.dumps(what)
+        return self.ask("POST", "/events", body, headers or (MANY if isinstance(what, list) else ONE))
+
+    def raw(self, *parts, seconds=8):
+        """What comes back of bytes, until the connection is closed or the time is over, and how long that took."""
+        began, said = time.monotonic(), b""
+        with socket.create_connection(("127.0.0.1", self.port), timeout=seconds) as it:
+            with contextlib.suppress(ConnectionError):
+                for part in parts:
+                    it.sendall(part)
+            try:
+                while data := it.recv(65536):
+                    said += data
+            except ConnectionError:
+                pass
+            except TimeoutError:
+                return said, None
+        return said, time.monotonic() - began
+
+    def cover(self):
+        return self.get("/cover").json["sources"]
+
+    def waits_for(self, ready, seconds=8):
+        """Whether something is so within the time."""
+        end = time.monotonic() + seconds
+        while not ready():
+            if time.monotonic() > end:
+                return False
+            time.sleep(0.02)
+        return True
+
+
+class Tries:
+    def __init__(self, folder, program, site=""):
+        self.folder, self.program, self.other, self.right, self.all, self.running = folder, program, site, 0, 0, []
+        self.what = ""
+
+    def judge(self, what, is_right, why=""):
+        self.right, self.all = self.right + bool(is_right), self.all + 1
+        if not is_right:
+            print(f"wrong: {self.what}: {what}: {str(why)[-1500:]}", flush=True)
+        return is_right
+
+    def skip(self, what, why):
+        print(f"skipped: {what}, since {why}", flush=True)
+
+    def site(self, name, settings=""):
+        return Site(self, f"{self.what}-{name}", settings)
+
+    def end(self):
+        for it in self.running:
+            if it.poll() is None:
+                it.kill()
+            it.wait()
+
+
+def try_modes(tries):
+    """Events in the three content modes, each kept once, and what they come to."""
+    with serving(tries) as site:
+        told = site.give(event(1))
+        tries.judge("an event", (told.status, told.json) == (200, {"events": 1, "new": 1, "repeated": 0}), told)
+        tries.judge("the count of the set", told.headers["site-events"] == "1", told)
+        told = site.give([event(1), event(2), event(4), event(4)])
+        tries.judge("a batch", told.json == {"events": 4, "new": 2, "repeated": 2} and told.headers["site-events"] == "3", told)
+        told = site.give([])
+        tries.judge("an empty batch", (told.status, told.json) == (200, {"events": 0, "new": 0, "repeated": 0}), told)
+        told = site.give(json.dumps(event(5)).encode("utf-8"), {"Content-Type": "Application/CloudEvents+JSON; charset=UTF-8"})
+        tries.judge("letters of a media type", told.json["new"] == 1, told)
+        binary = {
+            **{"ce-specversion": "1.0", "ce-id": "8", "CE-Source": "/b%20%E2%82%AC", "ce-type": "t", "ce-sequence": f"{1:020d}"},
+            **{"ce-subject": '"x \\"y\\""', "ce-extra": "7", "Content-Type": "application/json; charset=utf-8"},
+        }
+        told = site.give('{"a":[9007199254740993,"é"],  "b":{}}'.encode(), binary)
+        tries.judge("binary mode", told.status == 200 and told.json["new"] == 1, told)
+        shown = [it for it in site.get("/shown").body.decode().splitlines() if "/b" in it]
+        line = json.loads(shown[0]) if shown else {}
+        is_right = (line.get("source"), line.get("subject"), line.get("extra")) == ("/b €", 'x "y"', "7")
+        tries.judge("attributes of headers", is_right and line["datacontenttype"] == "application/json; charset=utf-8", shown)
+        tries.judge("numbers of data keep their digits", "9007199254740993" in str(shown), shown)
+        for number, (kind, body, member) in enumerate(((("image/png", b"\0\xff", '"data_base64":"AP8="')), ("text/plain", b"hey", '"data":"hey"'), ("text/plain", b"", '"id":"12"')), 10):
+            headers = {**binary, "ce-id": str(number), "ce-sequence": f"{number:020d}", "Content-Type": kind}
+            told = site.give(body, headers)
+            shown = site.get("/shown").body.decode()
+            tries.judge(f"data of {kind}", told.status == 200 and member in shown, (told, shown[-500:]))
+        lines = site.get("/shown").body
+        for it in ({**binary, "Content-Type": "application/json"}, {**binary, "ce-datacontenttype": "a/b"}):
+            told = site.give(b"{", it)
+            tries.judge("data that isn't what it says", told.problem == "malformed", told)
+        told = site.give(b"", {name: value for name, value in binary.items() if name != "ce-sequence"})
+        entry = (told.json.get("errors") or [{}])[0]
+        tries.judge("a header that is lacking", (entry.get("fault"), entry.get("pointer")) == ("NoSequence", "#/sequence"), told)
+        tries.judge("nothing of them is taken", site.get("/shown").body == lines)
+        told = site.ask("OPTIONS", "/events")
+        tries.judge("what may be sent", told.status == 200 and "cloudevents-batch" in told.headers["accept-post"], told)
+
+
+def try_faults(tries):
+    """What is refused, and in which words."""
+    with serving(tries) as site:
+        site.give(event(1))
+        before = site.get("/shown").body
+        told = site.give([event(5), {**event(6), "sequence": "6"}, {}, event(7)])
+        tries.judge("a batch with faults", told.problem == "events-at-fault" and told.json["faults"] == 2, told)
+        errors = told.json["errors"]
+        tries.judge("which are at fault", [it["index"] for it in errors] == [1, 2], told)
+        first = {name: errors[0].get(name) for name in ("pointer", "fault", "attribute")}
+        tries.judge("where and why", first == {"pointer": "#/1/sequence", "fault": "BadSequence", "attribute": "sequence"} and errors[0]["detail"], told)
+        told = site.give([{}] * 150)
+        tries.judge("at most a hundred entries", told.json["faults"] == 150 and len(told.json["errors"]) == 100, told.json["faults"])
+        for what, body, headers, name in (
+            ("no JSON", "half a fi", ONE, "events-at-fault"),
+            ("an array as an event", [event(2)], ONE, "mode"),
+            ("an event as a batch", json.dumps(event(2)), MANY, "mode"),
+            ("another media type", "{}", {"Content-Type": "application/json"}, "media-type"),
+            ("another format of events", "{}", {"Content-Type": "application/cloudevents+avro"}, "media-type"),
+            ("another charset", "{}", {"Content-Type": f"{ONE['Content-Type']}; charset=utf-16"}, "media-type"),
+            ("a content coding", "{}", {**ONE, "Content-Encoding": "gzip"}, "media-type"),
+            ("no media type", "{}", {"Accept": "*/*"}, "media-type"),
+            ("two events", json.dumps(event(2)) * 2, ONE, "events-at-fault"),
+            ("what is JSON only between others", f"{json.dumps(event(2))}],[{json.dumps(event(3))}", ONE, "events-at-fault"),
+        ):
+            told = site.give(body if isinstance(body, str) else json.dumps(body), headers)
+            tries.judge(what, told.problem == name and ("accept-post" in told.headers) == (name == "media-type"), told)
+        for body, want in ((event(9), {"events": 1, "faults": 0}), ([event(9), event(10)], {"events": 2, "faults": 0})):
+            told = site.ask("POST", "/check", json.dumps(body), MANY if isinstance(body, list) else ONE)
+            tries.judge("check", (told.status, told.json) == (200, want), told)
+        told = site.ask("POST", "/check", json.dumps([{}]), MANY)
+        tries.judge("check of a fault", told.problem == "events-at-fault" and told.json["errors"][0]["pointer"].startswith("#/0"), told)
+        tries.judge("nothing of them is taken", site.get("/shown").body == before)
+        for method, path, status, allow in (
+            ("DELETE", "/events", 405, "GET, HEAD, POST, OPTIONS"),
+            ("PUT", "/delta", 405, "POST"),
+            ("POST", "/kinds", 405, "GET, HEAD"),
+            ("GET", "/nothing", 404, None),
+            ("GET", "/kinds/", 404, None),
+        ):
+            told = site.ask(method, path)
+            tries.judge(f"{method} {path}", told.status == status and told.headers.get("allow") == allow and told.problem, told)
+        for path in ("/kinds?min=x", "/arrivals?after=-1", "/events", "/events?source=/a"):
+            tries.judge(path, site.get(path).status == 400)
+        for body in (b"{", b"\xff", b'{"sources":{},"version":9}', b'{"sources":{"b":[[1,1]],"a":[[1,1]]},"version":1}'):
+            told = site.ask("POST", "/delta", body)
+            tries.judge("no summary", told.problem == "summary", told)
+
+
+def try_questions(tries):
+    """Answers, one tag for all of them, and waits for a change."""
+    with serving(tries) as site:
+        site.give([event(it, time="2024-02-29T10:00:00Z") for it in (1, 2, 4)] + [event(2, id="x", data=1)])
+        tags = set()
+        for it in (*QUESTIONS, "summary"):
+            told = site.get(f"/{it}")
+            kind = "application/json" if it in ("cover", "summary") else "application/x-ndjson"
+            tries.judge(it, told.status == 200 and told.headers["content-type"] == kind and told.headers["site-events"] == "4", told)
+            tags.add(told.headers["etag"])
+            tries.judge(f"{it}: HEAD", (lambda head: head.status == 200 and not head.body)(site.ask("HEAD", f"/{it}")))
+            same = site.get(f"/{it}", If_None_Match=f'"x", W/{told.headers["etag"]}')
+            tries.judge(f"{it}: not modified", (same.status, same.body, same.headers["etag"]) == (304, b"", told.headers["etag"]), same)
+        summary = site.get("/summary").body
+        name = hashlib.sha256(summary.rstrip(b"\n")).hexdigest()
+        tries.judge("one tag, the set's name", tags == {f'"{name}"'}, tags)
+        tries.judge("what is answered", site.get("/cover").body == b'{"sources":{"/a":[[1,2],[4,4]]},"version":1}\n')
+        tries.judge("gaps", site.get("/gaps").body == b'["/a",[[3,3]]]\n')
+        tries.judge("kinds", site.get("/kinds").body == b'["t",4]\n')
+        told = site.get("/events?source=%2Fa&id=2")
+        if told.status == 501:
+            tries.skip("events by source and id", "the library hasn't that call")
+        else:
+            tries.judge("an event by its id", told.status == 200 and told.json["id"] == "2", told)
+            tries.judge("an id that isn't there", site.get("/events?source=/a&id=3").status == 404)
+        tag, began = f'"{name}"', time.monotonic()
+        told = site.get("/kinds", If_None_Match=tag, Prefer="wait=1")
+        tries.judge("a wait in vain", told.status == 304 and 0.9 < time.monotonic() - began < 3, told)
+        with ThreadPoolExecutor(1) as pool:
+            waits = pool.submit(lambda: (site.get("/kinds", If_None_Match=tag, Prefer="wait=8"), time.monotonic()))
+            time.sleep(0.3)
+            began = time.monotonic()
+            kept = site.give(event(5))
+            told, at = waits.result()
+        tries.judge("a wait for a change", told.status == 200 and at - began < 2 and told.headers["etag"] != tag, (told, at - began))
+        told = site.get(f"/cover?min={kept.headers['site-events']}", Prefer="wait=8")
+        tries.judge("what was given is read", b"[4,5]" in told.body, told)
+        began = time.monotonic()
+        told = site.get("/cover?min=99", Prefer="wait=1")
+        tries.judge("a wait for more than comes", told.status == 200 and 0.9 < time.monotonic() - began < 3, told)
+        told = site.ask("POST", "/delta", b'{"sources":{"/a":[[1,2]]},"version":1}')
+        tries.judge("a delta by numbers", told.status == 200 and told.headers["site-next"] == "2" and len(json.loads(told.body.splitlines()[0])) == 2, told)
+        tries.judge("a delta of none", site.ask("POST", "/delta", site.get("/summary").body).status == 204)
+        site.give([event(it, "/many") for it in range(1, 2501)])
+        told = site.ask("POST", "/delta", b'{"sources":{},"version":1}')
+        count = sum(len(json.loads(it)) for it in told.body.splitlines())
+        tries.judge("pages of 2,000", count == int(told.headers["site-next"]) and 2000 <= count < 2100, (count, told.headers))
+        told = site.ask("POST", f"/delta?from={count}&limit=100", b'{"sources":{},"version":1}')
+        tries.judge("the next page", told.headers["site-next"] == str(count + 100), told)
+        answers = {it: site.get(f"/{it}").body for it in (*QUESTIONS, "summary")}
+    if not os.path.exists(tries.other):
+        tries.skip("the answers of the program", "it isn't built")
+        return
+    for it, body in answers.items():
+        ran = subprocess.run([tries.other, it, "--db", site.db], capture_output=True, timeout=8, check=False)
+        tries.judge(f"{it} of the program", (ran.returncode, ran.stdout) == (0, body), ran.stderr)
+    ran = subprocess.run([tries.other, "take", "--db", site.db, "-"], input=json.dumps(event(9, "/program")).encode(), capture_output=True, timeout=8, check=False)
+    site.start()
+    tries.judge("what the program took", ran.returncode == 0 and site.cover().get("/program") == [[9, 9]], ran)
+    tries.judge("it ends well behind it", site.stop() == 0)
+
+
+def try_arrivals(tries):
+    """The feed of what comes, in the order in which it came, over a restart."""
+    with serving(tries) as site:
+        if site.get("/arrivals").status == 501:
+            tries.skip("the feed of arrivals", "the library hasn't that call")
+            return
+        site.give([event(3, "/z"), event(1, "/b"), event(9, "/a"), event(1, "/b")])
+        order = ["/z", "/b", "/a"]
+        told = site.get("/arrivals?after=0")
+        lines = [json.loads(it)["source"] for it in told.body.splitlines()]
+        tries.judge("an event a line", lines == order and told.headers["site-next"] == "3", told)
+        told = site.get("/arrivals?after=1&limit=1")
+        tries.judge("from a mark on", json.loads(told.body)["source"] == "/b" and told.headers["site-next"] == "2", told)
+        told = site.get("/arrivals?after=3")
+        tries.judge("nothing new", (told.status, told.headers["site-next"]) == (204, "3"), told)
+        tries.judge("behind the end", site.get("/arrivals?after=4").problem == "beyond")
+        with ThreadPoolExecutor(1) as pool:
+            waits = pool.submit(lambda: site.get("/arrivals?after=3", Prefer="wait=8"))
+            time.sleep(0.2)
+            site.give(event(2, "/b"))
+            told = waits.result()
+        tries.judge("a wait for the next", told.status == 200 and told.headers["site-next"] == "4", told)
+        with socket.create_connection(("127.0.0.1", site.port), timeout=5) as it, it.makefile("rb") as said:
+            it.sendall(b"GET /arrivals HTTP/1.1\r\nHost: localhost\r\nAccept: text/event-stream\r\nLast-Event-ID: 3\r\n\r\n")
+            seen = []
+
+            def until(mark):
+                while not any(mark in it for it in seen):
+                    seen.append(said.readline())
+
+            until(b"id: 4")
+            site.give(event(7, "/b"))
+            until(b"id: 5")
+            seen.append(said.readline())
+            head = b"".join(seen)
+            tries.judge("a stream goes on", b"text/event-stream" in head and b'"id":"7"' in seen[-1] and b"id: 3" not in head, seen)
+            began = time.monotonic()
+            tries.judge("a stream ends with the service", site.stop() == 0 and time.monotonic() - began < 3)
+        site.start()
+        told = site.get("/arrivals?after=0")
+        lines = [json.loads(it)["source"] for it in told.body.splitlines()]
+        tries.judge("the same numbers behind a restart", lines == [*order, "/b", "/b"], told)
+        site.stop(signal.SIGKILL)
+        site.start()
+        tries.judge("and behind a kill", site.get("/arrivals?after=0").body == told.body)
+        site.give([event(it, "/many") for it in range(1, 2501)])
+        told = site.get("/arrivals?after=5")
+        tries.judge("at most 2,000", told.headers["site-next"] == "2005" and told.body.count(b"\n") == 2000, told.headers)
+
+
+def try_tokens(tries):
+    """Who may what."""
+    roles = ("write", "read", "peer")
+    rows = "".join(f'[[tokens]]\nname = "{it}"\nroles = ["{it}"]\nsha256 = "{hashlib.sha256(f"tok-{it}".encode()).hexdigest()}"\n' for it in roles)
+    file = f"{tries.folder}/token"
+    with open(file, "w", encoding="utf-8") as out:
+        out.write("of a file\n")
+    with serving(tries, f'{rows}[[tokens]]\nname = "f"\nroles = ["read", "write"]\nfile = "{file}"\n') as site:
+        for method, path, may in (
+            ("POST", "/events", {"write"}),
+            ("GET", "/events?source=a&id=b", {"read"}),
+            ("POST", "/check", {"read"}),
+            ("GET", "/cover", {"read", "peer"}),
+            ("GET", "/summary", {"read", "peer"}),
+            ("GET", "/shown", {"read"}),
+            ("GET", "/arrivals", {"read"}),
+            ("POST", "/delta", {"peer"}),
+            ("GET", "/metrics", {"read"}),
+            ("GET", "/status", {"read"}),
+        ):
+            told = site.ask(method, path)
+            tries.judge(f"{path} without a token", told.problem == "token" and told.status == 401 and told.headers["www-authenticate"] == "Bearer", told)
+            tries.judge(f"{path} by an unknown one", site.ask(method, path, headers={"Authorization": "Bearer tok"}).status == 401)
+            for it in roles:
+                told = site.ask(method, path, "[]" if method == "POST" else None, {"Authorization": f"Bearer tok-{it}", **MANY})
+                tries.judge(f"{path} by {it}", (told.status == 403) == (it not in may) and told.status != 401, told)
+        tries.judge("a token of a file", site.ask("GET", "/kinds", headers={"Authorization": "bearer of a file"}).status == 200)
+        for path in ("/healthz", "/readyz", "/"):
+            tries.judge(f"{path} is free", site.get(path).status == 200)
+        tries.judge("so is the handshake", site.ask("OPTIONS", "/events").status == 200)
+    with serving(tries) as site:
+        for host, status in (("x.example.com", 403), (f"localhost:{site.port}", 200), ("10.1.2.3", 200)):
+            told = site.ask("GET", "/kinds", headers={"Host": host})
+            tries.judge(f"without tokens, by the name {host}", told.status == status, told)
+    ran = subprocess.run([tries.program, "--db", "x.db", "--listen", "0.0.0.0:0"], cwd=tries.folder, capture_output=True, text=True, timeout=5, check=False)
+    tries.judge("beyond loopback without tokens", ran.returncode == 1 and "tokens" in ran.stderr and not os.path.exists(f"{tries.folder}/x.db"), ran)
+
+
+def try_webhooks(tries):
+    """The handshake of webhooks."""
+    with serving(tries, 'webhook_origins = ["events.example.com"]\nwebhook_rate = 600\n') as site:
+        for asked, rate in (("120", "120"), ("9999", "600"), (None, "600")):
+            headers = {"WebHook-Request-Origin": "events.example.com", **({"WebHook-Request-Rate": asked} if asked else {})}
+            told = site.ask("OPTIONS", "/events", headers=headers)
+            allowed = (told.headers.get("webhook-allowed-origin"), told.headers.get("webhook-allowed-rate"))
+            tries.judge(f"a rate of {asked}", told.status == 200 and allowed == ("events.example.com", rate) and "POST" in told.headers["allow"], told)
+        told = site.ask("OPTIONS", "/events", headers={"WebHook-Request-Origin": "else.example.com"})
+        tries.judge("another origin", told.status == 403 and "webhook-allowed-origin" not in told.headers, told)
+
+
+def try_limits(tries):
+    """Clients that are slow, large, or mean something else than they say."""
+    limits = "[limits]\nidle_seconds = 2\nbody_seconds = 2\nbody_bytes = 100000\n"
+    with serving(tries, limits) as site:
+        whole = json.dumps(event(1)).encode()
+        said, took = site.raw(HEAD)
+        tries.judge("a slow head", took is not None and took < 4 and not said, (said, took))
+        said, took = site.raw(HEAD + b"Content-Length: 100\r\n\r\n{")
+        tries.judge("a slow body", said.startswith(b"HTTP/1.1 408") and took < 5, (said, took))
+        said, took = site.raw(HEAD + b"Content-Length: 100001\r\n\r\n")
+        tries.judge("a body that is too long", said.startswith(b"HTTP/1.1 413") and took < 2, (said, took))
+        said, took = site.raw(HEAD + b"Content-Length: 5000000\r\n\r\n", b"x" * 5_000_000)
+        tries.judge("its answer is read by who sends it all", said.startswith(b"HTTP/1.1 413") and took is not None, (said, took))
+        said, took = site.raw(HEAD + b"Transfer-Encoding: chunked\r\n\r\n", *[b"4000\r\n" + b"x" * 0x4000 + b"\r\n"] * 8)
+        tries.judge("chunks without end", said.startswith(b"HTTP/1.1 413"), (said, took))
+        said, took = site.raw(b"GET /kinds HTTP/1.1\r\nHost: localhost\r\n" + b"".join(b"X-%d: %s\r\n" % (it, b"y" * 900) for it in range(90)) + b"\r\n")
+        tries.judge("a head of 81 KB", said.startswith(b"HTTP/1.1 431"), said[:200])
+        for what, headers in (("200 headers", b"A: b\r\n" * 200), ("a head of 8 MB", (b"A: %s\r\n" % (b"b" * 8000)) * 1000), ("a name without end", b"A" * 4_000_000)):
+            said, took = site.raw(b"GET /kinds HTTP/1.1\r\nHost: localhost\r\n" + headers + b"\r\n")
+            tries.judge(what, took is not None and (not said or said.startswith(b"HTTP/1.1 431")), said[:200])
+        # What a proxy may take for one request and the service for two, or the other way round.
+        behind = b"POST /events HTTP/1.1\r\nHost: localhost\r\n\r\n"
+        chunked = b"%x\r\n%s\r\n0\r\n\r\n" % (len(whole), whole)
+        for what, lengths in (("length and chunks", b"Content-Length: 5\r\nTransfer-Encoding: chunked\r\n"), ("chunks and length", b"Transfer-Encoding: chunked\r\nContent-Length: 5\r\n")):
+            said, took = site.raw(HEAD + lengths + b"\r\n" + chunked + behind)
+            tries.judge(what, said.count(b"HTTP/1.1 ") == 1 and took is not None, (said, took))
+        for what, lengths in (("two lengths", b"Content-Length: 5\r\nContent-Length: 6\r\n"), ("another coding", b"Transfer-Encoding: gzip\r\n"), ("no number", b"Content-Length: +5\r\n")):
+            said, took = site.raw(HEAD + lengths + b"\r\n" + chunked + behind)
+            tries.judge(what, said.startswith(b"HTTP/1.1 400") and said.count(b"HTTP/1.1 ") == 1, (said, took))
+        said, took = site.raw(HEAD + b"Transfer-Encoding: chunked\r\n\r\n" + b"%x\r\n%s\r\n" % (len(whole) // 2, whole[: len(whole) // 2]) + b"%x\r\n%s\r\n0\r\n\r\n" % (len(whole) - len(whole) // 2, whole[len(whole) // 2 :]))
+        tries.judge("an event in chunks", b"HTTP/1.1 200" in said, (said, took))
+        said, _ = site.raw((HEAD + b"Content-Length: %d\r\n\r\n%s" % (len(whole), whole)) * 2 + b"GET /kinds HTTP/1.1\r\nHost: localhost\r\nConnection: close\r\n\r\n")
+        tries.judge("requests behind one another", said.count(b"HTTP/1.1 200 OK") == 3, said)
+        said, _ = site.raw(b"\x16\x03\x01\x02\x00\x01\x00\x01\xfc\x03\x03 TLS at a plain port\r\n\r\n")
+        tries.judge("no HTTP", said.startswith(b"HTTP/1.1 400") or not said, said)
+        tries.judge("nobody else waited", site.give(event(2)).status == 200)
+    with serving(tries, "[limits]\nbody_bytes = 33554432\n") as site:
+        said, took = site.raw(HEAD + b"Content-Length: 33554433\r\n\r\n")
+        tries.judge("a body of 33,554,433 bytes", said.startswith(b"HTTP/1.1 413") and b"33554432" in said and took < 2, said)
+
+
+def try_readers(tries):
+    """A client that doesn't read its answers is cut, and holds up nobody."""
+    with serving(tries, "[limits]\nidle_seconds = 2\n") as site:
+        for part in range(4):
+            site.give([event(part * 1000 + it, "/large", data="x" * 900) for it in range(1, 1001)])
+        with socket.create_connection(("127.0.0.1", site.port), timeout=8) as it:
+            it.setsockopt(socket.SOL_SOCKET, socket.SO_RCVBUF, 4096)
+            it.sendall(b"GET /shown HTTP/1.1\r\nHost: localhost\r\n\r\n" * 4)
+            began = time.monotonic()
+            tries.judge("others are answered meanwhile", site.give(event(1)).status == 200 and time.monotonic() - began < 1)
+            gone = site.waits_for(lambda: b"jumbetai_http_connections 1\n" in site.get("/metrics").body, 6)
+            tries.judge("it is cut", gone, site.get("/metrics").body[-300:])
+
+
+def try_crowds(tries):
+    """A thousand idle connections, and more than there are places."""
+    soft, hard = resource.getrlimit(resource.RLIMIT_NOFILE)
+    resource.setrlimit(resource.RLIMIT_NOFILE, (min(hard, 4096), hard))
+    for descriptors in (4096, 1024):
+        with serving(tries, prefix=["sh", "-c", f'ulimit -Sn {descriptors} && exec "$@"', "x"]) as site:
+            crowd(tries, site)
+    resource.setrlimit(resource.RLIMIT_NOFILE, (soft, hard))
+
+
+def crowd(tries, site):
+    """Beside a thousand idle connections, and where there is room for no more."""
+    with contextlib.ExitStack() as files:
+        for _ in range(1000):
+            files.enter_context(socket.create_connection(("127.0.0.1", site.port), timeout=5))
+        began = time.monotonic()
+        tries.judge("beside a thousand idle connections", site.give(event(1)).status == 200 and time.monotonic() - began < 1, time.monotonic() - began)
+        for _ in range(60):
+            files.enter_context(socket.create_connection(("127.0.0.1", site.port), timeout=5))
+        began = time.monotonic()
+        tries.judge("where all places are taken", site.give(event(2)).status == 200 and time.monotonic() - began < 4, time.monotonic() - began)
+
+
+def try_counts(tries):
+    """Many clients at once: each answer is exact, and the transactions are fewer than the bodies."""
+    with serving(tries) as site:
+        local = threading.local()
+
+        def one(number):
+            if not hasattr(local, "connection"):
+                local.connection = http.client.HTTPConnection("127.0.0.1", site.port, timeout=10)
+            body = json.dumps([event(number % 50 + 1, "/many"), event(number + 100, "/many")])
+            if number % 20 == 7:
+                body = json.dumps([{}])
+            local.connection.request("POST", "/events", body, MANY)
+            answer = local.connection.getresponse()
+            return answer.status, json.loads(answer.read())
+
+        with ThreadPoolExecutor(32) as pool:
+            told = list(pool.map(one, range(600)))
+        bad = [it for it in told if it[0] == 400]
+        good = [it[1] for it in told if it[0] == 200]
+        tries.judge("bodies at fault are refused alone", len(bad) == 30 and len(good) == 570, (len(bad), len(good)))
+        sums = [sum(it[name] for it in good) for name in ("events", "new", "repeated")]
+        has = sum(last - first + 1 for first, last in site.cover()["/many"])
+        tries.judge("counts", sums[0] == 1140 and sums[1] == has and sums[1] + sums[2] == 1140, (sums, has))
+        commits = int(re.search(rb"jumbetai_commits_total (\d+)", site.get("/metrics").body)[1])
+        print(f"{len(told)} bodies of 32 clients: {commits} transactions", flush=True)
+
+
+def try_queue(tries):
+    """A queue that is full is told, and nothing of what was refused is there."""
+    with serving(tries, "[limits]\nwaiting_bodies = 1\nwaiting_ms = 1\n") as site:
+
+        def one(number):
+            return site.give([event(number * 200 + it, "/q") for it in range(1, 201)])
+
+        with ThreadPoolExecutor(24) as pool:
+            told = list(pool.map(one, range(150)))
+        full = [it for it in told if it.status == 429]
+        kept = sum(it.json["new"] for it in told if it.status == 200)
+        tries.judge("429 says when to come again", full and all(it.problem == "full" and it.headers["retry-after"] == "1" for it in full), len(full))
+        has = sum(last - first + 1 for first, last in site.cover()["/q"])
+        tries.judge("just what was answered 200 is there", has == kept > 0, (has, kept))
+
+
+def try_ends(tries):
+    """SIGTERM in the middle of a take, of waits, and of a body that never ends."""
+    with serving(tries, "[limits]\nshutdown_seconds = 3\n") as site:
+        body = json.dumps(event(1, "/late")).encode()
+        tag = site.get("/kinds").headers["etag"]
+        with ThreadPoolExecutor(3) as pool:
+
+            def late():
+                connection = http.client.HTTPConnection("127.0.0.1", site.port, timeout=9)
+                connection.putrequest("POST", "/events")
+                connection.putheader("Content-Type", ONE["Content-Type"])
+                connection.putheader("Content-Length", str(len(body)))
+                connection.endheaders()
+                connection.send(body[:10])
+                time.sleep(1)
+                connection.send(body[10:])
+                answer = connection.getresponse()
+                return answer.status, answer.read()
+
+            waits = pool.submit(lambda: (site.get("/kinds", If_None_Match=tag, Prefer="wait=60").status, time.monotonic()))
+            taken, stuck = pool.submit(late), pool.submit(lambda: site.raw(HEAD + b"Content-Length: 9\r\n\r\n{"))
+            time.sleep(0.4)
+            began = time.monotonic()
+            status, took = site.stop(), time.monotonic() - began
+            tries.judge("a take that was begun", taken.result()[0] == 200, taken.result())
+            tries.judge("a wait ends at once", waits.result()[0] == 304 and waits.result()[1] - began < 1, waits.result())
+            tries.judge("a body that never ends is cut", stuck.result()[1] is not None, stuck.result())
+            tries.judge("within its time", status == 0 and took < 5, (status, took))
+        site.start()
+        tries.judge("what was answered is there", site.cover() == {"/late": [[1, 1]]}, site.cover())
+
+
+def try_kills(tries):
+    """Clients at a service that is killed again and again: what was acknowledged is there, and nothing else."""
+    with serving(tries) as site:
+        acked, over = {}, threading.Event()
+
+        def client(number):
+            sent, connection = 1, None
+            while not over.is_set():
+                try:
+                    connection = connection or http.client.HTTPConnection("127.0.0.1", site.port, timeout=5)
+                    connection.request("POST", "/events", json.dumps(event(sent, f"/c{number}")), ONE)
+                    answer = connection.getresponse()
+                    answer.read()
+                    if answer.status == 200:
+                        acked[number], sent = sent, sent + 1
+                except (OSError, http.client.HTTPException):
+                    connection = None
+                    time.sleep(0.02)
+
+        threads = [threading.Thread(target=client, args=(it,)) for it in range(16)]
+        for it in threads:
+            it.start()
+        lost = 0
+        for _ in range(4):
+            time.sleep(0.6)
+            before = dict(acked)
+            site.stop(signal.SIGKILL)
+            site.start()
+            has = site.cover()
+            lost += sum(has.get(f"/c{it}", [[1, 0]])[0][1] < last for it, last in before.items())
+        over.set()
+        for it in threads:
+            it.join()
+        has = site.cover()
+        tries.judge("nothing that was acknowledged is lost", lost == 0 and acked and all(has[f"/c{it}"][0][1] >= last for it, last in acked.items()), (lost, acked))
+        tries.judge("nothing else is there", all(len(it) == 1 and it[0][0] == 1 and it[0][1] <= acked[int(name[2:])] + 1 for name, it in has.items()), has)
+
+
+def try_peers(tries):
+    """Two sites come to one view, with events of one number too; peers are added and taken away by SIGHUP."""
+    quick = "[sync]\nevery_ms = 50\nwait_seconds = 3\n"
+    with serving(tries, quick, name="north") as north, serving(tries, quick, name="south") as south:
+
+        def same():
+            texts = [it.get("/summary") for it in (north, south)]
+            return texts[0].body == texts[1].body
+
+        def peer(of, url=None):
+            return f'{quick}[[peers]]\nname = "peer"\nurl = "{url or f"http://127.0.0.1:{of.port}"}"\n'
+
+        def seen(of):
+            return of.get("/status").json["peers"].get("peer", {})
+
+        north.give([event(it, "/north") for it in range(1, 2601)])
+        south.give([event(it, "/south") for it in range(1, 1301)] + [event(7, "/both", data=1)])
+        north.give(event(7, "/both", data=2))
+        for one, other in ((north, south), (south, north)):
+            one.set(peer(other))
+            one.ran.send_signal(signal.SIGHUP)
+        tries.judge("two sites come to one view", north.waits_for(same), (north.cover(), south.cover()))
+        answers = [[it.get(f"/{question}").body for question in QUESTIONS] for it in (north, south)]
+        tries.judge("seven answers are the same", answers[0] == answers[1] and len(answers[0][6].splitlines()) == 1, answers[0][6])
+        tries.judge("each sees that", north.waits_for(lambda: seen(north).get("equal") and seen(south).get("equal")), (seen(north), seen(south)))
+        began = time.monotonic()
+        north.give(event(1, "/new"))
+        tries.judge("an event goes over at once", north.waits_for(same, 2), time.monotonic() - began)
+        # A peer that hangs is told, and holds up nobody.
+        south.ran.send_signal(signal.SIGSTOP)
+        tries.judge("beside a peer that hangs", north.give(event(2, "/new")).status == 200)
+        south.ran.send_signal(signal.SIGCONT)
+        tries.judge("it catches up", north.waits_for(same, 5))
+        # Settings that can't be used leave what there is.
+        north.set("peers = 7\n")
+        north.ran.send_signal(signal.SIGHUP)
+        kept = north.waits_for(lambda: any(it.get("message") == "the settings stay as they were" for it in north.log()))
+        tries.judge("settings at fault stay out", kept and seen(north), north.log()[-3:])
+        north.set(quick)
+        north.ran.send_signal(signal.SIGHUP)
+        tries.judge("a peer is taken away", north.waits_for(lambda: not seen(north)), seen(north))
+        tries.judge("its metrics too", b'peer="peer"' not in north.get("/metrics").body)
+        sha = hashlib.sha256(b"new").hexdigest()
+        north.set(f'webhook_rate = 5\n[[tokens]]\nname = "a"\nroles = ["read"]\nsha256 = "{sha}"\n{quick}[limits]\nfaults = 1\n')
+        north.ran.send_signal(signal.SIGHUP)
+        tries.judge("tokens are read again", north.waits_for(lambda: north.get("/kinds").status == 401), north.get("/kinds"))
+        told = [it.get("settings") for it in north.log() if "restart" in it.get("message", "")]
+        tries.judge("what wants a restart is told", told == ["limits"], told)
+        tries.judge("a peer that refuses is told", south.waits_for(lambda: "401" in (seen(south).get("why") or "")), seen(south))
+
+
+def try_lies(tries):
+    """A peer that claims what it hasn't, sends what can't be taken, or none of HTTP; the others go on."""
+    answers = {}
+
+    def lie(connection):
+        with connection, connection.makefile("rb") as asked:
+            while head := asked.readline():
+                length = 0
+                while (line := asked.readline()) not in (b"\r\n", b""):
+                    if line.lower().startswith(b"content-length:"):
+                        length = int(line.split(b":")[1])
+                asked.read(length)
+                path = head.split()[1].split(b"?")[0].decode()
+                status, headers, body = answers[path]
+                head = f"HTTP/1.1 {status} X\r\nContent-Length: {len(body)}\r\n{headers}\r\n"
+                with contextlib.suppress(OSError):
+                    connection.sendall(head.encode() + body)
+
+    with socket.create_server(("127.0.0.1", 0)) as liar:
+        port = liar.getsockname()[1]
+
+        def serve():
+            with contextlib.suppress(OSError):
+                while True:
+                    threading.Thread(target=lie, args=(liar.accept()[0],), daemon=True).start()
+
+        threading.Thread(target=serve, daemon=True).start()
+        cover = b'{"sources":{"/l":[[1,9223372036854775807]]},"version":1}\n'
+        answers.update({"/cover": (200, 'ETag: "x"\r\n', cover), "/delta": (204, "", b"")})
+        quick = "[sync]\nevery_ms = 20\nbackoff_ms = 20\nbackoff_max_ms = 50\n"
+        with serving(tries, f'{quick}[[peers]]\nname = "liar"\nurl = "http://127.0.0.1:{port}"\n') as site:
+
+            def why():
+                return site.get("/status").json["peers"]["liar"]
+
+            tries.judge("numbers that never come", site.waits_for(lambda: why()["lacking"] == 2**63 - 1 and why()["state"] == "up"), why())
+            for what, path, answer, told in (
+                ("events at fault", "/delta", (200, "Site-Next: 1\r\n", b"[{}]\n"), "a page at fault"),
+                ("no place for the next page", "/delta", (200, "", json.dumps([event(1, "/l")]).encode() + b"\n"), "where the next one begins"),
+                ("no summary", "/cover", (200, 'ETag: "y"\r\n', b"{}"), ""),
+                ("another status", "/cover", (500, "", b""), "500"),
+                ("no UTF-8", "/cover", (200, 'ETag: "z"\r\n', b"\xff"), "utf-8"),
+            ):
+                answers[path] = answer
+                tries.judge(what, site.waits_for(lambda: why()["state"] == "down" and told in why()["why"]), why())
+            tries.judge("the site goes on", site.give(event(1)).status == 200 and list(site.cover()) == ["/a"], site.cover())
+
+
+def try_disk(tries):
+    """A disk that is full, and then isn't."""
+    if os.geteuid() or not shutil.which("unshare") or not shutil.which("nsenter"):
+        tries.skip("a full disk", "only root may make a small one, by unshare and nsenter")
+        return
+    site = tries.site("full")
+    os.mkdir(f"{site.folder}/disk")
+    site.db = f"{site.folder}/disk/site.db"
+    site.set("")
+    site.prefix = ["unshare", "-m", "sh", "-c", f'mount -t tmpfs -o size=3m none {site.folder}/disk && exec "$@"', "x"]
+    try:
+        site.start()
+    except OSError as why:
+        tries.skip("a full disk", f"no small one can be made: {str(why)[-200:]}")
+        return
+    kept = 0
+    for part in range(200):
+        told = site.give([event(part * 100 + it, "/full", data="y" * 100) for it in range(1, 101)])
+        if told.status != 200:
+            break
+        kept += 100
+    tries.judge("a full disk is told", told.problem == "store" and told.status == 503 and "retry-after" in told.headers, told)
+    tries.judge("it isn't ready", site.get("/readyz").status == 503 and site.get("/healthz").status == 200)
+    tries.judge("nothing of that body is there", site.cover()["/full"] == [[1, kept]], (site.cover(), kept))
+    subprocess.run(["nsenter", "-t", str(site.ran.pid), "-m", "mount", "-o", "remount,size=60m", f"{site.folder}/disk"], check=True)
+    told = site.give([event(kept + it, "/full", data="y" * 100) for it in range(1, 101)])
+    tries.judge("with more room it goes on", told.status == 200 and site.get("/readyz").status == 200, told)
+    tries.judge("it ends well", site.stop() == 0)
+
+
+def try_words(tries):
+    """The words of its command line, and a database that is in use or damaged."""
+
+    def ran(*words):
+        return subprocess.run([tries.program, *words], cwd=tries.folder, capture_output=True, text=True, timeout=8, check=False)
+
+    told = ran("--version")
+    tries.judge("--version", (told.returncode, told.stdout) == (0, f"jumbetaid {library.version()}\n"), told)
+    told = ran("--help")
+    with open(f"{TOP}/service/jumbetaid.toml", encoding="utf-8") as file:
+        names = re.findall(r"^(?:#: )?(\w+) =", file.read(), re.M)
+    tries.judge("--help says each setting", told.returncode == 0 and all(it in told.stdout for it in names) and len(names) > 30, told)
+    tries.judge("no database", ran().returncode == 1 and "--db" in ran().stderr, ran())
+    tries.judge("a word that isn't known", ran("--what").returncode == 2)
+    told = ran("--db", "new.db", "--check")
+    tries.judge("--check makes nothing", told.returncode == 0 and not os.path.exists(f"{tries.folder}/new.db"), told)
+    with open(f"{tries.folder}/bad.db", "w", encoding="ascii") as out:
+        out.write("no database of SQLite " * 400)
+    told = ran("--db", "bad.db", "--check")
+    tries.judge("--check of a damaged database", told.returncode == 1 and "bad.db" in told.stderr, told)
+    told = ran("--db", "bad.db", "--listen", "127.0.0.1:0")
+    tries.judge("a damaged database isn't served", told.returncode == 1 and "bad.db" in told.stderr, told)
+    with serving(tries) as site:
+        site.give(event(1))
+        told = ran("--db", site.db, "--listen", "127.0.0.1:0")
+        tries.judge("a database in use", told.returncode == 1 and site.db in told.stderr, told)
+        tries.judge("--check of one in use", "in use" in ran("--db", site.db, "--check").stdout)
+        told = ran("--db", "other.db", "--listen", f"127.0.0.1:{site.port}")
+        tries.judge("a port in use", told.returncode == 1 and str(site.port) in told.stderr, told)
+    told = ran("--db", site.db, "--check")
+    tries.judge("--check says how many events", "1 events" in told.stdout, told)
+
+
+def try_watching(tries):
+    """/metrics, /status, /healthz, /readyz, the page, and logs."""
+    with serving(tries) as site:
+        site.give([event(1), event(1)])
+        site.give([{}])
+        text = site.get("/metrics").body.decode()
+        for it in ('jumbetai_taken_events_total{from="http",result="new"} 1', 'jumbetai_taken_events_total{from="http",result="repeated"} 1', 'jumbetai_refused_requests_total{reason="events-at-fault"} 1', "jumbetai_events 1", "jumbetai_commit_seconds_bucket"):
+            tries.judge(it, it in text, text)
+        if shutil.which("promtool"):
+            ran = subprocess.run(["promtool", "check", "metrics"], input=text, capture_output=True, text=True, check=False)
+            tries.judge("promtool check metrics", ran.returncode == 0, ran.stderr)
+        else:
+            tries.skip("the names of metrics", "promtool isn't there")
+        status = site.get("/status").json
+        tries.judge("/status", (status["events"], status["ready"], status["peers"]) == (1, True, {}), status)
+        page = site.get("/")
+        tries.judge("the page", b"<!doctype html>" in page.body and "default-src 'none'" in page.headers["content-security-policy"], page)
+        tries.judge("/healthz and /readyz", [site.get(it).status for it in ("/healthz", "/readyz")] == [200, 200])
+        site.stop()
+        lines = site.text_of_log().splitlines()
+        tries.judge("logs are lines of JSON", lines and all({"timestamp", "level", "message"} <= json.loads(it).keys() for it in lines), lines)
+        if shutil.which("curl"):
+            site.start()
+            body = json.dumps(event(2))
+            words = ["curl", "-sS", "--json", body, "-H", f"Content-Type: {ONE['Content-Type']}", f"http://127.0.0.1:{site.port}/events"]
+            ran = subprocess.run(words, capture_output=True, text=True, timeout=5, check=False)
+            tries.judge("curl", ran.stdout == '{"events":1,"new":1,"repeated":0}\n', ran)
+        else:
+            tries.skip("curl", "it isn't there")
+
+
+def try_tls(tries):
+    """Two sites over TLS, by an authority of their own and a token."""
+    folder = tries.folder
+    asked = [tries.program, "--db", "x", "--peer", "a=https://b", "--check"]
+    if "the feature tls" in subprocess.run(asked, capture_output=True, text=True, check=False).stderr:
+        tries.skip("TLS", "the program is built without it")
+        return
+    if not shutil.which("openssl"):
+        tries.skip("TLS", "openssl isn't there")
+        return
+
+    def run(*words):
+        subprocess.run(["openssl", *words], check=True, capture_output=True, cwd=folder, timeout=20)
+
+    curve = ("-newkey", "ec", "-pkeyopt", "ec_paramgen_curve:P-256", "-nodes")
+    run("req", "-x509", *curve, "-keyout", "ca.key", "-out", "ca.pem", "-subj", "/CN=test", "-days", "2")
+    run("req", *curve, "-keyout", "key.pem", "-out", "csr", "-subj", "/CN=localhost")
+    with open(f"{folder}/ext", "w", encoding="ascii") as out:
+        out.write("subjectAltName=DNS:localhost\nbasicConstraints=CA:FALSE\n")
+    run("x509", "-req", "-in", "csr", "-CA", "ca.pem", "-CAkey", "ca.key", "-CAcreateserial", "-extfile", "ext", "-out", "cert.pem", "-days", "2")
+    with open(f"{folder}/peer.token", "w", encoding="ascii") as out:
+        out.write("a token\n")
+    both = f'[tls]\ncertificate = "{folder}/cert.pem"\nkey = "{folder}/key.pem"\n[sync]\nevery_ms = 50\nca = "{folder}/ca.pem"\n[[tokens]]\nname = "all"\nroles = ["write", "read", "peer"]\nfile = "{folder}/peer.token"\n'
+    import ssl
+
+    context = ssl.create_default_context(cafile=f"{folder}/ca.pem")
+
+    def ask(site, method, path, body=None):
+        connection = http.client.HTTPSConnection("localhost", site.port, timeout=8, context=context)
+        with contextlib.closing(connection):
+            connection.request(method, path, body, {"Authorization": "Bearer a token", **ONE})
+            answer = connection.getresponse()
+            return answer.status, answer.read()
+
+    with serving(tries, both, name="first") as first:
+        peers = f'[[peers]]\nname = "first"\nurl = "https://localhost:{first.port}"\ntoken_file = "{folder}/peer.token"\n'
+        with serving(tries, both + peers, name="second") as second:
+            tries.judge("an event over TLS", ask(first, "POST", "/events", json.dumps(event(1)))[0] == 200)
+            tries.judge("a peer over TLS", second.waits_for(lambda: b'"/a"' in ask(second, "GET", "/cover")[1]), ask(second, "GET", "/status"))
+            said, _ = first.raw(b"GET / HTTP/1.1\r\nHost: localhost\r\n\r\n")
+            tries.judge("plain HTTP at a port of TLS", b"200" not in said, said)
+
+
+@contextlib.contextmanager
+def serving(tries, settings="", name="site", prefix=()):
+    """A service that runs, and ends well behind the block unless it was ended there."""
+    site = tries.site(f"{name}{len(tries.running)}", settings)
+    site.prefix = list(prefix)
+    yield site.start()
+    if site.ran.poll() is None:
+        status = site.stop()
+        tries.judge(f"{name} ends well", status == 0, site.text_of_log()[-800:])
+    panics = [it for it in site.text_of_log().splitlines() if "panicked" in it]
+    tries.judge(f"{name} never panics", not panics, panics)
+
+
+TRIES = {name.removeprefix("try_"): it for name, it in list(globals().items()) if name.startswith("try_")}
+
+
+def built(folder, given, tries):
+    """Builds the service with its tests in Rust, and answers the program."""
+    if given.library is None:
+        given.library = f"{folder}/library"
+        library.make(given.library, library.proved_part())
+    program = service.make(folder, given.library, "tls")
+    ran = service.cargo(["test", "--release", "--features", "tls"], given.library, f"{folder}/cargo", capture_output=True, text=True)
+    passed = re.search(r"test result: ok\. (\d+) passed; 0 failed", ran.stdout)
+    tries.judge("tests in Rust", passed and int(passed[1]) > 20, ran.stdout + ran.stderr)
+    linters = {
+        "cargo-clippy": ["clippy", "--release", "--all-targets", "--features", "tls", "--", "-D", "warnings"],
+        "rustfmt": ["fmt", "--check"],
+    }
+    for tool, words in linters.items():
+        if shutil.which(tool):
+            ran = service.cargo(words, given.library, f"{folder}/cargo", capture_output=True, text=True)
+            tries.judge(tool, ran.returncode == 0, ran.stdout + ran.stderr)
+        else:
+            tries.skip(f"the service by {tool}", "it isn't there")
+    ran = subprocess.run([f"{TOP}/tools/run_guide.py", "docs/SERVICE.md"], capture_output=True, text=True, timeout=150, check=False)
+    tries.judge("docs/SERVICE.md", ran.returncode == 0, ran.stdout + ran.stderr)
+    return program
+
+
+def main():
+    words = argparse.ArgumentParser(description=__doc__, formatter_class=argparse.RawDescriptionHelpFormatter)
+    words.add_argument("--program")
+    words.add_argument("--library")
+    words.add_argument("--site", default=f"{TOP}/crates/site_cli/out/site_cli")
+    words.add_argument("tries", nargs="*", metavar="TRY", choices=[[], *TRIES])
+    given = words.parse_args()
+    with tempfile.TemporaryDirectory() as folder:
+        tries = Tries(folder, given.program and os.path.abspath(given.program), os.path.abspath(given.site))
+        if tries.program is None:
+            if not service.has_crates() or not shutil.which("cargo"):
+                print("skipped: the service, since the crates that it stands on aren't there: tools/service.py --install", flush=True)
+                print("0 of 0 tries of the service were right")
+                return 0
+            os.makedirs(f"{TOP}/out/service", exist_ok=True)
+            tries.program = built(f"{TOP}/out/service", given, tries)
+        for name in given.tries or TRIES:
+            tries.what, began = name, time.monotonic()
+            try:
+                TRIES[name](tries)
+            except (OSError, http.client.HTTPException, subprocess.SubprocessError, ValueError, LookupError, TypeError) as why:
+                tries.judge("it went on to its end", False, f"{type(why).__name__}: {why}")
+            finally:
+                tries.end()
+            print(f"{name}: {time.monotonic() - began:.1f} s", flush=True)
+    print(f"{tries.right} of {tries.all} tries of the service were right")
+    return 0 if tries.right == tries.all > 0 else 1
+
+
+if __name__ == "__main__":
+    sys.exit(main())
