@@ -258,6 +258,7 @@ fn ends_as<R: AllocGlobal + Threads + Wait + Abort + Sync, G: Gate + Sync>(
     is_ended(&out, relays.as_slice(), want)
 }
 
+// A fan-out begins threads, which no row does.
 #[test]
 fn every_row_goes_to_both_routes(rt: HostRuntime) {
     let mut service = placed(&rt, 0, 2);
@@ -265,6 +266,7 @@ fn every_row_goes_to_both_routes(rt: HostRuntime) {
     assert!(rt; ends_as(&rt, &mut service, &Wide, &[(0, 0), (0, 0)], &want));
 }
 
+// Its gate holds each of two threads until the other has come.
 #[test]
 fn two_routes_are_sent_to_at_the_same_time(rt: HostRuntime) {
     let mut service = placed(&rt, 0, 150);
@@ -273,6 +275,7 @@ fn two_routes_are_sent_to_at_the_same_time(rt: HostRuntime) {
     assert!(rt; ends_as(&rt, &mut service, &gate, &[(0, 0), (0, 0)], &want));
 }
 
+// Its gate holds one thread until the others are done.
 #[test]
 fn no_route_waits_for_another(rt: HostRuntime) {
     // The first route gets nothing before the others have every row, which are more than a window.
@@ -283,6 +286,7 @@ fn no_route_waits_for_another(rt: HostRuntime) {
     assert!(rt; ends_as(&rt, &mut service, &gate, &from, &[all, all, all, all]));
 }
 
+// A fan-out begins threads; a gate of the test is shut to one, and counts the calls of both.
 #[test]
 fn the_others_go_on_where_one_stops(rt: HostRuntime) {
     let mut service = placed(&rt, 0, 250);
@@ -308,6 +312,7 @@ fn the_others_go_on_where_one_stops(rt: HostRuntime) {
     assert!(rt; gate.counted.load(Ordering::SeqCst) == 4);
 }
 
+// A gate of the test notes what threads tell it.
 #[test]
 fn the_gate_is_told_each_call_of_each_worker(rt: HostRuntime) {
     let mut service = placed(&rt, 0, 250);
@@ -321,6 +326,7 @@ fn the_gate_is_told_each_call_of_each_worker(rt: HostRuntime) {
     assert!(rt; gate.has_made(3, 1));
 }
 
+// A fan-out begins threads, which no row does.
 #[test]
 fn marks_without_rows_after_them_are_done(rt: HostRuntime) {
     let mut empty = create(&rt, 0);
