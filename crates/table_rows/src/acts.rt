@@ -208,6 +208,21 @@ pub fn act<R: AllocGlobal + Wait, S: Alter + Drop>(
     }
 }
 
+/// Makes a call over a database; once more where memory was refused.
+fn act_twice<R: AllocGlobal + Wait, S: Alter + Drop>(
+    rt: &R,
+    conn: Connection<S>,
+    known: &Known,
+    text: &str,
+    said: &mut Said,
+) -> Tried<S> {
+    let tried = act(rt, conn, known, text, said);
+    if tried.end != End::Untold {
+        return tried;
+    }
+    act(rt, tried.conn, known, text, said)
+}
+
 /// Makes the calls of a text, which stand apart by `|`, up to one that isn't done.
 pub fn act_all<R: AllocGlobal + Wait, S: Alter + Drop>(
     rt: &R,
@@ -220,7 +235,7 @@ pub fn act_all<R: AllocGlobal + Wait, S: Alter + Drop>(
     let mut end = End::Done;
     for call in text.split('|') {
         if end == End::Done {
-            let tried = act(rt, conn, known, call.trim(), said);
+            let tried = act_twice(rt, conn, known, call.trim(), said);
             conn = tried.conn;
             end = tried.end;
         }
@@ -228,43 +243,39 @@ pub fn act_all<R: AllocGlobal + Wait, S: Alter + Drop>(
     Tried { conn, end }
 }
 
-/// Adds whether what these queries answer is what they answered before.
-fn compare<S: Alter>(
-    alloc: Global,
-    conn: &mut Connection<S>,
-    queries: &[&str],
-    before: &str,
-    out: &mut String,
-) -> bool {
-    match shown(alloc, conn, queries) {
-        Some(now) => {
-            let is_same = now.as_str() == before;
-            out.push_str(if is_same { "as before" } else { "changed" })
-                .is_ok()
-        }
-        None => false,
+/// Whether what is there is as before, in words.
+fn compared(now: &String, before: &String) -> &'static str {
+    if now.as_str() == before.as_str() {
+        "as before"
+    } else {
+        "changed"
     }
 }
 
 /// Adds what a call left of a database: whether its inboxes, and the tables beside them, and its
 /// service are as before, how many inboxes it has of each version, and how many rows in one of
-/// version 2.
+/// version 2. What needs memory comes first, so that nothing is told in part.
 fn tell_left<S: Alter>(
     alloc: Global,
     conn: &mut Connection<S>,
     before: &Contents,
     out: &mut String,
 ) -> bool {
-    let is_compared = out.push_str("inboxes ").is_ok()
-        && compare(alloc, conn, &INBOXES, before.inboxes.as_str(), out)
-        && out.push_str(", service ").is_ok()
-        && compare(alloc, conn, &SERVICE, before.service.as_str(), out);
+    let Some(now) = shown_all(alloc, conn) else {
+        return false;
+    };
     let Some((old, new)) = versions(conn) else {
         return false;
     };
     match count(conn, "SELECT place FROM inbox2") {
         Some(rows) => {
-            is_compared && write!(out, "; version 1: {old}, version 2: {new}, rows {rows}").is_ok()
+            let inboxes = compared(&now.inboxes, &before.inboxes);
+            let service = compared(&now.service, &before.service);
+            write!(
+                out,
+                "inboxes {inboxes}, service {service}; version 1: {old}, version 2: {new}, rows {rows}"
+            )
+            .is_ok()
         }
         None => false,
     }
@@ -293,8 +304,10 @@ pub fn act_compared<R: AllocGlobal + Wait, S: Alter + Drop>(
     } else {
         &mut said.text
     };
-    let is_told = tell_left(alloc, &mut conn, &before, out)
-        && (end == End::Untold || line(&mut said.text, ""));
+    // Once more where memory was refused.
+    let is_left = tell_left(alloc, &mut conn, &before, out)
+        || tell_left(alloc, &mut conn, &before, out);
+    let is_told = is_left && (end == End::Untold || line(&mut said.text, ""));
     if is_told {
         Tried { conn, end }
     } else {

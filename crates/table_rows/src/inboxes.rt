@@ -59,6 +59,39 @@ fn load<S: Alter>(known: &Known, table: &mut Table<S>, out: &mut String) -> End 
     }
 }
 
+/// The events that a table has; once more where memory was refused.
+fn load_all<S: Alter>(table: &mut Table<S>, said: &mut Said) -> Result<Batch, TableFault> {
+    match table.load() {
+        Err(TableFault::OutOfMemory) => {
+            if said.left.push_str("kept, and not told").is_err() {
+                return Err(TableFault::OutOfMemory);
+            }
+            table.load()
+        }
+        told => told,
+    }
+}
+
+/// Adds how many events were new, and what there is then.
+fn tell_kept<S: Alter>(known: &Known, table: &mut Table<S>, fresh: u64, said: &mut Said) -> End {
+    let rows = table.rows();
+    match load_all(table, said) {
+        Ok(events) => done(
+            write!(said.text, "new {fresh}, then {rows}: ").is_ok()
+                && known.tell_line(&mut said.text, &events),
+        ),
+        Err(fault) => faulty(&mut said.text, fault),
+    }
+}
+
+/// The events of names; once more where memory was refused.
+fn batch_of(alloc: Global, known: &Known, names: &str) -> Option<Batch> {
+    match known.batch(alloc, names) {
+        Some(batch) => Some(batch),
+        None => known.batch(alloc, names),
+    }
+}
+
 /// Keeps the events of names, and tells how many were new, and what there is then.
 fn keep_some<S: Alter>(
     alloc: Global,
@@ -67,17 +100,11 @@ fn keep_some<S: Alter>(
     names: &str,
     said: &mut Said,
 ) -> End {
-    let Some(batch) = known.batch(alloc, names) else {
+    let Some(batch) = batch_of(alloc, known, names) else {
         return End::Untold;
     };
     match keep_all(table, &batch, said) {
-        Ok(fresh) => {
-            let rows = table.rows();
-            if write!(said.text, "new {fresh}, then {rows}: ").is_err() {
-                return End::Untold;
-            }
-            load(known, table, &mut said.text)
-        }
+        Ok(fresh) => tell_kept(known, table, fresh, said),
         Err(fault) => faulty(&mut said.text, fault),
     }
 }

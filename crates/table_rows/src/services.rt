@@ -2,7 +2,7 @@
 
 use crate::acts::{End, Tried, done, refused};
 use crate::known::Known;
-use attributes::{Moment, Sequenced, Text};
+use attributes::{Batch, Moment, Sequenced, Text};
 use outbox::{NotMade, OutboxFault, Service};
 use rows::said::{Said, line};
 use sqlite::{Alter, Connection};
@@ -78,6 +78,14 @@ fn commanded<S: Alter>(
     }
 }
 
+/// The rows after a number; once more where memory was refused.
+fn rows_read<S: Alter>(service: &mut Service<S>, after: u64) -> Result<Batch, OutboxFault> {
+    match service.rows_after(after, 100) {
+        Err(OutboxFault::OutOfMemory) => service.rows_after(after, 100),
+        told => told,
+    }
+}
+
 /// Adds the rows after a number.
 fn rows_after<S: Alter>(
     known: &Known,
@@ -85,7 +93,7 @@ fn rows_after<S: Alter>(
     after: u64,
     out: &mut String,
 ) -> End {
-    match service.rows_after(after, 100) {
+    match rows_read(service, after) {
         Ok(rows) => done(known.tell_line(out, &rows)),
         Err(fault) => faulty(out, fault),
     }
@@ -93,17 +101,14 @@ fn rows_after<S: Alter>(
 
 /// Gives a command at the time of all, and tells its event or why it is refused.
 fn order<S: Alter>(
-    alloc: Global,
     known: &Known,
     service: &mut Service<S>,
     word: &str,
     number: u64,
+    at: &Moment,
     said: &mut Said,
 ) -> End {
-    let Ok(at) = Moment::of_text(alloc, TIME) else {
-        return End::Untold;
-    };
-    match commanded(service, word, number, &at, said) {
+    match commanded(service, word, number, at, said) {
         Ok(event) => done(line(&mut said.text, known.name_of(event.event().text()))),
         Err(fault) => faulty(&mut said.text, fault),
     }
@@ -111,10 +116,10 @@ fn order<S: Alter>(
 
 /// `place|ship|cancel ORDER` or `rows AFTER`
 fn one<S: Alter>(
-    alloc: Global,
     known: &Known,
     service: &mut Service<S>,
     text: &str,
+    at: &Moment,
     said: &mut Said,
 ) -> End {
     let Some((word, number)) = text.split_once(' ') else {
@@ -123,7 +128,7 @@ fn one<S: Alter>(
     match number.parse::<u64>() {
         Ok(number) => match word {
             "rows" => rows_after(known, service, number, &mut said.text),
-            _ => order(alloc, known, service, word, number, said),
+            _ => order(known, service, word, number, at, said),
         },
         Err(_) => End::Untold,
     }
@@ -138,9 +143,12 @@ fn orders<S: Alter>(
     text: &str,
     said: &mut Said,
 ) -> End {
+    let Ok(at) = Moment::of_text(alloc, TIME) else {
+        return End::Untold;
+    };
     let mut all = End::Done;
     for call in text.split(';') {
-        match one(alloc, known, service, call.trim(), said) {
+        match one(known, service, call.trim(), &at, said) {
             End::Done => {}
             End::Refused => all = End::Refused,
             End::Untold => return End::Untold,
