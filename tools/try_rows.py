@@ -28,7 +28,7 @@ TOP = os.path.dirname(os.path.dirname(os.path.realpath(__file__)))
 sys.path.insert(0, f"{TOP}/tools")
 from refuse_allocations import Refuser  # noqa: E402
 
-DRIVERS = ("event_rows", "inbox_rows", "site_rows")
+DRIVERS = ("event_rows", "inbox_rows", "site_rows", "table_rows")
 UNREFUSED = "# No allocation is refused"
 AGAIN, LEFT, ONCE = "(again)", "~ ", "~ once "
 

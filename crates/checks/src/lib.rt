@@ -4,14 +4,10 @@
 #![tactic(auto)]
 
 #[cfg(test)]
-mod faults;
-#[cfg(test)]
 mod laws;
 #[cfg(test)]
 mod plain;
 #[cfg(test)]
 mod reports;
-#[cfg(test)]
-mod texts;
 #[cfg(test)]
 mod words;

@@ -2,6 +2,7 @@
 #![tactic(auto)]
 
 mod events;
+mod members;
 mod offers;
 mod play;
 mod values;

@@ -1,6 +1,6 @@
 //! What has a name, and the calls by their words.
 
-use crate::{events, offers, values};
+use crate::{events, members, offers, values};
 use attributes::Event;
 use rows::player::Player;
 use rows::said::Said;
@@ -68,6 +68,8 @@ impl Player for Values {
             "sequence" => values::sequence(text, &mut said.text),
             "digits" => values::digits(alloc, text, &mut said.text),
             "keep" => values::keep(alloc, text, &mut said.text),
+            "members" => members::members(alloc, text, &mut said.text),
+            "hints" => members::hints(alloc, text, &mut said.text),
             "bytes" => values::bytes(alloc, text, &mut said.text),
             _ => by_words(alloc, self, line, &mut said.text),
         }

@@ -1,10 +1,10 @@
-//! What no contract says of a fan-out: that every row gets to every route, that routes are sent to
+//! What no contract says of a fan-out, whose threads no row has: that every row gets to every route, that routes are sent to
 //! at the same time, that the others go on where one fails, and that the gate is asked.
 
-use crate::orders::{accepts, create, time};
-use crate::relays::{FailsOnce, failing};
+use crate::fixture::{create, placed};
+use attributes::Batch;
 use outbox::Service;
-use relay::{End, FanOut, Relay, RelayFault, fan_out};
+use relay::{End, FanOut, MemoryRoute, Relay, RelayFault, Route, RouteFailed, fan_out};
 use site::{Gate, GateShut, Wide};
 use sqlite::MemStore;
 use std::process::Abort;
@@ -168,14 +168,33 @@ impl Gate for Heard {
     }
 }
 
-/// A service with so many placed orders.
-pub(crate) fn placed<R: AllocGlobal + Abort>(rt: &R, count: u64) -> Service<MemStore> {
-    let at = time(rt);
-    let mut service = create(rt, 0);
-    for order in 1..=count {
-        assert!(rt; accepts(&mut service, "place", order, &at));
+/// A route that fails at the send with this number from 1 on, or never if it is 0.
+#[derive(Drop)]
+struct FailsOnce {
+    route: MemoryRoute,
+    send: u64,
+}
+
+impl Route for FailsOnce {
+    ghost use Rattle.std.specs.Prelude.{◌≡◌, ◌⊎◌, ◌++◌};
+    ghost use Rattle.relay.specs.Route.{CountRises};
+
+    ghost accepted = { λ r. r.route.events };
+
+    ghost has_failed = { λ old new. ((old.send ≡ 1) × (new.send ≡ 0))
+        ⊎ CountRises old.route.failures new.route.failures };
+
+    ghost takes = { λ old batch new.
+        new.route ≡ record old.route { events = old.route.events ++ batch } };
+
+    fn send(&mut self, batch: &Batch) -> Result<(), RouteFailed> {
+        if self.send != 1 {
+            self.send = self.send.saturating_sub(1);
+            return self.route.send(batch);
+        }
+        self.send = 0;
+        Err(RouteFailed)
     }
-    service
 }
 
 /// Whether a fan-out ended so: the ends, and the marks and accepted rows after it.
@@ -209,7 +228,14 @@ fn relays_of<R: AllocGlobal + Abort>(rt: &R, from: &[(u64, u64)]) -> Vec<Relay> 
 fn routes_of<R: AllocGlobal + Abort>(rt: &R, from: &[(u64, u64)]) -> Vec<FailsOnce> {
     let mut routes = Vec::new(rt.alloc());
     for (_, send) in from {
-        assert!(rt; routes.push(failing(rt.alloc(), *send, false)).is_ok());
+        assert!(rt;
+            routes
+                .push(FailsOnce {
+                    route: MemoryRoute::empty(rt.alloc()),
+                    send: *send
+                })
+                .is_ok()
+        );
     }
     routes
 }
@@ -232,34 +258,38 @@ fn ends_as<R: AllocGlobal + Threads + Wait + Abort + Sync, G: Gate + Sync>(
     is_ended(&out, relays.as_slice(), want)
 }
 
+// A fan-out begins threads, which no row does.
 #[test]
 fn every_row_goes_to_both_routes(rt: HostRuntime) {
-    let mut service = placed(&rt, 2);
+    let mut service = placed(&rt, 0, 2);
     let want = [(End::Done, 2, 2), (End::Done, 2, 2)];
     assert!(rt; ends_as(&rt, &mut service, &Wide, &[(0, 0), (0, 0)], &want));
 }
 
+// Its gate holds each of two threads until the other has come.
 #[test]
 fn two_routes_are_sent_to_at_the_same_time(rt: HostRuntime) {
-    let mut service = placed(&rt, 150);
+    let mut service = placed(&rt, 0, 150);
     let gate = Ruled::by(Rule::Together);
     let want = [(End::Done, 150, 150), (End::Done, 150, 150)];
     assert!(rt; ends_as(&rt, &mut service, &gate, &[(0, 0), (0, 0)], &want));
 }
 
+// Its gate holds one thread until the others are done.
 #[test]
 fn no_route_waits_for_another(rt: HostRuntime) {
     // The first route gets nothing before the others have every row, which are more than a window.
-    let mut service = placed(&rt, 1_150);
+    let mut service = placed(&rt, 0, 1_150);
     let gate = Ruled::by(Rule::FirstHeld(36));
     let all = (End::Done, 1_150, 1_150);
     let from = [(0, 0), (0, 0), (0, 0), (0, 0)];
     assert!(rt; ends_as(&rt, &mut service, &gate, &from, &[all, all, all, all]));
 }
 
+// A fan-out begins threads; a gate of the test is shut to one, and counts the calls of both.
 #[test]
 fn the_others_go_on_where_one_stops(rt: HostRuntime) {
-    let mut service = placed(&rt, 250);
+    let mut service = placed(&rt, 0, 250);
     let failed = End::Failed(RelayFault::RouteFailed);
     let want = [
         (failed, 100, 100),
@@ -282,9 +312,10 @@ fn the_others_go_on_where_one_stops(rt: HostRuntime) {
     assert!(rt; gate.counted.load(Ordering::SeqCst) == 4);
 }
 
+// A gate of the test notes what threads tell it.
 #[test]
 fn the_gate_is_told_each_call_of_each_worker(rt: HostRuntime) {
-    let mut service = placed(&rt, 250);
+    let mut service = placed(&rt, 0, 250);
     let gate = Heard {
         first: Calls::none(),
         second: Calls::none(),
@@ -295,14 +326,13 @@ fn the_gate_is_told_each_call_of_each_worker(rt: HostRuntime) {
     assert!(rt; gate.has_made(3, 1));
 }
 
+// A fan-out begins threads, which no row does.
 #[test]
 fn marks_without_rows_after_them_are_done(rt: HostRuntime) {
     let mut empty = create(&rt, 0);
     let want = [(End::Done, 0, 0), (End::Done, 7, 0)];
     assert!(rt; ends_as(&rt, &mut empty, &Wide, &[(0, 0), (7, 0)], &want));
-    let at = time(&rt);
-    let mut based = create(&rt, 5);
-    assert!(rt; accepts(&mut based, "place", 1, &at));
+    let mut based = placed(&rt, 5, 1);
     let want = [
         (End::Done, 6, 1),
         (End::Done, 6, 1),

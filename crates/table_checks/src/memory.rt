@@ -8,7 +8,7 @@ ghost use Rattle.outbox.specs.declared.status.Status.TheVariants.{Placed};
 ghost use Rattle.sqlite.specs.Held.{state};
 ghost use Rattle.sqlite.specs.Steps.{over_memory};
 
-use crate::orders::{create, time};
+use crate::fixture::{create, time};
 use attributes::{Moment, Sequenced};
 use outbox::{OutboxFault, Service};
 use sqlite::MemStore;
@@ -33,6 +33,7 @@ fn is_placed_once(service: &mut Service<MemStore>, at: &Moment) -> bool {
     first.is_ok() && matches!(again, Err(OutboxFault::OrderExists))
 }
 
+// It states a contract of its own: that the effect is promised without a premise.
 #[test]
 fn a_service_in_memory_needs_no_premise(rt: HostRuntime) {
     let mut service = create(&rt, 0);

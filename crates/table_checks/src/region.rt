@@ -44,6 +44,7 @@ fn told<R: Threads + Wait + Sync + AllocGlobal + Abort>(rt: &R) -> Option<Text> 
     kinds(rt, alloc, conn, &Two, &names)
 }
 
+// Its threads take from a shelf of the test.
 #[test]
 fn files_are_taken_side_by_side(rt: HostRuntime) {
     let lines = told(&rt);

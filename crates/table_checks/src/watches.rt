@@ -2,10 +2,11 @@
 
 ghost use Rattle.std.specs.Prelude.{⊤};
 
-use crate::fixture::{database, event};
-use crate::tables::created;
-use attributes::Batch;
-use inbox_table::Watch;
+use crate::fixture::database;
+use attributes::{Batch, Sequenced};
+use event_json::read_events;
+use inbox_table::{Table, Watch};
+use sqlite::MemStore;
 use std::cell::Cell;
 use std::process::Abort;
 
@@ -32,6 +33,28 @@ impl Watch for Counted {
     }
 }
 
+/// The event of a text.
+fn event<R: AllocGlobal + Abort>(rt: &R, text: &str) -> Sequenced {
+    let Ok(events) = read_events(rt.alloc(), text.as_bytes()) else {
+        panic!(rt; "no event");
+    };
+    let Some(event) = events.into_vec().pop() else {
+        panic!(rt; "no event");
+    };
+    match Sequenced::of(event) {
+        Ok(event) => event,
+        Err(_) => panic!(rt; "no number"),
+    }
+}
+
+/// A new table of a database in memory.
+fn created<R: AllocGlobal + Abort>(rt: &R) -> Table<MemStore> {
+    match Table::create(rt.alloc(), database(rt)) {
+        Ok(table) => table,
+        Err(_) => panic!(rt; "no table"),
+    }
+}
+
 /// So many events of one source, by number from 1.
 fn numbered<R: AllocGlobal + Abort>(rt: &R, count: u64) -> Batch {
     let mut batch = Batch::empty(rt.alloc());
@@ -46,6 +69,7 @@ fn numbered<R: AllocGlobal + Abort>(rt: &R, count: u64) -> Batch {
     batch
 }
 
+// A watch is a value of the test, which is told while the call goes on.
 #[test]
 fn a_watch_is_told_each_thousand(rt: HostRuntime) {
     let watch = Counted {
@@ -53,7 +77,7 @@ fn a_watch_is_told_each_thousand(rt: HostRuntime) {
         second: Cell::new((0, 0)),
         times: Cell::new(0),
     };
-    let mut table = created(&rt, database(&rt, &[]));
+    let mut table = created(&rt);
     let events = numbered(&rt, 2500);
     assert!(rt; table.keep_watched(&events, &watch) == Ok(2500));
     assert!(rt;

@@ -1,0 +1,177 @@
+//! What has a name, and the calls by their words.
+
+use crate::acts::parted;
+use crate::disks::{Act, Image};
+use crate::known::Known;
+use crate::memory::Base;
+use crate::relays::FailsOnce;
+use crate::{disks, inboxes, keepers, lines, memory, relays, services, stops};
+use relay::Relay;
+use rows::player::Player;
+use rows::said::Said;
+use rows::shelf::Shelf;
+use std::alloc::Global;
+use std::sync::Wait;
+
+/// What has a name, and the runtime that calls wait by.
+#[derive(Drop)]
+pub struct Values<'a, R> {
+    rt: &'a R,
+    known: Known,
+    bases: Shelf<Base>,
+    images: Shelf<Image>,
+    relays: Shelf<Relay>,
+    routes: Shelf<FailsOnce>,
+}
+
+impl<'a, R: AllocGlobal> Values<'a, R> {
+    /// Nothing yet.
+    pub fn empty(rt: &'a R) -> Values<'a, R> {
+        let alloc = rt.alloc();
+        Values {
+            rt,
+            known: Known::empty(alloc),
+            bases: Shelf::empty(alloc),
+            images: Shelf::empty(alloc),
+            relays: Shelf::empty(alloc),
+            routes: Shelf::empty(alloc),
+        }
+    }
+}
+
+/// Calls over files: `stop FILES CALL..`, `leave FILES CALL..`, or `FILES CALL..`.
+fn of_files<R: AllocGlobal + Wait>(
+    rt: &R,
+    values: &mut Values<'_, R>,
+    word: &str,
+    text: &str,
+    said: &mut Said,
+) -> bool {
+    let (name, calls, act) = match word {
+        "stop" | "leave" => {
+            let (name, calls) = parted(text);
+            (name, calls, Act::Leave)
+        }
+        _ => (word, text, Act::Call),
+    };
+    match values.images.get_mut(name) {
+        Some(image) => match word {
+            "stop" => stops::stops(rt, image, &values.known, calls, said),
+            _ => disks::over(rt, image, &values.known, act, calls, said),
+        },
+        None => false,
+    }
+}
+
+/// A call over a database in memory, or over files.
+fn of_base<R: AllocGlobal + Wait>(
+    rt: &R,
+    values: &mut Values<'_, R>,
+    word: &str,
+    text: &str,
+    said: &mut Said,
+) -> bool {
+    match values.bases.get_mut(word) {
+        Some(base) => memory::over(rt, base, &values.known, text, said),
+        None => of_files(rt, values, word, text, said),
+    }
+}
+
+/// `faults inbox|service|relay|keeper`
+fn faults(text: &str, out: &mut String) -> bool {
+    match text {
+        "inbox" => inboxes::faults(out),
+        "service" => services::faults(out),
+        "relay" => relays::faults(out),
+        "keeper" => keepers::faults(out),
+        _ => false,
+    }
+}
+
+/// A step of a relay over a database in memory: `step RELAY BASE ROUTE`, or `carry RELAY BASE` as a
+/// job.
+fn step<R>(alloc: Global, values: &mut Values<'_, R>, words: &[&str], out: &mut String) -> bool {
+    let [relay, base, route @ ..] = words else {
+        return false;
+    };
+    let (Some(relay), Some(base)) = (values.relays.get_mut(relay), values.bases.get_mut(base))
+    else {
+        return false;
+    };
+    match route {
+        [] => memory::step(alloc, base, relay, None, out),
+        [route] => match values.routes.get_mut(route) {
+            Some(route) => memory::step(alloc, base, relay, Some(route), out),
+            None => false,
+        },
+        _ => false,
+    }
+}
+
+/// A call of relays and routes.
+fn of_relays<R>(
+    alloc: Global,
+    values: &mut Values<'_, R>,
+    word: &str,
+    words: &[&str],
+    out: &mut String,
+) -> bool {
+    match (word, words) {
+        ("relay", _) => relays::begin(alloc, &mut values.relays, words),
+        ("route", _) => relays::begin_route(alloc, &mut values.routes, words),
+        ("accepted", [name]) => relays::accepted(&values.routes, name, out),
+        ("settle", _) => relays::settle_words(&mut values.relays, words, out),
+        ("site", [name]) => relays::site(&values.relays, name, out),
+        ("step", _) | ("carry", _) => step(alloc, values, words, out),
+        _ => false,
+    }
+}
+
+/// Makes the call of these words.
+fn of_words<R>(
+    alloc: Global,
+    values: &mut Values<'_, R>,
+    word: &str,
+    words: &[&str],
+    out: &mut String,
+) -> bool {
+    match (word, words) {
+        ("event", _) => values.known.event(alloc, words),
+        ("memory", _) => memory::begin(alloc, &mut values.bases, &values.known, words, out),
+        ("files", [name]) => disks::begin(alloc, &mut values.images, name),
+        ("turn", _) => lines::turn(alloc, &values.known, words, out),
+        _ => of_relays(alloc, values, word, words, out),
+    }
+}
+
+impl<'a, R: AllocGlobal + Wait> Player for Values<'a, R> {
+    fn play(&mut self, rt: &HostRuntime, line: &str, said: &mut Said) -> bool {
+        let alloc = rt.alloc();
+        let (word, text) = parted(line);
+        match word {
+            "event"
+            | "memory"
+            | "files"
+            | "turn"
+            | "relay"
+            | "route"
+            | "accepted"
+            | "settle"
+            | "site"
+            | "step"
+            | "carry" => {
+                let words: Result<Vec<&str>, _> = text.split_whitespace().collect(alloc);
+                match words {
+                    Ok(words) => of_words(alloc, self, word, words.as_slice(), &mut said.text),
+                    Err(_) => false,
+                }
+            }
+            "statement" => self.known.statement(alloc, text),
+            "faults" => faults(text, &mut said.text),
+            "lines" => lines::lines(alloc, text, &mut said.text),
+            "letters" => lines::long_line(alloc, text, &mut said.text),
+            "broken" => lines::unread(alloc, &mut said.text),
+            _ => of_base(self.rt, self, word, text, said),
+        }
+    }
+}
