@@ -255,7 +255,8 @@ def try_faults(tries):
         tries.judge("check of a fault", told.problem == "events-at-fault" and told.json["errors"][0]["pointer"].startswith("#/0"), told)
         tries.judge("nothing of them is taken", site.get("/shown").body == before)
         for method, path, status, allow in (
-            ("DELETE", "/events", 405, "GET, HEAD, POST, OPTIONS"),
+            ("DELETE", "/events", 405, "POST, OPTIONS"),
+            ("GET", "/events", 405, "POST, OPTIONS"),
             ("PUT", "/delta", 405, "POST"),
             ("POST", "/kinds", 405, "GET, HEAD"),
             ("GET", "/nothing", 404, None),
@@ -263,7 +264,7 @@ def try_faults(tries):
         ):
             told = site.ask(method, path)
             tries.judge(f"{method} {path}", told.status == status and told.headers.get("allow") == allow and told.problem, told)
-        for path in ("/kinds?min=x", "/arrivals?after=-1", "/events", "/events?source=/a"):
+        for path in ("/kinds?min=x", "/arrivals?after=-1"):
             tries.judge(path, site.get(path).status == 400)
         for body in (b"{", b"\xff", b'{"sources":{},"version":9}', b'{"sources":{"b":[[1,1]],"a":[[1,1]]},"version":1}'):
             told = site.ask("POST", "/delta", body)
@@ -289,12 +290,6 @@ def try_questions(tries):
         tries.judge("what is answered", site.get("/cover").body == b'{"sources":{"/a":[[1,2],[4,4]]},"version":1}\n')
         tries.judge("gaps", site.get("/gaps").body == b'["/a",[[3,3]]]\n')
         tries.judge("kinds", site.get("/kinds").body == b'["t",4]\n')
-        told = site.get("/events?source=%2Fa&id=2")
-        if told.status == 501:
-            tries.skip("events by source and id", "the library hasn't that call")
-        else:
-            tries.judge("an event by its id", told.status == 200 and told.json["id"] == "2", told)
-            tries.judge("an id that isn't there", site.get("/events?source=/a&id=3").status == 404)
         tag, began = f'"{name}"', time.monotonic()
         told = site.get("/kinds", If_None_Match=tag, Prefer="wait=1")
         tries.judge("a wait in vain", told.status == 304 and 0.9 < time.monotonic() - began < 3, told)
@@ -335,9 +330,6 @@ def try_questions(tries):
 def try_arrivals(tries):
     """The feed of what comes, in the order in which it came, over a restart."""
     with serving(tries) as site:
-        if site.get("/arrivals").status == 501:
-            tries.skip("the feed of arrivals", "the library hasn't that call")
-            return
         site.give([event(3, "/z"), event(1, "/b"), event(9, "/a"), event(1, "/b")])
         order = ["/z", "/b", "/a"]
         told = site.get("/arrivals?after=0")
@@ -392,7 +384,6 @@ def try_tokens(tries):
     with serving(tries, f'{rows}[[tokens]]\nname = "f"\nroles = ["read", "write"]\nfile = "{file}"\n') as site:
         for method, path, may in (
             ("POST", "/events", {"write"}),
-            ("GET", "/events?source=a&id=b", {"read"}),
             ("POST", "/check", {"read"}),
             ("GET", "/cover", {"read", "peer"}),
             ("GET", "/summary", {"read", "peer"}),

@@ -194,7 +194,7 @@ impl Service {
         let live = self.live();
         let header = |name| request.headers().get(name).and_then(|it| it.to_str().ok());
         let mut answer = bare(StatusCode::OK);
-        set(&mut answer, "allow", "GET, HEAD, POST, OPTIONS");
+        set(&mut answer, "allow", "POST, OPTIONS");
         set(&mut answer, "accept-post", ACCEPTED);
         let Some(origin) = header("webhook-request-origin") else {
             return answer;

@@ -222,11 +222,6 @@ impl Keeper {
         self.asked(|reply| Ask::Compare(summary, reply)).await
     }
 
-    /// The events of a source and id, a line each: the one that is shown, then the others.
-    pub async fn get(&self, source: String, id: String) -> Result<String, Error> {
-        self.asked(|reply| Ask::Get(source, id, reply)).await
-    }
-
     /// The events that came behind the first so many, as many as a page has.
     pub async fn arrivals(&self, after: u64) -> Result<Option<Arc<Page>>, Error> {
         self.asked(|reply| Ask::Arrivals(after, reply)).await

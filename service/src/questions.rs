@@ -44,23 +44,6 @@ impl Service {
         }
     }
 
-    /// `GET /events?source=S&id=I`: the events of a source and id, a line each, the one that is shown first; 404 where
-    /// there is none.
-    pub async fn get(&self, request: &Request<Body>) -> Answered {
-        let (Some(source), Some(id)) = (text_of(request, "source"), text_of(request, "id")) else {
-            let detail = "ask for /events?source=S&id=I; for all events see /arrivals, and /shown";
-            return problem(StatusCode::BAD_REQUEST, "which", "Which event?", detail).into();
-        };
-        match self.keeper.get(source, id).await {
-            Ok(lines) if lines.is_empty() => {
-                let detail = "no event has this source and id here";
-                problem(StatusCode::NOT_FOUND, "no-event", "No such event", detail).into()
-            }
-            Ok(lines) => plain(StatusCode::OK, NDJSON, lines),
-            Err(why) => self.unanswered(why),
-        }
-    }
-
     /// `POST /delta?from=N&limit=M`: what a peer lacks by its summary, a batch a line; 204 where that is nothing.
     pub async fn delta(&self, request: Request<Body>) -> Answered {
         let limits = &self.settings.limits;
@@ -94,10 +77,6 @@ impl Service {
     pub fn unanswered(&self, why: Error) -> Answered {
         match why {
             _ if self.keeper.is_closing() => self.refused(Refusal::Closing),
-            Error::Other(_) => {
-                let title = "The library that is linked hasn't this";
-                problem(StatusCode::NOT_IMPLEMENTED, "absent", title, why.to_string()).into()
-            }
             _ => {
                 let title = "The answer can't be made";
                 problem(StatusCode::SERVICE_UNAVAILABLE, "unanswered", title, why.to_string()).into()

@@ -1,7 +1,7 @@
 //! The thread that answers, from a copy in memory of what is kept; and what was answered last, for whoever asks again.
 
 use crate::keeper::{give_up, State};
-use crate::library::{self, Error, Lag, Page, Question, Site};
+use crate::library::{Error, Lag, Page, Question, Site};
 use crate::metrics::Metrics;
 use hyper::body::Bytes;
 use std::collections::HashMap;
@@ -49,7 +49,6 @@ pub enum Ask {
     Answer(What, u64, Reply<Arc<Answer>>),
     Delta(String, u64, u64, u64, Reply<Option<Page>>),
     Compare(String, Reply<Lag>),
-    Get(String, String, Reply<String>),
     Arrivals(u64, Reply<Option<Arc<Page>>>),
 }
 
@@ -106,10 +105,6 @@ impl Reader {
                 Ask::Compare(summary, reply) => {
                     let _ = reply.send(self.site.compare(&summary));
                     "compare"
-                }
-                Ask::Get(source, id, reply) => {
-                    let _ = reply.send(library::get(&mut self.site, &source, &id));
-                    "get"
                 }
                 Ask::Arrivals(after, reply) => {
                     let _ = reply.send(self.arrivals(after));

@@ -105,7 +105,7 @@ impl Route {
 
     fn methods(self) -> &'static str {
         match self {
-            Route::Events => "GET, HEAD, POST, OPTIONS",
+            Route::Events => "POST, OPTIONS",
             Route::Check | Route::Delta => "POST",
             _ => "GET, HEAD",
         }
@@ -172,7 +172,6 @@ impl Service {
                 problem(StatusCode::NOT_FOUND, "not-found", "Nothing of that name", request.uri().path()).into()
             }
             Route::Events if is_post => self.take(request).await,
-            Route::Events if is_get => self.get(&request).await,
             Route::Events if method == Method::OPTIONS => self.handshake(&request),
             Route::Check if is_post => self.check(request).await,
             Route::Delta if is_post => self.delta(request).await,
