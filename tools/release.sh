@@ -47,7 +47,7 @@ cp -- "$program" "$here/bin/site" && cp -- "$library/libjumbetai.a" "$library/ju
 licence=$(git ls-tree --name-only "$commit" LICENSE) || exit 1
 git archive -o "$room/pages.tar" "$commit" README.md CHANGELOG.md SECURITY.md docs/GUIDE.md docs/OPERATIONS.md \
     docs/PRODUCERS.md docs/FORMATS.md docs/GUARANTEES.md docs/PERFORMANCE.md docs/GLOSSARY.md docs/SERVICE.md examples bindings \
-    service tools/make_batch.py ${licence:+"$licence"} && tar -xf "$room/pages.tar" -C "$here" || exit 1
+    service contrib tools/make_batch.py ${licence:+"$licence"} && tar -xf "$room/pages.tar" -C "$here" || exit 1
 tools/archive_pages.py "$here" || fail 'a page speaks of what the archive has not'
 tools/library.py --from "$library" --object "$here/bindings/python/jumbetai/libjumbetai.so" >/dev/null &&
     tools/library.py --from "$library" --wheel "$here/library" >/dev/null || fail 'the wheel is not made'

@@ -31,7 +31,7 @@ FILES = (
     "bin/site", "library/libjumbetai.a", "library/jumbetai.h", "bindings/rust/Cargo.toml", "bindings/rust/jumbetai-sys/Cargo.toml",
     "bindings/python/jumbetai/__init__.py", "bindings/python/jumbetai/libjumbetai.so", "examples/python/hand_on.py",
     "examples/rust/hold.rs", "complete/site.1", "complete/site.bash", "README.md", "SECURITY.md", "CHANGELOG.md",
-    "docs/GUIDE.md", "docs/OPERATIONS.md", "docs/PRODUCERS.md", "docs/FORMATS.md", "docs/GUARANTEES.md", "docs/SERVICE.md", "service/Cargo.toml", "service/src/main.rs", "ABOUT",
+    "docs/GUIDE.md", "docs/OPERATIONS.md", "docs/PRODUCERS.md", "docs/FORMATS.md", "docs/GUARANTEES.md", "docs/SERVICE.md", "service/Cargo.toml", "service/src/main.rs", "contrib/prometheus/jumbetai.rules.yml", "ABOUT",
 )
 
 
