@@ -3,9 +3,10 @@
 
     tools/build.py [--jobs N] [CRATE..]      by default site_cli, with what it stands on
 
-As many crates at once as there are processors and memory (2 GB each), each by as many processes as there are
-processors; of crates side by side the system gives that the most time for which most waits, and what it leaves goes
-to the others. What is built as its sources are is left as it is, also where `rt ci` left it (crates/NAME/out/rlib).
+As many crates at once as there are processors and memory (2 GB each). The one for which most waits is proved by as many
+processes as there are processors, and so are the others where there are fewer of them than processors; else each of
+these has one process, since several do some work twice. Of crates side by side the system gives that the most time for
+which most waits, and what it leaves goes to the others. What is built as its sources are is left as it is, also where `rt ci` left it (crates/NAME/out/rlib).
 A library goes to crates/NAME/out/built, as the statements that the crates above it rest on, which is what `rt ci` makes
 too; the program, and a static library as libNAME.a, go to crates/NAME/out. `rt` itself lets one command at a time work
 in a crate and in those below it, so `rattle` is called as `rt` calls it.
@@ -325,13 +326,22 @@ class Plan:
         unmade = {*self.left, *(it.name for it in self.running)}
         return [it for it in self.left if not unmade.intersection(self.crates[it][0])]
 
+    @staticmethod
+    def processes(ahead, crowd, lanes):
+        """By how many processes a crate is proved, where for so many of those that run more waits, and so many run or wait for
+        a lane alone."""
+        return lanes if ahead == 0 or crowd < lanes else 1
+
     def start(self, lanes, where):
-        for name in self.ready():
+        ready = self.ready()
+        crowd = len(self.running) + len(ready)
+        for name in ready:
             if len(self.running) >= lanes or self.running and free_memory() < MEMORY_EACH:
                 break
             self.left.remove(name)
             ahead = sum(self.behind[it.name] >= self.behind[name] for it in self.running)
-            self.running.append(Build(self.crates, name, lanes, 5 * ahead, where, self.folders))
+            jobs = self.processes(ahead, crowd, lanes)
+            self.running.append(Build(self.crates, name, jobs, 5 * ahead, where, self.folders))
 
     def wait_left(self, lanes):
         """How many seconds are left, by the last build's times."""

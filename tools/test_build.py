@@ -12,6 +12,7 @@ import tempfile
 sys.dont_write_bytecode = True
 TOP = os.path.dirname(os.path.dirname(os.path.realpath(__file__)))
 sys.path.insert(0, f"{TOP}/tools")
+from build import Plan  # noqa: E402
 from test_try_edits import LOW, SMALL, Copy  # noqa: E402
 
 OLD = (946_684_800, 946_684_800)
@@ -128,9 +129,16 @@ def of_library(folder):
     yield copy.ran(call)[2] == ["low", "small"], "a source below that changed"
 
 
+def of_processes():
+    yield Plan.processes(0, 7, 4) == 4, "the crate for which most waits has a process for each processor"
+    yield Plan.processes(1, 7, 4) == 1, "another has one where enough others wait"
+    yield Plan.processes(1, 4, 4) == 1, "and where there are as many as processors"
+    yield Plan.processes(2, 3, 4) == 4, "where there are fewer it has one for each"
+
+
 def main():
     with tempfile.TemporaryDirectory(prefix="built-") as folder:
-        answers = [*of_builds(folder), *of_rt(folder), *of_library(folder)]
+        answers = [*of_builds(folder), *of_rt(folder), *of_library(folder), *of_processes()]
     for is_right, text in answers:
         if not is_right:
             print(f"wrong: {text}")
