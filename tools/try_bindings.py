@@ -39,6 +39,7 @@ PROGRAMS = {
     "bindings/c/test_site.c": [],
     "bindings/c/test_file.c": [],
     "bindings/c/test_outbox.c": [],
+    "bindings/c/test_service.c": [],
     "bindings/c/try_want.c": [],
     "bindings/c/try_want_outbox.c": ["-Wl,--wrap=malloc,--wrap=realloc"],
     "examples/c/ask.c": [],

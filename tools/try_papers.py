@@ -24,7 +24,7 @@ from run_guide import PAGES, blocks  # noqa: E402
 LIMITS = {
     "README.md": (90, 1000),
     "CHANGELOG.md": (None, 1500),  # grows by at most 30 lines a version
-    "CONTRIBUTING.md": (None, 2150),  # the walks name each place that a change touches
+    "CONTRIBUTING.md": (None, 1700),  # what a walk by the prover doesn't name
     "SECURITY.md": (None, 500),
     "docs/ARCHITECTURE.md": (100, 2000),
     "docs/DECISIONS.md": (None, 3500),
@@ -34,8 +34,8 @@ LIMITS = {
     "docs/GUARANTEES.md": (None, 1700),
     "docs/GUIDE.md": (310, 2500),  # every command with what it prints, since all of it is run
     "docs/OPERATIONS.md": (None, 2100),
-    "docs/PERFORMANCE.md": (90, 1300),
-    "crates/database_commands/README.md": (60, 1200),  # thirteen commands
+    "docs/PERFORMANCE.md": (105, 1350),  # the service beside PostgreSQL, too
+    "crates/database_commands/README.md": (60, 1200),  # fourteen commands
     "crates/inbox_table/README.md": (60, 1050),  # what each call leaves at each exit
     "crates/site/README.md": (60, 1050),  # what all above stands on
     "crates/site_c/README.md": (60, 1050),  # twenty exports
@@ -44,9 +44,10 @@ LIMITS = {
 }
 OF_CRATES = (60, 1000)
 OTHERS = (None, 600)
-# All of these together; what stands beside code that people copy (NOT_COUNTED) has limits of its own alone.
-ALL_WORDS = 46_100
-NOT_COUNTED = ("bindings/", "examples/", "tools/")
+# All of these together, the page of the service among them with its 1,100; what stands beside code that people copy
+# (NOT_COUNTED) has limits of its own alone.
+ALL_WORDS = 46_300
+NOT_COUNTED = ("bindings/", "contrib/", "examples/", "tools/")
 PAGES_WITH_DATES = ("CHANGELOG.md", "docs/PERFORMANCE.md")
 DATE = re.compile(r"\b20\d\d-[01]\d-[0-3]\d\b")
 PATH = re.compile(r"(?<![\w.])/(?:work|opt/rattle|root)\b|(?<![\w.])/tmp/")

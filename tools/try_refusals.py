@@ -100,6 +100,8 @@ ROWS_OF_ALL = [
     Row(["scrub", "--db", "s.db"], THREE),
     Row(["scrub", "--db", "s.db", "--all"], THREE),
     Row(["scrub", "--db", "s.db", "--all"], PAGED, pages=2, ends=(0, 220)),
+    Row(["arrivals", "--db", "s.db", "--after", "1"], THREE),
+    Row(["arrivals", "--db", "s.db", "--after", "0", "--all"], PAGED, pages=2, ends=(0, 220)),
     Row(["service", "--db", "n.db", "--source", "/north", "--base", "5"], [], ["relay", "--db", "n.db", "--after", "0"]),
     Row(["service", "--db", "o.db"], PLACED, ROWS),
     Row(["order", "--db", "n.db", "--source", "/north", "--at", AT, "place", "7"], [], ["relay", "--db", "n.db", "--after", "0"]),

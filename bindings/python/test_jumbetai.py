@@ -8,6 +8,7 @@ import contextlib
 import ctypes
 import doctest
 import gc
+import hashlib
 import itertools
 import json
 import os
@@ -24,7 +25,7 @@ import unittest
 from http.server import BaseHTTPRequestHandler, HTTPServer
 
 import jumbetai
-from jumbetai import QUESTIONS, Error, OrderCounts, Outbox, Page, Site, Status, Taken, _c
+from jumbetai import QUESTIONS, Error, Lag, OrderCounts, Outbox, Page, Site, Status, Taken, _c
 
 HERE = os.path.dirname(os.path.abspath(__file__))
 EXAMPLES = os.path.join(HERE, "../../examples/python")
@@ -78,6 +79,93 @@ class Sites(unittest.TestCase):
             self.assertEqual(list(site.pages(start=200)), pages[2:])
             self.assertEqual(sum(copy.take(it.json).fresh for it in pages), 250)
             self.assertEqual(copy.summary(), site.summary())
+
+    def test_bodies_are_answered_each(self):
+        with tempfile.TemporaryDirectory() as folder:
+            path = os.path.join(folder, "service.db")
+            for site in (Site(), Site(path)):
+                with site:
+                    one, two = batch([event(1), event(2)]), batch([event(2), event(3)])
+                    answers = site.take_each([one, "{}", two, batch([event(4, sequence="4")]), b"[]", bytearray(one)])
+                    taken = [it if isinstance(it, Taken) else it.status for it in answers]
+                    wanted = [(2, 0), Status.NO_EVENTS, (1, 1), Status.NO_NUMBER, (0, 0), (0, 2)]
+                    self.assertEqual(taken, wanted)
+                    self.assertEqual(site.take_each([]), [])
+                    self.assertEqual(len(site), 3)
+            with Site(path) as again:
+                self.assertEqual(len(again), 3)
+                with self.assertRaises(TypeError):
+                    again.take_each([1])
+
+    def test_arrivals_and_copies(self):
+        with tempfile.TemporaryDirectory() as folder:
+            path = os.path.join(folder, "service.db")
+            for site in (Site(), Site(path)):
+                with site:
+                    site.take(batch([event(7), event(3)]))
+                    site.take(FEW)
+                    pages = list(site.arrivals())
+                    self.assertEqual([(it.start, it.events) for it in pages], [(0, 100), (100, 100), (200, 50)])
+                    ids = [it["id"] for page in pages for it in json.loads(page.json)]
+                    self.assertEqual(ids[:5], ["7", "3", "1", "2", "4"])
+                    self.assertEqual(list(site.arrivals(after=200)), pages[2:])
+                    self.assertEqual(list(site.arrivals(after=2**64)), [])
+                    self.assertRaises(ValueError, site.arrivals, -1)
+                    with site.copy() as copy:
+                        self.assertEqual(list(copy.arrivals()), pages)
+                        self.assertEqual((copy.name(), copy.summary()), (site.name(), site.summary()))
+                        copy.take(batch([event(251)]))
+                        self.assertEqual((len(copy), len(site)), (251, 250))
+            with Site(path) as again:
+                self.assertEqual(list(again.arrivals()), pages)
+
+    def test_names_and_covers(self):
+        with Site() as site, Site() as other:
+            site.take(FEW)
+            for number in range(250, 0, -1):
+                other.take(batch([event(number)]))
+            self.assertEqual(site.name(), hashlib.sha256(site.summary().rstrip(b"\n")).digest())
+            self.assertEqual(site.name(), other.name())
+            other.take(batch([event(251)]))
+            self.assertNotEqual(site.name(), other.name())
+            self.assertEqual(site.cover(), site.ask("cover"))
+            site.release()
+            self.assertEqual(site.cover(), b'{"sources":{"/shop":[[1,250]]},"version":1}\n')
+
+    def test_lags(self):
+        with Site() as site, Site() as peer:
+            site.take(FEW)
+            peer.take(batch([event(number) for number in range(200, 301)]))
+            self.assertEqual(site.compare(peer.summary()), Lag(50, 199, 1))
+            self.assertEqual(peer.compare(site.cover()), Lag(199, 50, 0))
+            self.assertEqual(site.compare(site.summary()), Lag(0, 0, 0))
+            with self.assertRaises(Error) as refused:
+                site.compare(b"{}")
+            self.assertEqual(refused.exception.status, Status.SUMMARY_SHAPE)
+
+    def test_parts(self):
+        with Site() as site:
+            site.take(FEW)
+            nothing = '{"sources":{},"version":1}'
+            rows = [((0, 0, 0), 100), ((0, 2**70, 0), 250), ((200, 2000, 0), 50), ((0, 2000, 1), 100)]
+            for numbers, come in rows:
+                part = site.delta_part(nothing, *numbers)
+                self.assertEqual((part.start, part.events), (numbers[0], come))
+                self.assertEqual(len(json.loads(part.json)), come)
+            self.assertIsNone(site.delta_part(nothing, 250, 2000))
+            self.assertIsNone(site.delta_part(site.summary(), 0, 2000))
+            self.assertRaises(ValueError, site.delta_part, nothing, 0, -1)
+            with self.assertRaises(Error) as refused:
+                site.delta_part('{"version":3}', 0, 1)
+            self.assertEqual(refused.exception.status, Status.SUMMARY_VERSION)
+
+    def test_bytes_without_a_site(self):
+        self.assertEqual(jumbetai.test(FEW), 250)
+        self.assertEqual(jumbetai.test("[]"), 0)
+        for given, status in ((b"", Status.NO_EVENTS), (batch([event(4, sequence="4")]), Status.NO_NUMBER)):
+            with self.assertRaises(Error) as refused:
+                jumbetai.test(given)
+            self.assertEqual(refused.exception.status, status)
 
     def test_what_a_peer_lacks(self):
         with Site() as north, Site() as south:

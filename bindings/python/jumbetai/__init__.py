@@ -310,7 +310,7 @@ class Site(_Open):
         of their answers is why (Status.OWED where they are kept); a crash leaves all or none. In memory they are taken
         one by one, up to one that memory is refused to."""
         texts = [_bytes(body) for body in bodies]
-        given = (_c.Body * len(texts))(*((text, len(text)) for text in texts))
+        given = (_c.Body * len(texts))(*(_c.Body(text, len(text)) for text in texts))
         answers = (_c.Answer * len(texts))()
         status = self._call("jumbetai_take_each", given, len(texts), answers)
         if status == _BAD_ARGUMENT:
