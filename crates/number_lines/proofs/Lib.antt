@@ -1,0 +1,4 @@
+mod GatherLemmas
+mod TextLemmas
+mod NumberingLemmas
+mod OverLemmas

@@ -1,0 +1,59 @@
+-- Which events lines have that are to be numbered, and why they have none.
+use Rattle.std.specs.Prelude.{◌≡◌, ◌⊎◌, ◌<◌, ℕ, suc, codes, ◌+◌, List, [], ◌∷◌, length, count_by, is_some, Option, None, Some}
+use Rattle.attributes.specs.Event.{EventValue, attribute_of}
+use Rattle.event_json.specs.Reading.{Reads, Refuses}
+use Rattle.line_intake.specs.Judged.{TakesLines}
+use Rattle.numbers.specs.Aside.{IsAside}
+use Rattle.numbers.specs.Numbered.{AreBare}
+use Rattle.numbers.specs.Refusal.{refusal_from}
+use Rattle.number_lines.specs.declared.refusal.LineRefusal.{LineRefusal}
+use Rattle.number_lines.specs.declared.refusal.LineRefusal.TheVariants as refusal
+use Rattle.number_lines.specs.declared.refusal.Told.{Told}
+
+-- the event as it is numbered: as it came, or, where a name is given for that, with its own
+-- `sequence` by this name
+abbrev pub IsOwn : Option (List ℕ) → EventValue → EventValue → Type 0
+IsOwn None e x = x ≡ e
+IsOwn (Some name) e x =
+    ((attribute_of (codes "sequence") e ≡ None) × (x ≡ e)) ⊎ IsAside name e x
+
+abbrev pub AreOwn : Option (List ℕ) → List EventValue → List EventValue → Type 0
+AreOwn aside [] [] = Unit {0}
+AreOwn aside (e ∷ given) (x ∷ events) = IsOwn aside e x × AreOwn aside given events
+AreOwn aside _ _ = ⊥
+
+-- the line spells events, and these are they as they are numbered, none with a number and each with
+-- room for one; or this is why nothing of it is numbered: it spells none, this is the first that
+-- can't be numbered, or the number of the one at this place can't be set aside
+abbrev pub IsJudged : Option (List ℕ) → List ℕ → Option LineRefusal → List EventValue → Type 0
+IsJudged aside line None L =
+    (given : List EventValue) × Reads line given × AreOwn aside given L × AreBare L
+IsJudged aside line (Some (refusal.Read why)) L = Refuses line why × (L ≡ [])
+IsJudged aside line (Some (refusal.Number why)) L = (given events : List EventValue)
+    × Reads line given × AreOwn aside given events × (refusal_from 0 events ≡ Some why) × (L ≡ [])
+IsJudged aside line (Some (refusal.Aside index)) L =
+    (given : List EventValue) × Reads line given × (index < length given) × (L ≡ [])
+
+-- these lines come behind so many others; each but the empty ones is told with its place, counted
+-- from 1, and with its events
+abbrev pub AreJudged : Option (List ℕ) → ℕ → List (List ℕ) → List Told → List (List EventValue)
+    → Type 0
+AreJudged aside before [] [] [] = Unit {0}
+AreJudged aside before ([] ∷ lines) tells lists = AreJudged aside (suc before) lines tells lists
+AreJudged aside before ((b ∷ line) ∷ lines) (told ∷ tells) (L ∷ lists) =
+    (told.line ≡ suc before) × IsJudged aside (b ∷ line) told.fault L
+    × AreJudged aside (suc before) lines tells lists
+AreJudged aside before _ _ _ = ⊥
+
+-- so many lines were there before, so many are there now: the input lost those between, and they
+-- are told so
+pub record IsGathered (aside : Option (List ℕ)) (before now : ℕ) (old new : Option (List ℕ))
+    (tells : List Told) (lists : List (List EventValue)) : Type 0 where
+  pub lines : List (List ℕ)
+  pub taken : TakesLines old lines new
+  pub judged : AreJudged aside before lines tells lists
+  pub count : now ≡ before + length lines
+
+-- how many lines are refused
+abbrev pub faults_in : List Told → ℕ
+faults_in tells = count_by (λ t. is_some t.fault) tells

@@ -1,0 +1,3 @@
+mod KeepLemmas
+mod StandLemmas
+pub mod EachLemmas

@@ -1,0 +1,9 @@
+//! A numberer: events that carry no number get one, kept in a table of a database.
+#![tactic(auto)]
+
+mod fault;
+mod lists;
+mod numberer;
+
+pub use fault::NumbererFault;
+pub use numberer::{NotOpened, Numberer};

@@ -1,0 +1,38 @@
+//! Several lists of events, numbered one after the other.
+
+ghost use Rattle.std.specs.Prelude.{◌≡◌, ℕ, List, IfOk, length};
+ghost use Rattle.std.specs.List.{AllByRecursion};
+ghost use Rattle.attributes.specs.Event.{EventValue};
+ghost use Rattle.attributes.specs.Fault.{IsEvent};
+ghost use Rattle.inbox_table.specs.Calls.{joined};
+ghost use Rattle.numbers.specs.Counts.{IsCount};
+ghost use Rattle.numbers.specs.Numbered.{AreBare};
+ghost use Rattle.numbers.specs.Numberer.{taken};
+ghost use Rattle.number_table.specs.Each.{AnswersEach, AreNumberedEach};
+
+use attributes::{Batch, Events, List};
+use numbers::{Counted, NumberFault, number_all};
+use std::alloc::Global;
+
+/// The events of each list with their numbers, in their order. Where it is refused, some of the
+/// events may be counted.
+pub(crate) fn number_lists(
+    alloc: Global,
+    counted: &mut Counted,
+    lists: &List<Events>,
+) -> Result<List<Batch>, NumberFault>
+    requires { AllByRecursion AreBare lists.now }
+    ensures numbers { IfOk result (λ answers. (base : List ℕ → ℕ) (A : List EventValue)
+        → IsCount base A counted.old → AnswersEach base A lists.now answers
+        × IsCount base (taken A (joined lists.now)) counted.new) }
+    ensures each { IfOk result (AreNumberedEach lists.now) }
+    ensures one_each { IfOk result (λ answers. length answers ≡ length lists.now) }
+    ensures events { IfOk result (AllByRecursion (AllByRecursion IsEvent)) }
+{
+    let mut answers = List::empty(alloc);
+    for i in 0..lists.len() {
+        let batch = number_all(alloc, counted, lists.at(i))?;
+        answers.push(batch)?;
+    }
+    Ok(answers)
+}

@@ -1,0 +1,172 @@
+//! The numberer: what it counts, and its table.
+
+ghost use Rattle.std.specs.Prelude.{◌≡◌, ⊤, IfErr, IfOk, IsErrAnd, IsTrue, List, OnOk, Err, Some, length, option_map};
+ghost use Rattle.std.specs.List.{AllByRecursion};
+ghost use Rattle.sqlite.specs.Held.{state};
+ghost use Rattle.sqlite.specs.State.{HasCleanDisk, Survives};
+ghost use Rattle.attributes.specs.Event.{EventValue};
+ghost use Rattle.inbox_table.specs.Opening.{MayOpen, Opens};
+ghost use Rattle.numbers.specs.Numbered.{AreBare};
+ghost use Rattle.numbers.specs.Refusal.{refusal_from};
+ghost use Rattle.numbers.specs.declared.fault.NumberFault.{NumberFault};
+ghost use Rattle.number_table.specs.Fault.{of_numbers, of_table};
+
+use crate::fault::NumbererFault;
+use crate::lists::number_lists;
+use attributes::{Batch, Events, List};
+use inbox_table::{Loaded, NotMade, Table, Unwatched};
+use numbers::{Counted, count_all, number_all, refusal};
+use sqlite::{Alter, Connection};
+use std::alloc::Global;
+
+/// A numberer over its table, whose rows are the events that it numbered, with their numbers: a
+/// site's table. Memory in proportion to them.
+#[derive(Drop)]
+pub struct Numberer<S: Alter> {
+    pub table: Table<S>,
+    /// What is counted of the table's events; nothing, where a call was refused half-way.
+    pub counted: Option<Counted>,
+    /// The number behind which each source begins.
+    pub base: u64,
+    pub alloc: Global,
+}
+
+/// A connection of which no numberer was made, and why.
+#[derive(Drop)]
+pub struct NotOpened<S: Alter> {
+    pub conn: Connection<S>,
+    pub fault: NumbererFault,
+}
+
+impl<S: Alter + Drop> Numberer<S> {
+    ghost use Rattle.number_table.specs.Calls.{LeavesNumbers, MayNumber, NumberEffect, RejectsNumbers, Stands};
+    ghost use Rattle.number_table.specs.Each.{AreNumberedEach, MayNumberEach, NumberEachEffect};
+
+    /// Opens the numberer of a database, with the base that it was made with, or makes one where
+    /// there is no table. Each row is read. Time and memory in proportion to the rows.
+    ///
+    /// Refused as [`Table::open_and_load`] is; `Foreign` too where a row isn't that of an event with
+    /// its source's next number, or a text has two. The connection comes back.
+    pub fn open(alloc: Global, conn: Connection<S>, base: u64) -> Result<Numberer<S>, NotOpened<S>>
+        ensures opens { IfOk result (λ n. HasCleanDisk (state S.Store n.table.conn)
+            → (events rows : List EventValue)
+            × Opens (λ _ _. ⊤) (state S.Store conn) (state S.Store n.table.conn) rows
+            × Stands base events rows (state S.Store n.table.conn) n.counted) }
+        ensures base { IfOk result (λ n. n.base ≡ base) }
+        ensures rejects { IfErr result (λ n.
+            RejectsNumbers (state S.Store conn) (state S.Store n.conn) n.fault) }
+        ensures crash { IfOk result (λ n. Survives (state S.Store conn)
+            (state S.Store n.table.conn) (MayOpen (state S.Store conn).now)) }
+        ensures crash_refused { IfErr result (λ n. Survives (state S.Store conn)
+            (state S.Store n.conn) (MayOpen (state S.Store conn).now)) }
+    {
+        let loaded = match Table::open_and_load(alloc, conn, &Unwatched) {
+            Ok(loaded) => loaded,
+            Err(refused) => return Err(not_made(refused)),
+        };
+        let Loaded { table, events } = loaded;
+        match count_all(alloc, base, &events) {
+            Ok(Some(counted)) => Ok(Numberer {
+                table,
+                counted: Some(counted),
+                base,
+                alloc,
+            }),
+            Ok(None) => Err(NotOpened {
+                conn: table.into_connection(),
+                fault: NumbererFault::Foreign,
+            }),
+            Err(_) => Err(NotOpened {
+                conn: table.into_connection(),
+                fault: NumbererFault::OutOfMemory,
+            }),
+        }
+    }
+
+    /// Numbers the events: each gets the number that its text has, or else its source's next, and
+    /// the new ones are kept in the table, in one transaction that is synced. It answers the events
+    /// with their numbers, in their order. Time as that of [`Table::keep`].
+    ///
+    /// `HasSequence` or `TooLarge` names the first event that can't be numbered, before anything is
+    /// done. `Full` names one whose source has no number left. Whatever is refused, the table is as
+    /// it was; but after `Full`, `Store` and want of memory each further call is `Store`, and the
+    /// numberer is to be opened again.
+    pub fn number(&mut self, events: &Events) -> Result<Batch, NumbererFault>
+        ensures first { (f : NumberFault) → refusal_from 0 events.now ≡ Some f
+            → result ≡ Err (of_numbers f) }
+        ensures effect { NumberEffect self.old.base events.now (state S.Store self.old.table.conn)
+            (state S.Store self.new.table.conn) self.old.counted self.new.counted result }
+        ensures leaves { HasCleanDisk (state S.Store self.new.table.conn)
+            → LeavesNumbers (state S.Store self.old.table.conn)
+            (state S.Store self.new.table.conn) result }
+        ensures base { self.new.base ≡ self.old.base }
+        ensures crash { Survives
+            (state S.Store self.old.table.conn) (state S.Store self.new.table.conn)
+            (λ trees. IsTrue (state S.Store self.old.table.conn).is_open
+            → MayNumber self.old.base events.now self.old.counted
+            (state S.Store self.old.table.conn).now trees) }
+    {
+        if let Some(fault) = refusal(events) {
+            return Err(NumbererFault::from(fault));
+        }
+        let Some(mut counted) = self.counted.take() else {
+            return Err(NumbererFault::Store);
+        };
+        let batch = number_all(self.alloc, &mut counted, events)?;
+        match self.table.keep(&batch) {
+            Ok(_) => {
+                self.counted = Some(counted);
+                Ok(batch)
+            }
+            Err(fault) => Err(NumbererFault::from(fault)),
+        }
+    }
+
+    /// Numbers the events of several lists, one list after the other, in one transaction that is
+    /// synced, and answers each list as [`Numberer::number`] does. The time is that of `number` for
+    /// all of them.
+    ///
+    /// It is refused as `number` is, and then nothing of any list is kept; the index of `Full` is
+    /// that of the event in its list.
+    pub fn number_each(&mut self, lists: &List<Events>) -> Result<List<Batch>, NumbererFault>
+        requires { AllByRecursion AreBare lists.now }
+        ensures each { IfOk result (AreNumberedEach lists.now) }
+        ensures one_each { IfOk result (λ answers. length answers ≡ length lists.now) }
+        ensures effect { NumberEachEffect self.old.base lists.now
+            (state S.Store self.old.table.conn) (state S.Store self.new.table.conn)
+            self.old.counted self.new.counted result }
+        ensures leaves { HasCleanDisk (state S.Store self.new.table.conn)
+            → LeavesNumbers (state S.Store self.old.table.conn)
+            (state S.Store self.new.table.conn) (result) }
+        ensures base { self.new.base ≡ self.old.base }
+        ensures crash { Survives
+            (state S.Store self.old.table.conn) (state S.Store self.new.table.conn)
+            (λ trees. IsTrue (state S.Store self.old.table.conn).is_open
+            → MayNumberEach self.old.base lists.now self.old.counted
+            (state S.Store self.old.table.conn).now trees) }
+    {
+        let Some(mut counted) = self.counted.take() else {
+            return Err(NumbererFault::Store);
+        };
+        let answers = number_lists(self.alloc, &mut counted, lists)?;
+        match self.table.keep_each(&answers) {
+            Ok(_) => {
+                self.counted = Some(counted);
+                Ok(answers)
+            }
+            Err(why) => Err(NumbererFault::from(why)),
+        }
+    }
+}
+
+/// The refusal of the table.
+fn not_made<S: Alter>(refused: NotMade<S>) -> NotOpened<S>
+    ensures conn { result.conn ≡ refused.conn }
+    ensures fault { result.fault ≡ of_table refused.fault }
+{
+    let NotMade { conn, fault } = refused;
+    NotOpened {
+        conn,
+        fault: NumbererFault::from(fault),
+    }
+}

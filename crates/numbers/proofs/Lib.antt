@@ -1,0 +1,11 @@
+pub mod ListLemmas
+pub mod NumberLemmas
+pub mod DigitLemmas
+pub mod NumberedLemmas
+pub mod LengthLemmas
+pub mod EventLemmas
+pub mod PutLemmas
+pub mod BatchLemmas
+pub mod TextLemmas
+pub mod CountLemmas
+mod AsideLemmas

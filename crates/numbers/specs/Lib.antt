@@ -1,0 +1,6 @@
+pub mod Numberer
+pub mod Numbered
+pub mod Law
+pub mod Refusal
+pub mod Counts
+pub mod Aside

@@ -1,0 +1,63 @@
+//! Events with numbers, counted from the first on.
+
+ghost use Rattle.std.specs.Prelude.{◌≡◌, ◌++◌, [], ◌∷◌, ℕ, List, IfOk, IfSome, IsTrue, Some};
+ghost use Rattle.attributes.specs.Event.{EventValue};
+ghost use Rattle.attributes.specs.Fault.{IsEvent};
+ghost use Rattle.numbers.specs.Counts.{IsCount, IsCounted};
+ghost use Rattle.numbers.specs.Numbered.{AreBare, HasNumber, HaveNumbers, IsBare};
+ghost use Rattle.numbers.specs.Numberer.{IsEachOnce, number, taken};
+
+use crate::counted::Counted;
+use crate::event::bare;
+use attributes::{Batch, Event, Sequence, Sequenced};
+use std::alloc::{AllocError, Global};
+
+/// Counts the event, where its text has no number yet and this is its source's next one.
+fn count(counted: &mut Counted, event: &Event, own: Sequence) -> Result<bool, AllocError>
+    ensures { IfOk result (λ is_next. IsTrue is_next → (base : List ℕ → ℕ) (A : List EventValue)
+        → IsCount base A counted.old → (taken A (event.now ∷ []) ≡ A ++ event.now ∷ [])
+        × (own ≡ number base (taken A (event.now ∷ [])) event.now)
+        × IsCount base (taken A (event.now ∷ [])) counted.new) }
+{
+    if let Some(_number) = counted.number_of(event.text()) {
+        return Ok(false);
+    }
+    let Some(next) = counted.next_of(event.source()) else {
+        return Ok(false);
+    };
+    if own.number() != next.number() {
+        return Ok(false);
+    }
+    counted.add(event.text(), event.source(), next)?;
+    Ok(true)
+}
+
+/// Counts the event of a row, where it is one without number that has its source's next.
+fn count_row(alloc: Global, counted: &mut Counted, row: &Sequenced) -> Result<bool, AllocError>
+    ensures event { IsEvent row.now }
+    ensures counts { IfOk result (λ is_next. IsTrue is_next → (e : EventValue) × (n : ℕ) × IsBare e
+        × HasNumber n e row.now × ((base : List ℕ → ℕ) (A : List EventValue)
+        → IsCount base A counted.old → (taken A (e ∷ []) ≡ A ++ e ∷ [])
+        × (n ≡ number base (taken A (e ∷ [])) e) × IsCount base (taken A (e ∷ [])) counted.new)) }
+{
+    let found = bare(alloc, row)?;
+    let Some(event) = found else {
+        return Ok(false);
+    };
+    count(counted, &event, row.number())
+}
+
+/// What is counted of these events, where they are what a numberer with this base leaves: each an
+/// event with its source's next number, and none of them twice. Time and memory in proportion to
+/// them.
+pub fn count_all(alloc: Global, base: u64, rows: &Batch) -> Result<Option<Counted>, AllocError>
+    ensures { IfOk result (λ o. IfSome o (IsCounted (λ _. base) rows.now)) }
+{
+    let mut counted = Counted::empty(alloc, base);
+    for i in 0..rows.len() {
+        if !count_row(alloc, &mut counted, rows.at(i))? {
+            return Ok(None);
+        }
+    }
+    Ok(Some(counted))
+}

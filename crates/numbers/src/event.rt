@@ -1,0 +1,137 @@
+//! An event with its number.
+
+ghost use Rattle.std.specs.Prelude.{◌≡◌, ◌≢◌, ◌+◌, ◌≤◌, [], ◌∷◌, IfErr, IfNone, IfOk, IfSome, OnOk, Some, codes, length, string_bytes, ℕ, List};
+ghost use Rattle.serde_json.specs.Data.{object, put, string};
+ghost use Rattle.serde_json.specs.View.{members_view, view};
+ghost use Rattle.attributes.specs.Event.{EventValue, members_of, text};
+ghost use Rattle.attributes.specs.Fault.{IsEvent};
+ghost use Rattle.attributes.specs.Sequence.{number_of, sequence_of};
+ghost use Rattle.numbers.specs.Numbered.{HasNumber, IsBare, with_sequence};
+
+use crate::batch::refusal_at;
+use attributes::laws::text_reads_back;
+use attributes::{Event, Events, Sequence, Sequenced};
+use event_json::{ReadFault, read_events, readings_are_one, texts_read_back};
+use serde_json::{Map, Value};
+use std::alloc::{AllocError, Global};
+use std::cmp::Ordering;
+
+/// The members of a value, where it is an object.
+fn members_in(value: Value) -> Option<Map<String, Value>>
+    ensures { IfSome result (λ m. view value ≡ object (members_view m.entries)) }
+{
+    match value {
+        Value::Object(members) => Some(members),
+        _ => None,
+    }
+}
+
+/// The JSON object of the event.
+pub(crate) fn members_of(alloc: Global, event: &Event) -> Result<Map<String, Value>, AllocError>
+    ensures members { IfOk result (λ m. members_view m.entries ≡ members_of event.now) }
+    ensures event { IsEvent event.now }
+{
+    text_reads_back();
+    let Ok(value) = Value::from_str(alloc, event.text()) else {
+        return Err(AllocError);
+    };
+    match members_in(value) {
+        Some(members) => Ok(members),
+        None => Err(AllocError),
+    }
+}
+
+/// The members with the digits of the number as `sequence`.
+fn put_number(
+    alloc: Global,
+    members: &mut Map<String, Value>,
+    number: Sequence,
+) -> Result<(), AllocError>
+    ensures { OnOk result ((t : List ℕ) × (sequence_of t ≡ Some number)
+        × (members_view members.new.entries
+        ≡ put (codes "sequence") (string t) (members_view members.old.entries))) }
+{
+    let digits = number.digits(alloc)?;
+    let name = String::from_str(alloc, "sequence")?;
+    drop(members.insert(name, Value::String(digits.into_string()))?);
+    Ok(())
+}
+
+/// The text of the event with its number.
+fn numbered_text(alloc: Global, event: &Event, number: Sequence) -> Result<String, AllocError>
+    ensures { IfOk result (λ s. (t : List ℕ) × (sequence_of t ≡ Some number)
+        × (string_bytes s ≡ text (with_sequence t event.now))) }
+{
+    let mut members = members_of(alloc, event)?;
+    put_number(alloc, &mut members, number)?;
+    Value::Object(members).to_string(alloc)
+}
+
+/// The one event of a list.
+pub(crate) fn single(events: Events) -> Option<Event>
+    ensures { IfSome result (λ e. events ≡ e ∷ []) }
+{
+    let mut events = events.into_vec();
+    if events.len() == 1 {
+        events.pop()
+    } else {
+        None
+    }
+}
+
+/// The event with this number as its attribute `sequence` (CloudEvents Sequence extension), as
+/// twenty digits; all else is as it was. Time and memory in proportion to its text.
+pub fn numbered(alloc: Global, event: &Event, number: Sequence) -> Result<Sequenced, AllocError>
+    requires { IsBare event.now }
+    ensures numbered { IfOk result (HasNumber number event.now) }
+    ensures event { IfOk result IsEvent }
+{
+    readings_are_one();
+    texts_read_back();
+    let text = numbered_text(alloc, event, number)?;
+    let Ok(events) = read_events(alloc, text.as_bytes()) else {
+        return Err(AllocError);
+    };
+    let Some(event) = single(events) else {
+        return Err(AllocError);
+    };
+    match Sequenced::of(event) {
+        Ok(event) => Ok(event),
+        Err(_) => Err(AllocError),
+    }
+}
+
+/// The text of the event without its number.
+fn bare_text(alloc: Global, event: &Event) -> Result<String, AllocError>
+    ensures { IsEvent event.now }
+{
+    let mut members = members_of(alloc, event)?;
+    drop(members.remove("sequence"));
+    Value::Object(members).to_string(alloc)
+}
+
+/// The event that `numbered` gives this one's number to, where there is one. Time and memory in
+/// proportion to its text.
+pub fn bare(alloc: Global, event: &Sequenced) -> Result<Option<Event>, AllocError>
+    ensures bare { IfOk result (λ o. IfSome o (λ e. IsBare e
+        × ((n : ℕ) → number_of event.now ≡ Some n → HasNumber n e event.now))) }
+    ensures event { IsEvent event.now }
+{
+    let text = bare_text(alloc, event.event())?;
+    let events = match read_events(alloc, text.as_bytes()) {
+        Ok(events) => events,
+        Err(ReadFault::OutOfMemory) => return Err(AllocError),
+        Err(_) => return Ok(None),
+    };
+    let Some(found) = single(events) else {
+        return Ok(None);
+    };
+    if let Some(_refusal) = refusal_at(0, &found) {
+        return Ok(None);
+    }
+    let again = numbered(alloc, &found, event.number())?;
+    match again.event().compare(event.event()) {
+        Ordering::Equal => Ok(Some(found)),
+        _ => Ok(None),
+    }
+}

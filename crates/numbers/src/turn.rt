@@ -1,0 +1,65 @@
+//! The events of a batch, each with its number.
+
+ghost use Rattle.std.specs.Prelude.{◌≡◌, ◌⊎◌, ◌<◌, [], ◌∷◌, ℕ, List, IfErr, IfOk};
+ghost use Rattle.std.specs.List.{AllByRecursion};
+ghost use Rattle.attributes.specs.Event.{EventValue};
+ghost use Rattle.attributes.specs.Fault.{IsEvent};
+ghost use Rattle.attributes.specs.Sequence.{max_sequence};
+ghost use Rattle.numbers.specs.Counts.{IsCount};
+ghost use Rattle.numbers.specs.Numbered.{AreBare, AreNumbered, HaveNumbers};
+ghost use Rattle.numbers.specs.Numberer.{number, taken};
+ghost use Rattle.numbers.specs.declared.fault.NumberFault.TheVariants.{Full, OutOfMemory};
+
+use crate::counted::Counted;
+use crate::event::numbered;
+use crate::fault::NumberFault;
+use attributes::{Batch, Event, Events, Sequence};
+use std::alloc::Global;
+
+/// The number of the event, at the index: the one that its text has, else its source's next, which
+/// is counted then.
+fn number_of(counted: &mut Counted, index: u64, event: &Event) -> Result<Sequence, NumberFault>
+    ensures counts { IfOk result (λ n. (base : List ℕ → ℕ) (A : List EventValue)
+        → IsCount base A counted.old → (n ≡ number base (taken A (event.now ∷ [])) event.now)
+        × IsCount base (taken A (event.now ∷ [])) counted.new) }
+    ensures refused { IfErr result (λ f. (f ≡ OutOfMemory) ⊎ ((f ≡ Full index)
+        × ((base : List ℕ → ℕ) (A : List EventValue) → IsCount base A counted.old
+        → max_sequence < number base (taken A (event.now ∷ [])) event.now))) }
+{
+    if let Some(number) = counted.number_of(event.text()) {
+        return Ok(number);
+    }
+    let Some(number) = counted.next_of(event.source()) else {
+        return Err(NumberFault::Full { index });
+    };
+    counted.add(event.text(), event.source(), number)?;
+    Ok(number)
+}
+
+/// The events with their numbers, in their order: each the one that its text has, or else its
+/// source's next. Time in proportion to the texts' bytes and the logarithm of what is counted.
+///
+/// `Full`, where an event's number would be above 2^63 - 1. Where it is refused, some of the events
+/// may be counted.
+pub fn number_all(
+    alloc: Global,
+    counted: &mut Counted,
+    events: &Events,
+) -> Result<Batch, NumberFault>
+    requires { AreBare events.now }
+    ensures numbers { IfOk result (λ batch. (base : List ℕ → ℕ) (A : List EventValue)
+        → IsCount base A counted.old
+        → HaveNumbers (number base (taken A events.now)) events.now batch
+        × IsCount base (taken A events.now) counted.new) }
+    ensures each { IfOk result (AreNumbered events.now) }
+    ensures events { IfOk result (AllByRecursion IsEvent) }
+    ensures refused { IfErr result (λ f. (f ≡ OutOfMemory) ⊎ ((i : ℕ) × (f ≡ Full i))) }
+{
+    let mut batch = Batch::empty(alloc);
+    for i in 0..events.len() {
+        let event = events.at(i);
+        let number = number_of(counted, i, event)?;
+        batch.push(numbered(alloc, event, number)?)?;
+    }
+    Ok(batch)
+}
