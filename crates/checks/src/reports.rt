@@ -11,50 +11,42 @@ use std::io::Read;
 const EVENT: &str =
     r#"{"id":"a1","sequence":"00000000000000000001","source":"/orders","specversion":"1.0","type":"t.a"}"#;
 
-/// Adds the bytes of an event so many times, and answers whether it did.
-fn add_events(alloc: Global, files: &mut Vec<Octets>, count: u64) -> bool {
+/// The bytes of an event, so many times.
+fn events(alloc: Global, count: u64) -> Option<Vec<Octets>> {
+    let mut files = Vec::new(alloc);
     for _ in 0..count {
-        match Octets::of(alloc, EVENT.as_bytes()) {
-            Ok(file) => {
-                if files.push(file).is_err() {
-                    return false;
-                }
-            }
-            Err(_) => return false,
-        }
+        files.push(Octets::of(alloc, EVENT.as_bytes()).ok()?).ok()?;
     }
-    true
+    Some(files)
 }
 
 /// The text of the report of files.
-fn told(alloc: Global, query: Query, files: &[Octets]) -> Option<Text> {
+fn told(alloc: Global, query: Query, files: Vec<Octets>) -> Option<Text> {
     Some(report(alloc, &SequentialReader {}, query, files).ok()?.text)
 }
 
-/// Whether the report of files is this text.
-fn tells(alloc: Global, query: Query, files: &[Octets], wanted: &str) -> bool {
-    match told(alloc, query, files) {
-        Some(text) => text.as_str() == wanted,
-        None => false,
-    }
+/// Whether the report of so many files of one event is this text.
+fn tells(alloc: Global, query: Query, count: u64, wanted: &str) -> Option<bool> {
+    let text = told(alloc, query, events(alloc, count)?)?;
+    Some(text.as_str() == wanted)
 }
 
-/// How many bytes the report of files has.
-fn told_length(alloc: Global, query: Query, files: &[Octets]) -> Option<usize> {
-    Some(told(alloc, query, files)?.as_str().len())
+/// How many bytes the report of so many files of one event has.
+fn told_length(alloc: Global, query: Query, count: u64) -> Option<usize> {
+    let text = told(alloc, query, events(alloc, count)?)?;
+    Some(text.as_str().len())
 }
 
 /// Whether a hundred files of one event have the report of one.
-fn are_reported_as_one(alloc: Global, files: &mut Vec<Octets>) -> bool {
+fn are_reported_as_one(alloc: Global) -> bool {
     let cover = "{\"sources\":{\"/orders\":[[1,1]]},\"version\":1}\n";
-    add_events(alloc, files, 100)
-        && tells(alloc, Query::Cover, files.as_slice(), cover)
-        && told_length(alloc, Query::Shown, files.as_slice()) == Some(EVENT.len() + 1)
+    tells(alloc, Query::Cover, 100, cover) == Some(true)
+        && told_length(alloc, Query::Shown, 100) == Some(EVENT.len() + 1)
 }
 
 #[test]
 fn a_hundred_files_have_one_report(rt: HostRuntime) {
-    assert!(rt; are_reported_as_one(rt.alloc(), &mut Vec::new(rt.alloc())));
+    assert!(rt; are_reported_as_one(rt.alloc()));
 }
 
 #[test]

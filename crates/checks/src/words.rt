@@ -1,7 +1,7 @@
-//! What no contract says of the words of a command line: that a plan of them is made.
+//! What no contract says of the words of a command line: that what they ask for is made of them.
 
 use attributes::Text;
-use command_words::{Alone, Command, Faulty, Once, Pages, Plan, plan};
+use command_words::{Alone, Command, Faulty, Invocation, Once, Pages, Plan, invocation};
 use file_reports::Query;
 use std::alloc::Global;
 
@@ -33,6 +33,11 @@ enum Wanted<'a> {
     Follow(&'a str),
     /// The service with the source `/orders`, whether the words name it, and the base.
     Service(bool, Option<u64>),
+    /// The check of these files.
+    Check(&'a [&'a str]),
+    /// The numbers of the lines of this file, set aside under that name, if one is named, and the
+    /// base.
+    Number(&'a str, &'a str, u64),
     /// None: the words are at fault.
     Fault,
 }
@@ -93,6 +98,15 @@ fn is_plan(plan: &Plan, wanted: Wanted<'_>) -> bool {
         (Plan::Alone(Alone::Follow(lines)), Wanted::Follow(file)) => {
             lines.db.as_str() == "d" && lines.file.as_str() == file
         }
+        (Plan::Alone(Alone::Check(check)), Wanted::Check(names)) => {
+            check.db.is_none() && are(check.files.as_slice(), names)
+        }
+        (Plan::Alone(Alone::Number(lines)), Wanted::Number(file, aside, base)) => {
+            lines.db.as_str() == "d"
+                && lines.file.as_str() == file
+                && is_given(&lines.aside, aside)
+                && lines.base == base
+        }
         _ => false,
     }
 }
@@ -105,22 +119,22 @@ fn is_faulty(faulty: &Faulty) -> bool {
     }
 }
 
-/// Whether a plan, or what is said in place of one, is what is wanted.
-fn is_it(planned: &Result<Plan, Faulty>, wanted: Wanted<'_>) -> bool {
-    match planned {
-        Ok(plan) => is_plan(plan, wanted),
+/// Whether what is asked for, or what is said in place of it, is what is wanted.
+fn is_it(asked: &Result<Invocation, Faulty>, wanted: Wanted<'_>, wait: u64) -> bool {
+    match asked {
+        Ok(asked) => is_plan(&asked.plan, wanted) && asked.wait == wait,
         Err(faulty) => matches!(wanted, Wanted::Fault) && is_faulty(faulty),
     }
 }
 
-/// Whether the words come to what is wanted.
-fn plans(alloc: Global, words: &[&str], wanted: Wanted<'_>) -> bool {
+/// Whether the words come to what is wanted, and to so many seconds.
+fn asks(alloc: Global, words: &[&str], wanted: Wanted<'_>, wait: u64) -> bool {
     let mut own = Vec::new(alloc);
-    add_words(alloc, &mut own, words) && is_it(&plan(alloc, own.as_slice()), wanted)
+    add_words(alloc, &mut own, words) && is_it(&invocation(alloc, own.as_slice()), wanted, wait)
 }
 
 /// Words, and what they come to.
-static WORDS: [(&[&str], Wanted<'static>); 19] = [
+static WORDS: [(&[&str], Wanted<'static>); 24] = [
     (
         &["shown", "f", "-", "--", "-g"],
         Wanted::Ask(Query::Shown, "", &["f", "-", "-g"]),
@@ -169,6 +183,24 @@ static WORDS: [(&[&str], Wanted<'static>); 19] = [
         Wanted::Fault,
     ),
     (&["service", "--db", "d", "--source", ""], Wanted::Fault),
+    // Lines are given numbers.
+    (&["number", "--db", "d"], Wanted::Number("-", "", 0)),
+    (
+        &["number", "--aside", "seq", "--base", "7", "--db", "d", "f"],
+        Wanted::Number("f", "seq", 7),
+    ),
+    (&["number", "--db", "d", "--base", "-1"], Wanted::Fault),
+    (&["check", "f", "--numbers"], Wanted::Fault),
+    (&["check", "f"], Wanted::Check(&["f"])),
+];
+
+/// Seconds as a word, of which there are as many; none is allowed where it is 0.
+static SECONDS: [(&str, u64); 5] = [
+    ("1", 1),
+    ("00086400", 86_400),
+    ("86401", 0),
+    ("-1", 0),
+    ("1.5", 0),
 ];
 
 #[test]
@@ -176,6 +208,19 @@ fn words_come_to_plans(rt: HostRuntime) {
     assert!(rt; Command::of_word("shown") == Some(Command::Ask(Query::Shown)));
     for i in 0..WORDS.len() {
         let (words, wanted) = WORDS[i];
-        assert!(rt; plans(rt.alloc(), words, wanted), "row {i}");
+        assert!(rt; asks(rt.alloc(), words, wanted, 0), "row {i}");
+    }
+}
+
+#[test]
+fn words_say_how_long_to_wait(rt: HostRuntime) {
+    for (word, seconds) in SECONDS {
+        let words = ["follow", "--wait", word, "--db", "d"];
+        let wanted = if seconds == 0 {
+            Wanted::Fault
+        } else {
+            Wanted::Follow("-")
+        };
+        assert!(rt; asks(rt.alloc(), &words, wanted, seconds), "{word}");
     }
 }

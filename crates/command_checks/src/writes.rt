@@ -2,9 +2,10 @@
 //! with 1, that so does one whose output can't be flushed, and that one thread gives an answer.
 
 use attributes::Text;
-use command_words::{Alone, Once, Plan, plan};
-use database_commands::Databases;
+use command_words::{Alone, Invocation, Once, Plan, invocation};
+use database_commands::{Databases, Opener};
 use inbox_table::Unwatched;
+use number_lines::Numberers;
 use run_command::Runs;
 use site_commands::{perform, perform_alone};
 use std::io::Write;
@@ -53,32 +54,55 @@ fn covering<R: AllocGlobal + Abort>(rt: &R, file: &str) -> Vec<Text> {
 }
 
 /// Whether an answer and a refusal end with 1 where the stream fails, and leave the other empty.
-fn ends_with_one<R: AllocGlobal + Files + Databases + Runs + Threads + Wait + Abort + Sync>(
-    rt: &R,
-    takes: bool,
-) -> bool {
+fn ends_with_one<
+    R: AllocGlobal + Files + Threads + Wait + Abort + Sync,
+    D: Databases + Numberers + Runs + Drop,
+>(rt: &R, databases: &D, takes: bool) -> bool {
     let mut closed = Closed { takes, written: 0 };
     let mut other = Vec::new(rt.alloc());
     let words = covering(rt, "f");
-    let answer = perform(rt, words.as_slice(), &mut closed, &mut other, &Unwatched);
+    let answer = perform(
+        rt,
+        databases,
+        words.as_slice(),
+        &mut closed,
+        &mut other,
+        &Unwatched,
+    );
     let words = covering(rt, "none");
-    let refusal = perform(rt, words.as_slice(), &mut other, &mut closed, &Unwatched);
+    let refusal = perform(
+        rt,
+        databases,
+        words.as_slice(),
+        &mut other,
+        &mut closed,
+        &Unwatched,
+    );
     let lengths = if takes { 27 + 24 } else { 0 };
     answer == 1 && refusal == 1 && other.is_empty() && closed.written == lengths
 }
 
 /// Whether one thread answers `cover` of the file `numbers` with its numbers, on standard output
 /// alone.
-fn covers_alone<R: AllocGlobal + Files + Databases + Abort>(rt: &R) -> bool {
+fn covers_alone<R: AllocGlobal + Files + Abort, D: Databases + Numberers + Drop>(
+    rt: &R,
+    databases: &D,
+) -> bool {
     let words = covering(rt, "numbers");
-    let plan = plan(rt.alloc(), words.as_slice());
-    let Ok(Plan::Alone(Alone::Once(Once::Ask { query, db, files }))) = plan else {
+    let asked = invocation(rt.alloc(), words.as_slice());
+    let Ok(
+        Invocation {
+            plan: Plan::Alone(Alone::Once(Once::Ask { query, db, files })),
+            ..
+        },
+    ) = asked
+    else {
         return false;
     };
     let plan = Alone::Once(Once::Ask { query, db, files });
     let mut out = Vec::new(rt.alloc());
     let mut err = Vec::new(rt.alloc());
-    let status = perform_alone(rt, &plan, &mut out, &mut err, &Unwatched);
+    let status = perform_alone(rt, databases, &plan, &mut out, &mut err, &Unwatched);
     let want = "{\"sources\":{\"/orders\":[[1,2],[5,5]]},\"version\":1}\n";
     status == 0 && out.as_slice() == want.as_bytes() && err.is_empty()
 }
@@ -99,8 +123,8 @@ fn enter_folder(rt: &HostRuntime) -> Result<String, Fail> {
 fn a_write_that_fails_ends_with_one(rt: HostRuntime) -> Result<(), Fail> {
     let folder = enter_folder(&rt)?;
     fs::write(&rt, "f", "[]")?;
-    assert!(rt; ends_with_one(&rt, false));
-    assert!(rt; ends_with_one(&rt, true));
+    assert!(rt; ends_with_one(&rt, &Opener::new(&rt), false));
+    assert!(rt; ends_with_one(&rt, &Opener::new(&rt), true));
     env::set_current_dir(&rt, "/")?;
     fs::remove_dir_all(&rt, folder.as_str())?;
     Ok(())
@@ -110,7 +134,7 @@ fn a_write_that_fails_ends_with_one(rt: HostRuntime) -> Result<(), Fail> {
 fn a_command_is_carried_out_by_one_thread(rt: HostRuntime) -> Result<(), Fail> {
     let folder = enter_folder(&rt)?;
     fs::write(&rt, "numbers", NUMBERS)?;
-    assert!(rt; covers_alone(&rt));
+    assert!(rt; covers_alone(&rt, &Opener::new(&rt)));
     env::set_current_dir(&rt, "/")?;
     fs::remove_dir_all(&rt, folder.as_str())?;
     Ok(())

@@ -4,7 +4,7 @@ use Rattle.clap.specs.Words.{App, Rule, app_of, new_app, new_rule, with_rule}
 use Rattle.clap.specs.declared.builder.command.Command as clap
 use Rattle.clap.specs.declared.builder.action.ArgAction.TheVariants.{Append, SetTrue}
 use Rattle.command_words.specs.declared.command.Command.{Command}
-use Rattle.command_words.specs.declared.command.Command.TheVariants.{Arrivals, Ask, Check, Delta, Follow, Order, Relay, Run, Scrub, Service, Summary, Take}
+use Rattle.command_words.specs.declared.command.Command.TheVariants.{Arrivals, Ask, Check, Delta, Follow, Number, Order, Relay, Run, Scrub, Service, Summary, Take}
 use Rattle.views.specs.declared.query.Query.TheVariants.{Conflicts, Cover, Days, Gaps, Kinds, Latest, Shown}
 
 -- the word of a command
@@ -27,6 +27,7 @@ word_of Run = codes "run"
 word_of Service = codes "service"
 word_of Order = codes "order"
 word_of Relay = codes "relay"
+word_of Number = codes "number"
 
 -- ---- the arguments
 
@@ -66,6 +67,10 @@ default_rule name value = record (option_rule name) { defaults = value ∷ [] }
 abbrev pub from_rule : Rule
 from_rule = default_rule (codes "from") (codes "0")
 
+-- `--wait SECONDS`, no time where it isn't given
+abbrev pub wait_rule : Rule
+wait_rule = default_rule (codes "wait") (codes "0")
+
 -- ---- the commands
 
 -- a command that was built, as clap's rule reads it; where none was, one without words
@@ -82,23 +87,29 @@ abbrev pub with_any : Command → App
 with_any command = with_rule (with_rule (new_app (word_of command)) (option_rule (codes "db")))
     question_files_rule
 
--- a command's word and its arguments
-abbrev pub app_for : Command → App
-app_for (Ask query) = with_any (Ask query)
-app_for Check = with_any Check
-app_for Summary = with_db Summary
-app_for Take = with_rule (with_db Take) files_rule
-app_for Follow = with_rule (with_db Follow) lines_rule
-app_for Delta = with_rule (with_rule (with_rule (with_db Delta) from_rule)
+-- a command's word and the arguments that not every one has
+abbrev pub own_app : Command → App
+own_app (Ask query) = with_any (Ask query)
+own_app Check = with_any Check
+own_app Summary = with_db Summary
+own_app Take = with_rule (with_db Take) files_rule
+own_app Follow = with_rule (with_db Follow) lines_rule
+own_app Delta = with_rule (with_rule (with_rule (with_db Delta) from_rule)
     (flag_rule (codes "all"))) (place_rule (codes "summary"))
-app_for Scrub = with_rule (with_rule (with_db Scrub) from_rule) (flag_rule (codes "all"))
-app_for Arrivals =
+own_app Scrub = with_rule (with_rule (with_db Scrub) from_rule) (flag_rule (codes "all"))
+own_app Arrivals =
     with_rule (with_rule (with_db Arrivals) (needed_rule (codes "after"))) (flag_rule (codes "all"))
-app_for Run = with_rule (with_rule (with_db Run) (option_rule (codes "peer"))) files_rule
-app_for Service = with_rule (with_rule (with_db Service)
+own_app Run = with_rule (with_rule (with_db Run) (option_rule (codes "peer"))) files_rule
+own_app Service = with_rule (with_rule (with_db Service)
     (default_rule (codes "source") (codes "/orders"))) (option_rule (codes "base"))
-app_for Order = with_rule (with_rule (with_rule (with_rule (with_db Order)
+own_app Order = with_rule (with_rule (with_rule (with_rule (with_db Order)
     (default_rule (codes "source") (codes "/orders"))) (needed_rule (codes "at")))
     (place_rule (codes "action"))) (place_rule (codes "order"))
-app_for Relay =
+own_app Relay =
     with_rule (with_rule (with_db Relay) (needed_rule (codes "after"))) (flag_rule (codes "all"))
+own_app Number = with_rule (with_rule (with_rule (with_db Number) (option_rule (codes "aside")))
+    (default_rule (codes "base") (codes "0"))) lines_rule
+
+-- a command's word and its arguments
+abbrev pub app_for : Command → App
+app_for command = with_rule (own_app command) wait_rule

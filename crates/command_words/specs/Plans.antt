@@ -14,6 +14,7 @@ use Rattle.command_words.specs.declared.command.Command.TheVariants as command
 use Rattle.command_words.specs.declared.request.Action.{Action}
 use Rattle.command_words.specs.declared.request.Action.TheVariants as action
 use Rattle.command_words.specs.declared.request.Request.{Request}
+use Rattle.command_words.specs.declared.request.Invocation.{Invocation}
 use Rattle.command_words.specs.declared.request.Pages.{Pages}
 use Rattle.command_words.specs.declared.request.Pages.TheVariants as pages
 use Rattle.command_words.specs.declared.request.Plan.{Plan}
@@ -42,6 +43,7 @@ abbrev pub command_of : Plan → Command
 command_of (plan.Alone (alone.Once asked)) = once_of asked
 command_of (plan.Alone (alone.Follow lines)) = command.Follow
 command_of (plan.Alone (alone.Check judged)) = command.Check
+command_of (plan.Alone (alone.Number lines)) = command.Number
 command_of (plan.Run files) = command.Run
 
 -- ---- values
@@ -59,10 +61,15 @@ pub record IsOrderNumber (text : List ℕ) (n : ℕ) : Type 0 where
   pub low : 1 ≤ n
   pub high : n ≤ max_sequence
 
--- the number before a service's first row: at most 2^63-1
+-- the number before a service's first row, or a source's first event: at most 2^63-1
 pub record IsBaseNumber (text : List ℕ) (n : ℕ) : Type 0 where
   pub is_number : IsNumber text n
   pub high : n ≤ max_sequence
+
+-- for how many seconds a database is waited for: a day at most
+pub record IsWait (text : List ℕ) (n : ℕ) : Type 0 where
+  pub is_number : IsNumber text n
+  pub high : n ≤ 86400
 
 -- the base is the number that the text writes; none where there is no text
 abbrev pub IsBase : Option (List ℕ) → Option ℕ → Type 0
@@ -162,6 +169,9 @@ HasTextsOf rows (plan.Alone (alone.Follow lines)) =
     (lines.db ≡ text_in rows (codes "db")) × (lines.file ≡ text_in rows (codes "file"))
 HasTextsOf rows (plan.Alone (alone.Check judged)) = (judged.db ≡ first_of (codes "db") rows)
     × (judged.files ≡ texts_in rows (codes "file")) × AreSome judged.db judged.files
+HasTextsOf rows (plan.Alone (alone.Number lines)) = (lines.db ≡ text_in rows (codes "db"))
+    × (lines.aside ≡ first_of (codes "aside") rows) × (lines.file ≡ text_in rows (codes "file"))
+    × IsBaseNumber (text_in rows (codes "base")) lines.base
 HasTextsOf rows (plan.Run files) =
     (files.db ≡ text_in rows (codes "db")) × (files.peer ≡ first_of (codes "peer") rows)
     × (files.files ≡ texts_in rows (codes "file"))
@@ -179,6 +189,22 @@ abbrev pub IsPlan : List Text → Plan → Type 0
 IsPlan words plan = (slice_get words 0 ≡ Some (word_of (command_of plan)))
     × IsPlanFor words (command_of plan) plan
 
+-- a plan has the texts and values that were matched, and waits as long as they say
+abbrev pub HasValuesOf : List Row → Invocation → Type 0
+HasValuesOf rows asked =
+    HasTextsOf rows asked.plan × IsWait (text_in rows (codes "wait")) asked.wait
+
+-- the words are a plan for the command, and say for how long it waits
+pub record IsInvocationFor (words : List Text) (command : Command) (asked : Invocation) : Type 0 where
+  pub is_plan : IsPlanFor words command asked.plan
+  pub wait : IsWait (text_in (matches_of (app_for command) words) (codes "wait")) asked.wait
+
+-- the first word is that of the plan's command, and the words are a plan for it and say for how long
+-- it waits
+pub record IsInvocation (words : List Text) (asked : Invocation) : Type 0 where
+  pub is_word : slice_get words 0 ≡ Some (word_of (command_of asked.plan))
+  pub is_for : IsInvocationFor words (command_of asked.plan) asked
+
 -- the refusal is want of memory, or there is this fault in the words
 abbrev pub Blames : Type 0 → Faulty → Type 0
 Blames fault faulty.OutOfMemory = Unit {0}
@@ -188,10 +214,15 @@ Blames fault (faulty.Words text is_help) = fault
 abbrev pub HaveNoPlan : List Row → Command → Type 0
 HaveNoPlan rows command = (plan : Plan) → command_of plan ≡ command → HasTextsOf rows plan → ⊥
 
--- there is no plan that the words are: the first is no command, the words are at fault by clap's
+-- nothing that the command may be asked for has what was matched
+abbrev pub HaveNoInvocation : List Row → Command → Type 0
+HaveNoInvocation rows command =
+    (asked : Invocation) → command_of asked.plan ≡ command → HasValuesOf rows asked → ⊥
+
+-- there is nothing that the words ask for: the first is no command, the words are at fault by clap's
 -- rule for the command, or one of their values isn't allowed
 abbrev pub AreFaulty : List Text → Type 0
-AreFaulty words = (plan : Plan) → IsPlan words plan → ⊥
+AreFaulty words = (asked : Invocation) → IsInvocation words asked → ⊥
 
 -- the number of the reason, from 1
 abbrev pub number_of : Faulty → ℕ

@@ -1,7 +1,7 @@
 //! The arguments of the commands, as clap declares them.
 ghost use Rattle.std.specs.Prelude.{◌≡◌, false, codes};
 ghost use Rattle.clap.specs.Words.{rule_of};
-ghost use Rattle.command_words.specs.Commands.{default_rule, files_rule, flag_rule, from_rule, lines_rule, needed_rule, option_rule, place_rule, question_files_rule};
+ghost use Rattle.command_words.specs.Commands.{default_rule, files_rule, flag_rule, from_rule, lines_rule, needed_rule, option_rule, place_rule, question_files_rule, wait_rule};
 
 use clap::{Arg, ArgAction};
 use std::alloc::Global;
@@ -249,4 +249,55 @@ pub fn arrived<'a>(alloc: Global) -> Arg<'a>
         .value_name("N")
         .help("How many events were read already: the number of the last one, 0 for none")
         .required(true)
+}
+
+/// `--db NUMBERS`
+pub fn numbers_db<'a>(alloc: Global) -> Arg<'a>
+    ensures rule { rule_of result ≡ needed_rule (codes "db") }
+    ensures local { result.global ≡ false }
+{
+    Arg::new(alloc, "db")
+        .long("db")
+        .value_name("NUMBERS")
+        .help(
+            "The file of the numbers that were given, made where there is none; a source has one such file",
+        )
+        .required(true)
+}
+
+/// `--aside NAME`
+pub fn aside<'a>(alloc: Global) -> Arg<'a>
+    ensures rule { rule_of result ≡ option_rule (codes "aside") }
+    ensures local { result.global ≡ false }
+{
+    Arg::new(alloc, "aside")
+        .long("aside")
+        .value_name("NAME")
+        .help(
+            "The attribute under which a sequence that an event has already is set aside; without it such an event is refused",
+        )
+}
+
+/// `--base N` of numbers.
+pub fn numbers_base<'a>(alloc: Global) -> Arg<'a>
+    ensures rule { rule_of result ≡ default_rule (codes "base") (codes "0") }
+    ensures local { result.global ≡ false }
+{
+    Arg::new(alloc, "base")
+        .long("base")
+        .value_name("N")
+        .help("The number before the first of each source; a file that is there must have it")
+        .default_value("0")
+}
+
+/// `--wait SECONDS`
+pub fn wait<'a>(alloc: Global) -> Arg<'a>
+    ensures rule { rule_of result ≡ wait_rule }
+    ensures local { result.global ≡ false }
+{
+    Arg::new(alloc, "wait")
+        .long("wait")
+        .value_name("SECONDS")
+        .help("For how long to wait for a database that another process has open, at most 86400")
+        .default_value("0")
 }

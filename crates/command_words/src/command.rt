@@ -1,18 +1,19 @@
 //! The table of the commands: their words, their help lines and their arguments.
 ghost use Rattle.std.specs.Prelude.{◌≡◌, IfOk, IfSome, IsNone, IsOk, codes, false, ◌≢◌};
 ghost use Rattle.clap.specs.Words.{app_of, new_app, rule_of, with_rule};
-ghost use Rattle.command_words.specs.Commands.{app_for, app_in, word_of};
+ghost use Rattle.command_words.specs.Commands.{app_for, app_in, own_app, word_of};
 ghost use Rattle.command_words.specs.declared.command.Command.{Command};
 
 use crate::argument::{
-    action, after, all, arrived, at, base, checked_db, checked_files, db, files, from, lines,
-    numbered_files, order, paged_db, peer, question_db, question_files, read_db, source, summary,
+    action, after, all, arrived, aside, at, base, checked_db, checked_files, db, files, from,
+    lines, numbered_files, numbers_base, numbers_db, order, paged_db, peer, question_db,
+    question_files, read_db, source, summary, wait,
 };
 use clap::Arg;
 use std::alloc::{AllocError, Global};
 use views::Query;
 
-/// A command of the program.
+/// A command of the program. Each has `[--wait SECONDS]` too.
 #[derive(Clone, Copy, Debug, PartialEq, Eq)]
 pub enum Command {
     /// `WORD [--db DB] FILE..`: answers the query for the events of all files together, and those
@@ -42,6 +43,8 @@ pub enum Command {
     Order,
     /// `relay --db DB --after N [--all]`: the next rows of a service's outbox.
     Relay,
+    /// `number --db NUMBERS [--aside NAME] [--base N] [FILE]`: gives each event of lines its number.
+    Number,
 }
 
 /// A row of the table, for as long as clap's command wants its texts.
@@ -57,7 +60,7 @@ pub struct Row<'a> {
 }
 
 /// The words of all commands, in the order in which help lists them.
-pub static WORDS: [&str; 18] = [
+pub static WORDS: [&str; 19] = [
     "cover",
     "gaps",
     "shown",
@@ -76,6 +79,7 @@ pub static WORDS: [&str; 18] = [
     "service",
     "order",
     "relay",
+    "number",
 ];
 
 /// The table: the row of a word.
@@ -193,6 +197,12 @@ pub fn row_of<'a>(word: &str) -> Option<Row<'a>>
             full_name: "site relay",
             about: "Prints a batch of the next events of the orders, to be sent to the sites",
         }),
+        "number" => Some(Row {
+            command: Command::Number,
+            word: "number",
+            full_name: "site number",
+            about: "Gives each event of lines its number, for producers that send none, and prints it once it is kept",
+        }),
         _ => None,
     }
 }
@@ -212,6 +222,14 @@ impl<'a> Row<'a> {
     pub fn parser(self, alloc: Global) -> Result<clap::Command<'a>, AllocError>
         requires { self.word.now ≡ word_of self.command }
         ensures { IfOk result (λ parser. app_of parser ≡ app_for self.entry.command) }
+    {
+        with(self.own_parser(alloc), wait(alloc))
+    }
+
+    /// The command with the arguments that not every one has.
+    fn own_parser(self, alloc: Global) -> Result<clap::Command<'a>, AllocError>
+        requires { self.word.now ≡ word_of self.command }
+        ensures { IsOk result → app_in result ≡ own_app self.entry.command }
     {
         let bare = self.bare(alloc);
         match self.command {
@@ -235,6 +253,10 @@ impl<'a> Row<'a> {
                 with(with(with(begun, at(alloc)), action(alloc)), order(alloc))
             }
             Command::Relay => with(with(with(bare, paged_db(alloc)), after(alloc)), all(alloc)),
+            Command::Number => {
+                let begun = with(with(bare, numbers_db(alloc)), aside(alloc));
+                with(with(begun, numbers_base(alloc)), lines(alloc))
+            }
         }
     }
 

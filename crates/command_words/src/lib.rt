@@ -13,5 +13,7 @@ mod words;
 pub use attributes::Texts;
 pub use command::Command;
 pub use fault::Faulty;
-pub use request::{Action, Alone, Check, Follow, Once, Pages, Plan, Request, Run};
-pub use words::plan;
+pub use request::{
+    Action, Alone, Check, Follow, Invocation, Number, Once, Pages, Plan, Request, Run,
+};
+pub use words::invocation;

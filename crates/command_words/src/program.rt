@@ -29,14 +29,64 @@ fn program<'a>(alloc: Global) -> Result<clap::Command<'a>, AllocError> {
     Ok(program)
 }
 
-/// What is said of words whose first is no command: help, the version, or which word is unknown.
+/// What is said of words whose first is no command: help, the version, which word is unknown, or
+/// that a command stands behind its options.
 pub fn no_command(alloc: Global, words: &[&str]) -> Faulty
     ensures { Blames ⊤ result }
 {
+    if let Some(place) = late_command(words) {
+        return command_first(alloc, words, place);
+    }
     match program(alloc) {
         Ok(program) => match program.try_get_matches_from(words) {
             Ok(_) => unknown_word(alloc),
             Err(error) => faulty_of(alloc, error),
+        },
+        Err(_) => Faulty::OutOfMemory,
+    }
+}
+
+/// Whether the word is an option, and none that the program has without a command.
+fn is_own_option(word: &str) -> bool {
+    word.starts_with("--") && word != "--" && word != "--help" && word != "--version"
+}
+
+/// The place of the first word that is a command, where the words begin with its options.
+fn late_command(words: &[&str]) -> Option<usize> {
+    let first = words.first()?;
+    if !is_own_option(first) {
+        return None;
+    }
+    words.iter().position(|word| row_of(word).is_some())
+}
+
+/// The words with that at a place as the first.
+fn words_from(alloc: Global, words: &[&str], place: usize) -> Result<String, AllocError> {
+    let mut line = String::new(alloc);
+    if let Some(word) = words.get(place) {
+        line.push_str(word)?;
+    }
+    for i in 0..words.len() {
+        if i != place {
+            line.push_str(" ")?;
+            line.push_str(words[i])?;
+        }
+    }
+    Ok(line)
+}
+
+/// What is said of words whose command, at that place, stands behind its options.
+fn command_first(alloc: Global, words: &[&str], place: usize) -> Faulty {
+    let Ok(line) = words_from(alloc, words, place) else {
+        return Faulty::OutOfMemory;
+    };
+    let said = format!(in alloc;
+        "error: the command comes first: site {line}\n\nFor more information, try '--help'.\n"
+    );
+    match said {
+        Ok(text) => Faulty::Words {
+            text: Text::from_string(text),
+            is_help: false,
         },
         Err(_) => Faulty::OutOfMemory,
     }

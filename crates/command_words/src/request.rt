@@ -2,6 +2,15 @@
 use attributes::{Moment, Text, Texts};
 use views::Query;
 
+/// What the words ask for, and how long a database is waited for.
+#[derive(Drop)]
+pub struct Invocation {
+    pub plan: Plan,
+    /// For how many seconds at most a database is tried again that another process has open:
+    /// 0 to 86,400, 0 for once.
+    pub wait: u64,
+}
+
 /// What the words ask for: a command, and the values of its arguments.
 #[derive(Drop)]
 pub enum Plan {
@@ -20,6 +29,8 @@ pub enum Alone {
     Follow(Follow),
     /// Files whose events are judged, each by itself, and a database.
     Check(Check),
+    /// Lines whose events are given numbers as they come.
+    Number(Number),
 }
 
 /// A command with one answer.
@@ -92,6 +103,19 @@ pub struct Follow {
 pub struct Check {
     pub db: Option<Text>,
     pub files: Texts,
+}
+
+/// The lines of a file, each event of which is given its number and printed once the number is kept.
+#[derive(Drop)]
+pub struct Number {
+    /// The database of the numbers.
+    pub db: Text,
+    /// The name of the attribute that a number which an event has already is set aside under, where
+    /// the words gave one. Any text.
+    pub aside: Option<Text>,
+    /// The number before the first of each source, at most 2^63-1.
+    pub base: u64,
+    pub file: Text,
 }
 
 /// Files taken side by side into a database, each by a thread of its own, and with them the events

@@ -1,6 +1,6 @@
 //! The values that texts of the command line write.
 ghost use Rattle.std.specs.Prelude.{◌≡◌, ◌≢◌, ℕ, true, IfErr, IfOk, IfSome, IsNone};
-ghost use Rattle.command_words.specs.Plans.{AreFew, Blames, IsBaseNumber, IsNumber, IsOrderNumber, IsServiceSource, IsTime, action_word};
+ghost use Rattle.command_words.specs.Plans.{AreFew, Blames, IsBaseNumber, IsNumber, IsOrderNumber, IsServiceSource, IsTime, IsWait, action_word};
 ghost use Rattle.command_words.specs.declared.request.Action.{Action};
 
 use crate::fault::Faulty;
@@ -16,6 +16,8 @@ const MAX_WORKERS: u64 = 16;
 const MAX_TIME: usize = 64;
 /// The most bytes of a service's source.
 const MAX_SOURCE: usize = 1_024;
+/// The most seconds that a database is waited for: a day.
+const MAX_WAIT: u64 = 86_400;
 
 /// The number that at most twenty decimal digits write, where it fits 64 bits.
 fn number_of(text: &str) -> Option<u64>
@@ -68,7 +70,7 @@ fn no_order(alloc: Global, text: &str) -> Faulty {
     )
 }
 
-/// The number before a service's first row.
+/// The number before a service's first row, or a source's first event.
 pub fn base(alloc: Global, text: &str) -> Result<u64, Faulty>
     ensures ok { IfOk result (IsBaseNumber text.now) }
     ensures err { IfErr result (Blames ((n : ℕ) → IsBaseNumber text.now n → ⊥)) }
@@ -92,6 +94,27 @@ fn no_base(alloc: Global, text: &str) -> Faulty {
         text,
         "a number from 0 to 9223372036854775807",
     )
+}
+
+/// For how many seconds a database is waited for.
+pub fn wait(alloc: Global, text: &str) -> Result<u64, Faulty>
+    ensures ok { IfOk result (IsWait text.now) }
+    ensures err { IfErr result (Blames ((n : ℕ) → IsWait text.now n → ⊥)) }
+{
+    match number_of(text) {
+        Some(seconds) => {
+            if seconds > MAX_WAIT {
+                return Err(no_wait(alloc, text));
+            }
+            Ok(seconds)
+        }
+        None => Err(no_wait(alloc, text)),
+    }
+}
+
+/// What is said of a text that is no such number of seconds.
+fn no_wait(alloc: Global, text: &str) -> Faulty {
+    not_allowed(alloc, "--wait <SECONDS>", text, "a number from 0 to 86400")
 }
 
 /// What is done with an order.

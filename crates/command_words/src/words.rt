@@ -2,11 +2,11 @@
 ghost use Rattle.std.specs.Prelude.{◌≡◌, ℕ, IfOk, IfErr, Option, codes, map};
 ghost use Rattle.clap.specs.Words.{first_of, found_of, rows_of};
 ghost use Rattle.command_words.specs.Commands.{word_of};
-ghost use Rattle.command_words.specs.Plans.{AreFaulty, AreSome, Blames, HasPages, HasRequestOf, HasTextsOf, HaveNoPlan, IsBase, IsPlan, IsPlanFor, command_of};
+ghost use Rattle.command_words.specs.Plans.{AreFaulty, AreSome, Blames, HasPages, HasRequestOf, HasTextsOf, HasValuesOf, HaveNoInvocation, HaveNoPlan, IsBase, IsInvocation, IsInvocationFor, command_of};
 ghost use Rattle.command_words.specs.declared.command.Command.TheVariants as command;
+ghost use Rattle.command_words.specs.declared.request.Invocation.{Invocation};
 ghost use Rattle.command_words.specs.declared.request.Pages.{Pages};
 ghost use Rattle.command_words.specs.declared.request.Alone.TheVariants as alone;
-ghost use Rattle.command_words.specs.declared.request.Plan.{Plan};
 ghost use Rattle.command_words.specs.declared.request.Plan.TheVariants as plan;
 ghost use Rattle.command_words.specs.declared.request.Request.{Request};
 
@@ -14,9 +14,9 @@ use crate::command::{Command, row_of};
 use crate::fault::Faulty;
 use crate::matched::{given_text_of, is_given, str_of, text_of, texts_of};
 use crate::program::{faulty_of, no_command};
-use crate::request::{Alone, Check, Follow, Once, Pages, Plan, Request, Run};
+use crate::request::{Alone, Check, Follow, Invocation, Number, Once, Pages, Plan, Request, Run};
 use crate::value::{
-    action, base, both_pages, no_events, number, order_number, source, time, workers,
+    action, base, both_pages, no_events, number, order_number, source, time, wait, workers,
 };
 use attributes::Text;
 use clap::ArgMatches;
@@ -25,22 +25,23 @@ use std::alloc::{AllocError, Global};
 /// What the words after the program's name ask for; the first word is the command.
 ///
 /// A request for help or for the version counts as faulty words.
-pub fn plan(alloc: Global, words: &[Text]) -> Result<Plan, Faulty>
-    ensures ok { IfOk result (IsPlan words.now) }
+pub fn invocation(alloc: Global, words: &[Text]) -> Result<Invocation, Faulty>
+    ensures ok { IfOk result (IsInvocation words.now) }
     ensures err { IfErr result (Blames (AreFaulty words.now)) }
 {
     match words.first() {
-        Some(first) => plan_for(alloc, first.as_str(), words),
+        Some(first) => invocation_for(alloc, first.as_str(), words),
         None => Err(no_command(alloc, &[])),
     }
 }
 
-/// What the words are a plan for, the first of which is at hand.
-fn plan_for(alloc: Global, first: &str, words: &[Text]) -> Result<Plan, Faulty>
-    ensures ok { IfOk result (λ plan. (word_of (command_of plan) ≡ first.now)
-        × IsPlanFor words.now (command_of plan) plan) }
-    ensures err { IfErr result (Blames ((plan : Plan) → first.now ≡ word_of (command_of plan)
-        → IsPlanFor words.now (command_of plan) plan → ⊥)) }
+/// What the words ask for, the first of which is at hand.
+fn invocation_for(alloc: Global, first: &str, words: &[Text]) -> Result<Invocation, Faulty>
+    ensures ok { IfOk result (λ asked. (word_of (command_of asked.plan) ≡ first.now)
+        × IsInvocationFor words.now (command_of asked.plan) asked) }
+    ensures err { IfErr result (Blames ((asked : Invocation)
+        → first.now ≡ word_of (command_of asked.plan)
+        → IsInvocationFor words.now (command_of asked.plan) asked → ⊥)) }
 {
     let strs = as_strs(alloc, words)?;
     let Some(row) = row_of(first) else {
@@ -48,8 +49,24 @@ fn plan_for(alloc: Global, first: &str, words: &[Text]) -> Result<Plan, Faulty>
     };
     let parser = row.parser(alloc)?;
     match parser.try_get_matches_from(strs.as_slice()) {
-        Ok(matches) => matched(alloc, row.command, &matches),
+        Ok(matches) => timed(alloc, row.command, &matches),
         Err(error) => Err(faulty_of(alloc, error)),
+    }
+}
+
+/// The command with the values of its arguments, and how long it waits, which is tested behind them.
+fn timed(alloc: Global, command: Command, matches: &ArgMatches<'_>) -> Result<Invocation, Faulty>
+    ensures command { IfOk result (λ asked. command_of asked.plan ≡ command) }
+    ensures values { IfOk result (HasValuesOf (rows_of (found_of matches.now))) }
+    ensures err { IfErr result
+        (Blames (HaveNoInvocation (rows_of (found_of matches.now)) command)) }
+{
+    match matched(alloc, command, matches) {
+        Ok(plan) => match wait(alloc, str_of(matches, "wait")) {
+            Ok(wait) => Ok(Invocation { plan, wait }),
+            Err(faulty) => Err(faulty),
+        },
+        Err(faulty) => Err(faulty),
     }
 }
 
@@ -124,6 +141,20 @@ fn matched(alloc: Global, command: Command, matches: &ArgMatches<'_>) -> Result<
             let is_all = is_given(matches, "all");
             match number(alloc, "--after <N>", str_of(matches, "after")) {
                 Ok(after) => Ok(once(Once::Relay { db, after, is_all })),
+                Err(faulty) => Err(faulty),
+            }
+        }
+        Command::Number => {
+            let db = text_of(alloc, matches, "db")?;
+            let aside = given_text_of(alloc, matches, "aside")?;
+            let file = text_of(alloc, matches, "file")?;
+            match base(alloc, str_of(matches, "base")) {
+                Ok(base) => Ok(Plan::Alone(Alone::Number(Number {
+                    db,
+                    aside,
+                    base,
+                    file,
+                }))),
                 Err(faulty) => Err(faulty),
             }
         }

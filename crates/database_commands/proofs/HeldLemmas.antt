@@ -8,12 +8,12 @@ use Rattle.attributes.specs.Event.{EventValue}
 use Rattle.inbox.specs.KeyOrder.{key_cmp}
 use Rattle.inbox.specs.Ordered.{append_new}
 use Rattle.database_layout.specs.Layout.{has_inbox}
-use Rattle.inbox_table.specs.Calls.{Adopts, IsTold, MayMake, MayUpgrade}
+use Rattle.inbox_table.specs.Calls.{Adopts, IsTold, MayMake, MayTake, MayUpgrade}
 use Rattle.inbox_table.specs.Opening.{MayOpen, Opens}
 use Rattle.inbox_table.specs.Rows.{IsAnyInbox, IsInbox, IsOldInbox}
 use Rattle.inbox_table.proofs.UpgradeLemmas.{any_named}
-use Rattle.database_commands.specs.Held.{Holds, KeepsRows, MayHold, TellsUpgrade}
-use Rattle.database_commands.proofs.BesideLemmas.{service_gained, service_same, service_upgraded}
+use Rattle.database_commands.specs.Held.{Holds, KeepsRows, MayHold, MayHoldMore, TellsUpgrade}
+use Rattle.database_commands.proofs.BesideLemmas.{service_gained, service_kept, service_over, service_same, service_upgraded}
 
 -- where there was no table, the one that was made has what the database held
 pub made_holds : (old new : Database) (held : List EventValue) → has_inbox old.schema ≡ false → IsInbox new [] → Holds old held → IsInbox new held
@@ -52,6 +52,7 @@ made_may_hold old trees absent may = record {
   events = [];
   was = absent_holds old absent;
   is = inbox_holds may.db [] may.made.table;
+  beside = service_gained old may.db may.made.beside;
 }
 
 pub upgraded_may_hold : (old : Database) (trees : Trees) → MayUpgrade old trees → MayHold old trees
@@ -62,12 +63,36 @@ upgraded_may_hold old trees may = record {
   events = may.events;
   was = any_holds old may.events (inr may.was);
   is = inbox_holds may.db may.events may.is;
+  beside = service_upgraded old may.db may.beside;
 }
 
 -- what is left after a stop in opening one
 pub opened_may_hold : (old : Database) (trees : Trees) → MayOpen old trees → MayHold old trees
 opened_may_hold old trees (inl (absent, made)) = made_may_hold old trees absent made
 opened_may_hold old trees (inr (there, upgraded)) = upgraded_may_hold old trees upgraded
+
+-- and after one in keeping events, behind what is there
+pub held_may_more : (L : List EventValue) (old : Database) (trees : Trees) → MayHold old trees → MayHoldMore L old trees
+held_may_more L old trees may = record {
+  db = may.db;
+  are = may.are;
+  sound = may.sound;
+  events = may.events;
+  was = may.was;
+  is = inl may.is;
+  beside = may.beside;
+}
+
+pub took_may_more : (L : List EventValue) (old mid : Database) (trees : Trees) (held : List EventValue) → Holds old held → IsInbox mid held → KeepsRows old mid → MayTake L mid trees → MayHoldMore L old trees
+took_may_more L old mid trees held was box rows may = record {
+  db = may.db;
+  are = may.are;
+  sound = may.sound;
+  events = held;
+  was = was;
+  is = inr (inbox_holds may.db (append_new key_cmp held L) (may.takes held box));
+  beside = service_over old mid may.db rows (service_kept mid may.db may.beside);
+}
 
 -- a table that was opened, with these events
 module _ (tells : ℕ → ℕ → Type 0) (old new : State) (events : List EventValue) (opens : Opens tells old new events) where
@@ -134,3 +159,7 @@ on_okay (Err y) P Q f p = tt
 pub either_way : {T E : Type 0} (r : Result T E) (P : Type 0) → OnOk r P → OnErr r P → P
 either_way (Ok x) P one other = one
 either_way (Err y) P one other = other
+
+pub at_okay : {T E : Type 0} (r : Result T E) (x : T) (P : Type 0) → r ≡ Ok x → OnOk r P → P
+at_okay (Ok y) x P is p = p
+at_okay (Err y) x P is p = absurd (cc)

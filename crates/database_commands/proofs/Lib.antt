@@ -6,3 +6,4 @@ mod RowLemmas
 mod ToldLemmas
 mod DescribedLemmas
 mod BesideLemmas
+mod NamedLemmas

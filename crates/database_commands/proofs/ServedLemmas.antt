@@ -1,23 +1,27 @@
 -- The service that a database has, before and after a command.
-use Rattle.std.proofs.Common.{◌≡◌, inl, inr, Bool, ℕ, List, [], true, false, Some, IsTrue, sym, ap, subst, refl, ◌∙◌}
+use Rattle.std.proofs.Common.{◌≡◌, inl, inr, Bool, ℕ, List, [], ◌∷◌, ◌++◌, true, false, Some, IsTrue, sym, ap, subst, refl, arith, ◌∙◌}
+use Rattle.sqlite_trees.specs.Tree.{Trees}
 use Rattle.sqlite.specs.Effect.{Database}
 use Rattle.sqlite.specs.State.{State, HasCleanDisk}
 use Rattle.attributes.specs.Event.{EventValue}
-use Rattle.outbox.specs.Call.{Accepts, IsSame, Refuses}
+use Rattle.outbox.specs.Call.{Accepts, IsSame, LeavesAsBefore, MayAccept, MayFound, Refuses}
 use Rattle.outbox.specs.Order.{Accepted}
 use Rattle.outbox.specs.Row.{rows_after}
 use Rattle.database_layout.specs.Layout.{has_name}
 use Rattle.outbox.specs.Service.{IsService}
-use Rattle.outbox.specs.Opening.{Opens}
+use Rattle.outbox.specs.Opening.{LeavesOrMakes, Opens}
 use Rattle.outbox.specs.Shown.{HasNoOther, Shown, Stands}
 use Rattle.outbox.specs.declared.fault.OutboxFault.{OutboxFault}
 use Rattle.outbox.specs.declared.status.Status.{Status}
 use Rattle.relay.specs.Relay.{ForNextRows}
 use Rattle.database_commands.specs.Fault.{of_outbox}
-use Rattle.database_commands.specs.Held.{HasAnother, IsOrdered, IsServed, KeepsEvents, KeepsService, Orders, RefusesOrder, Serves, ShowsRows}
+use Rattle.database_commands.specs.Held.{HasAnother, IsOrdered, IsServed, KeepsEvents, KeepsService, LeavesOrOrders, MayOrder, Orders, RefusesOrder, Serves, ShowsRows}
 use Rattle.database_commands.specs.Print.{batch_line, event_line}
+use Rattle.database_commands.specs.Service.{LeavesOrFounds}
 use Rattle.database_commands.specs.declared.fault.CommandFault.{CommandFault}
-use Rattle.database_commands.proofs.BesideLemmas.{events_gained, events_over, events_same}
+use Rattle.database_commands.specs.steps.Served.{LeavesOrAccepts}
+use Rattle.database_commands.proofs.BesideLemmas.{events_beside, events_gained, events_over, events_same}
+use Rattle.database_commands.proofs.RowLemmas.{no_service}
 
 -- a service that is new
 pub made_served : (old new : Database) (given source : List ℕ) (base : ℕ) → ((s : List ℕ) (b : ℕ) (commands : List Accepted) → IsService old s b commands → ⊥) → IsService new given 0 [] → source ≡ given → base ≡ 0 → IsServed given old source base new
@@ -108,3 +112,53 @@ beside_read old mid new source base last keeps stands same clean still =
 -- a database that is as it was
 pub kept_all : (given : List ℕ) (old new : Database) → new ≡ old → KeepsService given old new
 kept_all given old new is s b commands h = subst (λ db. Serves db given s b commands) (sym is) h
+
+-- ---- what a stop leaves
+
+-- in making a service
+pub made_may_order : (given : List ℕ) (c : Accepted) (old : Database) (trees : Trees) → has_name old.schema ≡ false → MayFound given 0 old trees → MayOrder given c old trees
+made_may_order given c old trees lacks may = record {
+  db = may.db;
+  are = may.are;
+  sound = may.sound;
+  serves = λ s b commands h. inl (made_served old may.db given given 0 (λ t n others box. no_service old t n others ⊥ lacks box) may.founded.service refl refl s b commands h).2;
+  beside = events_gained old may.db may.founded.gains;
+}
+
+-- in giving it a command
+pub accepted_may_order : (given : List ℕ) (c : Accepted) (old mid : Database) (source : List ℕ) (base : ℕ) (trees : Trees) → IsServed given old source base mid → KeepsEvents old mid → MayAccept source base c mid trees → MayOrder given c old trees
+accepted_may_order given c old mid source base trees served keeps may = record {
+  db = may.db;
+  are = may.are;
+  sound = may.sound;
+  serves = λ s b commands h.
+      let it = served s b commands h in
+      inr (subst (λ x. IsService may.db x b (commands ++ c ∷ [])) it.0 (subst (λ n. IsService may.db source n (commands ++ c ∷ [])) it.1 (may.service commands (here given old mid source base served s b commands h))));
+  beside = events_over old mid may.db keeps (events_beside mid may.db may.beside);
+}
+
+pub made_or_orders : (given : List ℕ) (c : Accepted) (old new : State) → LeavesOrMakes given 0 old new → LeavesOrOrders given c old new
+made_or_orders given c old new leaves clean db may = elim (leaves clean db may) [
+  | inl before ↦ inl before
+  | inr (lacks, made) ↦ inr (made_may_order given c old.now db lacks made)
+]
+
+pub leaves_or_orders : (given : List ℕ) (c : Accepted) (old mid new : State) (source : List ℕ) (base : ℕ) → LeavesOrMakes given 0 old mid → (HasCleanDisk mid → IsServed given old.now source base mid.now)
+    → (HasCleanDisk mid → KeepsEvents old.now mid.now) → (HasCleanDisk mid → IsTrue mid.is_open) → (HasCleanDisk new → HasCleanDisk mid) → LeavesOrAccepts source base c mid new → LeavesOrOrders given c old new
+leaves_or_orders given c old mid new source base first served beside opened earlier last clean db may =
+    let early = earlier clean in
+    elim (last clean (opened early) db may) [
+      | inl before ↦ made_or_orders given c old mid first early db before
+      | inr done ↦ inr (accepted_may_order given c old.now mid.now source base db (served early) (beside early) done)
+    ]
+
+-- in reading its rows
+pub made_or_founds : (given : List ℕ) (old new : State) → LeavesOrMakes given 0 old new → LeavesOrFounds given 0 old new
+made_or_founds given old new leaves clean db may = elim (leaves clean db may) [ inl before ↦ inl before | inr (lacks, made) ↦ inr made ]
+
+pub read_or_founds : (given : List ℕ) (old mid new : State) (source : List ℕ) (base last : ℕ) → LeavesOrMakes given 0 old mid → (HasCleanDisk mid → Stands mid.now source base last) → IsSame mid new → LeavesAsBefore mid new
+    → LeavesOrFounds given 0 old new
+read_or_founds given old mid new source base last first stands same leaves clean db may =
+    let early : HasCleanDisk mid = omega (arith, same.clean, clean) in
+    let table = (stands early).table in
+    made_or_founds given old mid first early db (leaves clean table.layout table.schema db may)

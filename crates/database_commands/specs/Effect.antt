@@ -3,7 +3,7 @@
 -- fault.
 use Rattle.std.specs.Prelude.{◌≡◌, ◌≢◌, ◌⊎◌, ℕ, List, [], length, Bool, Option, unwrap_or, true, false, Result, Ok, IfErr, IfOk, IsOk, IsTrue, OnErr, OnOk}
 use Rattle.sqlite.specs.Effect.{Database}
-use Rattle.sqlite.specs.State.{State, HasCleanDisk}
+use Rattle.sqlite.specs.State.{State, HasCleanDisk, Survives}
 use Rattle.attributes.specs.Event.{EventValue}
 use Rattle.database_layout.specs.Layout.{has_inbox, has_name}
 use Rattle.inbox_table.specs.Calls.{IsTold}
@@ -12,7 +12,7 @@ use Rattle.outbox.specs.Call.{IsAsItWas, IsFounded, IsSettled, Leaves}
 use Rattle.outbox.specs.Order.{Accepted}
 use Rattle.outbox.specs.Shown.{IsNoService}
 use Rattle.database_commands.specs.Described.{Describes}
-use Rattle.database_commands.specs.Held.{HasAnother, IsMeant, IsNoOrders, IsUntold, KeepsEvents, KeepsOrTakes, KeepsRows, KeepsService, Orders, RefusesOrder, ShowsAllRows, ShowsEvents, ShowsRows, TakesInto, TellsUpgrade}
+use Rattle.database_commands.specs.Held.{HasAnother, IsMeant, IsNoOrders, IsUntold, KeepsEvents, KeepsOrTakes, KeepsRows, KeepsService, LeavesOrOrders, MayHold, MayHoldMore, Orders, RefusesOrder, ShowsAllRows, ShowsEvents, ShowsRows, TakesInto, TellsUpgrade}
 use Rattle.database_commands.specs.Service.{HasOtherBase, LeavesOrFounds, TellsOrFounds}
 use Rattle.database_commands.specs.Service as service
 use Rattle.database_commands.specs.declared.fault.CommandFault.{CommandFault}
@@ -31,6 +31,12 @@ pub record TakeEffect (tells : ℕ → ℕ → Type 0) (events : List EventValue
   pub beside : HasCleanDisk new → IsTrue new.is_open → KeepsRows old.now new.now
   pub told : OnOk outcome (IsTold tells (length events))
   pub upgraded : HasCleanDisk new → OnOk outcome (TellsUpgrade tells old.now)
+  -- answered, a crash leaves them
+  pub stays_open : HasCleanDisk new → OnOk outcome (IsTrue new.is_open)
+  pub settled : HasCleanDisk new → OnOk outcome (IsSettled new)
+  -- whatever came of it, no fault of the disk is forgotten, and a crash leaves what it could leave
+  -- before, or the events that were held, with those that were taken or without
+  pub crash : Survives old new (MayHoldMore events old.now)
 
 -- a page was asked for, by `delta` or `scrub`
 pub record PageEffect (Shows : Database → List ℕ → Type 0)
@@ -39,6 +45,12 @@ pub record PageEffect (Shows : Database → List ℕ → Type 0)
   -- whatever came of it, it holds what it held, and a service has its rows
   pub list : HasCleanDisk new → IsTrue new.is_open → KeepsEvents old.now new.now
   pub beside : HasCleanDisk new → IsTrue new.is_open → KeepsRows old.now new.now
+  -- answered, a crash leaves just that
+  pub stays_open : HasCleanDisk new → OnOk outcome (IsTrue new.is_open)
+  pub settled : HasCleanDisk new → OnOk outcome (IsSettled new)
+  -- whatever came of it, no fault of the disk is forgotten, and a crash leaves what it could leave
+  -- before, or the events that were held
+  pub crash : Survives old new (MayHold old.now)
 
 -- a command only looked at the inbox: `summary`, or all pages of `delta` or `scrub`
 pub record LookEffect {A : Type 0} (Shows : Database → A → Type 0)
@@ -84,6 +96,8 @@ pub record ServiceEffect (is_named : Bool) (given : List ℕ) (start : Option �
   -- where there was one, and where it is refused, the database is as it was
   pub there : has_name old.now.schema ≡ true → IsAsItWas old new
   pub back : OnErr outcome (IsAsItWas old new)
+  -- whatever came of it, no fault of the disk is forgotten
+  pub clean : HasCleanDisk new → HasCleanDisk old
   pub crash : LeavesOrFounds given (unwrap_or start 0) old new
   -- what each fault comes of
   pub another : IfErr outcome (λ f. f ≡ command.AnotherSource → IsTrue is_named
@@ -108,8 +122,15 @@ pub record OrderEffect (is_named : Bool) (given : List ℕ) (c : Accepted)
   pub another : IfErr outcome (λ f. f ≡ command.AnotherSource → IsTrue is_named
       × (HasCleanDisk new → HasAnother given old.now))
   pub meant : IsTrue is_named → HasCleanDisk new → OnOk outcome (IsMeant given old.now)
+  -- accepted, a crash leaves the command
+  pub stays_open : HasCleanDisk new → OnOk outcome (IsTrue new.is_open)
+  pub settled : HasCleanDisk new → OnOk outcome (IsSettled new)
   -- whatever came of it, the inbox has its events
   pub beside : HasCleanDisk new → IsTrue new.is_open → KeepsEvents old.now new.now
+  -- and no fault of the disk is forgotten, and a crash leaves what it could leave before, or the
+  -- service with the command or without
+  pub clean : HasCleanDisk new → HasCleanDisk old
+  pub crash : LeavesOrOrders given c old new
 
 -- the next rows after a number were asked for
 pub record RelayEffect (given : List ℕ) (after : ℕ) (outcome : Result (List ℕ) CommandFault)
@@ -119,14 +140,22 @@ pub record RelayEffect (given : List ℕ) (after : ℕ) (outcome : Result (List 
   -- has its events
   pub kept : HasCleanDisk new → IsTrue new.is_open → KeepsService given old.now new.now
   pub beside : HasCleanDisk new → IsTrue new.is_open → KeepsEvents old.now new.now
+  -- answered, a crash leaves just that
+  pub stays_open : HasCleanDisk new → OnOk outcome (IsTrue new.is_open)
+  pub settled : HasCleanDisk new → OnOk outcome (IsSettled new)
+  -- whatever came of it, no fault of the disk is forgotten, and a crash leaves what it could leave
+  -- before, or that with a new service
+  pub clean : HasCleanDisk new → HasCleanDisk old
+  pub crash : LeavesOrFounds given 0 old new
   pub fault : IfErr outcome (λ f. f ≢ command.AnotherSource)
 
 -- all rows after a number were asked for
 pub record RelayAllEffect (after : ℕ) (outcome : Result (List ℕ) CommandFault) (old new : State)
     : Type 0 where
   pub shown : HasCleanDisk new → IfOk outcome (ShowsAllRows after old.now)
-  -- whatever came of it, a service has its rows
+  -- whatever came of it, a service has its rows, and no fault of the disk is forgotten
   pub kept : HasCleanDisk new → IsTrue new.is_open → KeepsRows old.now new.now
+  pub clean : HasCleanDisk new → HasCleanDisk old
   -- where there is none, nothing is printed, and the database is as it was, whatever the disk does
   pub without : has_name old.now.schema ≡ false → (new.now ≡ old.now) × (outcome ≡ Ok [])
   pub fault : IfErr outcome (λ f. f ≢ command.AnotherSource)

@@ -2,6 +2,7 @@
 use Rattle.std.specs.Prelude.{◌≡◌, ◌≢◌, ◌⊎◌, ◌+◌, ◌-◌, ◌<◌, ◌++◌, ℕ, suc, Bool, List, [], ◌∷◌, Some, None, drop, length, true, false, IsTrue}
 use Rattle.sqlite_trees.specs.Tree.{Trees}
 use Rattle.sqlite.specs.Effect.{Database, IsDatabase}
+use Rattle.sqlite.specs.State.{State, HasCleanDisk}
 use Rattle.std.specs.List.{AllByRecursion}
 use Rattle.attributes.specs.Event.{EventValue}
 use Rattle.attributes.specs.Sequence.{number_of}
@@ -49,7 +50,13 @@ abbrev pub ShowsLacking : Sources → Database → List EventValue → Type 0
 ShowsLacking summary db events = (held : List EventValue) → Holds db held
     → events ≡ delta (set_of held) summary
 
--- these are the trees of a database that holds the events that the old one held
+-- a service that is there is as it was
+abbrev pub KeepsRows : Database → Database → Type 0
+KeepsRows old new = (source : List ℕ) (base : ℕ) (commands : List Accepted)
+    → IsService old source base commands → IsService new source base commands
+
+-- these are the trees of a database that holds the events that the old one held, and beside them
+-- its service
 pub record MayHold (old : Database) (trees : Trees) : Type 0 where
   pub db : Database
   pub are : trees ≡ db.trees
@@ -57,6 +64,18 @@ pub record MayHold (old : Database) (trees : Trees) : Type 0 where
   pub events : List EventValue
   pub was : Holds old events
   pub is : Holds db events
+  pub beside : KeepsRows old db
+
+-- these are the trees of a database that holds those events, or these and behind them those of L
+-- that weren't there, and beside them its service
+pub record MayHoldMore (L : List EventValue) (old : Database) (trees : Trees) : Type 0 where
+  pub db : Database
+  pub are : trees ≡ db.trees
+  pub sound : IsDatabase db
+  pub events : List EventValue
+  pub was : Holds old events
+  pub is : Holds db events ⊎ Holds db (append_new key_cmp events L)
+  pub beside : KeepsRows old db
 
 -- these are all that the database held but the first so many, in the order in which they came
 abbrev pub ShowsArrived : ℕ → Database → List EventValue → Type 0
@@ -206,6 +225,22 @@ abbrev pub KeepsService : List ℕ → Database → Database → Type 0
 KeepsService given old new = (source : List ℕ) (base : ℕ) (commands : List Accepted)
     → Serves old given source base commands → Serves new given source base commands
 
+-- these are the trees of a database with the service, made where there was none or not, that has
+-- the command or hasn't, and the events that the old one held beside it
+pub record MayOrder (given : List ℕ) (c : Accepted) (old : Database) (trees : Trees) : Type 0 where
+  pub db : Database
+  pub are : trees ≡ db.trees
+  pub sound : IsDatabase db
+  pub serves : (source : List ℕ) (base : ℕ) (commands : List Accepted)
+      → Serves old given source base commands
+      → IsService db source base commands ⊎ IsService db source base (commands ++ c ∷ [])
+  pub beside : KeepsEvents old db
+
+-- a crash leaves what it could leave before, or such a database
+abbrev pub LeavesOrOrders : List ℕ → Accepted → State → State → Type 0
+LeavesOrOrders given c old new = HasCleanDisk new → (db : Trees) → new.may_leave db
+    → old.may_leave db ⊎ MayOrder given c old.now db
+
 -- the text is the batch of the next rows after a number, at most a page of them, each once and in
 -- their order
 abbrev pub ShowsRows : List ℕ → ℕ → Database → List ℕ → Type 0
@@ -237,11 +272,6 @@ SaysRows after text = (events : List EventValue) × (text ≡ batch_line events)
 abbrev pub SaysAllRows : ℕ → List ℕ → Type 0
 SaysAllRows after text = (events : List EventValue) × (text ≡ pages_text events)
     × AllByRecursion (IsBehind after) events
-
--- a service that is there is as it was
-abbrev pub KeepsRows : Database → Database → Type 0
-KeepsRows old new = (source : List ℕ) (base : ℕ) (commands : List Accepted)
-    → IsService old source base commands → IsService new source base commands
 
 -- where the database had an inbox of version 1, what looks on was told, after each thousand of its
 -- events, how many of them were in the one that took its place

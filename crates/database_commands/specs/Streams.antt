@@ -62,5 +62,6 @@ pub record FollowsOver (input out out' : Option (List ℕ)) (outcome : Result �
   pub stops : IfErr outcome (λ f. ((left' : Option (List ℕ))
       × StaysUnread left left' out out' old new f)
       ⊎ StopsInto (record { lines = 0; left = left; out = out }) out' old new f)
-  -- whatever came of it, a service has its rows
+  -- whatever came of it, a service has its rows, and no fault of the disk is forgotten
   pub beside : HasCleanDisk new → IsTrue new.is_open → KeepsRows old.now new.now
+  pub clean : HasCleanDisk new → HasCleanDisk old

@@ -36,7 +36,7 @@ hint trouble.NoFile =
     codes "a database is a file: its name is neither empty nor :memory:, and doesn't begin with file:"
 hint trouble.CannotRead = codes "there is no file of that name, or none that this user may look at"
 hint trouble.Busy =
-    codes "another program has the file open: wait for its end, or let flock keep commands apart"
+    codes "another program has the file open: --wait 30 waits for it, at most 30 seconds"
 hint trouble.Journal =
     codes "SQLite left a journal that it alone can play back: open the file once with sqlite3"
 hint trouble.System =
@@ -74,6 +74,14 @@ of_error _ = trouble.Store
 abbrev pub of_kind : ErrorKind → Trouble
 of_kind kind.OutOfMemory = trouble.OutOfMemory
 of_kind _ = trouble.System
+
+-- the system, the environment or the name refuses, before a database is asked
+abbrev pub IsOfSystem : Trouble → Type 0
+IsOfSystem trouble.NoDatabase = ⊥
+IsOfSystem trouble.Damaged = ⊥
+IsOfSystem trouble.Store = ⊥
+IsOfSystem trouble.Foreign = ⊥
+IsOfSystem _ = Unit {0}
 
 -- {"db":DB,"fault":NAME,"hint":WORDS}
 abbrev pub trouble_data : List ℕ → List ℕ → List ℕ → Data

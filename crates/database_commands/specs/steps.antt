@@ -1,3 +1,4 @@
 -- Words of private clauses and lemmas alone: whoever reads what is promised needs none of them.
 pub mod Left
 pub mod Told
+pub mod Served

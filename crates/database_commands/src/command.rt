@@ -1,7 +1,7 @@
 //! What a command to a database is, whatever the database's store.
 ghost use Rattle.std.specs.Prelude.{Result, IfOk, ⊤};
 ghost use Rattle.sqlite.specs.Held.{state};
-ghost use Rattle.sqlite.specs.State.{State};
+ghost use Rattle.sqlite.specs.State.{State, HasCleanDisk};
 ghost use Rattle.database_commands.specs.declared.fault.CommandFault.{CommandFault};
 
 use crate::fault::CommandFault;
@@ -38,5 +38,7 @@ pub trait Command {
     ) -> CommandEnd<S, Self::Answer>
         requires { may_come self }
         ensures did { does self result.outcome (state S.Store conn) (state S.Store result.conn) }
+        ensures clean { HasCleanDisk (state S.Store result.conn)
+            → HasCleanDisk (state S.Store conn) }
         ensures line { IfOk result.outcome (says self) };
 }

@@ -1,29 +1,35 @@
 //! Databases by the names of their files.
-ghost use Rattle.std.specs.Prelude.{◌≡◌, ◌≤◌, ℕ, length, true, Err, IfErr, IfOk, IfSome, MatchResult};
+ghost use Rattle.std.specs.Prelude.{◌≡◌, ◌≤◌, ℕ, false, length, true, Err, IfErr, IfOk, IfSome, IsTrue, MatchResult};
+ghost use Rattle.sqlite.specs.Held.{state};
 ghost use Rattle.attributes.specs.Character.{is_filled};
 ghost use Rattle.attributes.specs.Sequence.{max_sequence};
 ghost use Rattle.line_intake.specs.Acknowledged.{TellsAll};
+ghost use Rattle.database_layout.specs.Layout.{has_name};
 ghost use Rattle.database_commands.specs.Described.{SaysDatabase};
 ghost use Rattle.database_commands.specs.Held.{HasArrived, HasDelta, HasEvents, SaysAllRows, SaysArrivals, SaysDelta, SaysOrder, SaysPage, SaysRows, SaysSummary};
+ghost use Rattle.database_commands.specs.OfFile.{Closes};
 ghost use Rattle.database_commands.specs.Print.{counts_line};
 ghost use Rattle.database_commands.specs.Service.{SaysService};
 ghost use Rattle.database_commands.specs.Streams.{AcknowledgesUntil};
 
 use crate::command::CommandEnd;
 use crate::commands::{
-    ArrivalPage, ArrivalPages, DeltaPage, DeltaPages, GiveOrder, HeldEvents, RelayAll, RelayPage,
-    ScrubPage, ScrubPages, SummaryLine, TakeEvents, TellService,
+    ArrivalPage, ArrivalPages, DeltaPage, DeltaPages, Describe, GiveOrder, HeldEvents, RelayAll,
+    RelayPage, ScrubPage, ScrubPages, SummaryLine, TakeEvents, TellService,
 };
 use crate::fault::CommandFault;
-use crate::named::{describe_named, follow_named, perform_named, perform_there};
+use crate::file::{close, is_there};
+use crate::named::{growth_of, performed};
+use crate::opener::Opener;
 use crate::pages::EventPages;
-use crate::stream::{StreamFault, Streamed};
+use crate::stream::{StreamFault, Streamed, begun, follow};
 use crate::trouble::{Trouble, of_fault};
 use attributes::{Batch, Moment, Text};
 use coverage::Summary;
+use database_layout::has_name;
 use inbox_table::Watch;
 use outbox::Status;
-use sqlite_disk::Unknown;
+use sqlite::{Alter, Connection};
 use sqlite_std_file::File;
 use sqlite_store::FileStore;
 use std::alloc::Global;
@@ -33,8 +39,8 @@ use std::io::{Read, Write};
 /// file where there is none unless it says otherwise, and closes it in the end; what was committed
 /// stays, also where the closing fails. The clauses here say of which form an answer is, for some
 /// events or some service: the page from that place, what the summary lacks, the command that was
-/// given. What it is for what the file held, those of [`perform_named`] and its like say, which the
-/// program calls for files of which nothing is known.
+/// given. What it is for what the file held, those of [`perform_named`] and its like say: here a
+/// command is given to a database in the same way, where nothing is known of its files.
 pub trait Databases {
     /// As [`crate::take`].
     fn take<W: Watch>(
@@ -142,23 +148,37 @@ pub trait Databases {
     fn describe(&self, alloc: Global, name: &str) -> Result<Text, Trouble>
         ensures { IfOk result (SaysDatabase name.now) };
 
-    /// As [`crate::relay`].
+    /// As [`crate::relay`], and whether the service was made.
     fn relay(
         &self,
         alloc: Global,
         name: &str,
         source: &Text,
         after: u64,
-    ) -> Result<Text, CommandFault>
+    ) -> Result<Relayed, CommandFault>
         requires { (is_filled source.now ≡ true) × (length source.now ≤ 1024) }
-        ensures { IfOk result (SaysRows after) };
+        ensures { IfOk result (λ r. SaysRows after r.text) };
 
     /// As [`crate::relay_all`]. A file that isn't there is not made: `CannotRead`.
     fn relay_all(&self, alloc: Global, name: &str, after: u64) -> Result<Text, CommandFault>
         ensures { IfOk result (SaysAllRows after) };
+
+    /// Whether there is something of that name, so that no command makes it.
+    fn is_there(&self, name: &str) -> bool;
+
+    /// The same databases, each of which is tried again where another process has it open, for so
+    /// many seconds at most.
+    fn waiting(&self, seconds: u64) -> Self;
 }
 
-impl Databases for HostRuntime {
+/// The page of a service's rows, and whether the service was made for it.
+#[derive(Drop)]
+pub struct Relayed {
+    pub text: Text,
+    pub is_made: bool,
+}
+
+impl<'a> Databases for Opener<'a> {
     fn take<W: Watch>(
         &self,
         alloc: Global,
@@ -168,14 +188,8 @@ impl Databases for HostRuntime {
     ) -> Result<Text, CommandFault> {
         // A row has some 100 bytes beside the event's text, and the index half a row.
         let growth = events.len().saturating_mul(512);
-        closed(perform_named(
-            self,
-            alloc,
-            name,
-            growth,
-            Unknown,
-            TakeEvents { events, watch },
-        ))
+        let opened = self.open(name, growth);
+        closed(performed(alloc, opened, TakeEvents { events, watch }))
     }
 
     fn follow<R: Read, W: Write>(
@@ -185,22 +199,26 @@ impl Databases for HostRuntime {
         input: &mut R,
         out: &mut W,
     ) -> Result<u64, StreamFault> {
-        match follow_named(self, alloc, name, Unknown, input, out) {
-            Ok(streamed) => {
-                let Streamed { conn, outcome } = streamed;
-                let _closed = conn.close();
+        let mut lines = match begun(alloc, input) {
+            Ok(lines) => lines,
+            Err(why) => return Err(StreamFault::Input(why)),
+        };
+        match self.open(name, growth_of(lines.buffer())) {
+            Ok(conn) => {
+                let Streamed { conn, outcome } = follow(alloc, conn, &mut lines, out);
+                close(conn);
                 outcome
             }
-            Err(fault) => Err(fault),
+            Err(fault) => Err(StreamFault::Database(fault)),
         }
     }
 
     fn events(&self, alloc: Global, name: &str) -> Result<Batch, CommandFault> {
-        closed(perform_there(self, alloc, name, Unknown, HeldEvents))
+        closed(performed(alloc, self.open_there(name), HeldEvents))
     }
 
     fn summary(&self, alloc: Global, name: &str) -> Result<Text, CommandFault> {
-        closed(perform_there(self, alloc, name, Unknown, SummaryLine))
+        closed(performed(alloc, self.open_there(name), SummaryLine))
     }
 
     fn delta_pages(
@@ -209,11 +227,11 @@ impl Databases for HostRuntime {
         name: &str,
         summary: Summary,
     ) -> Result<EventPages, CommandFault> {
-        closed(perform_there(self, alloc, name, Unknown, DeltaPages { summary }))
+        closed(performed(alloc, self.open_there(name), DeltaPages { summary }))
     }
 
     fn scrub_pages(&self, alloc: Global, name: &str) -> Result<EventPages, CommandFault> {
-        closed(perform_there(self, alloc, name, Unknown, ScrubPages))
+        closed(performed(alloc, self.open_there(name), ScrubPages))
     }
 
     fn delta(
@@ -223,15 +241,15 @@ impl Databases for HostRuntime {
         summary: &Summary,
         from: u64,
     ) -> Result<Text, CommandFault> {
-        closed(perform_named(self, alloc, name, 0, Unknown, DeltaPage { summary, from }))
+        closed(performed(alloc, self.open(name, 0), DeltaPage { summary, from }))
     }
 
     fn scrub(&self, alloc: Global, name: &str, from: u64) -> Result<Text, CommandFault> {
-        closed(perform_named(self, alloc, name, 0, Unknown, ScrubPage { from }))
+        closed(performed(alloc, self.open(name, 0), ScrubPage { from }))
     }
 
     fn arrivals(&self, alloc: Global, name: &str, after: u64) -> Result<Text, CommandFault> {
-        closed(perform_there(self, alloc, name, Unknown, ArrivalPage { after }))
+        closed(performed(alloc, self.open_there(name), ArrivalPage { after }))
     }
 
     fn arrival_pages(
@@ -240,7 +258,7 @@ impl Databases for HostRuntime {
         name: &str,
         after: u64,
     ) -> Result<EventPages, CommandFault> {
-        closed(perform_there(self, alloc, name, Unknown, ArrivalPages { after }))
+        closed(performed(alloc, self.open_there(name), ArrivalPages { after }))
     }
 
     fn order(
@@ -260,7 +278,7 @@ impl Databases for HostRuntime {
             number,
             at,
         };
-        closed(perform_named(self, alloc, name, 0, Unknown, order))
+        closed(performed(alloc, self.open(name, 0), order))
     }
 
     fn service(
@@ -276,11 +294,11 @@ impl Databases for HostRuntime {
             is_source_named,
             base,
         };
-        closed(perform_named(self, alloc, name, 0, Unknown, told))
+        closed(performed(alloc, self.open(name, 0), told))
     }
 
     fn describe(&self, alloc: Global, name: &str) -> Result<Text, Trouble> {
-        match describe_named(self, alloc, name, Unknown) {
+        match performed(alloc, self.found(name), Describe { name }) {
             Ok(ended) => match answer_of(ended) {
                 Ok(text) => Ok(text),
                 Err(fault) => Err(of_fault(fault)),
@@ -295,21 +313,45 @@ impl Databases for HostRuntime {
         name: &str,
         source: &Text,
         after: u64,
-    ) -> Result<Text, CommandFault> {
-        closed(perform_named(self, alloc, name, 0, Unknown, RelayPage { source, after }))
+    ) -> Result<Relayed, CommandFault> {
+        let opened = self.open(name, 0);
+        let is_made = match &opened {
+            Ok(conn) => lacks_service(conn),
+            Err(_) => false,
+        };
+        match closed(performed(alloc, opened, RelayPage { source, after })) {
+            Ok(text) => Ok(Relayed { text, is_made }),
+            Err(fault) => Err(fault),
+        }
     }
 
     fn relay_all(&self, alloc: Global, name: &str, after: u64) -> Result<Text, CommandFault> {
-        closed(perform_there(self, alloc, name, Unknown, RelayAll { after }))
+        closed(performed(alloc, self.open_there(name), RelayAll { after }))
     }
+
+    fn is_there(&self, name: &str) -> bool {
+        is_there(self.rt, name).is_ok()
+    }
+
+    fn waiting(&self, seconds: u64) -> Opener<'a> {
+        self.tried_for(seconds)
+    }
+}
+
+/// Whether a database has no service, so that a command that needs one makes it.
+fn lacks_service<S: Alter>(conn: &Connection<S>) -> bool
+    ensures { IsTrue result → has_name (state S.Store conn.now).now.schema ≡ false }
+{
+    !has_name(conn.schema())
 }
 
 /// Closes the database of a command, and answers what it came to.
 fn answer_of<A: Drop>(ended: CommandEnd<FileStore<File>, A>) -> Result<A, CommandFault>
-    ensures { result ≡ ended.outcome }
+    ensures answer { result ≡ ended.outcome }
+    ensures closes { Closes ended.conn }
 {
     let CommandEnd { conn, outcome } = ended;
-    let _closed = conn.close();
+    close(conn);
     outcome
 }
 
@@ -317,7 +359,8 @@ fn answer_of<A: Drop>(ended: CommandEnd<FileStore<File>, A>) -> Result<A, Comman
 fn closed<A: Drop>(
     ended: Result<CommandEnd<FileStore<File>, A>, CommandFault>,
 ) -> Result<A, CommandFault>
-    ensures { MatchResult ended (λ e. result ≡ e.outcome) (λ f. result ≡ Err f) }
+    ensures answer { MatchResult ended (λ e. result ≡ e.outcome) (λ f. result ≡ Err f) }
+    ensures closes { IfOk ended (λ e. Closes e.conn) }
 {
     match ended {
         Ok(ended) => answer_of(ended),

@@ -1,8 +1,9 @@
 //! The files of a database, opened by their name.
-ghost use Rattle.std.specs.Prelude.{◌≤◌, IfOk, IfSome, IsErrOf, IsTrue};
+ghost use Rattle.std.specs.Prelude.{◌≡◌, ◌≤◌, IfErr, IfOk, IfSome, IsErrOf, IsTrue};
 ghost use Rattle.sqlite_wal.specs.Files.{image_at};
 ghost use Rattle.database_commands.specs.Name.{IsNoFile};
-ghost use Rattle.database_commands.specs.OfFile.{IsOver};
+ghost use Rattle.database_commands.specs.OfFile.{Closes, IsOver, RefusesFiles, RefusesFilesFor};
+ghost use Rattle.database_commands.specs.Trouble.{IsOfSystem};
 ghost use Rattle.database_commands.specs.declared.fault.CommandFault.TheVariants as CommandFault;
 ghost use Rattle.database_commands.specs.declared.trouble.Trouble.TheVariants as trouble;
 
@@ -35,7 +36,7 @@ const MOST_PAGES: u64 = 65_536;
 
 /// Whether the name means no file of that name to SQLite: the empty one and `:memory:` are
 /// databases that go away there, and one that begins with `file:` is a URI.
-fn is_no_file(name: &str) -> bool
+pub(crate) fn is_no_file(name: &str) -> bool
     ensures some { IsTrue result → IsNoFile name.now }
     ensures none { IsNoFile name.now → IsTrue result }
 {
@@ -55,6 +56,7 @@ pub(crate) fn open_there<T: Start>(
     start: T,
 ) -> Result<Connection<FileStore<FileFrom<T>>>, CommandFault>
     ensures over { IfOk result (IsOver (image_at T.Start)) }
+    ensures refused { RefusesFilesFor (image_at T.Start) result }
     ensures none { IsNoFile name.now → IsErrOf result CommandFault.Store }
 {
     match found(rt, name, start) {
@@ -70,13 +72,25 @@ pub(crate) fn found<T: Start>(
     start: T,
 ) -> Result<Connection<FileStore<FileFrom<T>>>, Trouble>
     ensures over { IfOk result (IsOver (image_at T.Start)) }
+    ensures refused { RefusesFiles (image_at T.Start) result }
     ensures none { IsNoFile name.now → IsErrOf result trouble.NoFile }
+{
+    match is_there(rt, name) {
+        Ok(()) => opened(rt, name, 0, start),
+        Err(why) => Err(why),
+    }
+}
+
+/// Whether there is something of that name, which may be a database: `CannotRead` where there isn't.
+pub(crate) fn is_there(rt: &HostRuntime, name: &str) -> Result<(), Trouble>
+    ensures none { IsNoFile name.now → IsErrOf result trouble.NoFile }
+    ensures refused { IfErr result IsOfSystem }
 {
     if is_no_file(name) {
         return Err(Trouble::NoFile);
     }
     match fs::metadata(rt, name) {
-        Ok(_) => opened(rt, name, 0, start),
+        Ok(_) => Ok(()),
         Err(error) => match error.kind() {
             ErrorKind::OutOfMemory => Err(Trouble::OutOfMemory),
             _ => Err(Trouble::CannotRead),
@@ -105,6 +119,7 @@ pub fn open_over<T: Start>(
     start: T,
 ) -> Result<Connection<FileStore<FileFrom<T>>>, CommandFault>
     ensures over { IfOk result (IsOver (image_at T.Start)) }
+    ensures refused { RefusesFilesFor (image_at T.Start) result }
     ensures none { IsNoFile name.now → IsErrOf result CommandFault.Store }
 {
     if is_no_file(name) {
@@ -117,13 +132,14 @@ pub fn open_over<T: Start>(
 }
 
 /// As [`open_over`], of a name that is a file's, with what is the matter where it isn't opened.
-fn opened<T: Start>(
+pub(crate) fn opened<T: Start>(
     rt: &HostRuntime,
     name: &str,
     growth: u64,
     start: T,
 ) -> Result<Connection<FileStore<FileFrom<T>>>, Trouble>
     ensures over { IfOk result (IsOver (image_at T.Start)) }
+    ensures refused { RefusesFiles (image_at T.Start) result }
 {
     let pages = pages_for(length_of(rt, name), growth, most_pages(rt)?);
     let options = options(rt, pages)?;
@@ -157,7 +173,8 @@ fn pages_for(length: u64, growth: u64, most: u64) -> u64
 
 /// The most pages that are kept in memory.
 fn most_pages(rt: &HostRuntime) -> Result<u64, Trouble>
-    ensures { IfOk result (λ n. 200 ≤ n) }
+    ensures pages { IfOk result (λ n. 200 ≤ n) }
+    ensures refused { IfErr result IsOfSystem }
 {
     match env::var(rt, CACHE) {
         Ok(text) => match pages_of(text.as_str()) {
@@ -186,7 +203,10 @@ fn pages_of(mib: &str) -> Option<u64>
 }
 
 /// How a database is opened, with a seed drawn at random.
-fn options(rt: &HostRuntime, pages: u64) -> Result<Options, Trouble> {
+fn options(rt: &HostRuntime, pages: u64) -> Result<Options, Trouble>
+    ensures memory { IfOk result (λ o. (o.cache_pages ≡ pages) × (pages ≤ o.spill_pages)) }
+    ensures refused { IfErr result IsOfSystem }
+{
     let state = match RandomState::new(rt) {
         Ok(state) => state,
         Err(error) => return Err(of_kind(error.kind())),
@@ -195,4 +215,15 @@ fn options(rt: &HostRuntime, pages: u64) -> Result<Options, Trouble> {
     options.cache_pages = pages as usize;
     options.spill_pages = options.spill_pages.max(pages as usize);
     Ok(options)
+}
+
+/// Copies the log of a database into its file, and closes both. Where that fails the log stays beside
+/// the file, for the next opening. Time in proportion to the log.
+pub fn close<T: Start>(conn: Connection<FileStore<FileFrom<T>>>)
+    ensures { Closes conn }
+{
+    match conn.close_files() {
+        Ok(files) => drop(files),
+        Err((_, store)) => drop(store.close()),
+    }
 }

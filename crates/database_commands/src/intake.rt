@@ -3,10 +3,10 @@ ghost use Rattle.std.specs.Prelude.{◌≡◌, ◌⊎◌, ℕ, List, length, IfE
 ghost use Rattle.sqlite.specs.Held.{state};
 ghost use Rattle.sqlite.specs.State.{HasCleanDisk, Survives};
 ghost use Rattle.attributes.specs.Event.{EventValue};
-ghost use Rattle.inbox_table.specs.Calls.{IsAsItWas, IsTold, Takes};
+ghost use Rattle.inbox_table.specs.Calls.{IsAsItWas, IsSettled, IsTold, MayTake, Takes};
 ghost use Rattle.inbox_table.specs.Rows.{IsInbox};
 ghost use Rattle.database_commands.specs.declared.fault.CommandFault.TheVariants.{OutOfMemory};
-ghost use Rattle.database_commands.specs.Held.{Holds, IsTaken, KeepsOrTakes, KeepsRows, MayHold, TakesInto, TellsUpgrade};
+ghost use Rattle.database_commands.specs.Held.{Holds, IsTaken, KeepsOrTakes, KeepsRows, MayHold, MayHoldMore, TakesInto, TellsUpgrade};
 ghost use Rattle.database_commands.specs.Print.{counts_line};
 
 use crate::command::CommandEnd;
@@ -29,6 +29,8 @@ pub fn loaded<S: Alter + Drop>(alloc: Global, conn: Connection<S>) -> Result<Loa
     ensures rows { IfOk result (λ l. l.table.rows ≡ length l.events) }
     ensures stays_open { IfOk result (λ l. HasCleanDisk (state S.Store l.table.conn)
         → IsTrue (state S.Store l.table.conn).is_open) }
+    ensures settled { IfOk result (λ l. HasCleanDisk (state S.Store l.table.conn)
+        → IsSettled (state S.Store l.table.conn)) }
     ensures back { IfErr result (λ n. IsAsItWas (state S.Store conn) (state S.Store n.conn)) }
     ensures crash { IfOk result (λ l. Survives (state S.Store conn) (state S.Store l.table.conn)
         (MayHold (state S.Store conn).now)) }
@@ -65,6 +67,12 @@ pub fn take<S: Alter + Drop, W: Watch>(
     ensures told { OnOk result.outcome (IsTold (W.told watch.now) (length events.now)) }
     ensures upgraded { HasCleanDisk (state S.Store result.conn) → OnOk result.outcome
         (TellsUpgrade (W.told watch.now) (state S.Store conn).now) }
+    ensures stays_open { HasCleanDisk (state S.Store result.conn)
+        → OnOk result.outcome (IsTrue (state S.Store result.conn).is_open) }
+    ensures settled { HasCleanDisk (state S.Store result.conn)
+        → OnOk result.outcome (IsSettled (state S.Store result.conn)) }
+    ensures crash { Survives (state S.Store conn) (state S.Store result.conn)
+        (MayHoldMore events.now (state S.Store conn).now) }
 {
     match adopted(alloc, conn, watch) {
         Ok(mut table) => {
@@ -95,6 +103,14 @@ pub(crate) fn adopted<S: Alter + Drop, W: Watch>(
         → KeepsRows (state S.Store conn).now (state S.Store t.conn).now) }
     ensures upgraded { IfOk result (λ t. HasCleanDisk (state S.Store t.conn)
         → TellsUpgrade (W.told watch.now) (state S.Store conn).now) }
+    ensures found { IfOk result (λ t. HasCleanDisk (state S.Store t.conn)
+        → (held : List EventValue) × Holds (state S.Store conn).now held) }
+    ensures stays_open { IfOk result (λ t. HasCleanDisk (state S.Store t.conn)
+        → IsTrue (state S.Store t.conn).is_open) }
+    ensures crash { IfOk result (λ t. Survives (state S.Store conn) (state S.Store t.conn)
+        (MayHold (state S.Store conn).now)) }
+    ensures crash_refused { IfErr result (λ n. Survives (state S.Store conn)
+        (state S.Store n.conn) (MayHold (state S.Store conn).now)) }
 {
     Table::open(alloc, conn, watch)
 }
@@ -122,6 +138,13 @@ fn kept<S: Alter + Drop, W: Watch>(
         → IsTrue (state S.Store table.new.conn).is_open
         → KeepsRows (state S.Store table.old.conn).now (state S.Store table.new.conn).now }
     ensures told { OnOk result (IsTold (W.told watch.now) (length events.now)) }
+    ensures stays_open { HasCleanDisk (state S.Store table.new.conn)
+        → OnOk result (IsTrue (state S.Store table.new.conn).is_open) }
+    ensures settled { HasCleanDisk (state S.Store table.new.conn)
+        → OnOk result (IsSettled (state S.Store table.new.conn)) }
+    ensures crash { Survives (state S.Store table.old.conn) (state S.Store table.new.conn)
+        (λ trees. IsTrue (state S.Store table.old.conn).is_open
+        → MayTake events.now (state S.Store table.old.conn).now trees) }
 {
     match table.keep_watched(events, watch) {
         Ok(fresh) => said(alloc, events.len(), fresh),

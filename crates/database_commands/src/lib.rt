@@ -9,6 +9,7 @@ mod fault;
 mod file;
 mod intake;
 mod named;
+mod opener;
 mod page;
 mod pages;
 mod service;
@@ -22,12 +23,13 @@ pub use commands::{
     ArrivalPage, ArrivalPages, DeltaPage, DeltaPages, Describe, GiveOrder, HeldEvents, RelayAll,
     RelayPage, ScrubPage, ScrubPages, SummaryLine, TakeEvents, TellService,
 };
-pub use databases::Databases;
+pub use databases::{Databases, Relayed};
 pub use described::describe;
 pub use fault::{CommandFault, of_table};
-pub use file::{open, open_over};
+pub use file::{close, open, open_over};
 pub use intake::{loaded, take};
 pub use named::{describe_named, follow_named, perform_named, perform_there};
+pub use opener::Opener;
 pub use outbox::Status;
 pub use page::{arrival_pages, arrivals, delta, delta_pages, held, scrub, scrub_pages, summary};
 pub use pages::EventPages;

@@ -1,13 +1,13 @@
 //! The commands over the files of a database, by their name, whatever the files held. Where the
-//! database can't be opened, there is the fault alone and no connection, and nothing is said of the
-//! files: an opening may make a file and play a log back. Once it is open, each clause `did` says
-//! all that the command may do over a connection, also where it is refused.
-ghost use Rattle.std.specs.Prelude.{IfErr, IfOk};
+//! database can't be opened, there is the fault alone and no connection, and each clause `refused`
+//! says what is left of the files: an opening may make a file and play a log back. Once it is open,
+//! each clause `did` says all that the command may do over a connection, also where it is refused.
+ghost use Rattle.std.specs.Prelude.{◌≡◌, Err, IfErr, IfOk, IsOk, MatchResult};
 ghost use Rattle.sqlite_wal.specs.Files.{image_at};
 ghost use Rattle.line_intake.specs.Acknowledged.{TellsAll};
 ghost use Rattle.database_commands.specs.Described.{SaysDatabase};
 ghost use Rattle.database_commands.specs.Effect.{DescribeEffect};
-ghost use Rattle.database_commands.specs.OfFile.{DoesOver, IsOver};
+ghost use Rattle.database_commands.specs.OfFile.{DoesOver, IsOver, RefusesCommand};
 ghost use Rattle.database_commands.specs.Streams.{AcknowledgesUntil, FollowsOver};
 
 use crate::command::{Command, CommandEnd};
@@ -30,8 +30,13 @@ use std::io::{Read, Write};
 /// events or more, and so room for 180 MB or all that a cache may have.
 const STREAM_GROWTH: u64 = 8_192;
 
+/// About how many bytes a stream will add that begins with these, for the size of the cache alone.
+pub(crate) fn growth_of(first: &[u8]) -> u64 {
+    (first.len() as u64).saturating_mul(STREAM_GROWTH)
+}
+
 /// Gives a command to a database where it was opened.
-fn performed<T: Start, C: Command + Drop, F: Drop>(
+pub(crate) fn performed<T: Start, C: Command + Drop, F: Drop>(
     alloc: Global,
     opened: Result<Connection<FileStore<FileFrom<T>>>, F>,
     command: C,
@@ -41,6 +46,7 @@ fn performed<T: Start, C: Command + Drop, F: Drop>(
     ensures did { IfOk result (λ e.
         DoesOver (image_at T.Start) (C.does command e.outcome) e.conn) }
     ensures line { IfOk result (λ e. IfOk e.outcome (C.says command)) }
+    ensures refused { MatchResult opened (λ _. IsOk result) (λ why. result ≡ Err why) }
 {
     match opened {
         Ok(conn) => Ok(command.perform(alloc, conn)),
@@ -62,6 +68,7 @@ pub fn perform_named<T: Start, C: Command + Drop>(
     ensures did { IfOk result (λ e.
         DoesOver (image_at T.Start) (C.does command e.outcome) e.conn) }
     ensures line { IfOk result (λ e. IfOk e.outcome (C.says command)) }
+    ensures refused { RefusesCommand (image_at T.Start) result }
 {
     performed(alloc, open_over(rt, name, growth, start), command)
 }
@@ -78,6 +85,7 @@ pub fn perform_there<T: Start, C: Command + Drop>(
     ensures did { IfOk result (λ e.
         DoesOver (image_at T.Start) (C.does command e.outcome) e.conn) }
     ensures line { IfOk result (λ e. IfOk e.outcome (C.says command)) }
+    ensures refused { RefusesCommand (image_at T.Start) result }
 {
     performed(alloc, open_there(rt, name, start), command)
 }
@@ -121,8 +129,7 @@ pub fn follow_named<T: Start, R: Read, W: Write>(
         Ok(lines) => lines,
         Err(why) => return Err(StreamFault::Input(why)),
     };
-    let first = lines.buffer().len() as u64;
-    match open_over(rt, name, first.saturating_mul(STREAM_GROWTH), start) {
+    match open_over(rt, name, growth_of(lines.buffer()), start) {
         Ok(conn) => Ok(follow(alloc, conn, &mut lines, out)),
         Err(fault) => Err(StreamFault::Database(fault)),
     }

@@ -1,16 +1,16 @@
 //! Pages of the events that a database holds.
-ghost use Rattle.std.specs.Prelude.{◌≡◌, [], false, IfOk, IsOk, IsTrue};
+ghost use Rattle.std.specs.Prelude.{◌≡◌, [], false, IfOk, IsOk, IsTrue, OnOk};
 ghost use Rattle.sqlite.specs.Held.{state};
-ghost use Rattle.sqlite.specs.State.{HasCleanDisk};
+ghost use Rattle.sqlite.specs.State.{HasCleanDisk, Survives};
 ghost use Rattle.inbox.specs.KeyOrder.{key_cmp};
 ghost use Rattle.inbox.specs.Ordered.{append_new};
 ghost use Rattle.inbox.specs.Sets.{set_of};
 ghost use Rattle.site.specs.Delta.{delta};
 ghost use Rattle.site.specs.Page.{max_page, page};
 ghost use Rattle.database_layout.specs.Layout.{has_inbox};
-ghost use Rattle.outbox.specs.Call.{Leaves};
+ghost use Rattle.outbox.specs.Call.{IsSettled, Leaves};
 ghost use Rattle.database_commands.specs.Effect.{LookEffect, PageEffect};
-ghost use Rattle.database_commands.specs.Held.{HasArrived, HasDelta, HasEvents, KeepsEvents, KeepsRows, SaysArrivals, SaysDelta, SaysPage, SaysSummary, SaysSummaryOf, ShowsArrivals, ShowsArrived, ShowsDelta, ShowsEvents, ShowsLacking, ShowsPage, ShowsSet, ShowsSummary};
+ghost use Rattle.database_commands.specs.Held.{HasArrived, HasDelta, HasEvents, KeepsEvents, KeepsRows, MayHold, SaysArrivals, SaysDelta, SaysPage, SaysSummary, SaysSummaryOf, ShowsArrivals, ShowsArrived, ShowsDelta, ShowsEvents, ShowsLacking, ShowsPage, ShowsSet, ShowsSummary};
 ghost use Rattle.database_commands.specs.Print.{batch_line};
 
 use crate::command::CommandEnd;
@@ -36,6 +36,12 @@ fn own_contents<S: Alter + Drop>(alloc: Global, conn: Connection<S>) -> CommandE
     ensures beside { HasCleanDisk (state S.Store result.conn)
         → IsTrue (state S.Store result.conn).is_open
         → KeepsRows (state S.Store conn).now (state S.Store result.conn).now }
+    ensures stays_open { HasCleanDisk (state S.Store result.conn)
+        → OnOk result.outcome (IsTrue (state S.Store result.conn).is_open) }
+    ensures settled { HasCleanDisk (state S.Store result.conn)
+        → OnOk result.outcome (IsSettled (state S.Store result.conn)) }
+    ensures crash { Survives (state S.Store conn) (state S.Store result.conn)
+        (MayHold (state S.Store conn).now) }
 {
     match loaded(alloc, conn) {
         Ok(loaded) => {

@@ -6,7 +6,8 @@ ghost use Rattle.sqlite.specs.State.{HasCleanDisk};
 ghost use Rattle.attributes.specs.Character.{is_filled};
 ghost use Rattle.attributes.specs.Event.{EventValue};
 ghost use Rattle.attributes.specs.Sequence.{max_sequence};
-ghost use Rattle.outbox.specs.Call.{Accepts, IsAsItWas, IsSame, Refuses, ShowsAfter};
+ghost use Rattle.outbox.specs.Call.{Accepts, IsAsItWas, IsSame, IsSettled, LeavesAsBefore, Refuses, ShowsAfter};
+ghost use Rattle.outbox.specs.Opening.{LeavesOrMakes};
 ghost use Rattle.outbox.specs.Row.{row_event};
 ghost use Rattle.outbox.specs.Shown.{Stands};
 ghost use Rattle.database_layout.specs.Beside.{KeepsBeside};
@@ -20,7 +21,9 @@ ghost use Rattle.database_commands.specs.Effect.{OrderEffect};
 ghost use Rattle.database_commands.specs.Held.{ForAllRows, HasAnother, IsBehind, IsNoOrders, IsServed, KeepsEvents, KeepsRows, KeepsService, SaysAllRows, SaysOrder, SaysRows, ShowsAllRows, ShowsRows};
 ghost use Rattle.database_commands.specs.Pages.{max_page, pages_text};
 ghost use Rattle.database_commands.specs.Print.{batch_line, event_line};
+ghost use Rattle.database_commands.specs.Service.{LeavesOrFounds};
 ghost use Rattle.database_commands.specs.steps.Left.{IsNextPage};
+ghost use Rattle.database_commands.specs.steps.Served.{LeavesOrAccepts};
 
 use crate::command::CommandEnd;
 use crate::fault::{CommandFault, of_outbox, of_relay};
@@ -74,6 +77,16 @@ fn service_of<S: Alter + Drop>(
         → KeepsEvents (state S.Store conn).now (state S.Store s.conn).now) }
     ensures stands { IfOk result (λ s. HasCleanDisk (state S.Store s.conn)
         → Stands (state S.Store s.conn).now s.source s.base s.last) }
+    ensures stays_open { IfOk result (λ s. HasCleanDisk (state S.Store s.conn)
+        → IsTrue (state S.Store s.conn).is_open) }
+    ensures clean { IfOk result (λ s. HasCleanDisk (state S.Store s.conn)
+        → HasCleanDisk (state S.Store conn)) }
+    ensures clean_refused { IfErr result (λ e. HasCleanDisk (state S.Store e.conn)
+        → HasCleanDisk (state S.Store conn)) }
+    ensures crash { IfOk result (λ s.
+        LeavesOrMakes source.now 0 (state S.Store conn) (state S.Store s.conn)) }
+    ensures crash_refused { IfErr result (λ e.
+        LeavesOrMakes source.now 0 (state S.Store conn) (state S.Store e.conn)) }
 {
     match Service::open(alloc, conn, source, BASE) {
         Ok(service) => {
@@ -122,6 +135,13 @@ fn command<S: Alter>(
         (state S.Store service.old.conn).now (state S.Store service.new.conn).now) }
     ensures clean { HasCleanDisk (state S.Store service.new.conn)
         → HasCleanDisk (state S.Store service.old.conn) }
+    ensures stays_open { HasCleanDisk (state S.Store service.new.conn)
+        → OnOk result (IsTrue (state S.Store service.new.conn).is_open) }
+    ensures settled { HasCleanDisk (state S.Store service.new.conn)
+        → OnOk result (IsSettled (state S.Store service.new.conn)) }
+    ensures crash { LeavesOrAccepts service.old.source service.old.base
+        (record { status = status; order = order; at = at.now })
+        (state S.Store service.old.conn) (state S.Store service.new.conn) }
 {
     match status {
         Status::Placed => service.place(order, at),
@@ -193,6 +213,13 @@ fn command_line<S: Alter>(
         (state S.Store service.old.conn).now (state S.Store service.new.conn).now) }
     ensures clean { HasCleanDisk (state S.Store service.new.conn)
         → HasCleanDisk (state S.Store service.old.conn) }
+    ensures stays_open { HasCleanDisk (state S.Store service.new.conn)
+        → OnOk result (IsTrue (state S.Store service.new.conn).is_open) }
+    ensures settled { HasCleanDisk (state S.Store service.new.conn)
+        → OnOk result (IsSettled (state S.Store service.new.conn)) }
+    ensures crash { LeavesOrAccepts service.old.source service.old.base
+        (record { status = status; order = order; at = at.now })
+        (state S.Store service.old.conn) (state S.Store service.new.conn) }
     ensures fault { IfErr result (λ f. f ≢ command.AnotherSource) }
     ensures line { IfOk result (λ text. text ≡ event_line
         (row_event service.old.source (suc service.old.last)
@@ -255,6 +282,12 @@ pub fn relay<S: Alter + Drop>(
     ensures beside { HasCleanDisk (state S.Store result.conn)
         → IsTrue (state S.Store result.conn).is_open
         → KeepsEvents (state S.Store conn).now (state S.Store result.conn).now }
+    ensures stays_open { HasCleanDisk (state S.Store result.conn)
+        → OnOk result.outcome (IsTrue (state S.Store result.conn).is_open) }
+    ensures settled { HasCleanDisk (state S.Store result.conn)
+        → OnOk result.outcome (IsSettled (state S.Store result.conn)) }
+    ensures clean { HasCleanDisk (state S.Store result.conn) → HasCleanDisk (state S.Store conn) }
+    ensures crash { LeavesOrFounds source.now 0 (state S.Store conn) (state S.Store result.conn) }
     ensures fault { IfErr result.outcome (λ f. f ≢ command.AnotherSource) }
     ensures line { IfOk result.outcome (SaysRows after) }
 {
@@ -284,6 +317,12 @@ fn rows_line<S: Alter>(
         ForNextRows service.old.source service.old.base after
         (state S.Store service.old.conn).now (λ rows. text ≡ batch_line rows)) }
     ensures same { IsSame (state S.Store service.old.conn) (state S.Store service.new.conn) }
+    ensures stays_open { HasCleanDisk (state S.Store service.new.conn)
+        → OnOk result (IsTrue (state S.Store service.new.conn).is_open) }
+    ensures settled { HasCleanDisk (state S.Store service.new.conn)
+        → OnOk result (IsSettled (state S.Store service.new.conn)) }
+    ensures crash { LeavesAsBefore (state S.Store service.old.conn)
+        (state S.Store service.new.conn) }
     ensures fault { IfErr result (λ f. f ≢ command.AnotherSource) }
     ensures line { IfOk result (SaysRows after) }
 {
@@ -326,6 +365,7 @@ pub fn relay_all<S: Alter + Drop>(
     ensures kept { HasCleanDisk (state S.Store result.conn)
         → IsTrue (state S.Store result.conn).is_open
         → KeepsRows (state S.Store conn).now (state S.Store result.conn).now }
+    ensures clean { HasCleanDisk (state S.Store result.conn) → HasCleanDisk (state S.Store conn) }
     ensures without { has_name (state S.Store conn).now.schema ≡ false
         → ((state S.Store result.conn).now ≡ (state S.Store conn).now)
         × (result.outcome ≡ Ok []) }
@@ -352,6 +392,7 @@ fn found_rows<S: Alter + Drop>(
     ensures kept { HasCleanDisk (state S.Store result.conn)
         → IsTrue (state S.Store result.conn).is_open
         → KeepsRows (state S.Store conn).now (state S.Store result.conn).now }
+    ensures clean { HasCleanDisk (state S.Store result.conn) → HasCleanDisk (state S.Store conn) }
     ensures fault { IfErr result.outcome (λ f. f ≢ command.AnotherSource) }
     ensures line { IfOk result.outcome (SaysAllRows after) }
 {

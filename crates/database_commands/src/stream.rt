@@ -110,6 +110,7 @@ pub fn follow<S: Alter + Drop, R: Read, W: Write>(
     ensures beside { HasCleanDisk (state S.Store result.conn)
         → IsTrue (state S.Store result.conn).is_open
         → KeepsRows (state S.Store conn).now (state S.Store result.conn).now }
+    ensures clean { HasCleanDisk (state S.Store result.conn) → HasCleanDisk (state S.Store conn) }
     ensures told { IfOk result.outcome
         (TellsAll (R.remaining input.old) (W.contents out.old) (W.contents out.new)) }
     ensures until { IfErr result.outcome (λ f. AcknowledgesUntil f

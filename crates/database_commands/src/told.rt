@@ -70,6 +70,7 @@ fn made<S: Alter + Drop>(
         (IsAsItWas (state S.Store conn) (state S.Store result.conn)) }
     ensures open { HasCleanDisk (state S.Store result.conn)
         → OnOk result.outcome (IsTrue (state S.Store result.conn).is_open) }
+    ensures clean { HasCleanDisk (state S.Store result.conn) → HasCleanDisk (state S.Store conn) }
     ensures crash { LeavesOrFounds source.now base
         (state S.Store conn) (state S.Store result.conn) }
     ensures fault { IfErr result.outcome (λ f.

@@ -1,6 +1,6 @@
 //! Why nothing is told of a database, in more words than a command has that needs it.
 ghost use Rattle.std.specs.Prelude.{◌≡◌, IfOk};
-ghost use Rattle.database_commands.specs.Trouble.{fault_of, hint, name_of, of_error, of_fault, of_kind, trouble_line};
+ghost use Rattle.database_commands.specs.Trouble.{IsOfSystem, fault_of, hint, name_of, of_error, of_fault, of_kind, trouble_line};
 
 use crate::fault::CommandFault;
 use crate::text::trouble_text;
@@ -64,7 +64,7 @@ impl Trouble {
     }
 
     /// What is the matter, and what can be done.
-    fn hint(self) -> &'static str
+    pub fn hint(self) -> &'static str
         ensures { result.now ≡ hint self }
     {
         match self {
@@ -74,7 +74,7 @@ impl Trouble {
             Trouble::CannotRead =>
                 "there is no file of that name, or none that this user may look at",
             Trouble::Busy =>
-                "another program has the file open: wait for its end, or let flock keep commands apart",
+                "another program has the file open: --wait 30 waits for it, at most 30 seconds",
             Trouble::Journal =>
                 "SQLite left a journal that it alone can play back: open the file once with sqlite3",
             Trouble::System =>
@@ -122,7 +122,8 @@ pub fn of_error(error: sqlite::Error) -> Trouble
 
 /// What a refusal of the operating system is.
 pub fn of_kind(kind: ErrorKind) -> Trouble
-    ensures { result ≡ of_kind kind }
+    ensures exact { result ≡ of_kind kind }
+    ensures system { IsOfSystem result }
 {
     match kind {
         ErrorKind::OutOfMemory => Trouble::OutOfMemory,
@@ -131,7 +132,9 @@ pub fn of_kind(kind: ErrorKind) -> Trouble
 }
 
 /// Why the files of a database weren't opened.
-pub fn of_open(error: OpenError) -> Trouble {
+pub fn of_open(error: OpenError) -> Trouble
+    ensures { IsOfSystem result }
+{
     match error {
         OpenError::OutOfMemory => Trouble::OutOfMemory,
         OpenError::Io(error) => of_kind(error.kind()),

@@ -1,6 +1,6 @@
 //! Why a site isn't opened.
-ghost use Rattle.std.specs.Prelude.{◌≢◌};
-ghost use Rattle.durable_site.specs.declared.fault.OpenFault.TheVariants.{Foreign};
+ghost use Rattle.std.specs.Prelude.{◌≡◌};
+ghost use Rattle.durable_site.specs.Files.{IsOfSystem, error_fault, table_fault};
 
 use inbox_table::TableFault;
 use sqlite::ErrorCode;
@@ -44,7 +44,7 @@ impl OpenFault {
 }
 
 impl From<io::Error> for OpenFault {
-    ghost from_gives = { λ _ f. f ≢ Foreign };
+    ghost from_gives = { λ _ f. IsOfSystem f };
 
     fn from(error: io::Error) -> OpenFault {
         match error.kind() {
@@ -56,7 +56,7 @@ impl From<io::Error> for OpenFault {
 
 /// What an error of the database is that is met when it is opened.
 pub(crate) fn of_error(error: sqlite::Error) -> OpenFault
-    ensures { result ≢ Foreign }
+    ensures { result ≡ error_fault error }
 {
     match error {
         sqlite::Error::SqliteFailure(code) => match code {
@@ -71,7 +71,9 @@ pub(crate) fn of_error(error: sqlite::Error) -> OpenFault
 }
 
 /// What a refusal of the table is.
-pub(crate) fn of_table(fault: TableFault) -> OpenFault {
+pub(crate) fn of_table(fault: TableFault) -> OpenFault
+    ensures { result ≡ table_fault fault }
+{
     match fault {
         TableFault::OutOfMemory => OpenFault::OutOfMemory,
         TableFault::Store => OpenFault::Store,

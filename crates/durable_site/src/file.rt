@@ -1,19 +1,19 @@
 //! A site over the files of a database, which are handed over open.
-ghost use Rattle.std.specs.Prelude.{◌≢◌, ◌≤◌, IfErr, IfOk};
+ghost use Rattle.std.specs.Prelude.{◌≡◌, ◌≤◌, false, true, IfOk, IsTrue};
+ghost use Rattle.file_disk.specs.Opened.{IsFresh, IsUnder, is_usable};
 ghost use Rattle.sqlite_wal.specs.Files.{image_at};
-ghost use Rattle.durable_site.specs.Files.{IsOver, OpensOver};
-ghost use Rattle.durable_site.specs.declared.fault.OpenFault.TheVariants.{Foreign};
+ghost use Rattle.durable_site.specs.Files.{Closes, IsCacheOf, IsOver, OpensOver, RefusesFiles, RefusesSite, table_fault};
 
 use crate::durable::DurableSite;
 use crate::fault::{OpenFault, of_error, of_table};
 use file_disk::{FileFrom, files_of};
 use inbox_table::NotMade;
 use sqlite::Connection;
-use sqlite_disk::Start;
+use sqlite_disk::{Files, Start};
 use sqlite_pager::Options;
 use sqlite_store::FileStore;
 use std::alloc::Global;
-use std::fs;
+use std::{fs, io};
 
 /// The bytes of a database's page.
 const PAGE: u64 = 4_096;
@@ -54,9 +54,13 @@ pub fn open_files<T: Start>(
     given: GivenFiles,
     start: T,
 ) -> Result<FileSite<T>, OpenFault>
-    ensures { IfOk result (OpensOver (image_at T.Start)) }
+    ensures opens { IfOk result (OpensOver (image_at T.Start)) }
+    ensures refused { RefusesSite (image_at T.Start) result }
 {
-    let conn = connect(alloc, given, start)?;
+    let conn = match connect(alloc, given, start) {
+        Ok(conn) => conn,
+        Err(fault) => return Err(fault),
+    };
     match DurableSite::open(alloc, conn) {
         Ok(site) => Ok(site),
         Err(refused) => Err(fault_of(refused)),
@@ -64,7 +68,9 @@ pub fn open_files<T: Start>(
 }
 
 /// Why no site was made of a connection, which is let go.
-fn fault_of<T: Start>(refused: NotMade<FileStore<FileFrom<T>>>) -> OpenFault {
+fn fault_of<T: Start>(refused: NotMade<FileStore<FileFrom<T>>>) -> OpenFault
+    ensures { result ≡ table_fault refused.fault }
+{
     let NotMade { conn: _, fault } = refused;
     of_table(fault)
 }
@@ -78,23 +84,50 @@ pub fn connect<T: Start>(
     start: T,
 ) -> Result<Connection<FileStore<FileFrom<T>>>, OpenFault>
     ensures over { IfOk result (IsOver (image_at T.Start)) }
-    ensures fault { IfErr result (λ f. f ≢ Foreign) }
+    ensures refused { RefusesFiles (image_at T.Start) result }
 {
-    let pages = pages_for(given.db.metadata()?.len(), given.cache_mib);
-    let mut options = Options::new(given.seed);
-    options.cache_pages = pages as usize;
-    options.spill_pages = options.spill_pages.max(pages as usize);
-    let files = files_of(given.log, given.db, given.key, start)?;
+    let (files, options) = taken(given, start)?;
     match Connection::open_files(alloc, files, options) {
         Ok(conn) => Ok(conn),
         Err((error, _)) => Err(of_error(error)),
     }
 }
 
+/// The files as disks under the key that was given, and how a database is opened over them: with the
+/// seed that was given, and a cache of the size that was.
+fn taken<T: Start>(given: GivenFiles, start: T) -> io::Result<(Files<FileFrom<T>>, Options)>
+    ensures log { IfOk result (λ r. IsFresh true r.0.log) }
+    ensures db { IfOk result (λ r. IsFresh false r.0.db) }
+    ensures log_usable { IfOk result (λ r. IsTrue (is_usable T.Start r.0.log)) }
+    ensures db_usable { IfOk result (λ r. IsTrue (is_usable T.Start r.0.db)) }
+    ensures keyed { IfOk result (λ r. IsUnder given.key r.0.log × IsUnder given.key r.0.db) }
+    ensures seeded { IfOk result (λ r. r.1.seed ≡ given.seed) }
+    ensures cached { IfOk result (λ r. IsCacheOf given.cache_mib r.1.cache_pages) }
+    ensures spilled { IfOk result (λ r. r.1.cache_pages ≤ r.1.spill_pages) }
+{
+    let pages = pages_for(given.db.metadata()?.len(), given.cache_mib);
+    let mut options = Options::new(given.seed);
+    options.cache_pages = pages as usize;
+    options.spill_pages = options.spill_pages.max(pages as usize);
+    let files = files_of(given.log, given.db, given.key, start)?;
+    Ok((files, options))
+}
+
+/// Copies the log of a database into its file, and closes both. Where that fails the log stays beside
+/// the file, for the next opening. Time in proportion to the log.
+pub fn close<T: Start>(conn: Connection<FileStore<FileFrom<T>>>)
+    ensures { Closes conn }
+{
+    match conn.close_files() {
+        Ok(files) => drop(files),
+        Err((_, store)) => drop(store.close()),
+    }
+}
+
 /// The pages that are to be kept in memory. A page stands in the cache at its number modulo the
 /// cache's size, so there is a tenth more than the file has.
 fn pages_for(length: u64, cache_mib: u64) -> u64
-    ensures { 200 ≤ result }
+    ensures { IsCacheOf cache_mib result }
 {
     if cache_mib > 0 {
         return cache_mib.min(1_048_576) * MIB;

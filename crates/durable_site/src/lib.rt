@@ -9,7 +9,7 @@ mod owed;
 
 pub use durable::DurableSite;
 pub use fault::OpenFault;
-pub use file::{FileSite, GivenFiles, connect, open_files};
+pub use file::{FileSite, GivenFiles, close, connect, open_files};
 pub use file_disk::{FileFrom, Unknown};
 pub use inbox_table::{NotMade, TableFault};
 pub use owed::Owed;

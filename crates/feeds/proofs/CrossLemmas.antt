@@ -2,7 +2,6 @@
 use denote.Enum.Declared as enum_declared
 use denote.Enum.Enum as enum
 use denote.Exit.{no}
-use denote.Plain.{UInt}
 use denote.Ref.{NamedLft, ShrRef}
 use denote.Param.{arg, param}
 use denote.Param.Send.{AllSend, IsSend, IsSync, arg_send, enum_send, param_send, param_sync, recorded_send, sendable, shr_send, struct_send}
@@ -11,7 +10,7 @@ use denote.Struct.Declared as declared
 use denote.Struct.Struct.{Struct}
 use denote.Struct.Tuple.{TupleAt, field_at, type_at}
 use mathlib.Core.List.{List, [], ◌∷◌}
-use mir.Syntax.{Sym, Ty, w64}
+use mir.Syntax.{Sym, Ty}
 use Prim.Native.Nat.{ℕ}
 use Rattle.std.proofs.Crossing as heap
 use Rattle.std.proofs.MapsCrossing as maps

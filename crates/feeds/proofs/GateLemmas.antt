@@ -1,8 +1,8 @@
 -- What the gate let a worker do, one call more at a time.
-use Rattle.std.proofs.Common.{◌≡◌, ◌⊎◌, ◌+◌, ◌<◌, ◌≤◌, ℕ, List, ◌++◌, [], ◌∷◌, length, refl, sym, ap, ◌∙◌, subst, arith, inl, inr, length-append}
+use Rattle.std.proofs.Common.{◌≡◌, ◌+◌, ◌≤◌, ℕ, List, ◌++◌, [], ◌∷◌, length, refl, sym, ap, ◌∙◌, subst, arith, inl, inr, length-append}
 use Rattle.std.proofs.lemmas.Bool.{cases_lt}
 use Rattle.std.specs.Bool.{IsTrue}
-use Rattle.std.specs.Prelude.{Option, Some, None, Ok, Err, true, false}
+use Rattle.std.specs.Prelude.{Option, Some, None, true, false}
 use Rattle.attributes.specs.Event.{EventValue}
 use Rattle.site.specs.Gate.{LetsThrough}
 use Rattle.event_json.specs.declared.fault.ReadFault.{ReadFault}

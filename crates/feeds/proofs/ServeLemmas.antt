@@ -14,7 +14,7 @@ use Rattle.turn_lock.specs.declared.machine.Entry.{Entry}
 use Rattle.turn_lock.specs.History.{StartsWith, entry, made_by}
 use Rattle.views.specs.declared.query.Query.{Query}
 use Rattle.site_lock.specs.Pass.{IsSame, IsSplitOff, Shown, Steps, leave, leaves}
-use Rattle.feeds.specs.Serve.{AreGated, EachAt, HasCalls, Serves, WorkerAsks, WorkerFeeds, WorkerIsGated, WorkerPulls, ends_of, worker_of}
+use Rattle.feeds.specs.Serve.{EachAt, HasCalls, Serves, WorkerAsks, WorkerFeeds, WorkerPulls, worker_of}
 use Rattle.feeds.specs.declared.asking.Asked.{Asked}
 use Rattle.feeds.specs.declared.report.Report.{Report}
 use Rattle.feeds.specs.declared.serving.Served.{Served}
@@ -24,7 +24,7 @@ use Rattle.feeds.specs.declared.serving.worker.JobEnd.{JobEnd}
 use Rattle.feeds.specs.declared.serving.worker.JobEnd.TheVariants.{Answered, Reported}
 use Rattle.feeds.specs.declared.serving.worker.Work.{Work}
 use Rattle.feeds.specs.declared.serving.worker.Work.TheVariants as work
-use Rattle.feeds.specs.steps.Serve.{AllAt, AllTold, AreAt, Each, Ends, IsGatedFor, IsJobAt, Performs, WorkerTells, ended_by, answers_by, answers_in, outcomes, reports_by, reports_in, works_of}
+use Rattle.feeds.specs.steps.Serve.{AllAt, AllTold, AreAt, Each, Ends, IsJobAt, Performs, WorkerTells, answers_by, answers_in, outcomes, reports_by, reports_in, works_of}
 use Rattle.feeds.proofs.PullLemmas.{holds_on, keeps_having}
 
 -- one job more
@@ -179,24 +179,27 @@ seen_still p q e on same h = subst (λ z. has key_cmp z e ≡ true)
     (sym (ap (λ z. leave z q.seen) same ∙ ap (leave p.opening) on.1 ∙ leave-append p.opening p.seen on.0))
     (still_there (leaves p) on.0 e h)
 
-performs_still : (w : Work) (m : List Call) (A B : List EventValue) (o : JobEnd) → ((e : EventValue) → has key_cmp A e ≡ true → has key_cmp B e ≡ true) → Performs w m A o → Performs w m B o
-performs_still (work.Feed b) m A B (Reported r) more h = h
-performs_still (work.Pull C) m A B (Reported r) more h = (
+performs_still : (lets shuts heard : ℕ → ℕ → Type 0) (n : ℕ) (w : Work) (m : List Call) (A B : List EventValue) (o : JobEnd) → ((e : EventValue) → has key_cmp A e ≡ true → has key_cmp B e ≡ true) → Performs lets shuts heard n w m A o → Performs lets shuts heard n w m B o
+performs_still lets shuts heard n (work.Feed b) m A B (Reported r) more h = h
+performs_still lets shuts heard n (work.Pull C) m A B (Reported r) more h = (
   h.0,
-  h.1,
+  (
+    h.1.0,
+    h.1.1,
+    λ d. let k = h.1.2 d in record {
+      peer = k.peer;
+      takes = k.takes;
+      told = k.told;
+      handled_all = k.handled_all;
+      holds = holds_on A B (delta (set_of C) k.peer) more k.holds;
+    },
+  ),
   h.2,
-  λ d. let k = h.3 d in record {
-    peer = k.peer;
-    takes = k.takes;
-    told = k.told;
-    handled_all = k.handled_all;
-    holds = holds_on A B (delta (set_of C) k.peer) more k.holds;
-  },
 )
-performs_still (work.Ask queries) m A B (Answered r) more h = h
-performs_still (work.Feed b) m A B (Answered r) more h = absurd h
-performs_still (work.Pull C) m A B (Answered r) more h = absurd h
-performs_still (work.Ask queries) m A B (Reported r) more h = absurd h
+performs_still lets shuts heard n (work.Ask queries) m A B (Answered r) more h = h
+performs_still lets shuts heard n (work.Feed b) m A B (Answered r) more h = absurd h
+performs_still lets shuts heard n (work.Pull C) m A B (Answered r) more h = absurd h
+performs_still lets shuts heard n (work.Ask queries) m A B (Reported r) more h = absurd h
 
 -- what a worker did is what the pass has seen under its number
 has_calls : (p : Shown) (place : ℕ) (j : Job) (f : Finished) (m : List Call) (seen : List (Entry Call)) → j.pass.number ≡ worker_of p place → j.pass.mine ≡ [] → Steps j.pass f.pass m
@@ -206,16 +209,17 @@ has_calls p place j f m seen number unused steps own =
     ∙ ap (λ z. z ++ map (entry j.pass.number) m) unused ∙ ap (λ z. map (entry z) m) number
 
 worker_tells : (lets shuts heard : ℕ → ℕ → Type 0) (p q : Shown) (place : ℕ) (w : Work) (j : Job) (f : Finished) → q.opening ≡ p.opening → IsJobAt p place w j → Ends lets shuts heard j f → StartsWith q.seen f.pass.seen → made_by f.pass.number q.seen ≡ f.pass.mine
-    → WorkerTells p q place w f.outcome
+    → WorkerTells lets shuts heard p q place w f.outcome
 worker_tells lets shuts heard p q place w j f same is ends told own = (
   ends.0,
   has_calls p place j f ends.0 q.seen is.number is.unused ends.1 own,
-  subst (λ z. Performs z ends.0 (leaves q) f.outcome) is.work
-      (performs_still j.work ends.0 (leaves f.pass) (leaves q) f.outcome (λ e h. seen_still f.pass q e told (same ∙ sym (ends.1.same.opening ∙ is.opening)) h) ends.2),
+  subst (λ n. Performs lets shuts heard n w ends.0 (leaves q) f.outcome) is.worker
+      (subst (λ z. Performs lets shuts heard j.worker z ends.0 (leaves q) f.outcome) is.work
+      (performs_still lets shuts heard j.worker j.work ends.0 (leaves f.pass) (leaves q) f.outcome (λ e h. seen_still f.pass q e told (same ∙ sym (ends.1.same.opening ∙ is.opening)) h) ends.2)),
 )
 
 pub all_tell : (lets shuts heard : ℕ → ℕ → Type 0) (p q : Shown) (at : ℕ) (ws : List Work) (js : List Job) (fs : List Finished) → q.opening ≡ p.opening → EachAt (IsJobAt p) at ws js → Each (Ends lets shuts heard) js fs → AllTold q.seen fs
-    → EachAt (WorkerTells p q) at ws (outcomes fs)
+    → EachAt (WorkerTells lets shuts heard p q) at ws (outcomes fs)
 all_tell lets shuts heard p q at [] [] [] same a b c = tt
 all_tell lets shuts heard p q at [] [] (f ∷ fs) same a b c = absurd b
 all_tell lets shuts heard p q at [] (j ∷ js) fs same a b c = absurd a
@@ -223,46 +227,29 @@ all_tell lets shuts heard p q at (w ∷ ws) [] fs same a b c = absurd a
 all_tell lets shuts heard p q at (w ∷ ws) (j ∷ js) [] same a b c = absurd b
 all_tell lets shuts heard p q at (w ∷ ws) (j ∷ js) (f ∷ fs) same a b c = (worker_tells lets shuts heard p q at w j f same a.0 b.0 c.0 c.1, all_tell lets shuts heard p q (at + 1) ws js fs same a.1 b.1 c.2)
 
-worker_gated : (lets shuts heard : ℕ → ℕ → Type 0) (p q : Shown) (place : ℕ) (w : Work) (j : Job) (f : Finished) → IsJobAt p place w j → Ends lets shuts heard j f → made_by f.pass.number q.seen ≡ f.pass.mine
-    → WorkerIsGated lets shuts heard p q place (ended_by f.outcome)
-worker_gated lets shuts heard p q place w j f is ends own = (
-  ends.0,
-  has_calls p place j f ends.0 q.seen is.number is.unused ends.1 own,
-  subst (λ z. IsGatedFor lets shuts heard z (length ends.0) (ended_by f.outcome)) is.worker ends.3,
-)
-
-pub all_gated : (lets shuts heard : ℕ → ℕ → Type 0) (p q : Shown) (at : ℕ) (ws : List Work) (js : List Job) (fs : List Finished) → EachAt (IsJobAt p) at ws js → Each (Ends lets shuts heard) js fs → AllTold q.seen fs
-    → AreGated lets shuts heard p q at (map ended_by (outcomes fs))
-all_gated lets shuts heard p q at [] [] [] a b c = tt
-all_gated lets shuts heard p q at [] [] (f ∷ fs) a b c = absurd b
-all_gated lets shuts heard p q at [] (j ∷ js) fs a b c = absurd a
-all_gated lets shuts heard p q at (w ∷ ws) [] fs a b c = absurd a
-all_gated lets shuts heard p q at (w ∷ ws) (j ∷ js) [] a b c = absurd b
-all_gated lets shuts heard p q at (w ∷ ws) (j ∷ js) (f ∷ fs) a b c = (worker_gated lets shuts heard p q at w j f a.0 b.0 c.1, all_gated lets shuts heard p q (at + 1) ws js fs a.1 b.1 c.2)
-
 -- reports of feeds come first, then those of peers, then answers
-feeds_tell : (p q : Shown) (at : ℕ) (bs : List (List ℕ)) (rest : List Work) (os : List JobEnd) → EachAt (WorkerTells p q) at (map work.Feed bs ++ rest) os
-    → (rs : List Report) × (more : List JobEnd) × (os ≡ map Reported rs ++ more) × EachAt (WorkerFeeds p q) at bs rs × EachAt (WorkerTells p q) (at + length bs) rest more
-feeds_tell p q at [] rest os h = ([], os, refl, tt, subst (λ n. EachAt (WorkerTells p q) n rest os) (omega arith) h)
-feeds_tell p q at (b ∷ bs) rest [] h = absurd h
-feeds_tell p q at (b ∷ bs) rest (Reported r ∷ os) h = let k = feeds_tell p q (at + 1) bs rest os h.1 in
-    (r ∷ k.0, k.1, ap (λ z. Reported r ∷ z) k.2, (h.0, k.3), subst (λ n. EachAt (WorkerTells p q) n rest k.1) (omega arith) k.4)
-feeds_tell p q at (b ∷ bs) rest (Answered r ∷ os) h = absurd h.0.2
+feeds_tell : (lets shuts heard : ℕ → ℕ → Type 0) (p q : Shown) (at : ℕ) (bs : List (List ℕ)) (rest : List Work) (os : List JobEnd) → EachAt (WorkerTells lets shuts heard p q) at (map work.Feed bs ++ rest) os
+    → (rs : List Report) × (more : List JobEnd) × (os ≡ map Reported rs ++ more) × EachAt (WorkerFeeds lets shuts heard p q) at bs rs × EachAt (WorkerTells lets shuts heard p q) (at + length bs) rest more
+feeds_tell lets shuts heard p q at [] rest os h = ([], os, refl, tt, subst (λ n. EachAt (WorkerTells lets shuts heard p q) n rest os) (omega arith) h)
+feeds_tell lets shuts heard p q at (b ∷ bs) rest [] h = absurd h
+feeds_tell lets shuts heard p q at (b ∷ bs) rest (Reported r ∷ os) h = let k = feeds_tell lets shuts heard p q (at + 1) bs rest os h.1 in
+    (r ∷ k.0, k.1, ap (λ z. Reported r ∷ z) k.2, ((h.0.0, h.0.1, h.0.2.0, h.0.2.1), k.3), subst (λ n. EachAt (WorkerTells lets shuts heard p q) n rest k.1) (omega arith) k.4)
+feeds_tell lets shuts heard p q at (b ∷ bs) rest (Answered r ∷ os) h = absurd h.0.2
 
-peers_tell : (p q : Shown) (at : ℕ) (As : List (List EventValue)) (rest : List Work) (os : List JobEnd) → EachAt (WorkerTells p q) at (map work.Pull As ++ rest) os
-    → (rs : List Report) × (more : List JobEnd) × (os ≡ map Reported rs ++ more) × EachAt (WorkerPulls p q) at As rs × EachAt (WorkerTells p q) (at + length As) rest more
-peers_tell p q at [] rest os h = ([], os, refl, tt, subst (λ n. EachAt (WorkerTells p q) n rest os) (omega arith) h)
-peers_tell p q at (A ∷ As) rest [] h = absurd h
-peers_tell p q at (A ∷ As) rest (Reported r ∷ os) h = let k = peers_tell p q (at + 1) As rest os h.1 in
-    (r ∷ k.0, k.1, ap (λ z. Reported r ∷ z) k.2, (h.0, k.3), subst (λ n. EachAt (WorkerTells p q) n rest k.1) (omega arith) k.4)
-peers_tell p q at (A ∷ As) rest (Answered r ∷ os) h = absurd h.0.2
+peers_tell : (lets shuts heard : ℕ → ℕ → Type 0) (p q : Shown) (at : ℕ) (As : List (List EventValue)) (rest : List Work) (os : List JobEnd) → EachAt (WorkerTells lets shuts heard p q) at (map work.Pull As ++ rest) os
+    → (rs : List Report) × (more : List JobEnd) × (os ≡ map Reported rs ++ more) × EachAt (WorkerPulls lets shuts heard p q) at As rs × EachAt (WorkerTells lets shuts heard p q) (at + length As) rest more
+peers_tell lets shuts heard p q at [] rest os h = ([], os, refl, tt, subst (λ n. EachAt (WorkerTells lets shuts heard p q) n rest os) (omega arith) h)
+peers_tell lets shuts heard p q at (A ∷ As) rest [] h = absurd h
+peers_tell lets shuts heard p q at (A ∷ As) rest (Reported r ∷ os) h = let k = peers_tell lets shuts heard p q (at + 1) As rest os h.1 in
+    (r ∷ k.0, k.1, ap (λ z. Reported r ∷ z) k.2, ((h.0.0, h.0.1, h.0.2.0, h.0.2.1, h.0.2.2), k.3), subst (λ n. EachAt (WorkerTells lets shuts heard p q) n rest k.1) (omega arith) k.4)
+peers_tell lets shuts heard p q at (A ∷ As) rest (Answered r ∷ os) h = absurd h.0.2
 
-asks_tell : (p q : Shown) (at : ℕ) (qs : List (List Query)) (os : List JobEnd) → EachAt (WorkerTells p q) at (map work.Ask qs) os → (rs : List Asked) × (os ≡ map Answered rs) × EachAt (WorkerAsks p q) at qs rs
-asks_tell p q at [] [] h = ([], refl, tt)
-asks_tell p q at [] (o ∷ os) h = absurd h
-asks_tell p q at (x ∷ xs) [] h = absurd h
-asks_tell p q at (x ∷ xs) (Answered r ∷ os) h = let k = asks_tell p q (at + 1) xs os h.1 in (r ∷ k.0, ap (λ z. Answered r ∷ z) k.1, (h.0, k.2))
-asks_tell p q at (x ∷ xs) (Reported r ∷ os) h = absurd h.0.2
+asks_tell : (lets shuts heard : ℕ → ℕ → Type 0) (p q : Shown) (at : ℕ) (qs : List (List Query)) (os : List JobEnd) → EachAt (WorkerTells lets shuts heard p q) at (map work.Ask qs) os → (rs : List Asked) × (os ≡ map Answered rs) × EachAt (WorkerAsks lets shuts heard p q) at qs rs
+asks_tell lets shuts heard p q at [] [] h = ([], refl, tt)
+asks_tell lets shuts heard p q at [] (o ∷ os) h = absurd h
+asks_tell lets shuts heard p q at (x ∷ xs) [] h = absurd h
+asks_tell lets shuts heard p q at (x ∷ xs) (Answered r ∷ os) h = let k = asks_tell lets shuts heard p q (at + 1) xs os h.1 in (r ∷ k.0, ap (λ z. Answered r ∷ z) k.1, ((h.0.0, h.0.1, h.0.2.0, h.0.2.1), k.2))
+asks_tell lets shuts heard p q at (x ∷ xs) (Reported r ∷ os) h = absurd h.0.2
 
 reports_first : (rs : List Report) (os : List JobEnd) → reports_in (map Reported rs ++ os) ≡ rs ++ reports_in os
 reports_first [] os = refl
@@ -280,48 +267,21 @@ all_answers : (rs : List Asked) → answers_in (map Answered rs) ≡ rs
 all_answers [] = refl
 all_answers (r ∷ rs) = ap (λ l. r ∷ l) (all_answers rs)
 
-pub serves : (p q : Shown) (feeds : List (List ℕ)) (peers : List (List EventValue)) (asks : List (List Query)) (s : Served) (os : List JobEnd) → EachAt (WorkerTells p q) 0 (works_of feeds peers asks) os
-    → s.reports.items ≡ reports_in os → s.asked.items ≡ answers_in os → Serves p q feeds peers asks s
-serves p q feeds peers asks s os h reports answers =
-    let a = feeds_tell p q 0 feeds (map work.Pull peers ++ map work.Ask asks) os h in
-    let behind = subst (λ n. EachAt (WorkerTells p q) n (map work.Pull peers ++ map work.Ask asks) a.1) (omega arith) a.4 in
-    let b = peers_tell p q (length feeds) peers (map work.Ask asks) a.1 behind in
-    let c = asks_tell p q (length feeds + length peers) asks b.1 b.4 in record {
+pub serves : (lets shuts heard : ℕ → ℕ → Type 0) (p q : Shown) (feeds : List (List ℕ)) (peers : List (List EventValue)) (asks : List (List Query)) (s : Served) (os : List JobEnd) → EachAt (WorkerTells lets shuts heard p q) 0 (works_of feeds peers asks) os
+    → s.reports.items ≡ reports_in os → s.asked.items ≡ answers_in os → Serves lets shuts heard p q feeds peers asks s
+serves lets shuts heard p q feeds peers asks s os h reports answers =
+    let a = feeds_tell lets shuts heard p q 0 feeds (map work.Pull peers ++ map work.Ask asks) os h in
+    let behind = subst (λ n. EachAt (WorkerTells lets shuts heard p q) n (map work.Pull peers ++ map work.Ask asks) a.1) (omega arith) a.4 in
+    let b = peers_tell lets shuts heard p q (length feeds) peers (map work.Ask asks) a.1 behind in
+    let c = asks_tell lets shuts heard p q (length feeds + length peers) asks b.1 b.4 in record {
       fed = a.0;
       pulled = b.0;
       reports = reports ∙ ap reports_in a.2 ∙ reports_first a.0 a.1 ∙ ap (λ l. a.0 ++ l) (ap reports_in b.2 ∙ reports_first b.0 b.1 ∙ ap (λ l. b.0 ++ l) (ap reports_in c.1 ∙ no_reports c.0) ∙ append-nil b.0);
       each_feed = a.3;
       each_peer = b.3;
-      each_ask = subst (λ l. EachAt (WorkerAsks p q) (length feeds + length peers) asks l)
+      each_ask = subst (λ l. EachAt (WorkerAsks lets shuts heard p q) (length feeds + length peers) asks l)
           (sym (answers ∙ ap answers_in a.2 ∙ answers_behind a.0 a.1 ∙ ap answers_in b.2 ∙ answers_behind b.0 b.1 ∙ ap answers_in c.1 ∙ all_answers c.0)) c.2;
     }
-
-ends_reported : (rs : List Report) (os : List JobEnd) → map ended_by (map Reported rs ++ os) ≡ map (λ (r : Report). r.ended) rs ++ map ended_by os
-ends_reported [] os = refl
-ends_reported (r ∷ rs) os = ap (λ l. r.ended ∷ l) (ends_reported rs os)
-
-ends_answered : (rs : List Asked) → map ended_by (map Answered rs) ≡ map (λ (r : Asked). r.ended) rs
-ends_answered [] = refl
-ends_answered (r ∷ rs) = ap (λ l. r.ended ∷ l) (ends_answered rs)
-
-ends_apart : (fed pulled : List Report) (asked : List Asked) → map ended_by (map Reported fed ++ (map Reported pulled ++ map Answered asked)) ≡ map (λ (r : Report). r.ended) (fed ++ pulled) ++ map (λ (r : Asked). r.ended) asked
-ends_apart fed pulled asked = ends_reported fed (map Reported pulled ++ map Answered asked)
-    ∙ ap (λ l. map (λ (r : Report). r.ended) fed ++ l) (ends_reported pulled (map Answered asked) ∙ ap (λ l. map (λ (r : Report). r.ended) pulled ++ l) (ends_answered asked))
-    ∙ sym (append_assoc (map (λ (r : Report). r.ended) fed) (map (λ (r : Report). r.ended) pulled) (map (λ (r : Asked). r.ended) asked))
-    ∙ ap (λ l. l ++ map (λ (r : Asked). r.ended) asked) (sym (map-append (λ (r : Report). r.ended) fed pulled))
-
--- the ends of outcomes are those of the reports, then those of the answers
-pub ends_are : (p q : Shown) (feeds : List (List ℕ)) (peers : List (List EventValue)) (asks : List (List Query)) (s : Served) (os : List JobEnd) → EachAt (WorkerTells p q) 0 (works_of feeds peers asks) os
-    → s.reports.items ≡ reports_in os → s.asked.items ≡ answers_in os → map ended_by os ≡ ends_of s
-ends_are p q feeds peers asks s os h reports answers =
-    let a = feeds_tell p q 0 feeds (map work.Pull peers ++ map work.Ask asks) os h in
-    let behind = subst (λ n. EachAt (WorkerTells p q) n (map work.Pull peers ++ map work.Ask asks) a.1) (omega arith) a.4 in
-    let b = peers_tell p q (length feeds) peers (map work.Ask asks) a.1 behind in
-    let c = asks_tell p q (length feeds + length peers) asks b.1 b.4 in
-    let first : s.reports.items ≡ a.0 ++ b.0 = reports ∙ ap reports_in a.2 ∙ reports_first a.0 a.1 ∙ ap (λ l. a.0 ++ l) (ap reports_in b.2 ∙ reports_first b.0 b.1 ∙ ap (λ l. b.0 ++ l) (ap reports_in c.1 ∙ no_reports c.0) ∙ append-nil b.0) in
-    let last : s.asked.items ≡ c.0 = answers ∙ ap answers_in a.2 ∙ answers_behind a.0 a.1 ∙ ap answers_in b.2 ∙ answers_behind b.0 b.1 ∙ ap answers_in c.1 ∙ all_answers c.0 in
-    ap (map ended_by) (a.2 ∙ ap (λ l. map Reported a.0 ++ l) (b.2 ∙ ap (λ l. map Reported b.0 ++ l) c.1)) ∙ ends_apart a.0 b.0 c.0
-    ∙ ap (λ l. map (λ (r : Report). r.ended) l ++ map (λ (r : Asked). r.ended) c.0) (sym first) ∙ ap (λ l. map (λ (r : Report). r.ended) s.reports.items ++ map (λ (r : Asked). r.ended) l) (sym last)
 
 pub some_of : {X : Type 0} → (P : X → Type 0) (o : Option X) (x : X) → o ≡ Some x → IfSome o P → P x
 some_of P (Some y) x is h = let same : y ≡ x = cc in subst P same h

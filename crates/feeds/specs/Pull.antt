@@ -79,7 +79,12 @@ pub record Brings (A : List EventValue) (n : List Call) (B : List EventValue) : 
   pub handled_all : handled takes ≡ delta (set_of A) peer
   pub holds : Holds B (delta (set_of A) peer)
 
--- a pull from a site of one's own with the arrivals A, by its calls of a desk that then has the
--- arrivals B: the site stays as it was, and all that was lacking was brought, where it was done
+-- a pull from a site of one's own with the arrivals A, by its calls m of this site and n of a desk
+-- that then has the arrivals B: the site stays as it was, and all that was lacking was brought,
+-- where it was done
+abbrev pub PullsBy : List EventValue → List Call → List Call → List EventValue → Report → Type 0
+PullsBy A m n B r = Runs A m A × Pulls m n r × (r.ended ≡ Done → Brings A n B)
+
+-- so it is by some calls of the site
 abbrev pub PullsFrom : List EventValue → List Call → List EventValue → Report → Type 0
 PullsFrom A n B r = (m : List Call) × Runs A m A × Pulls m n r × (r.ended ≡ Done → Brings A n B)

@@ -1,5 +1,5 @@
 -- What came of workers over one shared site, each with a pass of its own that was split off one.
-use Rattle.std.specs.Prelude.{◌≡◌, ◌≤◌, ℕ, ◌+◌, List, [], ◌∷◌, ◌++◌, length, map}
+use Rattle.std.specs.Prelude.{◌≡◌, ℕ, ◌+◌, List, [], ◌∷◌, ◌++◌, length, map}
 use Rattle.attributes.specs.Event.{EventValue}
 use Rattle.site.specs.declared.call.Call.{Call}
 use Rattle.turn_lock.specs.declared.machine.Entry.{Entry}
@@ -8,10 +8,9 @@ use Rattle.views.specs.declared.query.Query.{Query}
 use Rattle.site_lock.specs.Pass.{Shown, leaves}
 use Rattle.feeds.specs.Ask.{Asks}
 use Rattle.feeds.specs.Gate.{IsGated}
-use Rattle.feeds.specs.Pull.{PullsFrom}
+use Rattle.feeds.specs.Pull.{PullsBy}
 use Rattle.feeds.specs.Report.{Feeds}
 use Rattle.feeds.specs.declared.asking.Asked.{Asked}
-use Rattle.feeds.specs.declared.report.WorkerEnd.{WorkerEnd}
 use Rattle.feeds.specs.declared.report.Report.{Report}
 use Rattle.feeds.specs.declared.serving.ServeFault.{ServeFault}
 use Rattle.feeds.specs.declared.serving.ServeFault.TheVariants.{NoThread, OutOfMemory}
@@ -31,22 +30,28 @@ worker_of p place = p.number ++ (p.splits + place) ∷ []
 abbrev pub HasCalls : List (Entry Call) → List ℕ → List Call → Type 0
 HasCalls seen number calls = made_by number seen ≡ map (entry number) calls
 
--- the calls that q has seen of the worker at this place are those of a feed of these bytes with
--- this report
-abbrev pub WorkerFeeds : Shown → Shown → ℕ → List ℕ → Report → Type 0
-WorkerFeeds p q place b r =
-    (m : List Call) × HasCalls q.seen (worker_of p place) m × Feeds b m r
+-- what workers did, each of whose calls the gate let through under the worker's place, and was told
+-- of
+module _ (lets shuts heard : ℕ → ℕ → Type 0) where
+  -- the calls that q has seen of the worker at this place are those of a feed of these bytes with
+  -- this report, and no others went through the gate
+  abbrev pub WorkerFeeds : Shown → Shown → ℕ → List ℕ → Report → Type 0
+  WorkerFeeds p q place b r = (m : List Call) × HasCalls q.seen (worker_of p place) m
+      × Feeds b m r × IsGated lets shuts heard place (length m) r.ended
 
--- they are those of a pull from a site with these arrivals; where it was done, all that it brought
--- is there after what q has seen
-abbrev pub WorkerPulls : Shown → Shown → ℕ → List EventValue → Report → Type 0
-WorkerPulls p q place A r =
-    (m : List Call) × HasCalls q.seen (worker_of p place) m × PullsFrom A m (leaves q) r
+  -- they are those of a pull from a site with these arrivals; where it was done, all that it
+  -- brought is there after what q has seen. Its calls of that site went through the gate too, and
+  -- no others
+  abbrev pub WorkerPulls : Shown → Shown → ℕ → List EventValue → Report → Type 0
+  WorkerPulls p q place A r = (m : List Call) × HasCalls q.seen (worker_of p place) m
+      × (pages : List Call) × PullsBy A pages m (leaves q) r
+      × IsGated lets shuts heard place (length pages + length m) r.ended
 
--- they are those of a worker that asked these questions and was answered so
-abbrev pub WorkerAsks : Shown → Shown → ℕ → List Query → Asked → Type 0
-WorkerAsks p q place queries r =
-    (m : List Call) × HasCalls q.seen (worker_of p place) m × Asks queries m r
+  -- they are those of a worker that asked these questions and was answered so, and no others went
+  -- through the gate
+  abbrev pub WorkerAsks : Shown → Shown → ℕ → List Query → Asked → Type 0
+  WorkerAsks p q place queries r = (m : List Call) × HasCalls q.seen (worker_of p place) m
+      × Asks queries m r × IsGated lets shuts heard place (length m) r.ended
 
 -- the two lists have one length, and this holds of what stands at each place, where the first place
 -- has this number
@@ -60,32 +65,12 @@ EachAt Holds place (x ∷ xs) (y ∷ ys) = Holds place x y × EachAt Holds (plac
 -- what came of these jobs, between p and q: for each a result of its own, in their order, which
 -- tells of the calls that q has seen of the job's worker. Workers are counted over the feeds, the
 -- peers and then the asks, so each has a number of its own
-pub record Serves (p q : Shown) (feeds : List (List ℕ)) (peers : List (List EventValue))
-    (asks : List (List Query)) (s : Served) : Type 0 where
+pub record Serves (lets shuts heard : ℕ → ℕ → Type 0) (p q : Shown) (feeds : List (List ℕ))
+    (peers : List (List EventValue)) (asks : List (List Query)) (s : Served) : Type 0 where
   pub fed : List Report
   pub pulled : List Report
   pub reports : s.reports.items ≡ fed ++ pulled
-  pub each_feed : EachAt (WorkerFeeds p q) 0 feeds fed
-  pub each_peer : EachAt (WorkerPulls p q) (length feeds) peers pulled
-  pub each_ask : EachAt (WorkerAsks p q) (length feeds + length peers) asks s.asked.items
-
--- the gate let the worker at this place make its calls, under this number and counted from 1, and
--- was told of each: all that q has seen of it, and those of its peer besides, if it pulled. It ended
--- so
-abbrev pub WorkerIsGated : (ℕ → ℕ → Type 0) → (ℕ → ℕ → Type 0) → (ℕ → ℕ → Type 0) → Shown → Shown
-    → ℕ → WorkerEnd → Type 0
-WorkerIsGated lets shuts heard p q place ended =
-    (m : List Call) × HasCalls q.seen (worker_of p place) m × ((calls : ℕ) × (length m ≤ calls)
-    × IsGated lets shuts heard place calls ended)
-
--- so it is of each worker from this place on, by how it ended
-abbrev pub AreGated : (ℕ → ℕ → Type 0) → (ℕ → ℕ → Type 0) → (ℕ → ℕ → Type 0) → Shown → Shown → ℕ
-    → List WorkerEnd → Type 0
-AreGated lets shuts heard p q place [] = Unit {0}
-AreGated lets shuts heard p q place (e ∷ es) = WorkerIsGated lets shuts heard p q place e
-    × AreGated lets shuts heard p q (place + 1) es
-
--- how the workers ended, in their order
-abbrev pub ends_of : Served → List WorkerEnd
-ends_of s = map (λ (r : Report). r.ended) s.reports.items
-    ++ map (λ (r : Asked). r.ended) s.asked.items
+  pub each_feed : EachAt (WorkerFeeds lets shuts heard p q) 0 feeds fed
+  pub each_peer : EachAt (WorkerPulls lets shuts heard p q) (length feeds) peers pulled
+  pub each_ask : EachAt (WorkerAsks lets shuts heard p q) (length feeds + length peers) asks
+      s.asked.items

@@ -7,6 +7,7 @@ ghost use Rattle.feeds.specs.Gate.{IsGated};
 ghost use Rattle.feeds.specs.steps.Ask.{AsksOne};
 ghost use Rattle.feeds.specs.steps.Gate.{GoesThrough};
 
+use crate::permit::{permission, tell};
 use crate::report::WorkerEnd;
 use attributes::List;
 use site::{Desk, Gate};
@@ -40,12 +41,12 @@ fn ask_one<D: Desk, G: Gate>(
         call (length m) (call + 1) result }
 {
     let call = call + 1;
-    match gate.before(worker, call) {
-        Ok(()) => (),
+    let permit = match permission(gate, worker, call) {
+        Ok(permit) => permit,
         Err(_) => return Some(WorkerEnd::GateShut),
-    }
+    };
     let answer = desk.query(query);
-    gate.after(worker, call);
+    tell(permit, gate, worker, call);
     match answer {
         Ok(answer) => match answers.push(answer) {
             Ok(()) => None,

@@ -6,6 +6,7 @@ ghost use Rattle.site.specs.declared.call.Call.{Call};
 ghost use Rattle.feeds.specs.steps.Gate.{GoesThrough};
 ghost use Rattle.feeds.specs.steps.Tally.{Flushed, FlushedIfFull, Gains, short_of};
 
+use crate::permit::{permission, tell};
 use crate::report::{Tally, WorkerEnd};
 use attributes::Batch;
 use inbox::Short;
@@ -41,10 +42,10 @@ pub(crate) fn flush<D: Desk, G: Gate>(
     ensures calls { tally.new.calls ≡ tally.old.calls + 1 }
 {
     tally.calls += 1;
-    match gate.before(worker, tally.calls) {
-        Ok(()) => (),
+    let permit = match permission(gate, worker, tally.calls) {
+        Ok(permit) => permit,
         Err(_) => return Some(WorkerEnd::GateShut),
-    }
+    };
     let ended = match desk.take(batch) {
         Ok(counts) => {
             tally.fresh += counts.fresh;
@@ -58,7 +59,7 @@ pub(crate) fn flush<D: Desk, G: Gate>(
             Some(WorkerEnd::OutOfMemory)
         }
     };
-    gate.after(worker, tally.calls);
+    tell(permit, gate, worker, tally.calls);
     ended
 }
 

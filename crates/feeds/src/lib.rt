@@ -5,6 +5,7 @@ mod aside;
 mod asking;
 mod feeding;
 mod flush;
+mod permit;
 mod pulling;
 mod report;
 mod serving;

@@ -1,10 +1,10 @@
 //! One worker that brings one desk what it lacks of another's events.
 
-ghost use Rattle.std.specs.Prelude.{◌≡◌, ◌+◌, ◌<◌, ◌≤◌, ◌^◌, ℕ, List, None, Some, length};
+ghost use Rattle.std.specs.Prelude.{◌≡◌, ◌+◌, ◌<◌, ◌≤◌, ◌^◌, List, None, Some, length};
 ghost use Rattle.site.specs.Page.{max_page};
 ghost use Rattle.site.specs.declared.call.Call.{Call};
 ghost use Rattle.feeds.specs.Gate.{IsGated};
-ghost use Rattle.feeds.specs.Pull.{Holds, Pulled, Pulls, PullsFrom, replied};
+ghost use Rattle.feeds.specs.Pull.{Holds, Pulled, Pulls, PullsBy, replied};
 ghost use Rattle.feeds.specs.Report.{reported};
 ghost use Rattle.feeds.specs.declared.report.WorkerEnd.TheVariants.{Done};
 ghost use Rattle.feeds.specs.steps.Gate.{GoesThrough, end_if};
@@ -12,6 +12,7 @@ ghost use Rattle.feeds.specs.steps.Pull.{HasSameCounts, Moves, Pages, Sums};
 ghost use Rattle.feeds.specs.steps.Tally.{Gains};
 
 use crate::flush::flush;
+use crate::permit::{permission, tell};
 use crate::report::{Report, Tally, WorkerEnd};
 use attributes::Batch;
 use coverage::Summary;
@@ -29,12 +30,12 @@ fn summary_of<E: Desk, G: Gate>(to: &mut E, gate: &G, worker: u64) -> Result<Sum
         × GoesThrough (G.lets gate.now) (G.shuts gate.now) (G.heard gate.now) worker
         0 (length n) 1 (end_if result) }
 {
-    match gate.before(worker, 1) {
-        Ok(()) => (),
+    let permit = match permission(gate, worker, 1) {
+        Ok(permit) => permit,
         Err(_) => return Err(WorkerEnd::GateShut),
-    }
+    };
     let summary = to.summary();
-    gate.after(worker, 1);
+    tell(permit, gate, worker, 1);
     match summary {
         Ok(summary) => Ok(summary),
         Err(_) => Err(WorkerEnd::OutOfMemory),
@@ -61,12 +62,12 @@ fn next_page<D: Desk, G: Gate>(
 {
     let place = tally.fresh + tally.repeated;
     tally.calls += 1;
-    match gate.before(worker, tally.calls) {
-        Ok(()) => (),
+    let permit = match permission(gate, worker, tally.calls) {
+        Ok(permit) => permit,
         Err(_) => return Err(WorkerEnd::GateShut),
-    }
+    };
     let page = from.delta_page(peer, place, MAX_PAGE);
-    gate.after(worker, tally.calls);
+    tell(permit, gate, worker, tally.calls);
     match page {
         Ok(events) => Ok(events),
         Err(_) => Err(WorkerEnd::OutOfMemory),
@@ -159,11 +160,10 @@ pub fn pull<D: Desk, E: Desk, G: Gate>(from: &mut D, to: &mut E, gate: &G, worke
 /// lacked of the site's events.
 pub fn pull_from<E: Desk, G: Gate>(from: &mut Site, to: &mut E, gate: &G, worker: u64) -> Report
     ensures same { from.new ≡ from.old }
-    ensures pulled { (n : List Call) × E.went to.old to.new n
-        × PullsFrom from.old n (E.arrivals to.new) result
-        × ((calls : ℕ) × (length n ≤ calls)
-        × IsGated (G.lets gate.now) (G.shuts gate.now) (G.heard gate.now) worker calls
-        result.ended) }
+    ensures pulled { (m n : List Call) × E.went to.old to.new n
+        × PullsBy from.old m n (E.arrivals to.new) result
+        × IsGated (G.lets gate.now) (G.shuts gate.now) (G.heard gate.now) worker
+        (length m + length n) result.ended }
 {
     pull(from, to, gate, worker)
 }

@@ -7,7 +7,7 @@ mod worker;
 ghost use Rattle.std.specs.Prelude.{◌≡◌, ◌≤◌, ◌+◌, length, IfErr, IfOk};
 ghost use Rattle.turn_lock.specs.History.{StartsWith};
 ghost use Rattle.site_lock.specs.Pass.{IsSame};
-ghost use Rattle.feeds.specs.Serve.{AreGated, Serves, ends_of, fault_number};
+ghost use Rattle.feeds.specs.Serve.{Serves, fault_number};
 ghost use Rattle.feeds.specs.declared.serving.ServeFault.TheVariants.{OutOfMemory};
 
 use crate::aside::Aside;
@@ -98,9 +98,8 @@ pub fn serve<R: Threads + Wait + Sync, G: Gate + Sync, A: Aside>(
     ensures splits { (pass.old.splits ≤ pass.new.splits) × (pass.new.splits
         ≤ pass.old.splits + (length jobs.feeds + length jobs.peers + length jobs.asks)) }
     ensures served { IfOk result (λ s.
-        Serves pass.old pass.new jobs.feeds jobs.peers jobs.asks s) }
-    ensures gated { IfOk result (λ s. AreGated (G.lets gate.now) (G.shuts gate.now)
-        (G.heard gate.now) pass.old pass.new 0 (ends_of s)) }
+        Serves (G.lets gate.now) (G.shuts gate.now) (G.heard gate.now) pass.old pass.new
+        jobs.feeds jobs.peers jobs.asks s) }
     ensures aside { A.moves aside.old aside.new }
     ensures refused { IfErr result (λ _. pass.new.seen ≡ pass.old.seen) }
     ensures not_begun { IfErr result (λ fault. fault ≡ OutOfMemory

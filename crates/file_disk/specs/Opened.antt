@@ -19,6 +19,10 @@ module _ {S : Type 0} {g : calls.Ghosts SystemFile} where
     pub which : f.is_log ≡ is_log
     pub settled : IsSettled f.key f.calls
 
+  -- the digests of what is read from it are taken under this key
+  abbrev pub IsUnder : {start : Ghosts S} → ℕ → Modelled SystemFile S g start → Type 0
+  IsUnder key f = f.key ≡ key
+
   -- its member `is_usable`
   abbrev pub is_usable : (start : Ghosts S) → Modelled SystemFile S g start → Bool
   is_usable start f = (replay (start_of start f) (calls_of f.calls.file)).is_usable

@@ -1,6 +1,6 @@
 //! Two open files taken as those of a database.
 ghost use Rattle.std.specs.Prelude.{true, false, IfOk, IsTrue};
-ghost use Rattle.file_disk.specs.Opened.{IsFresh, is_usable};
+ghost use Rattle.file_disk.specs.Opened.{IsFresh, IsUnder, is_usable};
 
 use crate::FileFrom;
 use crate::system_file::SystemFile;
@@ -21,6 +21,7 @@ pub fn files_of<S: Start>(
 ) -> io::Result<Files<FileFrom<S>>>
     ensures log { IfOk result (λ files. IsFresh true files.log) }
     ensures db { IfOk result (λ files. IsFresh false files.db) }
+    ensures keyed { IfOk result (λ files. IsUnder key files.log × IsUnder key files.db) }
     ensures log_usable { IfOk result (λ files. IsTrue (is_usable S.Start files.log)) }
     ensures db_usable { IfOk result (λ files. IsTrue (is_usable S.Start files.db)) }
 {

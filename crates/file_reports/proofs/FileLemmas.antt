@@ -1,5 +1,5 @@
 -- Files that spell events with numbers, one more at a time.
-use Rattle.std.proofs.Common.{◌≡◌, ◌≤◌, ℕ, zero, suc, List, [], ◌∷◌, ◌++◌, true, None, length, refl, sym, subst, ap, ap₂, ◌∙◌, ◌≢◌, ◌+◌, take, inl, inr, append_assoc}
+use Rattle.std.proofs.Common.{◌≡◌, ◌≤◌, ℕ, zero, suc, List, [], ◌∷◌, ◌++◌, true, None, length, refl, sym, subst, ap, ap₂, ◌∙◌, ◌≢◌, ◌+◌, take, inl, inr, append_assoc, append-nil, arith}
 use Rattle.std.proofs.Math.Seq.{take-append_seam}
 use Rattle.std.specs.Prelude.{Bool, ◌&&◌, ◌||◌, Some, is_some, slice_get}
 use Rattle.std.specs.List.{list_all, list_any}
@@ -110,7 +110,7 @@ refusal_by files index file (Event i why) lists at faulty before =
 
 -- ---- events that are gone through once
 
-slice_get-seam : (xs : List EventValue) (y : EventValue) (ys : List EventValue) → slice_get (xs ++ y ∷ ys) (length xs) ≡ Some y
+slice_get-seam : {X : Type 0} (xs : List X) (y : X) (ys : List X) → slice_get (xs ++ y ∷ ys) (length xs) ≡ Some y
 slice_get-seam [] y ys = refl
 slice_get-seam (x ∷ xs) y ys = slice_get-seam xs y ys
 
@@ -141,6 +141,29 @@ module _ (done rest left events : List EventValue) (e : EventValue) (next : rest
     reason = reason;
     first = ap (list_all (λ (x : EventValue). is_some (number_of x))) (ap₂ (λ (l : List EventValue) (n : ℕ). take n l) (sym all_of) at ∙ take-append_seam done (e ∷ left)) ∙ numbered;
   }
+
+-- files that are done, the next one, and the rest are all of them
+module _ (done rest left files : List (List ℕ)) (b : List ℕ) (i : ℕ) (next : rest ≡ b ∷ left) (whole : done ++ rest ≡ files) (count : i ≡ length done) where
+  files_of : done ++ b ∷ left ≡ files
+  files_of = ap (λ (l : List (List ℕ)). done ++ l) (sym next) ∙ whole
+
+  pub file_there : slice_get files i ≡ Some b
+  file_there = ap₂ (λ (l : List (List ℕ)) (n : ℕ). slice_get l n) (sym files_of) count ∙ slice_get-seam done b left
+
+  pub files_before : take i files ≡ done
+  files_before = ap₂ (λ (l : List (List ℕ)) (n : ℕ). take n l) (sym files_of) count ∙ take-append_seam done (b ∷ left)
+
+  pub files_on : (done ++ b ∷ []) ++ left ≡ files
+  files_on = append_assoc done (b ∷ []) left ∙ files_of
+
+pub length_more : (xs : List (List ℕ)) (y : List ℕ) → length (xs ++ y ∷ []) ≡ length xs + 1
+length_more [] y = refl
+length_more (x ∷ xs) y = let h = length_more xs y in omega (arith, h)
+
+-- where nothing is left, those that are done are all of them
+pub no_rest : (done rest files : List (List ℕ)) → length rest ≡ 0 → done ++ rest ≡ files → done ≡ files
+no_rest done [] files none whole = sym (append-nil done) ∙ whole
+no_rest done (b ∷ left) files none whole = absurd (omega (arith, none))
 
 -- ---- the first file is not too large
 

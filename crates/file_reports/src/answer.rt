@@ -26,23 +26,23 @@ pub struct Reported {
 ///
 /// The files are judged in their order; in a file a fault of its text comes before an event without
 /// a number. Time in proportion to the files' bytes, and n log n in their events; the events of all
-/// files are held at once, each once.
+/// files are held at once, each once, and the bytes of each file only until they are taken.
 pub fn report<R: EventReader>(
     alloc: Global,
     reader: &R,
     query: Query,
-    files: &[Octets],
+    files: Vec<Octets>,
 ) -> Result<Reported, Refused>
     requires { R.can_read reader.now }
-    ensures ok { IfOk result (λ r. IsReport query files.now r.text) }
-    ensures events { IfOk result (λ r. KeepsFiles files.now r.events) }
-    ensures err { IfErr result (IsRefusal files.now) }
+    ensures ok { IfOk result (λ r. IsReport query files.items r.text) }
+    ensures events { IfOk result (λ r. KeepsFiles files.items r.events) }
+    ensures err { IfErr result (IsRefusal files.items) }
     ensures memory { IfErr result (λ refused. refused.fault ≡ ReportFault.OutOfMemory
-        → FirstFitsIfAny files.now) }
+        → FirstFitsIfAny files.items) }
 
     // Other files with the same events have the same report, byte for byte.
     ensures alike { IfOk result (λ r. (others : List (List ℕ)) (other : List ℕ)
-        → HoldSameEvents files.now others → IsReport query others other → other ≡ r.text) }
+        → HoldSameEvents files.items others → IsReport query others other → other ≡ r.text) }
 {
     // Two laws that `alike` rests on; they do nothing.
     readings_are_one();

@@ -12,40 +12,49 @@ use site::Site;
 use std::alloc::{AllocError, Global};
 
 /// The site of the events of all files; an event that stands again is kept once. The first file at
-/// fault is named. Time in proportion to the files' bytes, and n log n in their events.
-pub fn site_of<R: EventReader>(alloc: Global, reader: &R, files: &[Octets]) -> Result<Site, Refused>
+/// fault is named. A file's bytes are given back before the site takes its events. Time in
+/// proportion to the files' bytes, and n log n in their events.
+pub fn site_of<R: EventReader>(
+    alloc: Global,
+    reader: &R,
+    files: Vec<Octets>,
+) -> Result<Site, Refused>
     requires { R.can_read reader.now }
-    ensures ok { IfOk result (λ site. KeepsFiles files.now site) }
-    ensures err { IfErr result (IsRefusal files.now) }
+    ensures ok { IfOk result (λ site. KeepsFiles files.items site) }
+    ensures err { IfErr result (IsRefusal files.items) }
     ensures memory { IfErr result (λ refused. refused.fault ≡ ReportFault.OutOfMemory
-        → FirstFits files.now) }
+        → FirstFits files.items) }
 {
     // The set of some events is that of the same events in another order.
     sets_are_members();
+    // Their count bounds that of those that were taken.
+    let _count = files.len();
     let mut site = Site::empty(alloc);
-    for (file, bytes) in files.iter().enumerate() {
-        if let Err(fault) = take_file(alloc, reader, bytes.as_bytes(), &mut site) {
-            let file = file as u64;
-            return Err(Refused { file, fault });
+    let mut file: u64 = 0;
+    for bytes in files {
+        match take_file(alloc, reader, bytes, &mut site) {
+            Ok(()) => file += 1,
+            Err(fault) => return Err(Refused { file, fault }),
         }
     }
     Ok(site)
 }
 
-/// Takes the events of a file into the site.
+/// Takes the events of a file into the site. Its bytes are given back before.
 fn take_file<R: EventReader>(
     alloc: Global,
     reader: &R,
-    bytes: &[u8],
+    bytes: Octets,
     site: &mut Site,
 ) -> Result<(), ReportFault>
     requires { R.can_read reader.now }
-    ensures ok { OnOk result (TakesFile bytes.now site.old site.new) }
-    ensures fault { IfErr result (λ why. why ≢ ReportFault.OutOfMemory → IsFault bytes.now why) }
+    ensures ok { OnOk result (TakesFile bytes site.old site.new) }
+    ensures fault { IfErr result (λ why. why ≢ ReportFault.OutOfMemory → IsFault bytes why) }
     ensures memory { IfErr result (λ why. why ≡ ReportFault.OutOfMemory
-        → length bytes.now ≤ max_input) }
+        → length bytes ≤ max_input) }
 {
-    let events = reader.read_sorted(alloc, bytes)?;
+    let events = reader.read_sorted(alloc, bytes.as_bytes())?;
+    drop(bytes);
     take_all(site, events)?;
     Ok(())
 }

@@ -6,12 +6,15 @@ use Rattle.std.proofs.Math.Seq.{take-add}
 use Rattle.attributes.specs.Event.{EventValue}
 use Rattle.site.specs.Machine.{Follows, call}
 use Rattle.site.specs.Page.{page}
+use Rattle.site.specs.declared.call.Call.{Call}
+use Rattle.site.specs.declared.call.Command.{Command}
 use Rattle.site.specs.declared.call.Command.TheVariants as command
 use Rattle.site.specs.declared.call.Reply.{Reply}
-use Rattle.site.specs.declared.call.Reply.TheVariants.{Paged}
+use Rattle.site.specs.declared.call.Reply.TheVariants.{Paged, Refused}
+use Rattle.turn_lock.specs.declared.machine.Entry.{Entry}
 use Rattle.turn_lock.specs.History.{StartsWith, entry}
 use Rattle.site_lock.specs.Pass.{IsSame, Made, Shown, leaves}
-use Rattle.keeper.specs.Keep.{Asks, AsksPages, AsksTimes, max_page}
+use Rattle.keeper.specs.Keep.{Asks, AsksPages, AsksTimes, EndsPaged, EndsRefused, EndsWith, max_page}
 
 -- what questions leave of a pass
 pub record Leaves (p q : Shown) : Type 0 where
@@ -77,6 +80,30 @@ asked_on from p q r k n reply h is made follows =
 
 pub asks_pages : (from : ℕ) (p q : Shown) (k pages : ℕ) → HasAsked from p q k → 1 ≤ k → k ≤ pages → AsksPages pages from p q
 asks_pages from p q k pages h some few = (k, some, few, h.asked)
+
+-- ---- the last reply
+
+pub ends_paged : (p q : Shown) (c : Command) (events : List EventValue) → Made p q (call c (Paged events)) → EndsPaged q
+ends_paged p q c events made =
+    (events, (p.mine, c, made.mine ∙ ap (λ (n : List ℕ). p.mine ++ entry n (call c (Paged events)) ∷ []) (sym made.same.number)))
+
+abbrev final : List (Entry Call) → List Reply
+final [] = []
+final (x ∷ []) = x.call.reply ∷ []
+final (x ∷ y ∷ ys) = final (y ∷ ys)
+
+final_is : (xs : List (Entry Call)) (x : Entry Call) → final (xs ++ x ∷ []) ≡ x.call.reply ∷ []
+final_is [] x = refl
+final_is (y ∷ []) x = refl
+final_is (y ∷ z ∷ zs) x = final_is (z ∷ zs) x
+
+final_of : (p : Shown) (reply : Reply) → EndsWith p reply → final p.mine ≡ reply ∷ []
+final_of p reply h = ap final h.2 ∙ final_is h.0 (entry p.number (call h.1 reply))
+
+-- it isn't both
+pub not_refused : (p : Shown) → EndsPaged p → EndsRefused p → ⊥
+not_refused p paged refused =
+    let e : Paged paged.0 ∷ [] ≡ Refused refused.0 refused.1 ∷ [] = sym (final_of p _ paged.1) ∙ final_of p _ refused.2 in cc
 
 -- the first page
 pub first_on : (from : ℕ) (A B next others : List EventValue) → B ≡ A ++ others → next ≡ page (A ++ others) from max_page → next ≡ page B from (max_page * 1)

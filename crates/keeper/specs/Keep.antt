@@ -1,6 +1,6 @@
 -- What a table has of the arrivals of a site.
 pub use Rattle.site.specs.Page.{max_page}
-use Rattle.std.specs.Prelude.{◌≡◌, ◌≢◌, ◌+◌, ◌-◌, ◌*◌, ◌≤◌, ℕ, zero, suc, List, ◌++◌, length, min, take, Result, IfErr, IfOk, IsTrue, OnErr, OnOk}
+use Rattle.std.specs.Prelude.{◌≡◌, ◌≢◌, ◌+◌, ◌-◌, ◌*◌, ◌≤◌, ℕ, zero, suc, List, [], ◌∷◌, ◌++◌, length, min, take, Result, IfErr, IfOk, IsTrue, OnErr, OnOk}
 use Rattle.sqlite_trees.specs.Tree.{Trees}
 use Rattle.sqlite.specs.Effect.{Database, IsDatabase}
 use Rattle.sqlite.specs.Held.{Held}
@@ -10,8 +10,13 @@ use Rattle.inbox_table.specs.Beside.{KeepsService}
 use Rattle.inbox_table.specs.Calls.{IsSettled, Kept}
 use Rattle.inbox_table.specs.Rows.{IsInbox}
 use Rattle.site.specs.Machine.{call}
+use Rattle.site.specs.declared.call.Call.{Call}
+use Rattle.site.specs.declared.call.Command.{Command}
 use Rattle.site.specs.declared.call.Command.TheVariants as command
 use Rattle.site.specs.declared.call.Reply.{Reply}
+use Rattle.site.specs.declared.call.Reply.TheVariants.{Paged, Refused}
+use Rattle.turn_lock.specs.declared.machine.Entry.{Entry}
+use Rattle.turn_lock.specs.History.{entry}
 use Rattle.site_lock.specs.Pass.{Made, Shown}
 use Rattle.keeper.specs.declared.fault.KeepFault.{KeepFault}
 use Rattle.keeper.specs.declared.fault.KeepFault.TheVariants.{Foreign}
@@ -46,6 +51,18 @@ AsksTimes (suc times) rows p q = (between : Shown) × AsksTimes times rows p bet
 abbrev pub AsksPages : ℕ → ℕ → Shown → Shown → Type 0
 AsksPages pages rows p q =
     (times : ℕ) × (1 ≤ times) × (times ≤ pages) × AsksTimes times rows p q
+
+-- the last call of the pass had this reply
+abbrev pub EndsWith : Shown → Reply → Type 0
+EndsWith p reply = (before : List (Entry Call)) × (command : Command)
+    × (p.mine ≡ before ++ entry p.number (call command reply) ∷ [])
+
+-- it got a page, or was refused
+abbrev pub EndsPaged : Shown → Type 0
+EndsPaged p = (events : List EventValue) × EndsWith p (Paged events)
+
+abbrev pub EndsRefused : Shown → Type 0
+EndsRefused p = (taken : ℕ) × (fresh : ℕ) × EndsWith p (Refused taken fresh)
 
 -- these are the trees of a database that has whatever events the table had, and more behind them or
 -- none; what lies beside the table is as it was

@@ -6,6 +6,7 @@ ghost use Rattle.keeper.specs.declared.fault.KeepFault.TheVariants.{OutOfMemory}
 
 use inbox_table::TableFault;
 use site::DeskFault;
+use std::marker::Model;
 
 /// Why a keeper refuses a call.
 #[derive(Clone, Copy, PartialEq, Eq, Debug, thiserror::Error)]
@@ -31,6 +32,39 @@ impl KeepFault {
             KeepFault::Store => 2,
             KeepFault::Foreign => 3,
         }
+    }
+}
+
+/// That keeping was refused, and why. Only a keeper's refusal makes one, so whoever has one tells no
+/// refusal that didn't come. Contracts see it as its fault.
+#[derive(Clone, Copy, Debug)]
+pub struct Stop {
+    fault: KeepFault,
+}
+
+impl Model for Stop {
+    ghost use Rattle.keeper.specs.declared.fault.KeepFault.{KeepFault};
+
+    ghost Value = { KeepFault };
+
+    ghost view = { λ s. s.fault };
+
+    ghost inverse = { λ f. record { fault = f } };
+}
+
+impl Stop {
+    /// Keeping was refused so.
+    pub(crate) fn of(fault: KeepFault) -> Stop
+        ensures { result ≡ fault }
+    {
+        Stop { fault }
+    }
+
+    /// Why keeping was refused.
+    pub fn fault(self) -> KeepFault
+        ensures { result ≡ self }
+    {
+        self.fault
     }
 }
 

@@ -6,7 +6,7 @@ ghost use Rattle.site_lock.specs.Pass.{leaves};
 ghost use Rattle.keeper.specs.Flush.{Turns};
 ghost use Rattle.keeper.specs.Keep.{KeepsUp};
 
-use crate::fault::KeepFault;
+use crate::fault::Stop;
 use crate::keeper::Keeper;
 use feeds::Aside;
 use site_lock::{Pass, SharedSite};
@@ -26,7 +26,7 @@ pub struct Flusher<'a, R: Wait, S: Alter> {
     shared: &'a SharedSite,
     keeper: Keeper<S>,
     pass: Pass,
-    fault: Option<KeepFault>,
+    fault: Option<Stop>,
 }
 
 /// What a flusher leaves.
@@ -34,7 +34,7 @@ pub struct Flusher<'a, R: Wait, S: Alter> {
 pub struct Flushed<S: Alter> {
     pub keeper: Keeper<S>,
     pub pass: Pass,
-    pub fault: Option<KeepFault>,
+    pub fault: Option<Stop>,
 }
 
 impl<'a, R: Wait, S: Alter> Model for Flusher<'a, R, S> {
@@ -94,7 +94,7 @@ impl<'a, R: Wait, S: Alter + Drop> Flusher<'a, R, S> {
         {
             Ok(_) => true,
             Err(fault) => {
-                self.fault = Some(fault);
+                self.fault = Some(Stop::of(fault));
                 false
             }
         }

@@ -5,7 +5,7 @@ ghost use Rattle.attributes.specs.Event.{EventValue};
 ghost use Rattle.site.specs.Arrival.{AreDistinct};
 ghost use Rattle.site.specs.Page.{page};
 ghost use Rattle.site_lock.specs.Pass.{leaves};
-ghost use Rattle.keeper.specs.Keep.{AsksPages, max_page};
+ghost use Rattle.keeper.specs.Keep.{AsksPages, EndsPaged, max_page};
 
 use attributes::Batch;
 use site::{DeskFault, MAX_PAGE};
@@ -44,6 +44,7 @@ pub(crate) fn gathered<R: Wait>(
     ensures once { AreDistinct (leaves pass.new) }
     ensures page { IfOk result (λ events.
         events ≡ page (leaves pass.new) from (max_page * pages)) }
+    ensures replied { OnOk result (EndsPaged pass.new) }
 {
     calls_follow();
     let first = shared.fresh(rt, pass, from, MAX_PAGE);

@@ -1,6 +1,6 @@
 //! A table that keeps up with a shared site.
 
-ghost use Rattle.std.specs.Prelude.{◌≡◌, ◌≢◌, ◌+◌, ◌-◌, ◌*◌, ◌^◌, ◌≤◌, [], true, drop, length, min, List, IsTrue, IfErr, IfOk, OnOk};
+ghost use Rattle.std.specs.Prelude.{◌≡◌, ◌≢◌, ◌+◌, ◌-◌, ◌*◌, ◌^◌, ◌≤◌, [], true, drop, length, min, List, IsErrOf, IsTrue, IfErr, IfOk, OnOk};
 ghost use Rattle.sqlite.specs.Held.{state};
 ghost use Rattle.sqlite.specs.State.{HasCleanDisk, Survives};
 ghost use Rattle.attributes.specs.Event.{EventValue};
@@ -10,10 +10,10 @@ ghost use Rattle.site.specs.Arrival.{AreDistinct};
 ghost use Rattle.inbox_table.specs.Calls.{IsSettled, IsTold, StandsFor};
 ghost use Rattle.inbox_table.specs.Rows.{IsInbox};
 ghost use Rattle.site_lock.specs.Pass.{leaves};
-ghost use Rattle.keeper.specs.Keep.{Asks, AsksPages, HasAll, Keeps, KeepsPages, KeepsUp, MayKeepAll, max_page};
+ghost use Rattle.keeper.specs.Keep.{Asks, AsksPages, EndsRefused, HasAll, Keeps, KeepsPages, KeepsUp, MayKeepAll, max_page};
 ghost use Rattle.keeper.specs.declared.fault.KeepFault.TheVariants.{Foreign, OutOfMemory};
 
-use crate::fault::KeepFault;
+use crate::fault::{KeepFault, Stop};
 use crate::gathered::gathered;
 use attributes::{Batch, Sequenced};
 use inbox_table::{Listed, Table, Watch};
@@ -190,6 +190,10 @@ impl<S: Alter + Drop> Keeper<S> {
         ensures asked { Asks self.old.rows pass.old pass.new }
         ensures keeps { KeepsPages (λ conn. state S.Store conn) max_page self.old self.new
             (leaves pass.new) result }
+
+        // Where the site had no memory for a page nothing was kept, and that is told.
+        ensures refused { EndsRefused pass.new
+            → (self.new ≡ self.old) × IsErrOf result OutOfMemory }
     {
         self.steps(rt, shared, pass, 1)
     }
@@ -213,6 +217,10 @@ impl<S: Alter + Drop> Keeper<S> {
         ensures asked { AsksPages pages self.old.rows pass.old pass.new }
         ensures keeps { KeepsPages (λ conn. state S.Store conn) (max_page * pages) self.old self.new
             (leaves pass.new) result }
+
+        // Where the site had no memory for a page nothing was kept, and that is told.
+        ensures refused { EndsRefused pass.new
+            → (self.new ≡ self.old) × IsErrOf result OutOfMemory }
     {
         let mark = self.table.rows();
         match gathered(rt, shared, pass, mark, pages) {
@@ -220,7 +228,7 @@ impl<S: Alter + Drop> Keeper<S> {
                 Ok(fresh) => Ok(fresh),
                 Err(fault) => Err(KeepFault::from(fault)),
             },
-            Err(fault) => Err(KeepFault::from(fault)),
+            Err(want) => Err(KeepFault::from(want)),
         }
     }
 
@@ -230,7 +238,7 @@ impl<S: Alter + Drop> Keeper<S> {
     ///
     /// A refusal leaves the mark. Time in proportion to what is kept; no event is copied. The watch is
     /// told from time to time how many of the site's arrivals the table has.
-    pub fn catch_up<W: Watch>(&mut self, site: &Site, watch: &W) -> Result<(), KeepFault>
+    pub fn catch_up<W: Watch>(&mut self, site: &Site, watch: &W) -> Result<(), Stop>
         requires { KeepsUp (state S.Store self.old.conn) self.old.rows site.now }
         ensures all { HasCleanDisk (state S.Store self.new.conn)
             → OnOk result (HasAll (state S.Store self.new.conn) self.new.rows site.now) }
@@ -249,7 +257,7 @@ impl<S: Alter + Drop> Keeper<S> {
             .keep_watched(&rest, &OffsetWatch { watch, before })
         {
             Ok(fresh) => fresh,
-            Err(fault) => return Err(KeepFault::from(fault)),
+            Err(fault) => return Err(Stop::of(KeepFault::from(fault))),
         };
         Ok(())
     }

@@ -7,6 +7,6 @@ mod gathered;
 mod keeper;
 pub mod laws;
 
-pub use fault::KeepFault;
+pub use fault::{KeepFault, Stop};
 pub use flusher::{Flushed, Flusher};
 pub use keeper::{Keeper, Kept, NotKept};

@@ -1,7 +1,7 @@
 //! Why a relay stops.
 
 ghost use Rattle.std.specs.Prelude.{◌≡◌, ◌⊎◌};
-ghost use Rattle.relay.specs.Fault.{fault_number};
+ghost use Rattle.relay.specs.Fault.{fault_number, of_outbox};
 ghost use Rattle.relay.specs.declared.fault.RelayFault.TheVariants.{OutOfMemory, RouteFailed, Store};
 
 use outbox::OutboxFault;
@@ -48,7 +48,8 @@ impl RelayFault {
 
 /// The fault of a relay whose service refused.
 pub(crate) fn fault_of(fault: OutboxFault) -> RelayFault
-    ensures { (result ≡ OutOfMemory) ⊎ (result ≡ Store) }
+    ensures kind { (result ≡ OutOfMemory) ⊎ (result ≡ Store) }
+    ensures exact { result ≡ of_outbox fault }
 {
     match fault {
         OutboxFault::OutOfMemory => RelayFault::OutOfMemory,

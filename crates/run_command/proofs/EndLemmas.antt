@@ -1,5 +1,6 @@
 -- What a run whose workers have ended comes to.
-use Rattle.std.proofs.Common.{◌≡◌, ◌+◌, ◌-◌, ◌≤◌, ℕ, List, [], ◌∷◌, ◌++◌, refl, sym, ap, subst, ◌∙◌, append-nil, arith, length, take, slice_get, true, false, Option, None, Some, Result, Ok, Err, IfErr, IfOk, IsOk, IsTrue, OnOk, zero, suc, inl}
+use Rattle.std.proofs.Common.{◌≡◌, ◌+◌, ◌-◌, ◌≤◌, ℕ, List, [], ◌∷◌, ◌++◌, refl, sym, ap, subst, ◌∙◌, append-nil, arith, length, take, slice_get, true, false, Option, None, Some, Result, Ok, Err, IfErr, IfOk, IsOk, IsTrue, OnOk, zero, suc, inl, inr}
+use Rattle.std.specs.List.{AllByRecursion}
 use Rattle.std.specs.Option.{option_or}
 use Rattle.std.specs.Prelude.{IsSome}
 use Rattle.std.proofs.Math.Seq.{take-append-add, take-length}
@@ -24,13 +25,15 @@ use Rattle.keeper.specs.declared.fault.KeepFault.{KeepFault}
 use Rattle.keeper.specs.declared.fault.KeepFault.TheVariants as keep
 use Rattle.run_command.specs.Ending.{KeepsRest, workers_of}
 use Rattle.run_command.specs.Fault.{IsRunFault, of_end, of_keep, of_serve}
-use Rattle.run_command.specs.Outcome.{AreReports, HasFrom, HasRun, MayRun, Tells, fault_of, keeping_fault, reports_in}
+use Rattle.run_command.specs.Outcome.{AreReports, HasFrom, HasRun, IsOutcome, MayRun, RunsTo, Tells, fault_of, keeping_fault, reports_in}
 use Rattle.run_command.specs.Peer.{ArePulled}
 use Rattle.run_command.specs.Run.{IsFeedFault, IsRun, IsRunText, SaysRun}
 use Rattle.run_command.specs.Shared.{IsClosed}
 use Rattle.run_command.specs.Tally.{first_fault, read_in, refused_in}
+use Rattle.run_command.specs.Through.{DoneThrough, ServesThrough}
 use Rattle.run_command.specs.declared.fault.RunFault.{RunFault}
 use Rattle.run_command.specs.declared.fault.RunFault.TheVariants as run
+use Rattle.views.specs.declared.query.Query.{Query}
 use Rattle.inbox_table.proofs.UpgradeLemmas.{any_named}
 use Rattle.database_commands.specs.Held.{Holds, MayHold}
 use Rattle.run_command.proofs.ToldLemmas.{AreFed, all_pulled, are_fed, blamed, no_first, told}
@@ -104,6 +107,18 @@ blames (Ok s) n bs ps A held more stopped why is reports tells =
 blames (Err fault) n bs ps A held more stopped why is reports tells =
     let e : of_serve fault ≡ why = cc in let k = served_blames bs fault in (subst (IsFeedFault bs) e k.0, subst IsRunFault e k.1)
 
+-- reports without a fault are of workers that were done
+end_done : (place n : ℕ) (e : WorkerEnd) → of_end place n e ≡ None → e ≡ Done
+end_done place n Done is = refl
+end_done place n OutOfMemory is = absurd (cc)
+end_done place n GateShut is = absurd (cc)
+end_done place zero (BadInput f) is = absurd (cc)
+end_done place (suc n) (BadInput f) is = absurd (cc)
+
+all_done : (place n : ℕ) (rs : List Report) → first_fault place n rs ≡ None → AllByRecursion (λ (r : Report). r.ended ≡ Done) rs
+all_done place n [] is = tt
+all_done place n (r ∷ rs) is = let none = no_first (of_end place n r.ended) (first_fault (place + 1) (n - 1) rs) is in (end_done place n r.ended none.0, all_done (place + 1) (n - 1) rs none.1)
+
 pub either_blames : (served : Result Served ServeFault) (n : ℕ) (bs : List (List ℕ)) (ps : List (List EventValue)) (A held more : List EventValue) (stopped : Option KeepFault) (outcome : Result (List ℕ) RunFault) → n ≡ length bs
     → IfOk served (λ s. AreReports held more bs ps s.reports.items) → Tells n (reports_in (workers_of served)) A (fault_of n (workers_of served) stopped) outcome
     → IfErr outcome (λ why. IsFeedFault bs why × IsRunFault why)
@@ -140,6 +155,20 @@ finished (Ok s) n bs ps A held more stopped text is grew reports tells =
     }
 finished (Err fault) n bs ps A held more stopped text is grew reports tells = absurd (cc)
 
+-- so those of a run with a text were
+done_through : (lets shuts heard : ℕ → ℕ → Type 0) (bs : List (List ℕ)) (ps : List (List EventValue)) (asks : List (List Query)) (served : Result Served ServeFault) (n : ℕ) (A : List EventValue) (stopped : Option KeepFault) (text : List ℕ)
+    → IfOk served (ServesThrough lets shuts heard bs ps asks) → Tells n (reports_in (workers_of served)) A (fault_of n (workers_of served) stopped) (Ok text) → DoneThrough lets shuts heard bs ps asks
+done_through lets shuts heard bs ps asks (Ok s) n A stopped text through tells =
+    let q = no_fault n s.reports.items A (option_or (first_fault 0 n s.reports.items) (keeping_fault stopped)) text tells in
+    let none = no_first (first_fault 0 n s.reports.items) (keeping_fault stopped) q.0 in
+    (s, through, all_done 0 n s.reports.items none.0)
+done_through lets shuts heard bs ps asks (Err fault) n A stopped text through tells = absurd (cc)
+
+pub gated_run : (lets shuts heard : ℕ → ℕ → Type 0) (bs : List (List ℕ)) (ps : List (List EventValue)) (asks : List (List Query)) (served : Result Served ServeFault) (n : ℕ) (A : List EventValue) (stopped : Option KeepFault) (outcome : Result (List ℕ) RunFault)
+    → IfOk served (ServesThrough lets shuts heard bs ps asks) → Tells n (reports_in (workers_of served)) A (fault_of n (workers_of served) stopped) outcome → OnOk outcome (DoneThrough lets shuts heard bs ps asks)
+gated_run lets shuts heard bs ps asks served n A stopped (Ok text) through tells = done_through lets shuts heard bs ps asks served n A stopped text through tells
+gated_run lets shuts heard bs ps asks served n A stopped (Err why) through tells = tt
+
 ok_workers : (served : Result Served ServeFault) → IsOk (workers_of served) → IsOk served
 ok_workers (Ok s) h = refl
 ok_workers (Err fault) h = absurd (cc)
@@ -175,6 +204,13 @@ module _ {S : Type 0} (state : Held S → State) (bs : List (List ℕ)) (ps : Li
       go None e = grows_on (state k0.conn) (state k.conn) (state l.conn) closed.grows rest.grows (λ clean is_open. closed.stays_open clean e is_open)
       go (Some fault) e = subst (λ (z : Kept S). Grows (state k0.conn) (state z.conn)) (sym (rest.idle (subst (λ (z : Option KeepFault). IsSome z) (sym e) refl))) closed.grows
 
+  pulls : IfOk outcome (λ _. ArePulled held closed.more ps)
+  pulls = go outcome tells
+    where
+      go : (o : Result (List ℕ) RunFault) → Tells n (reports_in (workers_of served)) A (fault_of n (workers_of served) stopped) o → IfOk o (λ _. ArePulled held closed.more ps)
+      go (Ok text) t = (finished served n bs ps A held closed.more stopped text is closed.grew closed.reports t).pulled
+      go (Err why) t = tt
+
   pub has_run : HasRun bs ps held (state l.conn) stopped outcome
   has_run = let W : Result (List Report) ServeFault = workers_of served in record {
     more = closed.more;
@@ -182,6 +218,7 @@ module _ {S : Type 0} (state : Held S → State) (bs : List (List ℕ)) (ps : Li
     reports = told_workers served (AreReports held closed.more bs ps) closed.reports;
     told = subst (λ m. Tells m (reports_in W) (held ++ closed.more) (fault_of m W stopped) outcome) is
         (subst (λ (z : List EventValue). Tells n (reports_in W) z (fault_of n W stopped) outcome) closed.grew tells);
+    pulled = pulls;
     kept = λ clean is_open.
         let low : length held ≤ l.rows = (let a = count (was_clean clean) in let b = closed.mark in let c = rest.mark clean is_open in omega (arith, a, b, c)) in
         has_from (state l.conn).now l.rows A held closed.more closed.grew low (rest.first clean is_open);
@@ -219,6 +256,19 @@ module _ {S : Type 0} (state : Held S → State) (bs : List (List ℕ)) (ps : Li
 
   pub blame : IfErr outcome (λ why. IsFeedFault bs why × IsRunFault why)
   blame = either_blames served n bs ps A held closed.more stopped outcome is closed.reports tells
+
+-- what a run leaves tells its outcome
+pub is_outcome : (bs : List (List ℕ)) (ps : List (List EventValue)) (old new : State) (stopped : Option KeepFault) (outcome : Result (List ℕ) RunFault) → RunsTo bs ps old new stopped outcome → IsOutcome bs ps outcome
+is_outcome bs ps old new stopped outcome (inl u) = inl (u.why, u.told)
+is_outcome bs ps old new stopped outcome (inr h) = let r = h.2 in inr (record {
+  held = h.0;
+  more = r.more;
+  workers = r.workers;
+  stopped = stopped;
+  reports = r.reports;
+  told = r.told;
+  pulled = r.pulled;
+})
 
 not_some : (stopped : Option KeepFault) → stopped ≡ None → IsSome stopped → ⊥
 not_some stopped none some = let bad : false ≡ true = subst IsSome none some in cc

@@ -114,26 +114,26 @@ module _ (is_found : IsFound) (p q : Shown) (later : List (Entry Call)) (legal :
         brought = stays (delta (set_of peer) b.peer) b.holds;
       }
 
-  pub each_pulled : (place : ℕ) (peers : List (List EventValue)) (pulled : List Report) → EachAt (WorkerPulls p q) place peers pulled → AreReports q.opening more [] peers pulled
-  each_pulled place [] [] each = tt
-  each_pulled place [] (r ∷ rs) each = absurd each
-  each_pulled place (x ∷ xs) [] each = absurd each
-  each_pulled place (x ∷ xs) (r ∷ rs) each =
+  pub each_pulled : (lets shuts heard : ℕ → ℕ → Type 0) (place : ℕ) (peers : List (List EventValue)) (pulled : List Report) → EachAt (WorkerPulls lets shuts heard p q) place peers pulled → AreReports q.opening more [] peers pulled
+  each_pulled lets shuts heard place [] [] each = tt
+  each_pulled lets shuts heard place [] (r ∷ rs) each = absurd each
+  each_pulled lets shuts heard place (x ∷ xs) [] each = absurd each
+  each_pulled lets shuts heard place (x ∷ xs) (r ∷ rs) each =
       let w = each.0 in let n = worker_of p place in (
         record {
           calls = w.0;
-          pull = (w.2.0, w.2.1, w.2.2, λ done. let b = w.2.3 done in record { peer = b.peer; takes = b.takes; told = b.told; handled_all = b.handled_all; holds = stays (delta (set_of x) b.peer) b.holds });
+          pull = (w.2, w.3.0, w.3.1, λ done. let b = w.3.2 done in record { peer = b.peer; takes = b.takes; told = b.told; handled_all = b.handled_all; holds = stays (delta (set_of x) b.peer) b.holds });
           moved = stays (handled w.0) (all_there is_found n q.seen q.opening w.0 w.1);
-          done = λ done. pulled_one x n w.0 w.1 (w.2.3 done);
+          done = λ done. pulled_one x n w.0 w.1 (w.3.2 done);
         },
-        each_pulled (place + 1) xs rs each.1,
+        each_pulled lets shuts heard (place + 1) xs rs each.1,
       )
 
-  pub each_told : (place : ℕ) (feeds : List (List ℕ)) (peers : List (List EventValue)) (fed pulled : List Report) → EachAt (WorkerFeeds p q) place feeds fed → AreReports q.opening more [] peers pulled
+  pub each_told : (lets shuts heard : ℕ → ℕ → Type 0) (place : ℕ) (feeds : List (List ℕ)) (peers : List (List EventValue)) (fed pulled : List Report) → EachAt (WorkerFeeds lets shuts heard p q) place feeds fed → AreReports q.opening more [] peers pulled
       → AreReports q.opening more feeds peers (fed ++ pulled)
-  each_told place [] peers [] pulled each rest = rest
-  each_told place [] peers (r ∷ rs) pulled each rest = absurd each
-  each_told place (b ∷ bs) peers [] pulled each rest = absurd each
-  each_told place (b ∷ bs) peers (r ∷ rs) pulled each rest =
+  each_told lets shuts heard place [] peers [] pulled each rest = rest
+  each_told lets shuts heard place [] peers (r ∷ rs) pulled each rest = absurd each
+  each_told lets shuts heard place (b ∷ bs) peers [] pulled each rest = absurd each
+  each_told lets shuts heard place (b ∷ bs) peers (r ∷ rs) pulled each rest =
       let w = each.0 in
-      ((w.0, w.2, stays (handled w.0) (all_there is_found (worker_of p place) q.seen q.opening w.0 w.1)), each_told (place + 1) bs peers rs pulled each.1 rest)
+      ((w.0, w.2, stays (handled w.0) (all_there is_found (worker_of p place) q.seen q.opening w.0 w.1)), each_told lets shuts heard (place + 1) bs peers rs pulled each.1 rest)

@@ -27,20 +27,20 @@ first_leaves p t A f = ap (λ (s : List (Entry Call)). leave p.opening s) f.seen
 pub split_leaves : (p q : Shown) → IsSplitOff p q → leaves q ≡ leaves p
 split_leaves p q s = ap (λ (z : List EventValue). leave z q.seen) s.opening ∙ ap (λ (z : List (Entry Call)). leave p.opening z) s.seen
 
-all_told : IsFound → (p q : Shown) (later : List (Entry Call)) (feeds : List (List ℕ)) (peers : List (List EventValue)) (asks : List (List Query)) (served : Result Served ServeFault) (held more : List EventValue)
-    → q.opening ≡ held → IsHistory q.opening q.seen → leave q.opening (q.seen ++ later) ≡ held ++ more → IfOk served (λ s. Serves p q feeds peers asks s) → IfOk served (λ s. AreReports held more feeds peers s.reports.items)
-all_told is_found p q later feeds peers asks (Ok s) held more opening legal grew h =
+all_told : (lets shuts heard : ℕ → ℕ → Type 0) → IsFound → (p q : Shown) (later : List (Entry Call)) (feeds : List (List ℕ)) (peers : List (List EventValue)) (asks : List (List Query)) (served : Result Served ServeFault) (held more : List EventValue)
+    → q.opening ≡ held → IsHistory q.opening q.seen → leave q.opening (q.seen ++ later) ≡ held ++ more → IfOk served (λ s. Serves lets shuts heard p q feeds peers asks s) → IfOk served (λ s. AreReports held more feeds peers s.reports.items)
+all_told lets shuts heard is_found p q later feeds peers asks (Ok s) held more opening legal grew h =
     subst (λ (z : List EventValue). AreReports z more feeds peers s.reports.items) opening
     (subst (λ (rs : List Report). AreReports q.opening more feeds peers rs) (sym h.reports)
     (let is : leave q.opening (q.seen ++ later) ≡ q.opening ++ more = grew ∙ ap (λ (z : List EventValue). z ++ more) (sym opening) in
-    each_told is_found p q later legal more is 0 feeds peers h.fed h.pulled h.each_feed
-    (each_pulled is_found p q later legal more is (length feeds) peers h.pulled h.each_peer)))
-all_told is_found p q later feeds peers asks (Err e) held more opening legal grew h = tt
+    each_told is_found p q later legal more is lets shuts heard 0 feeds peers h.fed h.pulled h.each_feed
+    (each_pulled is_found p q later legal more is lets shuts heard (length feeds) peers h.pulled h.each_peer)))
+all_told lets shuts heard is_found p q later feeds peers asks (Err e) held more opening legal grew h = tt
 
-module _ {S : Type 0} (state : Held S → State) (stay : FirstArrivalsStay) (is_found : IsFound) (k : Kept S) (A0 A : List EventValue) (feeds : List (List ℕ)) (peers : List (List EventValue)) (asks : List (List Query))
+module _ {S : Type 0} (lets shuts heard : ℕ → ℕ → Type 0) (state : Held S → State) (stay : FirstArrivalsStay) (is_found : IsFound) (k : Kept S) (A0 A : List EventValue) (feeds : List (List ℕ)) (peers : List (List EventValue)) (asks : List (List Query))
     (t : TableId) (p0 p1 p2 p3 own : Shown) (f g : Flushing S) (served : Result Served ServeFault)
     (first : IsFirst p0 t A0) (splits : Splits p0 p1) (off : IsSplitOff p0 own) (begun : f.keeper ≡ k) (mine : f.pass ≡ own) (flushes : Flushes state f g)
-    (same : IsSame p1 p2) (serves : IfOk served (λ s. Serves p1 p2 feeds peers asks s)) (keeps : KeepsUp (state g.keeper.conn) g.keeper.rows (leaves g.pass))
+    (same : IsSame p1 p2) (serves : IfOk served (λ s. Serves lets shuts heard p1 p2 feeds peers asks s)) (keeps : KeepsUp (state g.keeper.conn) g.keeper.rows (leaves g.pass))
     (meets : Meets p2 g.pass p3) (closes : Closes p3 A) where
   opening : p3.opening ≡ A0
   opening = meets.same.opening ∙ (same.opening ∙ (splits.same.opening ∙ first.opening))
@@ -78,5 +78,5 @@ module _ {S : Type 0} (state : Held S → State) (stay : FirstArrivalsStay) (is_
         stays_open = λ clean none is_open. flushes.stays_open clean none (subst (λ (z : Kept S). IsTrue (state z.conn).is_open) (sym begun) is_open);
         more = grows.0;
         grew = grew;
-        reports = all_told is_found p1 p2 (meets.all_own.0 ++ closes.others) feeds peers asks served A0 grows.0 (sym meets.same.opening ∙ opening) legal (sym of_workers ∙ grew) serves;
+        reports = all_told lets shuts heard is_found p1 p2 (meets.all_own.0 ++ closes.others) feeds peers asks served A0 grows.0 (sym meets.same.opening ∙ opening) legal (sym of_workers ∙ grew) serves;
       }

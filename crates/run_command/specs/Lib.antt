@@ -5,3 +5,4 @@ pub mod Peer
 pub mod Run
 pub mod Shared
 pub mod Tally
+pub mod Through

@@ -14,7 +14,7 @@ use Rattle.feeds.specs.declared.report.Report.{Report}
 use Rattle.feeds.specs.declared.serving.ServeFault.{ServeFault}
 use Rattle.keeper.specs.declared.fault.KeepFault.{KeepFault}
 use Rattle.run_command.specs.Fault.{of_keep, of_serve}
-use Rattle.run_command.specs.Peer.{IsPull}
+use Rattle.run_command.specs.Peer.{ArePulled, IsPull}
 use Rattle.run_command.specs.Run.{IsFed, IsRunText}
 use Rattle.run_command.specs.Tally.{first_fault, read_in, refused_in}
 use Rattle.run_command.specs.declared.fault.RunFault.{RunFault}
@@ -74,6 +74,8 @@ pub record HasRun (feeds : List (List ℕ)) (peers : List (List EventValue))
   -- the first fault is told, or there is none
   pub told : Tells (length feeds) (reports_in workers) (held ++ more)
       (fault_of (length feeds) workers stopped) outcome
+  -- where there is a text, each peer brought what it was to bring
+  pub pulled : IfOk outcome (λ _. ArePulled held more peers)
   -- whatever the fault, the inbox has what it held and the first of what came
   pub kept : HasCleanDisk new → IsTrue new.is_open → HasFrom new.now held more
   -- it has all, where the workers reported and keeping wasn't stopped, whatever they reported; and
@@ -99,6 +101,25 @@ abbrev pub RunsTo : List (List ℕ) → List (List EventValue) → State → Sta
 RunsTo feeds peers old new stopped outcome = IsUnbegun old new stopped outcome
     ⊎ ((held : List EventValue) × (HasCleanDisk new → WasHeld old.now held)
     × HasRun feeds peers held new stopped outcome)
+
+-- what a run tells that was begun, over whatever events the inbox held: the first fault, in the
+-- order of the workers as a whole, each worker and keeping; or, where there is none, the text, and
+-- then each peer brought what it was to bring
+pub record IsToldBy (feeds : List (List ℕ)) (peers : List (List EventValue))
+    (outcome : Result (List ℕ) RunFault) : Type 0 where
+  pub held : List EventValue
+  pub more : List EventValue
+  pub workers : Result (List Report) ServeFault
+  pub stopped : Option KeepFault
+  pub reports : IfOk workers (AreReports held more feeds peers)
+  pub told : Tells (length feeds) (reports_in workers) (held ++ more)
+      (fault_of (length feeds) workers stopped) outcome
+  pub pulled : IfOk outcome (λ _. ArePulled held more peers)
+
+-- what a run tells: it wasn't begun, for a fault of the database, or was begun
+abbrev pub IsOutcome : List (List ℕ) → List (List EventValue) → Result (List ℕ) RunFault → Type 0
+IsOutcome feeds peers outcome = ((why : CommandFault) × (outcome ≡ Err (run.Database why)))
+    ⊎ IsToldBy feeds peers outcome
 
 -- these are the trees of a database that holds the events that the old one held, and behind them
 -- more or nothing

@@ -1,5 +1,5 @@
 //! A run, from an open database to the printed text.
-ghost use Rattle.std.specs.Prelude.{◌≡◌, ◌⊎◌, ◌≤◌, ◌+◌, ℕ, [], length, take, List, Err, IfErr, IfOk, None, OnOk};
+ghost use Rattle.std.specs.Prelude.{◌≡◌, ◌⊎◌, ◌≤◌, ◌+◌, ℕ, [], length, take, List, Err, IfErr, IfOk, IsOk, None, OnOk};
 ghost use Rattle.attributes.specs.Event.{EventValue};
 ghost use Rattle.sqlite.specs.Held.{state};
 ghost use Rattle.sqlite.specs.State.{HasCleanDisk, Survives};
@@ -12,6 +12,7 @@ ghost use Rattle.run_command.specs.Fault.{IsRunFault};
 ghost use Rattle.run_command.specs.Outcome.{HasRun, MayRun, RunsTo, Tells, fault_of, reports_in};
 ghost use Rattle.run_command.specs.Run.{IsFeedFault, IsRun, IsRunText, RunsInto, SaysRun};
 ghost use Rattle.run_command.specs.Tally.{read_in, refused_in};
+ghost use Rattle.run_command.specs.Through.{DoneThrough, IsToldOfRest};
 ghost use Rattle.database_commands.specs.declared.fault.CommandFault.TheVariants.{OutOfMemory};
 ghost use Rattle.run_command.specs.declared.fault.RunFault.TheVariants.{Database};
 
@@ -23,7 +24,7 @@ use attributes::{Batch, Text};
 use database_commands::{CommandFault, loaded, of_table};
 use feeds::{Jobs, Report, ServeFault, Served};
 use inbox_table::{Loaded, NotMade, Table, Watch};
-use keeper::{KeepFault, Keeper, Kept, NotKept};
+use keeper::{Keeper, Kept, NotKept, Stop};
 use site::{Gate, Site};
 use sqlite::{Alter, Connection};
 use std::alloc::Global;
@@ -37,8 +38,9 @@ pub struct RunEnd<S: Alter + Drop> {
     pub conn: Connection<S>,
     /// The text to print, or why there is none.
     pub outcome: Result<Text, RunFault>,
-    /// Why keeping stopped, if it did. Then the inbox may lack some of what workers handed over.
-    pub stopped: Option<KeepFault>,
+    /// Why keeping stopped, if it did: the refusal of the keeper beside the workers, or that of the
+    /// rest. Then the inbox may lack some of what workers handed over.
+    pub stopped: Option<Stop>,
 }
 
 /// Takes feeds side by side into the inbox of a database, each in a thread of its own, with the
@@ -76,6 +78,8 @@ pub fn run<R: Threads + Wait + Sync, S: Alter + Drop, G: Gate + Sync, W: Watch>(
         (arrivals : List EventValue) × SaysRun jobs.feeds arrivals text) }
     ensures feed { IfErr result.outcome (IsFeedFault jobs.feeds) }
     ensures database { IfErr result.outcome IsRunFault }
+    ensures gated { OnOk result.outcome (DoneThrough (G.lets gate.now) (G.shuts gate.now)
+        (G.heard gate.now) jobs.feeds jobs.peers jobs.asks) }
     ensures crash { Survives (state S.Store conn) (state S.Store result.conn)
         (MayRun (state S.Store conn).now) }
 {
@@ -119,6 +123,8 @@ fn run_table<R: Threads + Wait + Sync, S: Alter + Drop, G: Gate + Sync, W: Watch
         (arrivals : List EventValue) × SaysRun jobs.feeds arrivals text) }
     ensures feed { IfErr result.outcome (IsFeedFault jobs.feeds) }
     ensures database { IfErr result.outcome IsRunFault }
+    ensures gated { OnOk result.outcome (DoneThrough (G.lets gate.now) (G.shuts gate.now)
+        (G.heard gate.now) jobs.feeds jobs.peers jobs.asks) }
     ensures grows { Grows (state S.Store table.conn) (state S.Store result.conn) }
 {
     let feeds = jobs.feeds.len();
@@ -164,6 +170,8 @@ fn ended<S: Alter + Drop, W: Watch>(
         result.stopped }
     ensures told { Tells feeds (reports_in (workers_of closed.served)) closed.site
         (fault_of feeds (workers_of closed.served) result.stopped) result.outcome }
+    ensures watched { IsOk closed.served → closed.stopped ≡ None → result.stopped ≡ None
+        → IsToldOfRest (W.told watch.now) closed.keeper.rows (length closed.site) }
 {
     let Closed {
         mut keeper,
@@ -172,7 +180,7 @@ fn ended<S: Alter + Drop, W: Watch>(
         stopped,
     } = closed;
     let stopped = keep_rest(&mut keeper, &site, &served, stopped, watch);
-    let outcome = outcome_of(alloc, &site, &served, stopped, feeds);
+    let outcome = outcome_of(alloc, &site, &served, &stopped, feeds);
     RunEnd {
         conn: keeper.into_table().into_connection(),
         outcome,
@@ -186,12 +194,14 @@ fn keep_rest<S: Alter + Drop, W: Watch>(
     keeper: &mut Keeper<S>,
     site: &Site,
     served: &Result<Served, ServeFault>,
-    stopped: Option<KeepFault>,
+    stopped: Option<Stop>,
     watch: &W,
-) -> Option<KeepFault>
+) -> Option<Stop>
     requires { KeepsUp (state S.Store keeper.old.conn) keeper.old.rows site.now }
-    ensures { KeepsRest (λ conn. state S.Store conn) keeper.old keeper.new site.now served.now
+    ensures rest { KeepsRest (λ conn. state S.Store conn) keeper.old keeper.new site.now served.now
         stopped result }
+    ensures watched { IsOk served.now → stopped ≡ None → result ≡ None
+        → IsToldOfRest (W.told watch.now) keeper.old.rows (length site.now) }
 {
     if served.is_err() {
         return stopped;
@@ -201,7 +211,7 @@ fn keep_rest<S: Alter + Drop, W: Watch>(
     }
     match keeper.catch_up(site, watch) {
         Ok(()) => None,
-        Err(fault) => Some(fault),
+        Err(stop) => Some(stop),
     }
 }
 
@@ -210,11 +220,11 @@ fn outcome_of(
     alloc: Global,
     site: &Site,
     served: &Result<Served, ServeFault>,
-    stopped: Option<KeepFault>,
+    stopped: &Option<Stop>,
     feeds: u64,
 ) -> Result<Text, RunFault>
     ensures { Tells feeds (reports_in (workers_of served.now)) site.now
-        (fault_of feeds (workers_of served.now) stopped) result }
+        (fault_of feeds (workers_of served.now) stopped.now) result }
 {
     let reports = match served {
         Ok(served) => served.reports.as_slice(),
@@ -223,8 +233,8 @@ fn outcome_of(
     if let Some(fault) = first_fault(reports, feeds) {
         return Err(fault);
     }
-    if let Some(fault) = stopped {
-        return Err(of_keep(fault));
+    if let Some(stop) = stopped {
+        return Err(of_keep(*stop));
     }
     said(alloc, reports, feeds, site)
 }

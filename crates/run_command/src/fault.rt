@@ -5,7 +5,7 @@ ghost use Rattle.run_command.specs.Fault.{of_keep, of_serve};
 use database_commands::CommandFault;
 use event_json::ReadFault;
 use feeds::ServeFault;
-use keeper::KeepFault;
+use keeper::{KeepFault, Stop};
 
 /// Why a run has no answer. What was taken and kept by then stays.
 #[derive(Clone, Copy, PartialEq, Eq, Debug)]
@@ -18,11 +18,11 @@ pub enum RunFault {
     Feed { feed: u64, fault: ReadFault },
 }
 
-/// The fault that one of a keeper is.
-pub fn of_keep(fault: KeepFault) -> RunFault
-    ensures { result ≡ of_keep fault }
+/// The fault that a keeper's refusal is.
+pub fn of_keep(stop: Stop) -> RunFault
+    ensures { result ≡ of_keep stop }
 {
-    match fault {
+    match stop.fault() {
         KeepFault::OutOfMemory => RunFault::Database(CommandFault::OutOfMemory),
         KeepFault::Store => RunFault::Database(CommandFault::Store),
         KeepFault::Foreign => RunFault::Database(CommandFault::Foreign),

@@ -2,12 +2,13 @@
 ghost use Rattle.std.specs.Prelude.{◌≡◌, ◌≤◌, ◌+◌, length, List, IfErr, IfOk};
 ghost use Rattle.std.specs.Thread.{IsSync};
 ghost use Rattle.attributes.specs.Event.{EventValue};
+ghost use Rattle.run_command.specs.Outcome.{IsOutcome};
 ghost use Rattle.run_command.specs.Run.{IsFeedFault, SaysRun};
 
 use crate::ending::{RunEnd, run};
 use crate::fault::RunFault;
 use attributes::Text;
-use database_commands::open;
+use database_commands::Opener;
 use feeds::Jobs;
 use inbox_table::Watch;
 use site::Wide;
@@ -32,12 +33,13 @@ pub trait Runs {
     ) -> Result<Text, RunFault>
         requires few { length jobs.feeds + length jobs.peers + length jobs.asks ≤ 16 }
         requires sync { IsSync R.row }
+        ensures left { IsOutcome jobs.feeds jobs.peers result }
         ensures said { IfOk result (λ text.
             (arrivals : List EventValue) × SaysRun jobs.feeds arrivals text) }
         ensures feed { IfErr result (IsFeedFault jobs.feeds) };
 }
 
-impl Runs for HostRuntime {
+impl<'a> Runs for Opener<'a> {
     fn run<R: Threads + Wait + Sync, W: Watch>(
         &self,
         rt: &R,
@@ -47,7 +49,7 @@ impl Runs for HostRuntime {
         growth: u64,
         watch: &W,
     ) -> Result<Text, RunFault> {
-        match open(self, name, growth) {
+        match self.open(name, growth) {
             Ok(conn) => closed(run(rt, alloc, conn, jobs, &Wide, watch)),
             Err(fault) => Err(RunFault::Database(fault)),
         }

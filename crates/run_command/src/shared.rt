@@ -3,13 +3,14 @@ ghost use Rattle.std.specs.Prelude.{◌≡◌, ◌≤◌, ◌+◌, IfErr, IfOk, 
 ghost use Rattle.sqlite.specs.Held.{state};
 ghost use Rattle.keeper.specs.Keep.{KeepsUp};
 ghost use Rattle.run_command.specs.Shared.{IsClosed};
+ghost use Rattle.run_command.specs.Through.{ServesThrough};
 
 use crate::progress::{Counting, WatchedFlusher};
 use feeds::{Jobs, ServeFault, Served, serve};
 use inbox::laws::sets_are_members;
 use inbox_table::Watch;
 use keeper::laws::first_arrivals_stay;
-use keeper::{Flushed, Flusher, KeepFault, Keeper};
+use keeper::{Flushed, Flusher, Keeper, Stop};
 use site::{Gate, Site};
 use site_lock::{Begun, SharedSite};
 use sqlite::Alter;
@@ -25,7 +26,7 @@ pub struct Closed<S: Alter + Drop> {
     pub keeper: Keeper<S>,
     pub site: Site,
     pub served: Result<Served, ServeFault>,
-    pub stopped: Option<KeepFault>,
+    pub stopped: Option<Stop>,
 }
 
 /// Shares a site for as long as jobs are done for it, each in a thread of its own, and keeps what
@@ -45,6 +46,8 @@ pub fn share<R: Threads + Wait + Sync, S: Alter + Drop, G: Gate + Sync, W: Watch
     ensures ok { IfOk result (λ c.
         IsClosed (λ conn. state S.Store conn) keeper site jobs.feeds jobs.peers
         c.keeper c.site c.served c.stopped) }
+    ensures gated { IfOk result (λ c. IfOk c.served (ServesThrough (G.lets gate.now)
+        (G.shuts gate.now) (G.heard gate.now) jobs.feeds jobs.peers jobs.asks)) }
     ensures err { IfErr result (λ back. back ≡ keeper) }
 {
     first_arrivals_stay();

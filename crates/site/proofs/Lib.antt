@@ -5,3 +5,4 @@ pub mod DeltaLemmas
 pub mod MarkLemmas
 pub mod SkipLemmas
 pub mod AmongLemmas
+pub mod KeyLemmas

@@ -1,5 +1,6 @@
 pub mod Arrival
 pub mod Page
+pub mod Key
 pub mod Delta
 pub mod Law
 pub mod Machine

@@ -1,5 +1,6 @@
 //! Laws of sites, each as the contract of a function that does nothing.
 
+ghost use Rattle.site.specs.Key.{ConflictsAreFound};
 ghost use Rattle.site.specs.Law.{ArrivalsStay, PagesSkipNone, SitesAnswerAlike, TakingUnites};
 
 use coverage::laws::sets_have_one_summary;
@@ -39,4 +40,9 @@ pub fn pages_skip_none()
 /// on behind them.
 pub fn arrivals_stay()
     ensures { ArrivalsStay }
+{}
+
+/// Whoever asks for the source and the id of a conflict gets the conflict's events, in its order.
+pub fn conflicts_are_found()
+    ensures { ConflictsAreFound }
 {}

@@ -7,6 +7,7 @@ ghost use Rattle.site.specs.Arrival.{AreDistinct, AreNumbered};
 mod among;
 mod delta;
 mod keep;
+mod key;
 mod mark;
 mod merge;
 mod page;

@@ -16,6 +16,8 @@ use Rattle.file_disk.specs.contracts.system.OpenFile as open_file
 use Rattle.file_disk.specs.contracts.system.record.Record as calls
 use Rattle.file_disk.specs.contracts.system_file.SystemFile as system_file
 use Rattle.inbox_table.specs.contracts.table.Table as inbox
+use Rattle.number_table.specs.contracts.numberer.Numberer as numberer
+use Rattle.numbers.specs.contracts.counted.Counted as counted
 use Rattle.outbox.specs.contracts.service.Service as service
 use Rattle.site.specs.contracts.site.Site as site
 use Rattle.site_c.specs.contracts.offers.Head as head
@@ -257,6 +259,9 @@ head_send = search plain depth 20
 pub offers_send : IsSend (offers.the_field).row
 offers_send = search (list_send, head_send, events_send, both, sendable) depth 60 fits 20000
 
+counted_send : IsSend (counted.the_field).row
+counted_send = search (maps.crosses, heap.crosses, sendable) depth 60 fits 20000
+
 -- without the text of its last answer
 pub site_send : IsSend site.the_row
 site_send = search (maps.crosses, heap.crosses, sendable) depth 80 fits 20000
@@ -273,6 +278,9 @@ module _ (S : RattleType) (g : store.Ghosts S.Denot) (s : IsSend S) where
 
   service_send : IsSend (service.the_field S g).row
   service_send = search (connection_send, text_send, plain) depth 40
+
+  numberer_send : IsSend (numberer.the_field S g).row
+  numberer_send = search (inbox_send, counted_send, both, plain) depth 40
 
 -- ---- a file of the system
 quiet : {D X : Type 0} (to : D → X) (e : Exit X) → Quiet e → Quiet (hidden (under to e))
@@ -312,3 +320,6 @@ module _ (c : calls_of_file.Ghosts (system_file.the_row).Denot) (b : start.Ghost
 
       pub file_service_send : IsSend (service.the_row files h)
       file_service_send = search (service_send files h, files_send, sendable) depth 20
+
+      pub file_numberer_send : IsSend (numberer.the_row files h)
+      file_numberer_send = search (numberer_send files h, files_send, sendable) depth 20

@@ -1,8 +1,8 @@
 -- What a service asks of a site over files, beside the calls of `Files`: what it asks of one in
 -- memory, and the table stays.
-use Rattle.std.specs.Prelude.{◌≡◌, ◌⊎◌, ℕ, List, None, Some}
+use Rattle.std.specs.Prelude.{◌≡◌, ◌≢◌, ◌⊎◌, ℕ, List, [], MatchOption, None, Some}
 use Rattle.site_c.specs.Files.{IsNotOpen}
-use Rattle.site_c.specs.Sets.{Compared, Named, PartLacked}
+use Rattle.site_c.specs.Sets.{Compared, Found, Named, PartLacked}
 use Rattle.site_c.specs.declared.calls.Reply.{Reply}
 use Rattle.site_c.specs.declared.file_held.FileHeld.{FileHeld}
 use Rattle.site_c.specs.declared.held.Held.{Held}
@@ -30,6 +30,18 @@ NamedFile held kept was name = Over (λ h k. Named h k was name) held kept
 abbrev pub PartLackedFile : List ℕ → ℕ → ℕ → ℕ → FileHeld → FileHeld → Reply → Type 0
 PartLackedFile bytes from most size held kept reply =
     Over (λ h k. PartLacked bytes from most size h k reply) held kept
+    ⊎ (IsShut held kept × IsNotOpen held kept reply)
+
+-- what `jumbetai_file_copy` leaves: the site as it was, and one in memory with the same events, come
+-- in the same order, and no text; or none where memory ran out, or where no site is open
+abbrev pub CopiedFile : FileHeld → FileHeld → Held → Type 0
+CopiedFile held kept copy = (kept ≡ held) × (copy.text ≡ [])
+    × MatchOption held.durable (copy.site ≡ [])
+    (λ d. (copy.site ≡ d.site) ⊎ ((copy.site ≡ []) × (d.site ≢ [])))
+
+-- what `jumbetai_file_get` leaves and replies
+abbrev pub FoundFile : List ℕ → List ℕ → FileHeld → FileHeld → Reply → Type 0
+FoundFile source id held kept reply = Over (λ h k. Found source id h k reply) held kept
     ⊎ (IsShut held kept × IsNotOpen held kept reply)
 
 -- what `jumbetai_file_compare` leaves and tells

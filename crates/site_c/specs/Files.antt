@@ -1,5 +1,5 @@
 -- What a call leaves in the room that a site over a file lies in, and what it replies.
-use Rattle.std.specs.Prelude.{◌≡◌, ◌≢◌, ◌-◌, ◌<◌, ◌⊎◌, ℕ, List, [], ◌∷◌, drop, length, take, IsTrue, MatchResult, None, Result, Some}
+use Rattle.std.specs.Prelude.{◌≡◌, ◌≢◌, ◌-◌, ◌<◌, ◌⊎◌, ℕ, List, [], ◌∷◌, drop, length, take, IfErr, IsTrue, MatchOption, MatchResult, None, Option, ⊤, Result, Some}
 use Rattle.sqlite_disk.specs.declared.Disk as disk
 use Rattle.sqlite_wal.specs.Recovery.{Image}
 use Rattle.sqlite_store.specs.declared.store.FileStore.{FileStore}
@@ -10,7 +10,7 @@ use Rattle.inbox_table.specs.Calls.{MayTake}
 use Rattle.inbox_table.specs.declared.fault.TableFault.{TableFault}
 use Rattle.inbox_table.specs.declared.fault.TableFault.TheVariants as table
 use Rattle.durable_site.specs.Durable.{TakeEffect, Takes, events_of}
-use Rattle.durable_site.specs.Files.{OpensOver}
+use Rattle.durable_site.specs.Files.{Closes, IsUnopened, OpensOver, RefusesTable}
 use Rattle.durable_site.specs.declared.durable.DurableSite.{DurableSite}
 use Rattle.durable_site.specs.declared.fault.OpenFault.{OpenFault}
 use Rattle.durable_site.specs.declared.fault.OpenFault.TheVariants as opening
@@ -18,7 +18,7 @@ use Rattle.file_reports.specs.Numbers.{fault_number}
 use Rattle.file_reports.specs.Reports.{IsRefusal, SpellAll}
 use Rattle.file_reports.specs.declared.refusal.Refused.{Refused}
 use Rattle.site_c.specs.Sets.{Arrived, Released}
-use Rattle.site_c.specs.Calls.{Asked, Checked, Lacked, Paged, Summed, Viewed, piece_of}
+use Rattle.site_c.specs.Calls.{Asked, Checked, IsWant, Lacked, Paged, Summed, Viewed, piece_of}
 use Rattle.site_c.specs.declared.calls.Piece.{Piece}
 use Rattle.site_c.specs.declared.calls.Reply.{Reply}
 use Rattle.site_c.specs.declared.file_held.FileHeld.{FileHeld}
@@ -58,7 +58,25 @@ RepliesKept count result owed reply = MatchResult result
     × IsCounted reply.status owed)
     (λ fault. (reply.status ≡ table_status fault) × (reply.fresh ≡ 0) × (reply.repeated ≡ 0))
 
+module _ (D : Type 0) (g : disk.Ghosts D) where
+  -- why no site was opened over the files, by the status: they weren't opened, or no table was found
+  -- or made in them, and they are as they were; or one was, and memory ran out as its events were
+  -- counted
+  abbrev pub IsUnopenedFile : ℕ → Type 0
+  IsUnopenedFile status =
+      ((fault : OpenFault) × (status ≡ open_status fault)
+      × (IsUnopened D g untold fault ⊎ RefusesTable D g untold fault))
+      ⊎ (IsWant status × ((d : DurableSite (FileStore D g)) × OpensOver untold d))
+
 module _ {D : Type 0} {g : disk.Ghosts D} where
+  -- an opening is refused
+  abbrev pub RefusesFile : Result (DurableSite (FileStore D g)) ℕ → Type 0
+  RefusesFile result = IfErr result (IsUnopenedFile D g)
+
+  -- the room has no open site, and this is why
+  abbrev pub IsShutFor : Option (DurableSite (FileStore D g)) → ℕ → Type 0
+  IsShutFor durable status = (durable ≡ None) × IsUnopenedFile D g status
+
   -- it was opened over its files, and all its events are counted
   pub record IsOpenedFile (d : DurableSite (FileStore D g)) : Type 0 where
     pub over : OpensOver untold d
@@ -109,7 +127,7 @@ pub record IsNotOpen (held kept : FileHeld) (reply : Reply) : Type 0 where
 pub record OpenedFile (kept : FileHeld) (reply : Reply) : Type 0 where
   pub opened : reply.status ≡ 0
       → (d : _) × (kept.durable ≡ Some d) × IsOpenedFile d × (reply.events ≡ length d.site)
-  pub refused : reply.status ≢ 0 → (kept.durable ≡ None) × (reply.events ≡ 0)
+  pub refused : reply.status ≢ 0 → IsShutFor kept.durable reply.status × (reply.events ≡ 0)
   pub text : kept.text ≡ []
   pub none : TellsNone reply
   pub length_is : reply.length ≡ 0
@@ -154,3 +172,10 @@ HasReadFile number held kept was piece = (kept ≡ held)
     × (piece.length ≡ length (piece_of number held.text))
     × (take piece.length piece.bytes ≡ piece_of number held.text)
     × (drop piece.length piece.bytes ≡ drop piece.length was.bytes)
+
+-- ---- a site closed
+
+-- what `jumbetai_file_close` does to the files of an open site: they are closed, and what a crash
+-- could leave of them is all that is left
+abbrev pub LetsGo : FileHeld → Type 0
+LetsGo held = MatchOption held.durable ⊤ (λ d. Closes d.table.conn)

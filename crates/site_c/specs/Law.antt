@@ -2,6 +2,7 @@
 use denote.Param.Send.{IsSend}
 use Rattle.site_c.specs.contracts.file_held.FileHeld as file_held
 use Rattle.site_c.specs.contracts.held.Held as held
+use Rattle.site_c.specs.contracts.numbers_held.NumbersHeld as numbers_held
 use Rattle.site_c.specs.contracts.outbox_held.OutboxHeld as outbox_held
 
 -- a site may go to another thread
@@ -15,3 +16,7 @@ FileSitesMayGo = IsSend file_held.the_row
 -- so may an outbox over files
 abbrev pub OutboxesMayGo : Type 0
 OutboxesMayGo = IsSend outbox_held.the_row
+
+-- so may a numberer over files
+abbrev pub NumberersMayGo : Type 0
+NumberersMayGo = IsSend numbers_held.the_row

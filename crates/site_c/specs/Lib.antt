@@ -5,3 +5,4 @@ pub mod Files
 pub mod FileSets
 pub mod Offers
 pub mod Outboxes
+pub mod Numbers

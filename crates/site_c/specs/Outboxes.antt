@@ -1,5 +1,5 @@
 -- What a call leaves in the room that an outbox over a file lies in, and what it replies.
-use Rattle.std.specs.Prelude.{◌≡◌, ◌≢◌, ◌==◌, ◌≤◌, ◌⊎◌, IsUtf8, ℕ, List, [], ◌∷◌, ◌++◌, codes, drop, length, take, if◌then◌else◌, IsTrue, Err, MatchResult, None, Ok, Option, Result, Some}
+use Rattle.std.specs.Prelude.{◌≡◌, ◌≢◌, ◌==◌, ◌≤◌, ◌⊎◌, IsUtf8, ℕ, List, [], ◌∷◌, ◌++◌, codes, drop, length, take, if◌then◌else◌, IsTrue, Err, MatchOption, MatchResult, ⊤, None, Ok, Option, Result, Some}
 use Rattle.sqlite_disk.specs.declared.Disk as disk
 use Rattle.sqlite_store.specs.declared.store.FileStore.{FileStore}
 use Rattle.sqlite.specs.Files.{file_state, over_files}
@@ -17,9 +17,8 @@ use Rattle.outbox.specs.declared.fault.OutboxFault.{OutboxFault}
 use Rattle.outbox.specs.declared.fault.OutboxFault.TheVariants as outbox
 use Rattle.outbox.specs.declared.status.Status.{Status}
 use Rattle.outbox.specs.declared.status.Status.TheVariants.{Placed, Shipped, Cancelled}
-use Rattle.durable_site.specs.Files.{IsOver}
+use Rattle.durable_site.specs.Files.{Closes, IsOver, IsUnopened}
 use Rattle.durable_site.specs.declared.fault.OpenFault.{OpenFault}
-use Rattle.durable_site.specs.declared.fault.OpenFault.TheVariants as opening
 use Rattle.site_c.specs.Calls.{IsPageLine, IsWant, piece_of}
 use Rattle.site_c.specs.Files.{open_status, untold}
 use Rattle.site_c.specs.declared.calls.Piece.{Piece}
@@ -195,14 +194,14 @@ module _ {D : Type 0} {g : disk.Ghosts D} where
     pub refused : IsRefused source base (file_state first) (file_state last) fault
 
   -- there is a service, or the status says why not: want of memory; what was given isn't a source
-  -- and a base, and the files weren't asked; they hold no database that can be opened; no service
+  -- and a base, and the files weren't asked; they weren't opened, and are as they were; no service
   -- can be opened in it; the one that is there has another source
   abbrev pub Serves : ℕ → List ℕ → ℕ → Result (Shown (FileStore D g)) ℕ → Type 0
   Serves has_source source base (Ok s) = OpensOutbox has_source source base s
   Serves has_source source base (Err status) = IsWant status
       ⊎ (((status ≡ 27) × (IsGiven has_source source base → ⊥))
       ⊎ (IsGiven has_source source base
-      × (((fault : OpenFault) × (status ≡ open_status fault) × (fault ≢ opening.Foreign))
+      × (((fault : OpenFault) × (status ≡ open_status fault) × IsUnopened D g untold fault)
       ⊎ (((fault : OutboxFault) × (last : Held (FileStore D g)) × (status ≡ outbox_status fault)
       × RefusesOutbox (source_of has_source source) base fault last)
       ⊎ ((s : Shown (FileStore D g)) × (status ≡ 28) × IsAnother has_source source base s)))))
@@ -258,3 +257,7 @@ HasReadOutbox number held kept was piece = (kept ≡ held)
     × (piece.length ≡ length (piece_of number held.text))
     × (take piece.length piece.bytes ≡ piece_of number held.text)
     × (drop piece.length piece.bytes ≡ drop piece.length was.bytes)
+
+-- what `jumbetai_outbox_close` does to the files of an open service, as `jumbetai_file_close` does
+abbrev pub LetsGoOutbox : OutboxHeld → Type 0
+LetsGoOutbox held = MatchOption held.service ⊤ (λ s. Closes s.conn)

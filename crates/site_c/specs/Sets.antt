@@ -1,5 +1,5 @@
 -- What a service asks of a site, beside the calls of `Calls`.
-use Rattle.std.specs.Prelude.{◌≡◌, ◌<◌, ◌≤◌, ◌==◌, ◌⊎◌, ℕ, List, [], ◌∷◌, length, min, if◌then◌else◌}
+use Rattle.std.specs.Prelude.{◌≡◌, ◌≢◌, ◌<◌, ◌≤◌, ◌==◌, ◌⊎◌, ℕ, List, [], ◌∷◌, length, min, if◌then◌else◌, IsUtf8}
 use Rattle.attributes.specs.Event.{EventValue}
 use Rattle.coverage.specs.Digests.{Digests}
 use Rattle.coverage.specs.Summary.{Sources, entries_of, version_of}
@@ -12,7 +12,9 @@ use Rattle.sha2.specs.Sha256.{sha256}
 use Rattle.lag.specs.Blocks.{differing}
 use Rattle.lag.specs.Lacking.{Lacks}
 use Rattle.site.specs.Delta.{delta}
+use Rattle.site.specs.Key.{with_key}
 use Rattle.site.specs.Page.{page}
+use Rattle.views.specs.Line.{event_lines}
 use Rattle.site_c.specs.Calls.{Answers, IsPageLine, IsPeer, IsRefusedPeer, IsWant, KeepsText}
 use Rattle.site_c.specs.declared.calls.Reply.{Reply}
 use Rattle.site_c.specs.declared.held.Held.{Held}
@@ -26,11 +28,45 @@ abbrev pub Arrived : ℕ → Held → Held → Reply → Type 0
 Arrived after held kept reply =
     Answers (IsPageLine (page held.site after 100)) IsWant held kept reply
 
+-- ---- events by their source and id
+
+-- both are texts, UTF-8, as every source and id is
+abbrev pub AreTexts : List ℕ → List ℕ → Type 0
+AreTexts source id = IsUtf8 source × IsUtf8 id
+
+-- the events of the set E that have this source and this id, the shown one first; bytes that are no
+-- text name none
+pub record IsNamed (source id : List ℕ) (E events : List EventValue) : Type 0 where
+  pub all : AreTexts source id → events ≡ with_key source id E
+  pub none : (AreTexts source id → ⊥) → events ≡ []
+
+-- the text has their canonical texts, a line each, and so many they are
+abbrev pub IsFound : List ℕ → List ℕ → List EventValue → List ℕ → ℕ → Type 0
+IsFound source id E text listed = (events : List EventValue) × IsNamed source id E events
+    × (text ≡ event_lines events) × (listed ≡ length events)
+
+-- memory ran out, which it doesn't where there is none
+abbrev pub WantsFound : List ℕ → List ℕ → List EventValue → ℕ → Type 0
+WantsFound source id E status = IsWant status × (with_key source id E ≢ [])
+
+-- what `jumbetai_site_get` leaves and replies
+abbrev pub Found : List ℕ → List ℕ → Held → Held → Reply → Type 0
+Found source id held kept reply = Answers (IsFound source id (set_of held.site))
+    (WantsFound source id (set_of held.site)) held kept reply
+
 -- ---- a text let go
 
 -- the text is empty
 abbrev pub Released : Held → Held → Reply → Type 0
 Released held kept reply = KeepsText [] 0 held kept reply
+
+-- ---- copies
+
+-- what `jumbetai_site_copy` leaves: the site as it was, and another one with the same events, come in
+-- the same order, and no text; or, where there are events, memory ran out, and that one has none
+abbrev pub Copied : Held → Held → Held → Type 0
+Copied held kept copy = (kept ≡ held) × (copy.text ≡ [])
+    × ((copy.site ≡ held.site) ⊎ ((copy.site ≡ []) × (held.site ≢ [])))
 
 -- ---- the name of a set
 

@@ -1,6 +1,6 @@
 //! What each call does to the site that lies in the room.
 
-ghost use Rattle.std.specs.Prelude.{◌≡◌, ◌≢◌, [], ◌∷◌, codes, drop, length, take, IfErr, IfNone, IfOk, IfSome};
+ghost use Rattle.std.specs.Prelude.{◌≡◌, ◌≢◌, [], ◌∷◌, codes, drop, length, take, min, IfErr, IfNone, IfOk, IfSome, IsOk};
 ghost use Rattle.fault_lines.specs.Lines.{IsFaultText};
 ghost use Rattle.file_reports.specs.Reports.{IsRefusal, SpellAll};
 ghost use Rattle.inbox.specs.Sets.{set_of};
@@ -324,10 +324,15 @@ struct Seed<'a> {
 
 impl RandomSource for Seed<'_> {
     /// Copies the bytes; where more are wanted, the rest stays.
-    fn fill_bytes(&self, buf: &mut [u8]) -> io::Result<()> {
-        for (to, byte) in buf.iter_mut().zip(self.bytes.iter()) {
-            *to = *byte;
-        }
+    fn fill_bytes(&self, buf: &mut [u8]) -> io::Result<()>
+        ensures done { IsOk result }
+        ensures bytes { take (min (length buf.old) (length self.now.bytes.now)) buf.new
+            ≡ take (min (length buf.old) (length self.now.bytes.now)) self.now.bytes.now }
+        ensures rest { drop (min (length buf.old) (length self.now.bytes.now)) buf.new
+            ≡ drop (min (length buf.old) (length self.now.bytes.now)) buf.old }
+    {
+        let count = buf.len().min(self.bytes.len());
+        buf[..count].copy_from_slice(&self.bytes[..count]);
         Ok(())
     }
 }

@@ -1,8 +1,8 @@
 //! What each call does to the site over a file that lies in the room.
 
 ghost use Rattle.std.specs.Prelude.{◌≡◌, ◌≢◌, List, IfErr, IfOk, OnErr};
-ghost use Rattle.site_c.specs.Files.{Answered, HasReadFile, IsCounted, IsOpenedFile, KeepsBatch, KeepsBytes, KeepsNone, OpenedFile, RepliesKept, Told, TookFile, open_status, table_status};
-ghost use Rattle.site_c.specs.FileSets.{ComparedFile, NamedFile, PartLackedFile};
+ghost use Rattle.site_c.specs.Files.{Answered, HasReadFile, IsCounted, IsOpenedFile, KeepsBatch, KeepsBytes, KeepsNone, LetsGo, OpenedFile, RefusesFile, RepliesKept, Told, TookFile, open_status, table_status};
+ghost use Rattle.site_c.specs.FileSets.{ComparedFile, CopiedFile, FoundFile, NamedFile, PartLackedFile};
 ghost use Rattle.site_c.specs.Offers.{HasAnswer, IsBehind, KeepsOffers, KeptOffers, Offered, Reads};
 ghost use Rattle.site_c.specs.declared.offers.Head.{Head};
 ghost use Rattle.attributes.specs.Event.{EventValue};
@@ -14,12 +14,13 @@ use crate::calls::{
 use crate::file_held::FileHeld;
 use crate::held::Held;
 use crate::offers::{Offers, body_of};
-use crate::set_calls::{Lag, Name, arrived, compared, named, part_lacked, released};
+use crate::set_calls::{Lag, Name, arrived, compared, found, named, part_lacked, released};
 use attributes::{Batch, List, Text};
 use durable_site::{
-    DurableSite, FileSite, GivenFiles, OpenFault, Owed, TableFault, Unknown, open_files,
+    DurableSite, FileSite, GivenFiles, OpenFault, Owed, TableFault, Unknown, close, open_files,
 };
 use file_reports::Refused;
+use site::Site;
 use std::alloc::{AllocError, Global};
 
 /// The site wasn't opened.
@@ -54,7 +55,7 @@ fn table_status(fault: TableFault) -> u32
 }
 
 /// Sets a reply that tells of no events and of no page.
-fn tell_nothing(status: u32, length: u64, reply: &mut Reply)
+pub(crate) fn tell_nothing(status: u32, length: u64, reply: &mut Reply)
     ensures { reply.new ≡ record {
       status = status;
       fresh = 0;
@@ -76,6 +77,7 @@ fn tell_nothing(status: u32, length: u64, reply: &mut Reply)
 fn made(alloc: Global, given: GivenFiles) -> Result<FileSite<Unknown>, u32>
     ensures ok { IfOk result IsOpenedFile }
     ensures err { IfErr result (λ status. status ≢ 0) }
+    ensures refused { RefusesFile result }
 {
     match open_files(alloc, given, Unknown) {
         Ok(durable) => {
@@ -340,6 +342,24 @@ pub(crate) fn file_named(held: FileHeld, name: &mut Name) -> FileHeld
     }
 }
 
+/// A site in memory with the same events and no text; one without events where memory runs out.
+pub(crate) fn copied_file(held: &mut FileHeld) -> Held
+    ensures { CopiedFile held.old held.new result }
+{
+    let text = Text::from_string(String::new(held.alloc));
+    let alloc = held.alloc;
+    if let Some(durable) = &held.durable {
+        if let Ok(site) = durable.site.copy() {
+            return Held { site, text, alloc };
+        }
+    }
+    Held {
+        site: Site::empty(alloc),
+        text,
+        alloc,
+    }
+}
+
 /// Tells how far the site and the peer of the bytes are apart.
 pub(crate) fn file_compared(held: FileHeld, peer: &[u8], lag: &mut Lag) -> FileHeld
     ensures { ComparedFile peer.now held result lag.new }
@@ -415,6 +435,50 @@ pub(crate) fn file_part_lacked(
             } = durable;
             let asked = Held { site, text, alloc };
             let Held { site, text, alloc } = part_lacked(asked, peer, from, most, size, reply);
+            FileHeld {
+                durable: Some(DurableSite {
+                    table,
+                    site,
+                    owed,
+                    alloc,
+                }),
+                text,
+                offers: Offers::none(alloc),
+                alloc,
+            }
+        }
+        None => {
+            tell_nothing(NOT_OPEN, text.as_str().len() as u64, reply);
+            FileHeld {
+                durable: None,
+                text,
+                offers: Offers::none(alloc),
+                alloc,
+            }
+        }
+    }
+}
+
+/// Keeps the lines of the events of a source and an id.
+pub(crate) fn file_found(held: FileHeld, source: &[u8], id: &[u8], reply: &mut Reply) -> FileHeld
+    ensures { FoundFile source.now id.now held result reply.new }
+{
+    let FileHeld {
+        durable,
+        text,
+        offers: _,
+        alloc,
+    } = held;
+    match durable {
+        Some(durable) => {
+            let DurableSite {
+                table,
+                site,
+                owed,
+                alloc,
+            } = durable;
+            let asked = Held { site, text, alloc };
+            let Held { site, text, alloc } = found(asked, source, id, reply);
             FileHeld {
                 durable: Some(DurableSite {
                     table,
@@ -561,7 +625,9 @@ pub(crate) fn file_read(held: FileHeld, piece: u32, out: &mut Piece) -> FileHeld
 }
 
 /// Copies the log into the file, and lets the site go.
-pub(crate) fn file_let_go(held: FileHeld) {
+pub(crate) fn file_let_go(held: FileHeld)
+    ensures { LetsGo held }
+{
     let FileHeld {
         durable,
         text: _,
@@ -575,6 +641,6 @@ pub(crate) fn file_let_go(held: FileHeld) {
             owed: _,
             alloc: _,
         } = durable;
-        let _closed = table.into_connection().close();
+        close(table.into_connection());
     }
 }

@@ -1,6 +1,6 @@
 //! Laws of what lies in a caller's room, each as the contract of a function that does nothing.
 
-ghost use Rattle.site_c.specs.Law.{FileSitesMayGo, OutboxesMayGo, SitesMayGo};
+ghost use Rattle.site_c.specs.Law.{FileSitesMayGo, NumberersMayGo, OutboxesMayGo, SitesMayGo};
 
 /// A site may go to another thread. Whoever takes it there sees to it that one thread at a time
 /// uses it.
@@ -16,4 +16,9 @@ pub fn file_sites_may_go()
 /// So may an outbox over files.
 pub fn outboxes_may_go()
     ensures { OutboxesMayGo }
+{}
+
+/// So may a numberer over files.
+pub fn numberers_may_go()
+    ensures { NumberersMayGo }
 {}

@@ -6,13 +6,15 @@ ghost use Rattle.std.specs.Mem.{type_size};
 ghost use Rattle.std.specs.Prelude.{◌≡◌};
 ghost use Rattle.std.specs.Ptr.{lies_at, room_at};
 ghost use Rattle.site_c.specs.Calls.{Asked, Checked, HasRead, IsEmpty, Lacked, Paged, Summed, Took, Viewed};
-ghost use Rattle.site_c.specs.FileSets.{ComparedFile, NamedFile, PartLackedFile};
-ghost use Rattle.site_c.specs.Files.{Answered, HasReadFile, OpenedFile, Told, TookFile};
+ghost use Rattle.site_c.specs.FileSets.{ComparedFile, CopiedFile, FoundFile, NamedFile, PartLackedFile};
+ghost use Rattle.site_c.specs.Files.{Answered, HasReadFile, LetsGo, OpenedFile, Told, TookFile};
+ghost use Rattle.site_c.specs.Numbers.{HasReadNumbers, LetsGoNumbers, Numbered, OpenedNumbers};
 ghost use Rattle.site_c.specs.Offers.{HasAnswer, KeptOffers, Offered};
-ghost use Rattle.site_c.specs.Outboxes.{HasReadOutbox, OpenedOutbox, OrderedOutbox, ShownOutbox};
-ghost use Rattle.site_c.specs.Sets.{Compared, Named, PartLacked, Tested};
+ghost use Rattle.site_c.specs.Outboxes.{HasReadOutbox, LetsGoOutbox, OpenedOutbox, OrderedOutbox, ShownOutbox};
+ghost use Rattle.site_c.specs.Sets.{Compared, Copied, Found, Named, PartLacked, Tested};
 ghost use Rattle.site_c.specs.contracts.file_held.FileHeld.{the_row as file_row};
 ghost use Rattle.site_c.specs.contracts.held.Held.{the_row};
+ghost use Rattle.site_c.specs.contracts.numbers_held.NumbersHeld.{the_row as numbers_row};
 ghost use Rattle.site_c.specs.contracts.outbox_held.OutboxHeld.{the_row as outbox_row};
 ghost use Rattle.durable_site.specs.contracts.file.GivenFiles.{the_row as given_row};
 ghost use base.Fml.{fsep};
@@ -22,6 +24,8 @@ mod file_calls;
 mod file_held;
 mod held;
 pub mod laws;
+mod number_calls;
+mod numbers_held;
 mod offers;
 mod outbox_calls;
 mod outbox_held;
@@ -31,17 +35,19 @@ pub use calls::{PIECE, Piece, Reply};
 use calls::{asked, checked, lacked, let_go, paged, read, summed, taken, viewed};
 use durable_site::GivenFiles;
 use file_calls::{
-    answered, file_compared, file_let_go, file_named, file_opened, file_part_lacked, file_read,
-    file_taken, offer_told, offered, offers_kept, told,
+    answered, copied_file, file_compared, file_found, file_let_go, file_named, file_opened,
+    file_part_lacked, file_read, file_taken, offer_told, offered, offers_kept, told,
 };
 pub use file_held::FileHeld;
 pub use held::Held;
+use number_calls::{numbered, numbers_let_go, numbers_opened, numbers_read};
+pub use numbers_held::NumbersHeld;
 pub use offers::{Head, Offers};
 pub use outbox_calls::OutboxReply;
 use outbox_calls::{outbox_let_go, outbox_opened, outbox_ordered, outbox_read, outbox_shown};
 pub use outbox_held::OutboxHeld;
 pub use set_calls::{Lag, Name};
-use set_calls::{compared, named, part_lacked, tested};
+use set_calls::{compared, copied_site, found, named, part_lacked, tested};
 use std::alloc::Global;
 
 /// How many bytes of room a site needs.
@@ -194,6 +200,19 @@ pub unsafe extern "C" fn jumbetai_site_part(
     );
 }
 
+/// Asks for the events of a source and an id, a line each, the shown one first; its text stays in
+/// the site as an answer's does.
+#[unsafe(no_mangle)]
+pub unsafe extern "C" fn jumbetai_site_get(at: *mut u8, source: &[u8], id: &[u8], reply: &mut Reply)
+    ghost held: { Held }
+    requires* { sem 𝓛 (lies_at the_row full_share at held) }
+    ensures* { ∃ₛ λ kept. sem 𝓛 (lies_at the_row full_share at kept)
+        ∗ ⌜ Found source.now id.now held kept reply.new ⌝ }
+{
+    let to = at as *mut Held;
+    std::ptr::write(to, found(std::ptr::read(to), source, id, reply));
+}
+
 /// Tells the name of the site's set, by which two sites are the same.
 #[unsafe(no_mangle)]
 pub unsafe extern "C" fn jumbetai_site_name(at: *mut u8, name: &mut Name)
@@ -216,6 +235,18 @@ pub unsafe extern "C" fn jumbetai_site_compare(at: *mut u8, peer: &[u8], lag: &m
 {
     let to = at as *mut Held;
     std::ptr::write(to, compared(std::ptr::read(to), peer, lag));
+}
+
+/// Makes a copy of the site in another room; one without events where memory runs out.
+#[unsafe(no_mangle)]
+pub unsafe extern "C" fn jumbetai_site_copy(at: *mut u8, to: *mut u8)
+    ghost held: { Held }
+    requires* { sem 𝓛 (fsep (lies_at the_row full_share at held) (room_at the_row to)) }
+    ensures* { ∃ₛ λ kept. ∃ₛ λ copy. sem 𝓛 (fsep (lies_at the_row full_share at kept)
+        (lies_at the_row full_share to copy)) ∗ ⌜ Copied held kept copy ⌝ }
+{
+    let copy = copied_site(&mut *(at as *mut Held));
+    std::ptr::write(to as *mut Held, copy);
 }
 
 /// Tells what taking bytes would come to, and how many events they spell.
@@ -330,6 +361,18 @@ pub unsafe extern "C" fn jumbetai_file_part(
     );
 }
 
+/// Asks for the events of a source and an id, as `jumbetai_site_get` does.
+#[unsafe(no_mangle)]
+pub unsafe extern "C" fn jumbetai_file_get(at: *mut u8, source: &[u8], id: &[u8], reply: &mut Reply)
+    ghost held: { FileHeld }
+    requires* { sem 𝓛 (lies_at file_row full_share at held) }
+    ensures* { ∃ₛ λ kept. sem 𝓛 (lies_at file_row full_share at kept)
+        ∗ ⌜ FoundFile source.now id.now held kept reply.new ⌝ }
+{
+    let to = at as *mut FileHeld;
+    std::ptr::write(to, file_found(std::ptr::read(to), source, id, reply));
+}
+
 /// Tells the name of the site's set, as `jumbetai_site_name` does.
 #[unsafe(no_mangle)]
 pub unsafe extern "C" fn jumbetai_file_name(at: *mut u8, name: &mut Name)
@@ -352,6 +395,18 @@ pub unsafe extern "C" fn jumbetai_file_compare(at: *mut u8, peer: &[u8], lag: &m
 {
     let to = at as *mut FileHeld;
     std::ptr::write(to, file_compared(std::ptr::read(to), peer, lag));
+}
+
+/// Makes a copy of the site in a room for one in memory, as `jumbetai_site_copy` does.
+#[unsafe(no_mangle)]
+pub unsafe extern "C" fn jumbetai_file_copy(at: *mut u8, to: *mut u8)
+    ghost held: { FileHeld }
+    requires* { sem 𝓛 (fsep (lies_at file_row full_share at held) (room_at the_row to)) }
+    ensures* { ∃ₛ λ kept. ∃ₛ λ copy. sem 𝓛 (fsep (lies_at file_row full_share at kept)
+        (lies_at the_row full_share to copy)) ∗ ⌜ CopiedFile held kept copy ⌝ }
+{
+    let copy = copied_file(&mut *(at as *mut FileHeld));
+    std::ptr::write(to as *mut Held, copy);
 }
 
 /// Offers a body of events, which stands behind those that were offered until they are kept.
@@ -409,7 +464,7 @@ pub unsafe extern "C" fn jumbetai_file_read(at: *mut u8, piece: u32, out: &mut P
 pub unsafe extern "C" fn jumbetai_file_close(at: *mut u8)
     ghost held: { FileHeld }
     requires* { sem 𝓛 (lies_at file_row full_share at held) }
-    ensures* { sem 𝓛 (room_at file_row at) }
+    ensures* { sem 𝓛 (room_at file_row at) ∗ ⌜ LetsGo held ⌝ }
 {
     file_let_go(std::ptr::read(at as *mut FileHeld));
 }
@@ -503,7 +558,75 @@ pub unsafe extern "C" fn jumbetai_outbox_read(at: *mut u8, piece: u32, out: &mut
 pub unsafe extern "C" fn jumbetai_outbox_close(at: *mut u8)
     ghost held: { OutboxHeld }
     requires* { sem 𝓛 (lies_at outbox_row full_share at held) }
-    ensures* { sem 𝓛 (room_at outbox_row at) }
+    ensures* { sem 𝓛 (room_at outbox_row at) ∗ ⌜ LetsGoOutbox held ⌝ }
 {
     outbox_let_go(std::ptr::read(at as *mut OutboxHeld));
+}
+
+/// How many bytes of room a numberer over a file needs.
+#[unsafe(no_mangle)]
+pub extern "C" fn jumbetai_numbers_size() -> usize
+    ensures { result ≡ type_size numbers_row }
+{
+    size_of::<NumbersHeld>()
+}
+
+/// Opens a numberer over the files of a database, which are the library's from then on, and makes
+/// it where there is none: each source begins behind this base, which one that is there has to have
+/// been given. Where it is refused, a numberer that isn't open lies in the room.
+#[unsafe(no_mangle)]
+pub unsafe extern "C" fn jumbetai_numbers_open(
+    alloc: Global,
+    at: *mut u8,
+    given: *mut u8,
+    base: u64,
+    reply: &mut Reply,
+)
+    ghost files: { GivenFiles }
+    requires* { sem 𝓛 (fsep (room_at numbers_row at) (lies_at given_row full_share given files)) }
+    ensures* { ∃ₛ λ made. sem 𝓛 (fsep (lies_at numbers_row full_share at made)
+        (room_at given_row given)) ∗ ⌜ OpenedNumbers base made reply.new ⌝ }
+{
+    let files = std::ptr::read(given as *mut GivenFiles);
+    std::ptr::write(
+        at as *mut NumbersHeld,
+        numbers_opened(alloc, files, base, reply),
+    );
+}
+
+/// Numbers the events that the bytes spell, one event or a batch: they are kept in the file with
+/// their numbers and synced, and the batch of them stays in the room until it is asked again. An
+/// event that was numbered before has the number that it had.
+#[unsafe(no_mangle)]
+pub unsafe extern "C" fn jumbetai_numbers_number(at: *mut u8, bytes: &[u8], reply: &mut Reply)
+    ghost held: { NumbersHeld }
+    requires* { sem 𝓛 (lies_at numbers_row full_share at held) }
+    ensures* { ∃ₛ λ kept. sem 𝓛 (lies_at numbers_row full_share at kept)
+        ∗ ⌜ Numbered bytes.now held kept reply.new ⌝ }
+{
+    let to = at as *mut NumbersHeld;
+    std::ptr::write(to, numbered(std::ptr::read(to), bytes, reply));
+}
+
+/// Copies a piece of the text, counted from 0.
+#[unsafe(no_mangle)]
+pub unsafe extern "C" fn jumbetai_numbers_read(at: *mut u8, piece: u32, out: &mut Piece)
+    ghost held: { NumbersHeld }
+    requires* { sem 𝓛 (lies_at numbers_row full_share at held) }
+    ensures* { ∃ₛ λ kept. sem 𝓛 (lies_at numbers_row full_share at kept)
+        ∗ ⌜ HasReadNumbers piece held kept out.old out.new ⌝ }
+{
+    let to = at as *mut NumbersHeld;
+    std::ptr::write(to, numbers_read(std::ptr::read(to), piece, out));
+}
+
+/// Copies the log into the database file, closes both and gives the numberer's memory back; its
+/// room is room again.
+#[unsafe(no_mangle)]
+pub unsafe extern "C" fn jumbetai_numbers_close(at: *mut u8)
+    ghost held: { NumbersHeld }
+    requires* { sem 𝓛 (lies_at numbers_row full_share at held) }
+    ensures* { sem 𝓛 (room_at numbers_row at) ∗ ⌜ LetsGoNumbers held ⌝ }
+{
+    numbers_let_go(std::ptr::read(at as *mut NumbersHeld));
 }

@@ -11,13 +11,13 @@ ghost use Rattle.outbox.specs.Row.{row_event};
 ghost use Rattle.outbox.specs.Shown.{IsAllowed};
 ghost use Rattle.outbox.specs.declared.fault.OutboxFault.TheVariants.{OutOfMemory, Store};
 ghost use Rattle.site_c.specs.Calls.{IsPageLine, IsWant};
-ghost use Rattle.site_c.specs.Outboxes.{Carries, Commands, Finds, HasReadOutbox, IsAction, IsGiven, IsNextRows, IsTime, Names, NamesNone, OpenedOutbox, OrderedOutbox, Serves, ShownOutbox, ShowsRows, TellsService, WantsTime, action_number, event_line, outbox_status, source_of};
+ghost use Rattle.site_c.specs.Outboxes.{Carries, Commands, Finds, HasReadOutbox, IsAction, IsGiven, IsNextRows, IsTime, LetsGoOutbox, Names, NamesNone, OpenedOutbox, OrderedOutbox, Serves, ShownOutbox, ShowsRows, TellsService, WantsTime, action_number, event_line, outbox_status, source_of};
 
 use crate::calls::{Answered, DONE, MAX_PAGE, OUT_OF_MEMORY, Piece, copied, page_line};
 use crate::file_calls::{NOT_OPEN, open_status};
 use crate::outbox_held::{FileService, OutboxHeld};
 use attributes::{Fault, MAX_SEQUENCE, Moment, Sequenced, Text};
-use durable_site::{GivenFiles, Unknown, connect};
+use durable_site::{GivenFiles, Unknown, close, connect};
 use outbox::{OutboxFault, Service, Status};
 use sqlite::{Alter, Connection};
 use std::alloc::{AllocError, Global};
@@ -546,13 +546,15 @@ pub(crate) fn outbox_read(held: OutboxHeld, piece: u32, out: &mut Piece) -> Outb
 }
 
 /// Copies the log into the file, and lets the service go.
-pub(crate) fn outbox_let_go(held: OutboxHeld) {
+pub(crate) fn outbox_let_go(held: OutboxHeld)
+    ensures { LetsGoOutbox held }
+{
     let OutboxHeld {
         service,
         text: _,
         alloc: _,
     } = held;
     if let Some(service) = service {
-        let _closed = service.into_connection().close();
+        close(service.into_connection());
     }
 }

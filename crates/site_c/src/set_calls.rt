@@ -1,11 +1,12 @@
 //! What a service asks of the site that lies in the room, beside the calls of `calls`.
 
-ghost use Rattle.std.specs.Prelude.{◌≡◌, ◌≢◌, ◌≤◌, ◌++◌, [], ◌∷◌, IfErr, IfOk, IsTrue, length};
+ghost use Rattle.std.specs.Prelude.{◌≡◌, ◌≢◌, ◌≤◌, ◌++◌, [], ◌∷◌, IfErr, IfOk, IsTrue, OnErr, length};
 ghost use Rattle.file_reports.specs.Reports.{IsRefusal, SpellAll};
 ghost use Rattle.inbox.specs.Sets.{set_of};
 ghost use Rattle.site.specs.Delta.{delta};
+ghost use Rattle.site.specs.Key.{with_key};
 ghost use Rattle.site_c.specs.Calls.{IsPeer, IsRefusedPeer};
-ghost use Rattle.site_c.specs.Sets.{Arrived, Compared, IsApart, IsLag, IsNameOf, IsPart, LacksPart, Named, PartLacked, Released, Tested, part_limit};
+ghost use Rattle.site_c.specs.Sets.{Arrived, Compared, Copied, Found, IsApart, IsFound, IsNamed, IsLag, IsNameOf, IsPart, LacksPart, Named, PartLacked, Released, Tested, WantsFound, part_limit};
 
 use crate::calls::{
     Answered, DONE, MAX_PAGE, OUT_OF_MEMORY, Reply, batch_of, keep, page_line, peer_of,
@@ -17,6 +18,7 @@ use lag::{differing, lacking};
 use sha2::{Digest, Sha256};
 use site::Site;
 use std::alloc::{AllocError, Global};
+use views::{Answer, print};
 
 /// The name of a set of events.
 #[repr(C)]
@@ -235,6 +237,61 @@ pub(crate) fn part_lacked(
     ensures { PartLacked peer.now from most size held result reply.new }
 {
     let made = part_at(held.alloc, &mut held.site, peer, from, most, size);
+    keep(&mut held, made, reply);
+    held
+}
+
+/// A site in memory with the same events and no text; one without events where memory runs out.
+pub(crate) fn copied_site(held: &mut Held) -> Held
+    ensures { Copied held.old held.new result }
+{
+    let text = Text::from_string(String::new(held.alloc));
+    let alloc = held.alloc;
+    match held.site.copy() {
+        Ok(site) => Held { site, text, alloc },
+        Err(_) => Held {
+            site: Site::empty(alloc),
+            text,
+            alloc,
+        },
+    }
+}
+
+/// The events of a source and an id; none where either is no text.
+fn events_of_key(alloc: Global, site: &Site, source: &[u8], id: &[u8]) -> Result<Batch, AllocError>
+    ensures ok { IfOk result (IsNamed source.now id.now (set_of site.now)) }
+    ensures err { OnErr result (with_key source.now id.now (set_of site.now) ≢ []) }
+{
+    let Ok(source) = str::from_utf8(source) else {
+        return Ok(Batch::empty(alloc));
+    };
+    let Ok(id) = str::from_utf8(id) else {
+        return Ok(Batch::empty(alloc));
+    };
+    site.get(source, id)
+}
+
+/// The lines of the events of a source and an id, or the status.
+fn found_at(alloc: Global, site: &Site, source: &[u8], id: &[u8]) -> Result<Answered, u32>
+    ensures ok { IfOk result
+        (λ m. IsFound source.now id.now (set_of site.now) m.text m.listed) }
+    ensures err { IfErr result (WantsFound source.now id.now (set_of site.now)) }
+{
+    let Ok(events) = events_of_key(alloc, site, source, id) else {
+        return Err(OUT_OF_MEMORY);
+    };
+    let listed = events.len();
+    match print(alloc, &Answer::Shown(events)) {
+        Ok(text) => Ok(Answered { text, listed }),
+        Err(_) => Err(OUT_OF_MEMORY),
+    }
+}
+
+/// Keeps the lines of the events of a source and an id.
+pub(crate) fn found(mut held: Held, source: &[u8], id: &[u8], reply: &mut Reply) -> Held
+    ensures { Found source.now id.now held result reply.new }
+{
+    let made = found_at(held.alloc, &held.site, source, id);
     keep(&mut held, made, reply);
     held
 }

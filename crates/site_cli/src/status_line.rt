@@ -1,7 +1,7 @@
-//! How far a long command came, for those who look on at a terminal.
+//! How far a long command came, and hints, for those who look on at a terminal.
 
 use inbox_table::Watch;
-use site_commands::Progress;
+use site_commands::{Progress, Shown};
 use std::alloc::Global;
 use std::cell::Cell;
 use std::io::{IsTerminal, Print};
@@ -87,6 +87,19 @@ impl<E: Print> Progress for StatusLine<E> {
     fn over(&self) {
         if self.is_shown.replace(false) {
             let _written = self.to.write_all("\r\u{1b}[K".as_bytes());
+        }
+    }
+
+    fn is_watched(&self) -> bool {
+        self.is_terminal
+    }
+
+    fn hint(&self, _line: Shown, hint: &str) {
+        if !self.is_terminal {
+            return;
+        }
+        if let Ok(line) = format!(in self.alloc; "site: hint: {hint}\n") {
+            let _written = self.to.write_all(line.as_str().as_bytes());
         }
     }
 }

@@ -4,3 +4,4 @@ mod LineLemmas
 mod RunLemmas
 mod StreamLemmas
 mod WorkerLemmas
+mod NumberLemmas

@@ -25,20 +25,20 @@ pub end_of_some : (faults : ℕ) → faults ≢ 0 → end_of faults ≡ end.Refu
 end_of_some zero some = absurd (some refl)
 end_of_some (suc n) some = refl
 
-some_of : (n : ℕ) → suc n ≢ 0
+pub some_of : (n : ℕ) → suc n ≢ 0
 some_of n e = omega (arith, e)
 
 -- ---- the bytes of a file of which lines were taken
 
-plain_lines : (a b : Option (List ℕ)) (lines : List (List ℕ)) → TakesLines a lines b → AllByRecursion (λ l. IsPlain l) lines
+pub plain_lines : (a b : Option (List ℕ)) (lines : List (List ℕ)) → TakesLines a lines b → AllByRecursion (λ l. IsPlain l) lines
 plain_lines a b [] it = tt
 plain_lines a b (l ∷ lines) (mid, first, later) = (first.plain, plain_lines mid b lines later)
 
 -- lines, each with its LF
-abbrev ended : List (List ℕ) → List ℕ
+abbrev pub ended : List (List ℕ) → List ℕ
 ended lines = flat_map (λ l. l ++ 10 ∷ []) lines
 
-taken_anew : (lines : List (List ℕ)) → AllByRecursion (λ l. IsPlain l) lines → TakesLines (Some (ended lines)) lines (Some [])
+pub taken_anew : (lines : List (List ℕ)) → AllByRecursion (λ l. IsPlain l) lines → TakesLines (Some (ended lines)) lines (Some [])
 taken_anew [] plain = refl
 taken_anew (l ∷ lines) (first, later) = (Some (ended lines), record { plain = first; taken = inl refl }, taken_anew lines later)
 

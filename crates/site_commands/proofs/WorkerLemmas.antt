@@ -18,6 +18,7 @@ feeds_refuse contents feeds (refusal.Summary why) is peer h = absurd h
 feeds_refuse contents feeds (refusal.Database why) is peer h = peer
 feeds_refuse contents feeds refusal.NoThread is peer h = peer
 feeds_refuse contents feeds (refusal.Lines faults) is peer h = absurd h
+feeds_refuse contents feeds refusal.NoNumber is peer h = absurd h
 
 pub answers_run : (C : List ℕ → List ℕ → Type 0) (peer : Option (List ℕ)) (files contents : List (List ℕ)) (flag : Bool) (r : Result (List ℕ) Refusal) → is_some peer ≡ flag
     → AreContents C (files_of_run peer files) contents → IfOk r (AnswersJobs flag contents) → IfOk r (AnswersRun C peer files)
@@ -32,6 +33,7 @@ jobs_refuse C U peer files contents (refusal.Summary why) read h = absurd h
 jobs_refuse C U peer files contents (refusal.Database why) read h = (contents, read, h)
 jobs_refuse C U peer files contents refusal.NoThread read h = (contents, read, h)
 jobs_refuse C U peer files contents (refusal.Lines faults) read h = absurd h
+jobs_refuse C U peer files contents refusal.NoNumber read h = absurd h
 
 pub refuses_run : (C : List ℕ → List ℕ → Type 0) (U : List ℕ → Unread → Type 0) (peer : Option (List ℕ)) (files contents : List (List ℕ)) (flag : Bool) (r : Result (List ℕ) Refusal) → is_some peer ≡ flag
     → AreContents C (files_of_run peer files) contents → IfErr r (RefusesJobs flag contents) → IfErr r (RefusesRun C U peer files)

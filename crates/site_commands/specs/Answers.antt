@@ -12,6 +12,7 @@ use Rattle.event_json.specs.Reading.{Refuses}
 use Rattle.event_json.specs.declared.fault.ReadFault.{ReadFault}
 use Rattle.outbox.specs.declared.status.Status.{Status}
 use Rattle.outbox.specs.declared.status.Status.TheVariants as status
+use Rattle.command_words.specs.Plans.{AreFew}
 use Rattle.command_words.specs.declared.request.Action.{Action}
 use Rattle.command_words.specs.declared.request.Action.TheVariants as action
 use Rattle.command_words.specs.declared.request.Pages.{Pages}
@@ -35,6 +36,7 @@ use Rattle.file_reports.specs.declared.refusal.ReportFault.TheVariants as report
 use Rattle.run_command.specs.Run.{SaysRun}
 use Rattle.views.specs.declared.query.Query.{Query}
 use Rattle.site_commands.specs.Names.{files_of_run}
+use Rattle.site_commands.specs.Numbers.{AnswersNumber}
 use Rattle.site_commands.specs.Streams.{AnswersFollow}
 use Rattle.site_commands.specs.Checks.{FindsNone, RefusesCheck}
 use Rattle.site_commands.specs.declared.line.Refusal.{Refusal}
@@ -216,6 +218,7 @@ abbrev pub AnswersPlan : (List ℕ → List ℕ → Type 0) → Plan → List �
 AnswersPlan C (plan.Alone (alone.Once asked)) text = AnswersOnce C asked text
 AnswersPlan C (plan.Alone (alone.Follow lines)) text = AnswersFollow C lines.file text
 AnswersPlan C (plan.Alone (alone.Check judged)) text = FindsNone C judged text
+AnswersPlan C (plan.Alone (alone.Number lines)) text = AnswersNumber C lines text
 AnswersPlan C (plan.Run run) text = AnswersRun C run.peer run.files text
 
 -- this is why the plan, which would have one answer, has none
@@ -237,6 +240,7 @@ abbrev pub RefusesPlan : (List ℕ → List ℕ → Type 0) → (List ℕ → Un
 RefusesPlan C U (plan.Alone (alone.Once asked)) refusal = RefusesOnce C U asked refusal
 RefusesPlan C U (plan.Alone (alone.Follow lines)) refusal = ⊥
 RefusesPlan C U (plan.Alone (alone.Check judged)) refusal = RefusesCheck C U judged.files refusal
+RefusesPlan C U (plan.Alone (alone.Number lines)) refusal = ⊥
 RefusesPlan C U (plan.Run run) refusal = RefusesRun C U run.peer run.files refusal
 
 -- what is asked of a service or an order is within what a service allows
@@ -257,3 +261,9 @@ abbrev pub IsAllowedAlone : Alone → Type 0
 IsAllowedAlone (alone.Once asked) = IsAllowed asked
 IsAllowedAlone (alone.Follow lines) = Unit {0}
 IsAllowedAlone (alone.Check judged) = Unit {0}
+IsAllowedAlone (alone.Number lines) = Unit {0}
+
+-- and what a plan is
+abbrev pub IsAllowedPlan : Plan → Type 0
+IsAllowedPlan (plan.Alone asked) = IsAllowedAlone asked
+IsAllowedPlan (plan.Run run) = AreFew (is_some run.peer) (length run.files)

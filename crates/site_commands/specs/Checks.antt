@@ -73,7 +73,7 @@ abbrev pub IsCheckEnding : (List ℕ → List ℕ → Type 0) → (List ℕ → 
     → Check → Ending → Type 0
 IsCheckEnding C U judged (ending.Answer text) = FindsNone C judged text
 IsCheckEnding C U judged (ending.Findings text) = FindsSome C judged text
-IsCheckEnding C U judged (ending.Refused text) = (why : Refusal)
+IsCheckEnding C U judged (ending.Refused text hint) = (why : Refusal)
     × RefusesCheck C U judged.files why × (text ≡ line_of (of_check judged) why)
 IsCheckEnding C U judged ending.NoMemory = Unit {0}
 IsCheckEnding C U judged _ = ⊥

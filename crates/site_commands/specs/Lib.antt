@@ -2,6 +2,7 @@ pub mod Names
 pub mod Lines
 pub mod Inputs
 pub mod Streams
+pub mod Numbers
 pub mod Checks
 pub mod Answers
 pub mod Printed

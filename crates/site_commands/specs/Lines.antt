@@ -1,5 +1,5 @@
 -- The lines on standard error of a run that was refused.
-use Rattle.std.specs.Prelude.{◌==◌, ◌/◌, ◌%◌, ℕ, List, [], ◌∷◌, ◌++◌, codes, slice_get, unwrap_or, if◌then◌else◌}
+use Rattle.std.specs.Prelude.{◌==◌, ◌/◌, ◌%◌, Bool, ℕ, List, [], ◌∷◌, ◌++◌, codes, slice_get, unwrap_or, if◌then◌else◌}
 use Rattle.std.specs.Char.{digit_char, encode_utf8, is_control}
 use Rattle.std.specs.Fmt.{decimal}
 use Rattle.std.specs.List.{flat_map}
@@ -103,6 +103,12 @@ database_line db number database.CannotRead = file_line db (codes "cannot read")
 database_line db number database.Cache =
     codes "site: SITE_CACHE_MIB isn't a whole number from 1 to 1048576" ++ 10 ∷ []
 
+-- the lines of what was made: the file of this database, a service in it
+abbrev pub made_lines : Bool → Bool → List ℕ → List ℕ
+made_lines file service db =
+    (if file then file_line db (codes "made, it wasn't there") else [])
+    ++ (if service then file_line db (codes "a service /orders was made in it") else [])
+
 -- the one line of a refusal of a plan that names these
 abbrev pub line_of : Names → Refusal → List ℕ
 line_of names (refusal.Unread at) = unread_line (name_at names.files at.file) at.why
@@ -111,3 +117,4 @@ line_of names (refusal.Summary why) = summary_line (name_at names.files 0) why
 line_of names (refusal.Database why) = database_line names.db names.order why
 line_of names refusal.NoThread = codes "site: no thread" ++ 10 ∷ []
 line_of names (refusal.Lines faults) = lines_line faults
+line_of names refusal.NoNumber = file_line names.db (codes "Full")

@@ -4,6 +4,7 @@ use Rattle.std.specs.Borrow.{Bor}
 use Rattle.command_words.specs.declared.request.Alone.TheVariants as alone
 use Rattle.command_words.specs.declared.request.Check.{Check}
 use Rattle.command_words.specs.declared.request.Follow.{Follow}
+use Rattle.command_words.specs.declared.request.Number.{Number}
 use Rattle.command_words.specs.declared.request.Once.{Once}
 use Rattle.command_words.specs.declared.request.Once.TheVariants as once
 use Rattle.command_words.specs.declared.request.Plan.{Plan}
@@ -38,6 +39,10 @@ of_once (once.Relay db after is_all) = record { db = db; order = 0; files = [] }
 abbrev pub of_follow : Follow → Names
 of_follow lines = record { db = lines.db; order = 0; files = lines.file ∷ [] }
 
+-- what a stream of lines that are numbered names
+abbrev pub of_number : Number → Names
+of_number lines = record { db = lines.db; order = 0; files = lines.file ∷ [] }
+
 -- what a check names where it is refused, which is for a file alone
 abbrev pub of_check : Check → Names
 of_check judged = record { db = []; order = 0; files = judged.files }
@@ -51,6 +56,7 @@ abbrev pub of_plan : Plan → Names
 of_plan (plan.Alone (alone.Once asked)) = of_once asked
 of_plan (plan.Alone (alone.Follow lines)) = of_follow lines
 of_plan (plan.Alone (alone.Check judged)) = of_check judged
+of_plan (plan.Alone (alone.Number lines)) = of_number lines
 of_plan (plan.Run run) = of_run run
 
 -- the files, one of them before the others where there is one

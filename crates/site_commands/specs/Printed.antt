@@ -7,4 +7,5 @@ use Rattle.site_commands.specs.declared.printed.Printed.TheVariants as answer
 -- the text that is written
 abbrev pub printed : Printed → List ℕ
 printed (answer.Line text) = text
+printed (answer.Founded text) = text
 printed (answer.Pages events) = pages_text events

@@ -1,5 +1,5 @@
 -- What the words after the program's name come to.
-use Rattle.std.specs.Prelude.{◌≡◌, ◌⊎◌, ℕ, List, Option, false, true}
+use Rattle.std.specs.Prelude.{◌≡◌, ◌⊎◌, Bool, ℕ, List, Option, false, true}
 use Rattle.std.specs.Io.KnownBytes.{Appends}
 use Rattle.command_words.specs.Plans.{AreFaulty, IsPlan}
 use Rattle.command_words.specs.declared.fault.Faulty.{Faulty}
@@ -8,6 +8,7 @@ use Rattle.command_words.specs.declared.request.Alone.{Alone}
 use Rattle.command_words.specs.declared.request.Alone.TheVariants as alone
 use Rattle.command_words.specs.declared.request.Check.{Check}
 use Rattle.command_words.specs.declared.request.Follow.{Follow}
+use Rattle.command_words.specs.declared.request.Number.{Number}
 use Rattle.command_words.specs.declared.request.Plan.{Plan}
 use Rattle.command_words.specs.declared.request.Plan.TheVariants as plan
 use Rattle.command_words.specs.declared.request.Run.{Run}
@@ -16,8 +17,8 @@ use Rattle.database_commands.specs.Pages.{pages_text}
 use Rattle.file_reports.specs.declared.input.Unread.{Unread}
 use Rattle.site_commands.specs.Answers.{AnswersOnce, AnswersPlan, AnswersRun, RefusesOnce, RefusesPlan, RefusesRun}
 use Rattle.site_commands.specs.Checks.{FindsSome, IsCheckEnding}
-use Rattle.site_commands.specs.Endings.{Ends, EndsStream}
-use Rattle.site_commands.specs.Lines.{arguments_line, line_of}
+use Rattle.site_commands.specs.Endings.{Ends, EndsNumbers, EndsStream}
+use Rattle.site_commands.specs.Lines.{arguments_line, line_of, made_lines}
 use Rattle.site_commands.specs.Names.{Names, of_once, of_plan, of_run}
 use Rattle.site_commands.specs.declared.ending.Ending.{Ending}
 use Rattle.site_commands.specs.declared.ending.Ending.TheVariants as ending
@@ -29,6 +30,18 @@ pub record AnswersWords (C : List ℕ → List ℕ → Type 0) (words : List (Li
   pub plan : Plan
   pub planned : IsPlan words plan
   pub answered : AnswersPlan C plan text
+
+-- these are the lines of what was made: the file of this database, a service in it
+abbrev pub TellsMade : List ℕ → List ℕ → Type 0
+TellsMade db made = (file : Bool) × (service : Bool) × (made ≡ made_lines file service db)
+
+-- the words are a plan, the text is its answer, and these are the lines of what was made for it
+pub record TellsWords (C : List ℕ → List ℕ → Type 0) (words : List (List ℕ))
+    (text made : List ℕ) : Type 0 where
+  pub plan : Plan
+  pub planned : IsPlan words plan
+  pub answered : AnswersPlan C plan text
+  pub tells : TellsMade (of_plan plan).db made
 
 -- the words are a plan that has no answer, and the text is the line that says why
 pub record RefusesWords (C : List ℕ → List ℕ → Type 0) (U : List ℕ → Unread → Type 0)
@@ -48,16 +61,26 @@ pub record FindsWords (C : List ℕ → List ℕ → Type 0) (words : List (List
 
 -- the line of a refusal of a plan that names these, or want of memory for it
 abbrev pub IsLine : Names → Refusal → Ending → Type 0
-IsLine names refusal (ending.Refused text) = text ≡ line_of names refusal
+IsLine names refusal (ending.Refused text hint) = text ≡ line_of names refusal
 IsLine names refusal ending.NoMemory = Unit {0}
 IsLine names refusal _ = ⊥
+
+-- the answer, and the lines of what was made for it, or want of memory for these
+abbrev pub IsTold : List ℕ → Bool → Bool → List ℕ → Ending → Type 0
+IsTold db file service text (ending.Answer printed) =
+    (printed ≡ text) × (file ≡ false) × (service ≡ false)
+IsTold db file service text (ending.Told printed made) =
+    (printed ≡ text) × (made ≡ made_lines file service db)
+IsTold db file service text ending.NoMemory = Unit {0}
+IsTold db file service text _ = ⊥
 
 -- what a plan comes to that names these, where the texts are its answers and the refusals why it
 -- has none
 abbrev pub ComesTo : (List ℕ → Type 0) → (Refusal → Type 0) → Names → Ending → Type 0
 ComesTo Answers Refuses names (ending.Answer text) = Answers text
+ComesTo Answers Refuses names (ending.Told text made) = Answers text × TellsMade names.db made
 ComesTo Answers Refuses names (ending.Pages events) = Answers (pages_text events)
-ComesTo Answers Refuses names (ending.Refused text) =
+ComesTo Answers Refuses names (ending.Refused text hint) =
     (refusal : Refusal) × Refuses refusal × (text ≡ line_of names refusal)
 ComesTo Answers Refuses names ending.NoMemory = Unit {0}
 ComesTo Answers Refuses names _ = ⊥
@@ -78,11 +101,12 @@ IsRunEnding C U run ending = ComesTo (AnswersRun C run.peer run.files)
 abbrev pub IsEnding : (List ℕ → List ℕ → Type 0) → (List ℕ → Unread → Type 0)
     → List (List ℕ) → Ending → Type 0
 IsEnding C U words (ending.Answer text) = AnswersWords C words text
+IsEnding C U words (ending.Told text made) = TellsWords C words text made
 IsEnding C U words (ending.Pages events) = AnswersWords C words (pages_text events)
 IsEnding C U words (ending.Findings text) = FindsWords C words text
 IsEnding C U words (ending.Help text) = AreFaulty words
 IsEnding C U words (ending.Faulty text) = AreFaulty words
-IsEnding C U words (ending.Refused text) = RefusesWords C U words text
+IsEnding C U words (ending.Refused text hint) = RefusesWords C U words text
 IsEnding C U words ending.NoMemory = Unit {0}
 
 -- what is said of faulty words
@@ -98,6 +122,8 @@ RunsAlone C U (alone.Once asked) status out out' err err' =
     (ending : Ending) × IsOnceEnding C U asked ending × Ends ending status out out' err err'
 RunsAlone C U (alone.Follow lines) status out out' err err' =
     EndsStream C U lines status out out' err err'
+RunsAlone C U (alone.Number lines) status out out' err err' =
+    EndsNumbers C U lines status out out' err err'
 RunsAlone C U (alone.Check judged) status out out' err err' =
     (ending : Ending) × IsCheckEnding C U judged ending × Ends ending status out out' err err'
 
@@ -106,6 +132,13 @@ abbrev pub RunsBeside : (List ℕ → List ℕ → Type 0) → (List ℕ → Unr
     → Option (List ℕ) → Option (List ℕ) → Option (List ℕ) → Option (List ℕ) → Type 0
 RunsBeside C U run status out out' err err' =
     (ending : Ending) × IsRunEnding C U run ending × Ends ending status out out' err err'
+
+-- the plan ended
+abbrev pub RunsPlan : (List ℕ → List ℕ → Type 0) → (List ℕ → Unread → Type 0) → Plan → ℕ
+    → Option (List ℕ) → Option (List ℕ) → Option (List ℕ) → Option (List ℕ) → Type 0
+RunsPlan C U (plan.Alone asked) status out out' err err' =
+    RunsAlone C U asked status out out' err err'
+RunsPlan C U (plan.Run run) status out out' err err' = RunsBeside C U run status out out' err err'
 
 -- the words come to an ending, and it is written; the streams are standard output, then standard
 -- error, before and after
@@ -122,12 +155,20 @@ pub record StreamsWords (C : List ℕ → List ℕ → Type 0) (U : List ℕ →
   pub planned : IsPlan words (plan.Alone (alone.Follow lines))
   pub ends : EndsStream C U lines status out out' err err'
 
+-- the words are a stream whose events are numbered
+pub record NumbersWords (C : List ℕ → List ℕ → Type 0) (U : List ℕ → Unread → Type 0)
+    (words : List (List ℕ)) (status : ℕ) (out out' err err' : Option (List ℕ)) : Type 0 where
+  pub lines : Number
+  pub planned : IsPlan words (plan.Alone (alone.Number lines))
+  pub ends : EndsNumbers C U lines status out out' err err'
+
 -- the run ended as the words come to
 abbrev pub RunsWords : (List ℕ → List ℕ → Type 0) → (List ℕ → Unread → Type 0)
     → List (List ℕ) → ℕ → Option (List ℕ) → Option (List ℕ) → Option (List ℕ) → Option (List ℕ)
     → Type 0
 RunsWords C U words status out out' err err' = EndsWords C U words status out out' err err'
-    ⊎ StreamsWords C U words status out out' err err'
+    ⊎ (StreamsWords C U words status out out' err err'
+    ⊎ NumbersWords C U words status out out' err err')
 
 -- what is said where the words couldn't be had
 abbrev pub IsUnheard : Ending → Type 0

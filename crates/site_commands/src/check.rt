@@ -4,8 +4,11 @@ ghost use Rattle.site_commands.specs.Checks.{AreFaultsOf, FindsNone, FindsSome, 
 ghost use Rattle.site_commands.specs.steps.Checks.{FindsIn};
 
 use crate::ending::{Ending, refused};
+use crate::files::Looks;
+use crate::hint::hint_of;
 use crate::line::Refusal;
 use crate::names::Names;
+use crate::progress::Progress;
 use attributes::{Octets, Text};
 use command_words::Check;
 use database_commands::{Databases, Trouble, trouble_line};
@@ -28,11 +31,12 @@ struct Found {
 }
 
 /// What a check comes to: what the database is, and the lines of the events at fault in the files.
-pub fn ending_of_check<S: Shelf, D: Databases>(
+pub fn ending_of_check<S: Looks, D: Databases + Drop, P: Progress>(
     alloc: Global,
     shelf: &S,
     databases: &D,
     plan: &Check,
+    progress: &P,
 ) -> Ending
     ensures { IsCheckEnding (S.is_content shelf.now) (S.is_unread shelf.now) plan.now result }
 {
@@ -45,7 +49,11 @@ pub fn ending_of_check<S: Shelf, D: Databases>(
                 Ending::Findings(text)
             }
         }
-        Err(refusal) => refused(alloc, Names::of_check(plan), refusal),
+        Err(refusal) => {
+            let names = Names::of_check(plan);
+            let hint = hint_of(alloc, shelf, databases, progress, names, refusal);
+            refused(alloc, names, refusal, hint)
+        }
     }
 }
 

@@ -12,7 +12,7 @@ use crate::printed::Printed;
 use attributes::Text;
 use command_words::{Action, Pages, Request};
 use coverage::Summary;
-use database_commands::{CommandFault, Databases, Status, summary_of};
+use database_commands::{CommandFault, Databases, Relayed, Status, summary_of};
 use file_reports::{EventReader, Shelf, UnreadAt, contents_of, events_of};
 use inbox_table::Watch;
 use std::alloc::Global;
@@ -229,30 +229,17 @@ pub fn relay<D: Databases>(
     db: &str,
     after: u64,
     is_all: bool,
-) -> Result<Text, Refusal>
-    ensures ok { IfOk result (SaysRelay after is_all) }
+) -> Result<Printed, Refusal>
+    ensures ok { IfOk result (λ p. SaysRelay after is_all (printed p)) }
     ensures err { IfErr result IsOfDatabase }
 {
     if is_all {
-        return all_rows(alloc, databases, db, after);
+        return match databases.relay_all(alloc, db, after) {
+            Ok(text) => Ok(Printed::Line(text)),
+            Err(why) => Err(Refusal::Database(why)),
+        };
     }
     next_rows(alloc, databases, db, after)
-}
-
-/// All rows of a database's outbox with a greater number.
-fn all_rows<D: Databases>(
-    alloc: Global,
-    databases: &D,
-    db: &str,
-    after: u64,
-) -> Result<Text, Refusal>
-    ensures ok { IfOk result (SaysRelay after true) }
-    ensures err { IfErr result IsOfDatabase }
-{
-    match databases.relay_all(alloc, db, after) {
-        Ok(text) => Ok(text),
-        Err(why) => Err(Refusal::Database(why)),
-    }
 }
 
 /// The rows of a database's outbox with a greater number, at most 100.
@@ -261,15 +248,21 @@ fn next_rows<D: Databases>(
     databases: &D,
     db: &str,
     after: u64,
-) -> Result<Text, Refusal>
-    ensures ok { IfOk result (SaysRelay after false) }
+) -> Result<Printed, Refusal>
+    ensures ok { IfOk result (λ p. SaysRelay after false (printed p)) }
     ensures err { IfErr result IsOfDatabase }
 {
     let Ok(source) = Text::of(alloc, "/orders") else {
         return Err(Refusal::Database(CommandFault::OutOfMemory));
     };
     match databases.relay(alloc, db, &source, after) {
-        Ok(text) => Ok(text),
+        Ok(Relayed { text, is_made }) => {
+            if is_made {
+                Ok(Printed::Founded(text))
+            } else {
+                Ok(Printed::Line(text))
+            }
+        }
         Err(why) => Err(Refusal::Database(why)),
     }
 }

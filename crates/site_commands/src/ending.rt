@@ -1,10 +1,14 @@
 //! How a run ends, as a value, and the one place that writes it.
-ghost use Rattle.site_commands.specs.Endings.{Ends, EndsPages, SaysRefusal, Writes};
+ghost use Rattle.std.specs.Prelude.{◌≡◌, List, ℕ, IfSome, IsNone};
+ghost use Rattle.std.specs.Io.KnownBytes.{Appends};
+ghost use Rattle.line_intake.specs.Written.{Wrote};
+ghost use Rattle.site_commands.specs.Endings.{Ends, EndsPages, Grows, SaysRefusal, Writes};
 ghost use Rattle.site_commands.specs.Names.{lent};
-ghost use Rattle.site_commands.specs.Runs.{IsLine};
+ghost use Rattle.site_commands.specs.Runs.{IsLine, IsTold};
 
-use crate::line::{Refusal, line_of};
+use crate::line::{Refusal, line_of, made_lines};
 use crate::names::Names;
+use crate::progress::Progress;
 use attributes::Text;
 use database_commands::EventPages;
 use line_intake::put;
@@ -27,6 +31,12 @@ const NO_MEMORY: &str = "site: out of memory\n";
 pub enum Ending {
     /// The answer, for standard output: status 0.
     Answer(Text),
+    /// The answer, for standard output, and the lines of what was made for it, for standard error:
+    /// status 0.
+    Told {
+        text: Text,
+        made: Text,
+    },
     /// The answer in pages, each a line that is made when it is written, for standard output:
     /// status 0. Memory that runs out between two pages ends it with 1 and a line on
     /// standard error.
@@ -37,20 +47,39 @@ pub enum Ending {
     Help(Text),
     /// What is said of faulty words, for standard error: status 2.
     Faulty(Text),
-    /// Why there is no answer, one line for standard error: status 1.
-    Refused(Text),
+    /// Why there is no answer, one line for standard error: status 1. Who looks on gets the hint
+    /// too, where there is one.
+    Refused {
+        line: Text,
+        hint: Option<&'static str>,
+    },
     /// Memory ran out, which a line on standard error says: status 1.
     NoMemory,
 }
 
-/// Writes the ending to the one stream that it is for, and answers the status. A write that fails
-/// ends with 1, and nothing more is written.
-pub fn finish<O: Write, E: Write>(ending: Ending, out: &mut O, err: &mut E) -> u8
+/// A line that stands on standard error: a hint is given behind it alone.
+#[derive(Clone, Copy)]
+pub struct Shown {
+    _private: (),
+}
+
+/// Writes the ending to the one stream that it is for, and answers the status; what was made is
+/// told first. A write that fails ends with 1, and nothing more is written.
+pub fn finish<O: Write, E: Write, P: Progress>(
+    ending: Ending,
+    out: &mut O,
+    err: &mut E,
+    progress: &P,
+) -> u8
     ensures { Ends ending result (O.contents out.old) (O.contents out.new) (E.contents err.old)
         (E.contents err.new) }
 {
     match ending {
         Ending::Answer(text) => print(out, text.as_str(), DONE),
+        Ending::Told { text, made } => {
+            tell(err, made.as_str());
+            print(out, text.as_str(), DONE)
+        }
         Ending::Pages(mut pages) => {
             let status = print_pages(out, err, &mut pages);
             // The program ends next: the memory of the events is left to the operating system.
@@ -60,7 +89,7 @@ pub fn finish<O: Write, E: Write>(ending: Ending, out: &mut O, err: &mut E) -> u
         Ending::Findings(text) => print(out, text.as_str(), REFUSED),
         Ending::Help(text) => print(out, text.as_str(), FAULTY),
         Ending::Faulty(text) => print(err, text.as_str(), FAULTY),
-        Ending::Refused(text) => print(err, text.as_str(), REFUSED),
+        Ending::Refused { line, hint } => refuse(err, line.as_str(), hint, progress),
         Ending::NoMemory => print(err, NO_MEMORY, REFUSED),
     }
 }
@@ -94,24 +123,94 @@ fn print<W: Write>(to: &mut W, text: &str, status: u8) -> u8
     }
 }
 
-/// The ending of a refusal of a plan that names these: its line, where memory is left for it.
-pub fn refused(alloc: Global, names: Names<'_>, refusal: Refusal) -> Ending
+/// Writes what was made, as far as it can be written.
+fn tell<E: Write>(err: &mut E, made: &str)
+    ensures { Grows (E.contents err.old) (E.contents err.new) made.now }
+{
+    let _told = put(err, made.as_bytes());
+}
+
+/// Writes the line of a refusal, and behind it gives the hint, where there is one.
+fn refuse<E: Write, P: Progress>(
+    err: &mut E,
+    line: &str,
+    hint: Option<&'static str>,
+    progress: &P,
+) -> u8
+    ensures { Writes result 1 (E.contents err.old) (E.contents err.new) line.now }
+{
+    if let Some(shown) = show(err, line) {
+        if let Some(hint) = hint {
+            progress.hint(shown, hint);
+        }
+    }
+    REFUSED
+}
+
+/// Writes a line; none is shown where it couldn't be written whole.
+fn show<E: Write>(err: &mut E, line: &str) -> Option<Shown>
+    ensures some { IfSome result
+        (λ _. Appends (E.contents err.old) (E.contents err.new) line.now) }
+    ensures none { IsNone result → (rest : List ℕ)
+        × Wrote (E.contents err.old) (E.contents err.new) line.now rest }
+{
+    match put(err, line.as_bytes()) {
+        Ok(()) => Some(Shown { _private: () }),
+        Err(_) => None,
+    }
+}
+
+/// The ending of a refusal of a plan that names these: its line, where memory is left for it, and
+/// the hint behind it.
+pub fn refused(
+    alloc: Global,
+    names: Names<'_>,
+    refusal: Refusal,
+    hint: Option<&'static str>,
+) -> Ending
     ensures { IsLine (lent names.entry) refusal result }
 {
     match line_of(alloc, names, refusal) {
-        Ok(line) => Ending::Refused(line),
+        Ok(line) => Ending::Refused { line, hint },
+        Err(_) => Ending::NoMemory,
+    }
+}
+
+/// The ending of an answer, for which the file of that database was made, or a service in it, or
+/// neither.
+pub fn answered(
+    alloc: Global,
+    db: &str,
+    text: Text,
+    is_file_made: bool,
+    is_service_made: bool,
+) -> Ending
+    ensures { IsTold db.now is_file_made is_service_made text result }
+{
+    if !is_file_made && !is_service_made {
+        return Ending::Answer(text);
+    }
+    match made_lines(alloc, db, is_file_made, is_service_made) {
+        Ok(made) => Ending::Told { text, made },
         Err(_) => Ending::NoMemory,
     }
 }
 
 /// Writes the line of a refusal of a plan that names these, or, where memory is wanted for it, the
-/// line that says so.
-pub fn say<E: Write>(alloc: Global, names: Names<'_>, refusal: Refusal, err: &mut E) -> u8
+/// line that says so; behind the line it gives the hint.
+pub fn say<E: Write, P: Progress>(
+    alloc: Global,
+    names: Names<'_>,
+    refusal: Refusal,
+    hint: Option<&'static str>,
+    err: &mut E,
+    progress: &P,
+) -> u8
     ensures { SaysRefusal (lent names.entry) refusal result (E.contents err.old)
         (E.contents err.new) }
 {
     match line_of(alloc, names, refusal) {
-        Ok(line) => print(err, line.as_str(), REFUSED),
+        Ok(line) => refuse(err, line.as_str(), hint, progress),
         Err(_) => print(err, NO_MEMORY, REFUSED),
     }
 }

@@ -1,16 +1,17 @@
 //! The files of the operating system, by their names.
-ghost use Rattle.std.specs.Prelude.{IfErr, IfOk, List, ℕ};
+ghost use Rattle.std.specs.Prelude.{◌≡◌, IfErr, IfOk, List, ℕ};
 ghost use Rattle.site_commands.specs.Inputs.{MayBeRead, MayBeUnread, MayGive};
 
+use crate::look::{LOOKED, Look, look_of};
 use crate::progress::Progress;
 use attributes::Octets;
 use file_reports::{Shelf, Unread, read_all};
 use std::alloc::Global;
 use std::cell::Cell;
 use std::fs::File;
-use std::io;
-use std::io::Read;
+use std::io::{ErrorKind, Read};
 use std::rt::Files;
+use std::{fs, io};
 
 /// A shelf whose files can be read as they come.
 pub trait Streams: Shelf {
@@ -25,13 +26,33 @@ pub trait Streams: Shelf {
         ensures unread { IfErr result (λ why. Self.is_unread self.now name.now why) };
 }
 
+/// A shelf on which one may look what a file seems to be.
+pub trait Looks: Shelf {
+    /// What the file of that name seems to be.
+    fn look(&self, name: &str) -> Look;
+}
+
 /// The files of the operating system; `-` is standard input. Before a file is read, it is told how
 /// many of so many are left.
 #[derive(Drop)]
 pub struct SystemFiles<'a, R, P> {
-    pub rt: &'a R,
-    pub progress: &'a P,
-    pub left: Cell<u64>,
+    rt: &'a R,
+    progress: &'a P,
+    left: Cell<u64>,
+    /// What standard input seemed to be when it was read, since it is read once.
+    input: Cell<Look>,
+}
+
+impl<'a, R, P> SystemFiles<'a, R, P> {
+    /// The files, of which so many are left to read.
+    pub fn new(rt: &'a R, progress: &'a P, left: u64) -> SystemFiles<'a, R, P> {
+        SystemFiles {
+            rt,
+            progress,
+            left: Cell::new(left),
+            input: Cell::new(Look::Other),
+        }
+    }
 }
 
 impl<'a, R: AllocGlobal + Files, P: Progress> Shelf for SystemFiles<'a, R, P> {
@@ -46,9 +67,58 @@ impl<'a, R: AllocGlobal + Files, P: Progress> Shelf for SystemFiles<'a, R, P> {
             self.left.set(left - 1);
         }
         match File::open(self.rt, path_of(name)) {
-            Ok(mut file) => read_all(alloc, &mut file),
+            Ok(mut file) => self.seen(name, read_all(alloc, &mut file)),
             Err(_) => Err(Unread::CannotRead),
         }
+    }
+}
+
+impl<'a, R, P> SystemFiles<'a, R, P> {
+    /// What was read, of which it is kept what it seems to be where it was standard input.
+    fn seen(&self, name: &str, read: Result<Octets, Unread>) -> Result<Octets, Unread>
+        ensures { result ≡ read }
+    {
+        if name == "-" {
+            if let Ok(bytes) = &read {
+                self.input.set(look_of(bytes.as_bytes()));
+            }
+        }
+        read
+    }
+}
+
+impl<'a, R: AllocGlobal + Files, P: Progress> Looks for SystemFiles<'a, R, P> {
+    fn look(&self, name: &str) -> Look {
+        if name == "-" {
+            return self.input.get();
+        }
+        match fs::metadata(self.rt, name) {
+            Ok(found) if found.is_dir() => return Look::Folder,
+            Ok(_) => {}
+            Err(error) => return look_of_error(error.kind()),
+        }
+        match File::open(self.rt, name) {
+            Ok(mut file) => look_into(&mut file),
+            Err(error) => look_of_error(error.kind()),
+        }
+    }
+}
+
+/// What a file seems to be that can be read.
+fn look_into<F: Read>(file: &mut F) -> Look {
+    let mut bytes = [0; LOOKED];
+    match file.read(&mut bytes) {
+        Ok(count) => look_of(&bytes[..count]),
+        Err(_) => Look::Other,
+    }
+}
+
+/// What a file is that isn't opened.
+fn look_of_error(kind: ErrorKind) -> Look {
+    match kind {
+        ErrorKind::NotFound => Look::Missing,
+        ErrorKind::PermissionDenied => Look::Denied,
+        _ => Look::Other,
     }
 }
 

@@ -1,9 +1,9 @@
 //! The lines of refusals on standard error.
-ghost use Rattle.std.specs.Prelude.{◌≡◌, ◌<◌, ◌++◌, [], ◌∷◌, IfOk, OnOk, string_bytes};
+ghost use Rattle.std.specs.Prelude.{◌≡◌, ◌<◌, ◌++◌, [], ◌∷◌, IfOk, OnOk, if◌then◌else◌, string_bytes};
 ghost use Rattle.std.specs.Char.{digit_char};
 ghost use Rattle.line_intake.specs.Words.{words_of};
 ghost use Rattle.site_commands.specs.Names.{lent};
-ghost use Rattle.site_commands.specs.Lines.{database_line, fault_line, file_line, line_of, lines_line, name_char, order_line, other_char, printed_name, summary_line, unread_line};
+ghost use Rattle.site_commands.specs.Lines.{database_line, fault_line, file_line, line_of, lines_line, made_lines, name_char, order_line, other_char, printed_name, summary_line, unread_line};
 
 use crate::names::Names;
 use attributes::Text;
@@ -29,6 +29,8 @@ pub enum Refusal {
     NoThread,
     /// So many lines of an input were at fault; the others are kept.
     Lines(u64),
+    /// No number is left for a source of a numberer.
+    NoNumber,
 }
 
 /// The line of a refusal of a plan that names these.
@@ -42,7 +44,41 @@ pub fn line_of(alloc: Global, names: Names<'_>, refusal: Refusal) -> Result<Text
         Refusal::Database(why) => database_line(alloc, names.db, names.order, why),
         Refusal::NoThread => Text::of(alloc, "site: no thread\n"),
         Refusal::Lines(faults) => lines_line(alloc, faults),
+        Refusal::NoNumber => file_line(alloc, names.db, "Full"),
     }
+}
+
+/// The lines of what was made: the file of that database, a service in it.
+pub fn made_lines(
+    alloc: Global,
+    db: &str,
+    is_file_made: bool,
+    is_service_made: bool,
+) -> Result<Text, AllocError>
+    ensures { IfOk result (λ text. text ≡ made_lines is_file_made is_service_made db.now) }
+{
+    let file = line_if(alloc, is_file_made, db, "made, it wasn't there")?;
+    let service = line_if(
+        alloc,
+        is_service_made,
+        db,
+        "a service /orders was made in it",
+    )?;
+    let mut lines = String::new(alloc);
+    lines.push_str(file.as_str())?;
+    lines.push_str(service.as_str())?;
+    Ok(Text::from_string(lines))
+}
+
+/// `site: FILE: WORDS`, ended with LF, where that is so, and else nothing.
+fn line_if(alloc: Global, is_so: bool, name: &str, words: &str) -> Result<Text, AllocError>
+    ensures { IfOk result (λ text.
+        text ≡ (if is_so then file_line name.now words.now else [])) }
+{
+    if is_so {
+        return file_line(alloc, name, words);
+    }
+    Text::of(alloc, "")
 }
 
 /// The line of a file that was not read.

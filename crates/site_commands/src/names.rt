@@ -1,10 +1,10 @@
 //! What a plan names, for the lines that say why it has no answer.
 ghost use Rattle.std.specs.Prelude.{◌≡◌, [], unwrap_or};
 ghost use Rattle.site_commands.specs.Lines.{name_at};
-ghost use Rattle.site_commands.specs.Names.{lent, of_check, of_follow, of_once, of_run};
+ghost use Rattle.site_commands.specs.Names.{lent, of_check, of_follow, of_number, of_once, of_run};
 
 use attributes::Text;
-use command_words::{Check, Follow, Once, Run};
+use command_words::{Check, Follow, Number, Once, Run};
 
 /// What a plan names.
 #[derive(Clone, Copy)]
@@ -71,6 +71,18 @@ impl<'a> Names<'a> {
     /// What a stream names.
     pub fn of_follow(plan: &'a Follow) -> Names<'a>
         ensures { lent result ≡ of_follow plan.now }
+    {
+        Names {
+            db: plan.db.as_str(),
+            order: 0,
+            first: Some(plan.file.as_str()),
+            files: &[],
+        }
+    }
+
+    /// What a stream of lines that are numbered names.
+    pub fn of_number(plan: &'a Number) -> Names<'a>
+        ensures { lent result ≡ of_number plan.now }
     {
         Names {
             db: plan.db.as_str(),

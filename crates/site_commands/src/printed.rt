@@ -7,6 +7,8 @@ use database_commands::EventPages;
 pub enum Printed {
     /// One text.
     Line(Text),
+    /// One text, for which a service was made.
+    Founded(Text),
     /// The pages of some events, each as a line.
     Pages(EventPages),
 }

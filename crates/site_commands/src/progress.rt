@@ -1,4 +1,5 @@
-//! How far a long command came, for those who look on.
+//! How far a long command came, and more of why it was refused, for those who look on.
+use crate::ending::Shown;
 use inbox_table::{Unwatched, Watch};
 
 /// Is told how far a command came. What it does changes nothing of what comes of the command.
@@ -9,8 +10,14 @@ pub trait Progress: Watch {
     /// Of a stream so many lines are done with: each was kept or refused, and acknowledged.
     fn lines(&self, count: u64);
 
-    /// Nothing more is told.
+    /// Nothing more is told of how far it came.
     fn over(&self);
+
+    /// Whether somebody looks on, for whom a hint is worth its time.
+    fn is_watched(&self) -> bool;
+
+    /// What can be done about a refusal, behind its line.
+    fn hint(&self, line: Shown, hint: &str);
 }
 
 impl Progress for Unwatched {
@@ -19,4 +26,10 @@ impl Progress for Unwatched {
     fn lines(&self, _count: u64) {}
 
     fn over(&self) {}
+
+    fn is_watched(&self) -> bool {
+        false
+    }
+
+    fn hint(&self, _line: Shown, _hint: &str) {}
 }

@@ -46,7 +46,7 @@ fn ask_files<S: Shelf, F: EventReader>(
         (RefusesQuery (S.is_content shelf.now) (S.is_unread shelf.now) None files.now) }
 {
     match contents_of(alloc, shelf, files) {
-        Ok(contents) => match report(alloc, reader, query, contents.as_slice()) {
+        Ok(contents) => match report(alloc, reader, query, contents) {
             Ok(report) => {
                 mem::forget(report.events);
                 Ok(report.text)
@@ -73,7 +73,7 @@ fn ask_with<S: Shelf, F: EventReader, D: Databases>(
         (RefusesQuery (S.is_content shelf.now) (S.is_unread shelf.now) (Some db.now) files.now) }
 {
     match contents_of(alloc, shelf, files) {
-        Ok(contents) => match site_of(alloc, reader, contents.as_slice()) {
+        Ok(contents) => match site_of(alloc, reader, contents) {
             Ok(events) => match databases.events(alloc, db) {
                 Ok(held) => match report_with(query, events, held) {
                     Ok(report) => {

@@ -3,31 +3,33 @@ ghost use Rattle.std.specs.Prelude.{◌≡◌, ◌≤◌, Err, IfErr, IfOk, Matc
 ghost use Rattle.std.specs.Option.{is_some};
 ghost use Rattle.std.specs.Process.{exit_status};
 ghost use Rattle.command_words.specs.Plans.{AreFaulty, AreFew};
-ghost use Rattle.site_commands.specs.Answers.{AnswersOnce, IsAllowed, IsAllowedAlone, RefusesOnce};
+ghost use Rattle.site_commands.specs.Answers.{AnswersOnce, IsAllowed, IsAllowedAlone, IsAllowedPlan, RefusesOnce};
 ghost use Rattle.site_commands.specs.Inputs.{MayBeRead, MayBeUnread};
 ghost use Rattle.site_commands.specs.Printed.{printed};
 ghost use Rattle.site_commands.specs.declared.printed.Printed.TheVariants as Printed;
-ghost use Rattle.site_commands.specs.Runs.{EndsUnheard, IsOnceEnding, IsRunEnding, IsUnheard, PrintsAnswer, RunsAlone, RunsBeside, RunsWords, said};
+ghost use Rattle.site_commands.specs.Runs.{EndsUnheard, IsOnceEnding, IsRunEnding, IsUnheard, PrintsAnswer, RunsAlone, RunsBeside, RunsPlan, RunsWords, said};
 
 use crate::check::ending_of_check;
 use crate::database::{arrivals, delta, order, relay, scrub, service, summary, take};
-use crate::ending::{Ending, finish, refused};
-use crate::files::SystemFiles;
+use crate::ending::{Ending, answered, finish, refused};
+use crate::files::{Looks, SystemFiles};
+use crate::hint::hint_of;
 use crate::line::Refusal;
 use crate::names::Names;
+use crate::number::number;
 use crate::printed::Printed;
 use crate::progress::Progress;
 use crate::query::ask;
 use crate::stream::follow;
 use crate::workers::run;
 use attributes::Text;
-use command_words::{Alone, Faulty, Once, Plan, Run, plan};
+use command_words::{Alone, Faulty, Once, Pages, Plan, Run, invocation};
 use database_commands::Databases;
 use file_reports::{EventReader, SequentialReader, Shelf};
+use number_lines::Numberers;
 use parallel_reader::ParallelReader;
 use run_command::Runs;
 use std::alloc::Global;
-use std::cell::Cell;
 use std::io;
 use std::io::{ErrorKind, Write};
 use std::process::ExitCode;
@@ -38,11 +40,19 @@ use std::thread::Threads;
 /// Runs the program on the words after its name, and answers its exit code. Words that couldn't be
 /// had are at fault, or memory was refused.
 pub fn exit<
-    R: AllocGlobal + Files + Databases + Runs + Threads + Wait + Sync,
+    R: AllocGlobal + Files + Threads + Wait + Sync,
+    D: Databases + Numberers + Runs + Drop,
     O: Write,
     E: Write,
     P: Progress,
->(rt: &R, words: io::Result<Vec<Text>>, out: &mut O, err: &mut E, progress: &P) -> ExitCode
+>(
+    rt: &R,
+    databases: &D,
+    words: io::Result<Vec<Text>>,
+    out: &mut O,
+    err: &mut E,
+    progress: &P,
+) -> ExitCode
     ensures { MatchResult words
         (λ words. RunsWords MayBeRead MayBeUnread words.items (exit_status result)
         (O.contents out.old) (O.contents out.new) (E.contents err.old) (E.contents err.new))
@@ -50,8 +60,13 @@ pub fn exit<
         (O.contents out.old) (O.contents out.new) (E.contents err.old) (E.contents err.new)) }
 {
     match words {
-        Ok(words) => ExitCode::from(perform(rt, words.as_slice(), out, err, progress)),
-        Err(error) => ExitCode::from(finish(unheard(rt.alloc(), error.kind()), out, err)),
+        Ok(words) => {
+            ExitCode::from(perform(rt, databases, words.as_slice(), out, err, progress))
+        }
+        Err(error) => {
+            let ending = unheard(rt.alloc(), error.kind());
+            ExitCode::from(finish(ending, out, err, progress))
+        }
     }
 }
 
@@ -61,17 +76,20 @@ pub fn exit<
 /// All files are read before any is judged, and judged before a database is opened, but for the
 /// feeds of `run`, which their workers judge, and for `follow`, whose lines are taken, kept and
 /// acknowledged as they come. A result is written to `out` in one piece, a refusal as one line to
-/// `err`. Help that was asked for goes to `out`, what is said of faulty words to `err`. After a
-/// write that fails nothing more is written. It waits where `run` does.
+/// `err`; what a page was made for, the file or a service in it, is told there too. Help that was
+/// asked for goes to `out`, what is said of faulty words to `err`. After a write that fails nothing
+/// more is written. It waits where `run` does, and for a database that another process has, as long
+/// as the words say.
 ///
 /// How far `take`, `check` and `run` came is told by `progress` alone, before anything is written,
 /// and how far `follow` came before it reads on.
 pub fn perform<
-    R: AllocGlobal + Files + Databases + Runs + Threads + Wait + Sync,
+    R: AllocGlobal + Files + Threads + Wait + Sync,
+    D: Databases + Numberers + Runs + Drop,
     O: Write,
     E: Write,
     P: Progress,
->(rt: &R, words: &[Text], out: &mut O, err: &mut E, progress: &P) -> u8
+>(rt: &R, databases: &D, words: &[Text], out: &mut O, err: &mut E, progress: &P) -> u8
     ensures status { result ≤ 2 }
     ensures answer { result ≡ 0
         → PrintsAnswer MayBeRead words.now (O.contents out.old) (O.contents out.new) }
@@ -79,13 +97,33 @@ pub fn perform<
     ensures runs { RunsWords MayBeRead MayBeUnread words.now result
         (O.contents out.old) (O.contents out.new) (E.contents err.old) (E.contents err.new) }
 {
-    match plan(rt.alloc(), words) {
-        Ok(Plan::Alone(plan)) => {
-            let reader = ParallelReader { rt };
-            perform_with(rt, &reader, &plan, out, err, progress)
+    match invocation(rt.alloc(), words) {
+        Ok(asked) => {
+            let databases = databases.waiting(asked.wait);
+            perform_plan(rt, &databases, &asked.plan, out, err, progress)
         }
-        Ok(Plan::Run(plan)) => perform_run(rt, &plan, out, err, progress),
-        Err(faulty) => finish(said(faulty), out, err),
+        Err(faulty) => finish(said(faulty), out, err, progress),
+    }
+}
+
+/// Carries out a plan, as [`perform`] does.
+fn perform_plan<
+    R: AllocGlobal + Files + Threads + Wait + Sync,
+    D: Databases + Numberers + Runs + Drop,
+    O: Write,
+    E: Write,
+    P: Progress,
+>(rt: &R, databases: &D, plan: &Plan, out: &mut O, err: &mut E, progress: &P) -> u8
+    requires { IsAllowedPlan plan.now }
+    ensures { RunsPlan MayBeRead MayBeUnread plan.now result
+        (O.contents out.old) (O.contents out.new) (E.contents err.old) (E.contents err.new) }
+{
+    match plan {
+        Plan::Alone(plan) => {
+            let reader = ParallelReader { rt };
+            perform_with(rt, databases, &reader, plan, out, err, progress)
+        }
+        Plan::Run(plan) => perform_run(rt, databases, plan, out, err, progress),
     }
 }
 
@@ -108,8 +146,15 @@ fn said(faulty: Faulty) -> Ending
 /// Carries out a plan without starting a thread, and answers the exit status, as [`perform`] does; it
 /// doesn't wait. A stream is written as it goes; of every other plan it is known what it comes to
 /// before anything is written.
-pub fn perform_alone<R: AllocGlobal + Files + Databases, O: Write, E: Write, P: Progress>(
+pub fn perform_alone<
+    R: AllocGlobal + Files,
+    D: Databases + Numberers + Drop,
+    O: Write,
+    E: Write,
+    P: Progress,
+>(
     rt: &R,
+    databases: &D,
     plan: &Alone,
     out: &mut O,
     err: &mut E,
@@ -119,17 +164,26 @@ pub fn perform_alone<R: AllocGlobal + Files + Databases, O: Write, E: Write, P: 
     ensures { RunsAlone MayBeRead MayBeUnread plan.now result
         (O.contents out.old) (O.contents out.new) (E.contents err.old) (E.contents err.new) }
 {
-    perform_with(rt, &SequentialReader {}, plan, out, err, progress)
+    perform_with(
+        rt,
+        databases,
+        &SequentialReader {},
+        plan,
+        out,
+        err,
+        progress,
+    )
 }
 
 /// As [`perform_alone`], with a reader of the events of files, which may start threads.
 fn perform_with<
-    R: AllocGlobal + Files + Databases,
+    R: AllocGlobal + Files,
+    D: Databases + Numberers + Drop,
     F: EventReader,
     O: Write,
     E: Write,
     P: Progress,
->(rt: &R, reader: &F, plan: &Alone, out: &mut O, err: &mut E, progress: &P) -> u8
+>(rt: &R, databases: &D, reader: &F, plan: &Alone, out: &mut O, err: &mut E, progress: &P) -> u8
     requires allowed { IsAllowedAlone plan.now }
     requires reader { F.can_read reader.now }
     ensures { RunsAlone MayBeRead MayBeUnread plan.now result
@@ -137,43 +191,45 @@ fn perform_with<
 {
     match plan {
         Alone::Once(plan) => {
-            let left = Cell::new(long_files(plan));
-            let shelf = SystemFiles { rt, progress, left };
-            let ending = ending_of(rt.alloc(), &shelf, reader, rt, plan, progress);
+            let shelf = SystemFiles::new(rt, progress, long_files(plan));
+            let ending = ending_of(rt.alloc(), &shelf, reader, databases, plan, progress);
             progress.over();
-            finish(ending, out, err)
+            finish(ending, out, err, progress)
         }
         Alone::Follow(plan) => {
-            let left = Cell::new(0);
-            let shelf = SystemFiles { rt, progress, left };
-            follow(rt.alloc(), &shelf, rt, plan, out, err, progress)
+            let shelf = SystemFiles::new(rt, progress, 0);
+            follow(rt.alloc(), &shelf, databases, plan, out, err, progress)
         }
         Alone::Check(plan) => {
-            let left = Cell::new(plan.files.len());
-            let shelf = SystemFiles { rt, progress, left };
-            let ending = ending_of_check(rt.alloc(), &shelf, rt, plan);
+            let shelf = SystemFiles::new(rt, progress, plan.files.len());
+            let ending = ending_of_check(rt.alloc(), &shelf, databases, plan, progress);
             progress.over();
-            finish(ending, out, err)
+            finish(ending, out, err, progress)
+        }
+        Alone::Number(plan) => {
+            let shelf = SystemFiles::new(rt, progress, 0);
+            number(rt.alloc(), &shelf, databases, plan, out, err, progress)
         }
     }
 }
 
 /// Carries out a run, and answers the exit status. It waits.
 fn perform_run<
-    R: AllocGlobal + Files + Runs + Threads + Wait + Sync,
+    R: AllocGlobal + Files + Threads + Wait + Sync,
+    D: Databases + Numberers + Runs + Drop,
     O: Write,
     E: Write,
     P: Progress,
->(rt: &R, plan: &Run, out: &mut O, err: &mut E, progress: &P) -> u8
+>(rt: &R, databases: &D, plan: &Run, out: &mut O, err: &mut E, progress: &P) -> u8
     requires { AreFew (is_some plan.now.peer) (length plan.now.files) }
     ensures { RunsBeside MayBeRead MayBeUnread plan.now result
         (O.contents out.old) (O.contents out.new) (E.contents err.old) (E.contents err.new) }
 {
-    let left = Cell::new(plan.files.len().saturating_add(plan.peer.is_some() as u64));
-    let shelf = SystemFiles { rt, progress, left };
-    let ending = ending_of_run(rt, rt.alloc(), &shelf, rt, plan, progress);
+    let left = plan.files.len().saturating_add(plan.peer.is_some() as u64);
+    let shelf = SystemFiles::new(rt, progress, left);
+    let ending = ending_of_run(rt, rt.alloc(), &shelf, databases, plan, progress);
     progress.over();
-    finish(ending, out, err)
+    finish(ending, out, err, progress)
 }
 
 /// How many files are read by a plan that may take long, so that it is worth while to tell how many
@@ -185,8 +241,29 @@ fn long_files(plan: &Once) -> u64 {
     }
 }
 
+/// The database that a plan makes where there is none, though it only asks for a page.
+fn made_by(plan: &Once) -> Option<&str> {
+    match plan {
+        Once::Delta {
+            db,
+            pages: Pages::Behind(_),
+            ..
+        } => Some(db.as_str()),
+        Once::Scrub {
+            db,
+            pages: Pages::Behind(_),
+        } => Some(db.as_str()),
+        Once::Relay {
+            db,
+            is_all: false,
+            ..
+        } => Some(db.as_str()),
+        _ => None,
+    }
+}
+
 /// What a plan with one answer comes to over a shelf of files, before anything is written.
-fn ending_of<S: Shelf, F: EventReader, D: Databases, P: Progress>(
+fn ending_of<S: Looks, F: EventReader, D: Databases + Drop, P: Progress>(
     alloc: Global,
     shelf: &S,
     reader: &F,
@@ -198,15 +275,24 @@ fn ending_of<S: Shelf, F: EventReader, D: Databases, P: Progress>(
     requires reader { F.can_read reader.now }
     ensures { IsOnceEnding (S.is_content shelf.now) (S.is_unread shelf.now) plan.now result }
 {
+    let names = Names::of_once(plan);
+    let is_made = match made_by(plan) {
+        Some(db) => !databases.is_there(db),
+        None => false,
+    };
     match carried_out(alloc, shelf, reader, databases, plan, progress) {
-        Ok(Printed::Line(text)) => Ending::Answer(text),
+        Ok(Printed::Line(text)) => answered(alloc, names.db, text, is_made, false),
+        Ok(Printed::Founded(text)) => answered(alloc, names.db, text, is_made, true),
         Ok(Printed::Pages(events)) => Ending::Pages(events),
-        Err(refusal) => refused(alloc, Names::of_once(plan), refusal),
+        Err(refusal) => {
+            let hint = hint_of(alloc, shelf, databases, progress, names, refusal);
+            refused(alloc, names, refusal, hint)
+        }
     }
 }
 
 /// What a run comes to over a shelf of files, before anything is written.
-fn ending_of_run<R: Threads + Wait + Sync, S: Shelf, D: Runs, P: Progress>(
+fn ending_of_run<R: Threads + Wait + Sync, S: Looks, D: Databases + Numberers + Runs + Drop, P: Progress>(
     rt: &R,
     alloc: Global,
     shelf: &S,
@@ -228,7 +314,11 @@ fn ending_of_run<R: Threads + Wait + Sync, S: Shelf, D: Runs, P: Progress>(
         progress,
     ) {
         Ok(text) => Ending::Answer(text),
-        Err(refusal) => refused(alloc, Names::of_run(plan), refusal),
+        Err(refusal) => {
+            let names = Names::of_run(plan);
+            let hint = hint_of(alloc, shelf, databases, progress, names, refusal);
+            refused(alloc, names, refusal, hint)
+        }
     }
 }
 
@@ -294,7 +384,7 @@ fn carried_out<S: Shelf, F: EventReader, D: Databases, P: Progress>(
         )),
         Once::Order(request) => lined(order(alloc, databases, request)),
         Once::Relay { db, after, is_all } => {
-            lined(relay(alloc, databases, db.as_str(), *after, *is_all))
+            relay(alloc, databases, db.as_str(), *after, *is_all)
         }
     }
 }

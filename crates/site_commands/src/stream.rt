@@ -4,7 +4,8 @@ ghost use Rattle.site_commands.specs.Endings.{EndsStream};
 ghost use Rattle.site_commands.specs.Streams.{EndsSo, end_at, end_of, unread_of};
 
 use crate::ending::{DONE, REFUSED, say};
-use crate::files::Streams;
+use crate::files::{Looks, Streams};
+use crate::hint::hint_of;
 use crate::line::Refusal;
 use crate::names::Names;
 use crate::progress::Progress;
@@ -29,7 +30,7 @@ pub enum StreamEnd {
 /// Keeps the lines of a file in a database as they come, and acknowledges each on `out` once it is
 /// kept; answers the status. What is wrong is said on `err`, once nothing more is acknowledged or
 /// told.
-pub fn follow<S: Streams, D: Databases, O: Write, E: Write, P: Progress>(
+pub fn follow<S: Streams + Looks, D: Databases + Drop, O: Write, E: Write, P: Progress>(
     alloc: Global,
     shelf: &S,
     databases: &D,
@@ -52,7 +53,11 @@ pub fn follow<S: Streams, D: Databases, O: Write, E: Write, P: Progress>(
     progress.over();
     match end {
         StreamEnd::Done => DONE,
-        StreamEnd::Refused(refusal) => say(alloc, Names::of_follow(plan), refusal, err),
+        StreamEnd::Refused(refusal) => {
+            let names = Names::of_follow(plan);
+            let hint = hint_of(alloc, shelf, databases, progress, names, refusal);
+            say(alloc, names, refusal, hint, err, progress)
+        }
         StreamEnd::Unwritten => REFUSED,
     }
 }
@@ -93,7 +98,7 @@ fn end(ended: Result<u64, StreamFault>) -> StreamEnd
 
 /// How a stream ended that came to the end of its input, with so many lines at fault.
 #[tactic(auto, using(crate::proofs::StreamLemmas::end_of_some))]
-fn end_of(faults: u64) -> StreamEnd
+pub(crate) fn end_of(faults: u64) -> StreamEnd
     ensures { result ≡ end_of faults }
 {
     if faults == 0 {
@@ -103,7 +108,7 @@ fn end_of(faults: u64) -> StreamEnd
 }
 
 /// An input that couldn't be read on, as a file that wasn't read.
-fn unread_of(why: LineFault) -> UnreadAt
+pub(crate) fn unread_of(why: LineFault) -> UnreadAt
     ensures { result ≡ unread_of why }
 {
     match why {

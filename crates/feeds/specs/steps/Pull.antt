@@ -8,7 +8,6 @@ use Rattle.site.specs.Machine.{call}
 use Rattle.site.specs.Page.{max_page}
 use Rattle.site.specs.declared.call.Call.{Call}
 use Rattle.site.specs.declared.call.Command.TheVariants as command
-use Rattle.site.specs.declared.call.Reply.{Reply}
 use Rattle.site.specs.declared.call.Reply.TheVariants.{Paged, Summed}
 use Rattle.site.specs.declared.desk.DeskFault.{DeskFault}
 use Rattle.feeds.specs.Pull.{ArePages, EndsEmpty, replied}

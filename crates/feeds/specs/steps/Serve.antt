@@ -1,5 +1,5 @@
 -- Workers on their way: their jobs, and what came of them.
-use Rattle.std.specs.Prelude.{◌≡◌, ◌≤◌, ℕ, List, [], ◌∷◌, ◌++◌, length, map}
+use Rattle.std.specs.Prelude.{◌≡◌, ◌+◌, ℕ, List, [], ◌∷◌, ◌++◌, length, map}
 use Rattle.atomic_table.specs.Seated.{TableId}
 use Rattle.attributes.specs.Event.{EventValue}
 use Rattle.site.specs.declared.call.Call.{Call}
@@ -9,11 +9,10 @@ use Rattle.views.specs.declared.query.Query.{Query}
 use Rattle.site_lock.specs.Pass.{Shown, Steps, leaves}
 use Rattle.feeds.specs.Ask.{Asks}
 use Rattle.feeds.specs.Gate.{IsGated}
-use Rattle.feeds.specs.Pull.{PullsFrom}
+use Rattle.feeds.specs.Pull.{PullsBy}
 use Rattle.feeds.specs.Report.{Feeds}
 use Rattle.feeds.specs.Serve.{HasCalls, worker_of}
 use Rattle.feeds.specs.declared.asking.Asked.{Asked}
-use Rattle.feeds.specs.declared.report.WorkerEnd.{WorkerEnd}
 use Rattle.feeds.specs.declared.report.Report.{Report}
 use Rattle.feeds.specs.declared.serving.worker.Finished.{Finished}
 use Rattle.feeds.specs.declared.serving.worker.Job.{Job}
@@ -30,14 +29,19 @@ works_of feeds peers asks = map work.Feed feeds ++ (map work.Pull peers ++ map w
 abbrev pub pending_works : Pending → List Work
 pending_works p = works_of p.feeds.items p.peers.items p.asks.items
 
--- by these calls of a desk, which then has these arrivals, this came of the work
-abbrev pub Performs : Work → List Call → List EventValue → JobEnd → Type 0
-Performs (work.Feed b) m B (Reported r) = Feeds b m r
-Performs (work.Pull A) m B (Reported r) = PullsFrom A m B r
-Performs (work.Ask queries) m B (Answered r) = Asks queries m r
-Performs (work.Feed b) m B (Answered r) = ⊥
-Performs (work.Pull A) m B (Answered r) = ⊥
-Performs (work.Ask queries) m B (Reported r) = ⊥
+-- by these calls of a desk, which then has these arrivals, this came of the work; the gate let the
+-- worker make just those, and those of its peer, if it pulled
+module _ (lets shuts heard : ℕ → ℕ → Type 0) where
+  abbrev pub Performs : ℕ → Work → List Call → List EventValue → JobEnd → Type 0
+  Performs worker (work.Feed b) m B (Reported r) =
+      Feeds b m r × IsGated lets shuts heard worker (length m) r.ended
+  Performs worker (work.Pull A) m B (Reported r) = (pages : List Call) × PullsBy A pages m B r
+      × IsGated lets shuts heard worker (length pages + length m) r.ended
+  Performs worker (work.Ask queries) m B (Answered r) =
+      Asks queries m r × IsGated lets shuts heard worker (length m) r.ended
+  Performs worker (work.Feed b) m B (Answered r) = ⊥
+  Performs worker (work.Pull A) m B (Answered r) = ⊥
+  Performs worker (work.Ask queries) m B (Reported r) = ⊥
 
 -- the job for this work, with the pass of the worker at this place
 pub record IsJobAt (p : Shown) (place : ℕ) (w : Work) (j : Job) : Type 0 where
@@ -48,22 +52,10 @@ pub record IsJobAt (p : Shown) (place : ℕ) (w : Work) (j : Job) : Type 0 where
   pub opening : j.pass.opening ≡ p.opening
   pub unused : j.pass.mine ≡ []
 
--- how the worker ended
-abbrev pub ended_by : JobEnd → WorkerEnd
-ended_by (Reported r) = r.ended
-ended_by (Answered r) = r.ended
-
--- the gate let the worker make at least so many calls, and it ended so
-abbrev pub IsGatedFor : (ℕ → ℕ → Type 0) → (ℕ → ℕ → Type 0) → (ℕ → ℕ → Type 0) → ℕ → ℕ → WorkerEnd
-    → Type 0
-IsGatedFor lets shuts heard worker count ended =
-    (calls : ℕ) × (count ≤ calls) × IsGated lets shuts heard worker calls ended
-
 -- a worker did this job, in calls that the gate let through
 abbrev pub Ends : (ℕ → ℕ → Type 0) → (ℕ → ℕ → Type 0) → (ℕ → ℕ → Type 0) → Job → Finished → Type 0
 Ends lets shuts heard j f = (m : List Call) × Steps j.pass f.pass m
-    × Performs j.work m (leaves f.pass) f.outcome
-    × IsGatedFor lets shuts heard j.worker (length m) (ended_by f.outcome)
+    × Performs lets shuts heard j.worker j.work m (leaves f.pass) f.outcome
 
 -- the two lists have one length, and this holds at each place
 abbrev pub Each : {A : Type 0} → {B : Type 0} → (A → B → Type 0) → List A → List B → Type 0
@@ -108,6 +100,7 @@ answers_in [] = []
 answers_in (o ∷ os) = answers_by o ++ answers_in os
 
 -- what came of the work by the calls that q has seen of the worker at this place
-abbrev pub WorkerTells : Shown → Shown → ℕ → Work → JobEnd → Type 0
-WorkerTells p q place w o =
-    (m : List Call) × HasCalls q.seen (worker_of p place) m × Performs w m (leaves q) o
+abbrev pub WorkerTells : (ℕ → ℕ → Type 0) → (ℕ → ℕ → Type 0) → (ℕ → ℕ → Type 0) → Shown → Shown → ℕ
+    → Work → JobEnd → Type 0
+WorkerTells lets shuts heard p q place w o = (m : List Call)
+    × HasCalls q.seen (worker_of p place) m × Performs lets shuts heard place w m (leaves q) o

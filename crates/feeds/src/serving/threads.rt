@@ -4,7 +4,7 @@ ghost use Rattle.std.specs.Prelude.{◌≡◌, ◌≤◌, ◌<◌, ◌+◌, ◌+
 ghost use Rattle.std.specs.Vec.{vec_capacity};
 ghost use Rattle.std.specs.Thread.{IsSync};
 ghost use Rattle.site.specs.declared.call.Call.{Call};
-ghost use Rattle.feeds.specs.steps.Serve.{AreAt, Each, Ends, IsGatedFor, Performs, ended_by};
+ghost use Rattle.feeds.specs.steps.Serve.{AreAt, Each, Ends, Performs};
 
 use crate::aside::Aside;
 use crate::asking::ask;
@@ -44,9 +44,8 @@ fn work_off<D: Desk, G: Gate>(
     work: Work,
 ) -> JobEnd
     ensures { (m : List Call) × D.went desk.old desk.new m
-        × Performs work m (D.arrivals desk.new) result
-        × IsGatedFor (G.lets gate.now) (G.shuts gate.now) (G.heard gate.now) worker (length m)
-        (ended_by result) }
+        × Performs (G.lets gate.now) (G.shuts gate.now) (G.heard gate.now) worker work m
+        (D.arrivals desk.new) result }
 {
     match work {
         Work::Feed(bytes) => { JobEnd::Reported(feed(alloc, desk, gate, worker, bytes.as_bytes())) }

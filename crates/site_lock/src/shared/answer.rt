@@ -9,16 +9,35 @@ ghost use Rattle.site.specs.Machine.{Answers, call};
 ghost use Rattle.site.specs.Page.{max_page, page};
 ghost use Rattle.site.specs.declared.call.Command.TheVariants as command;
 ghost use Rattle.site_lock.specs.Pass.{Made, leaves};
+ghost use Rattle.views.specs.Question.{MayWantMemory};
 
 use super::SharedSite;
 use crate::held::Held;
 use crate::pass::Pass;
 use attributes::Batch;
 use coverage::Summary;
-use site::{Desk, DeskFault, Site};
+use site::{DeskFault, Site};
 use std::marker::Brand;
 use std::sync::Wait;
 use views::{Answer, Query};
+
+/// The answer to a question, as a desk answers.
+fn answer(site: &Site, query: Query) -> Result<Answer, DeskFault>
+    ensures answers { Answers site.now (call (command.Query query) (answered result)) }
+    ensures err { OnErr result (set_of site.now ≢ []) }
+    ensures rows { OnErr result (MayWantMemory query (set_of site.now)) }
+{
+    Ok(site.query(query)?)
+}
+
+/// The summary, as a desk answers.
+fn summary(site: &mut Site) -> Result<Summary, DeskFault>
+    ensures same { site.new ≡ site.old }
+    ensures answers { Answers site.old (call command.Summary (summed result)) }
+    ensures err { OnErr result (set_of site.old ≢ []) }
+{
+    Ok(site.summary()?)
+}
 
 /// What a peer lacks, as a desk answers.
 fn delta_page(site: &mut Site, peer: &Summary, from: u64, limit: u64) -> Result<Batch, DeskFault>
@@ -58,11 +77,15 @@ impl SharedSite {
     /// Waits for a turn and asks a question, as `Site::query` does.
     pub fn query<R: Wait>(&self, rt: &R, pass: &mut Pass, query: Query) -> Result<Answer, DeskFault>
         requires { pass.old.table ≡ self.now }
-        ensures { Made pass.old pass.new (call (command.Query query) (answered result)) }
+        ensures made { Made pass.old pass.new (call (command.Query query) (answered result)) }
+
+        // A site without events wants no memory, nor does one without conflicts or days for these.
+        ensures err { OnErr result (set_of (leaves pass.new) ≢ []) }
+        ensures rows { OnErr result (MayWantMemory query (set_of (leaves pass.new))) }
     {
         let seat = &mut pass.seat;
-        let Held { mut site } = self.turns.enter(rt, seat);
-        let reply = Desk::query(&mut site, query);
+        let Held { site } = self.turns.enter(rt, seat);
+        let reply = answer(&site, query);
         self.end::<Brand, _, _>(seat, site, &query, &reply);
         reply
     }
@@ -70,11 +93,14 @@ impl SharedSite {
     /// Waits for a turn and asks for the summary, as `Site::summary` does.
     pub fn summary<R: Wait>(&self, rt: &R, pass: &mut Pass) -> Result<Summary, DeskFault>
         requires { pass.old.table ≡ self.now }
-        ensures { Made pass.old pass.new (call command.Summary (summed result)) }
+        ensures made { Made pass.old pass.new (call command.Summary (summed result)) }
+
+        // A site without events wants no memory.
+        ensures err { OnErr result (set_of (leaves pass.new) ≢ []) }
     {
         let seat = &mut pass.seat;
         let Held { mut site } = self.turns.enter(rt, seat);
-        let reply = Desk::summary(&mut site);
+        let reply = summary(&mut site);
         self.end::<Brand, _, _>(seat, site, &(), &reply);
         reply
     }

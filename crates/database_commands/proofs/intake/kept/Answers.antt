@@ -24,3 +24,9 @@ returns-in-Ok-clause-told g c = on_ok c.said.result _ c.in-Ok.ensures.told
 
 pub returns-in-Err-clause-beside : goal.returns-in-Err-clause-beside
 returns-in-Err-clause-beside g c clean still = service_same _ _ ((c.in-Err.ensures.effect clean).same still)
+
+pub returns-in-Ok-clause-stays_open : goal.returns-in-Ok-clause-stays_open
+returns-in-Ok-clause-stays_open g c clean = on_ok c.said.result _ (c.in-Ok.ensures.effect clean).stays_open
+
+pub returns-in-Ok-clause-settled : goal.returns-in-Ok-clause-settled
+returns-in-Ok-clause-settled g c clean = on_ok c.said.result _ (c.in-Ok.ensures.effect clean).settled

@@ -11,6 +11,7 @@ returns g c =
       held = IfOk-weaker c.open_and_load.result _ _ (λ l opens clean. opened_holds _ _ _ l.events (opens clean)) c.open_and_load.ensures.opens;
       rows = c.open_and_load.ensures.rows;
       stays_open = IfOk-weaker c.open_and_load.result _ _ (λ l opens clean. (opens clean).stays_open) c.open_and_load.ensures.opens;
+      settled = IfOk-weaker c.open_and_load.result _ _ (λ l opens clean. (opens clean).settled) c.open_and_load.ensures.opens;
       back = IfErr-weaker c.open_and_load.result _ _ (λ n rejects. rejects.same) c.open_and_load.ensures.rejects;
       crash = IfOk-weaker c.open_and_load.result _ _ (λ l crash. survives_weaker _ _ _ _ (λ clean trees may. opened_may_hold _ trees may) crash) c.open_and_load.ensures.crash;
       crash_refused = IfErr-weaker c.open_and_load.result _ _ (λ n crash. survives_weaker _ _ _ _ (λ clean trees may. opened_may_hold _ trees may) crash) c.open_and_load.ensures.crash_refused;

@@ -1,11 +1,13 @@
 use Rattle.std.proofs.Common.{IsTrue, inl, inr, subst, sym}
-use Rattle.std.proofs.lemmas.Result.{IfErr-weaker}
+use Rattle.std.proofs.lemmas.Result.{IfErr-weaker, IfOk-weaker}
 use Rattle.sqlite.specs.Held.{state}
-use Rattle.sqlite.specs.State.{HasCleanDisk}
+use Rattle.sqlite.specs.State.{HasCleanDisk, Survives}
+use Rattle.sqlite.proofs.StateLemmas.{survives_then, survives_weaker}
+use Rattle.inbox_table.specs.Calls.{IsSettled}
 use Rattle.inbox_table.specs.Rows.{IsInbox}
-use Rattle.database_commands.specs.Held.{Holds, KeepsOrTakes, KeepsRows}
+use Rattle.database_commands.specs.Held.{Holds, IsTaken, KeepsOrTakes, KeepsRows, MayHoldMore}
 use Rattle.database_commands.proofs.BesideLemmas.{service_over, service_same}
-use Rattle.database_commands.proofs.HeldLemmas.{inbox_holds, on_ok}
+use Rattle.database_commands.proofs.HeldLemmas.{held_may_more, inbox_holds, on_ok, on_okay, took_may_more}
 use Rattle.database_commands.proofs.intake.take.Goals as goal
 
 pub returns-in-Ok-clause-left : goal.returns-in-Ok-clause-left
@@ -42,3 +44,38 @@ pub returns-in-Ok-clause-upgraded : goal.returns-in-Ok-clause-upgraded
 returns-in-Ok-clause-upgraded g c clean =
     let late : HasCleanDisk (state g.S.Store c.kept-outcome.new.table.conn) = subst (λ h. HasCleanDisk (state g.S.Store h)) c.into_connection-conn.ensures clean in
     on_ok c.kept-outcome.result _ (c.in-Ok.ensures.upgraded (c.kept-outcome.ensures.clean late))
+
+pub returns-in-Ok-clause-stays_open : goal.returns-in-Ok-clause-stays_open
+returns-in-Ok-clause-stays_open g c clean =
+    let late : HasCleanDisk (state g.S.Store c.kept-outcome.new.table.conn) = subst (λ h. HasCleanDisk (state g.S.Store h)) c.into_connection-conn.ensures clean in
+    on_okay c.kept-outcome.result _ _ (λ still. subst (λ h. IsTrue (state g.S.Store h).is_open) (sym c.into_connection-conn.ensures) still) (c.kept-outcome.ensures.stays_open late)
+
+pub returns-in-Ok-clause-settled : goal.returns-in-Ok-clause-settled
+returns-in-Ok-clause-settled g c clean =
+    let late : HasCleanDisk (state g.S.Store c.kept-outcome.new.table.conn) = subst (λ h. HasCleanDisk (state g.S.Store h)) c.into_connection-conn.ensures clean in
+    on_okay c.kept-outcome.result _ _ (λ leaves. subst (λ h. IsSettled (state g.S.Store h)) (sym c.into_connection-conn.ensures) leaves) (c.kept-outcome.ensures.settled late)
+
+pub returns-in-Ok-clause-crash : goal.returns-in-Ok-clause-crash
+returns-in-Ok-clause-crash g c =
+    let old = state g.S.Store c.args.conn in
+    let mid = state g.S.Store c.in-Ok.table.conn in
+    let last = c.kept-outcome.new.table in
+    subst (λ h. Survives old (state g.S.Store h) (MayHoldMore c.args.events.now old.now)) (sym c.into_connection-conn.ensures)
+    (survives_then old mid (state g.S.Store last.conn) _ _ (MayHoldMore c.args.events.now old.now)
+    (λ clean trees may. held_may_more c.args.events.now old.now trees may)
+    (λ clean trees may.
+    let early = c.kept-outcome.ensures.clean clean in
+    let (held, was) = c.in-Ok.ensures.found early in
+    took_may_more c.args.events.now old.now mid.now trees held was (c.in-Ok.ensures.held early held was) (c.in-Ok.ensures.beside early) (may (c.in-Ok.ensures.stays_open early)))
+    c.in-Ok.ensures.crash c.kept-outcome.ensures.crash)
+
+pub returns-in-Err-clause-crash : goal.returns-in-Err-clause-crash
+returns-in-Err-clause-crash g c = survives_weaker _ _ _ _ (λ clean trees may. held_may_more c.args.events.now _ trees may) c.in-Err.ensures.crash_refused
+
+pub returns-in-Ok-clause-taken : goal.returns-in-Ok-clause-taken
+returns-in-Ok-clause-taken g c clean =
+    let late : HasCleanDisk (state g.S.Store c.kept-outcome.new.table.conn) = subst (λ h. HasCleanDisk (state g.S.Store h)) c.into_connection-conn.ensures clean in
+    let early = c.kept-outcome.ensures.clean late in
+    IfOk-weaker c.kept-outcome.result _ _
+    (λ text taken held holds. subst (λ h. IsTaken c.args.events.now held (state g.S.Store h).now text) (sym c.into_connection-conn.ensures) (taken held (c.in-Ok.ensures.held early held holds)))
+    (c.kept-outcome.ensures.taken late)

@@ -6,6 +6,7 @@ pub returns-in-Ok-open_over-clause-did : goal.returns-in-Ok-open_over-clause-did
 returns-in-Ok-open_over-clause-did g c = let it = c.follow.ensures in record {
   first = c.in-Ok-open_over.conn;
   over = c.in-Ok-open_over.ensures.over;
+  clean = it.clean;
   did = record {
     left = _;
     begun = c.in-Ok.ensures;
@@ -13,6 +14,7 @@ returns-in-Ok-open_over-clause-did g c = let it = c.follow.ensures in record {
     settled = it.settled;
     stops = IfErr-weaker c.follow.result.outcome _ _ (λ f stops. unread_or_stops _ _ _ _ _ _ f stops) it.stops;
     beside = it.beside;
+    clean = it.clean;
   };
 }
 

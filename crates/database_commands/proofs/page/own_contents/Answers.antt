@@ -1,8 +1,9 @@
-use Rattle.std.proofs.Common.{subst, sym}
+use Rattle.std.proofs.Common.{IsTrue, subst, sym}
 use Rattle.sqlite.specs.Held.{state}
-use Rattle.sqlite.specs.State.{HasCleanDisk}
+use Rattle.sqlite.specs.State.{HasCleanDisk, Survives}
+use Rattle.inbox_table.specs.Calls.{IsSettled}
 use Rattle.inbox_table.specs.Rows.{IsInbox}
-use Rattle.database_commands.specs.Held.{Holds, KeepsRows}
+use Rattle.database_commands.specs.Held.{Holds, KeepsRows, MayHold}
 use Rattle.database_commands.proofs.BesideLemmas.{service_same}
 use Rattle.database_commands.proofs.HeldLemmas.{inbox_holds}
 use Rattle.database_commands.proofs.page.own_contents.Goals as goal
@@ -23,3 +24,18 @@ returns-in-Ok-clause-beside g c clean still =
 
 pub returns-in-Err-clause-beside : goal.returns-in-Err-clause-beside
 returns-in-Err-clause-beside g c clean still = service_same _ _ (c.in-Err.ensures.back clean still)
+
+pub returns-in-Ok-clause-stays_open : goal.returns-in-Ok-clause-stays_open
+returns-in-Ok-clause-stays_open g c clean =
+    let was = subst (λ h. HasCleanDisk (state g.S.Store h)) c.into_connection-conn.ensures clean in
+    subst (λ h. IsTrue (state g.S.Store h).is_open) (sym c.into_connection-conn.ensures) (c.in-Ok.ensures.stays_open was)
+
+pub returns-in-Ok-clause-settled : goal.returns-in-Ok-clause-settled
+returns-in-Ok-clause-settled g c clean =
+    let was = subst (λ h. HasCleanDisk (state g.S.Store h)) c.into_connection-conn.ensures clean in
+    subst (λ h. IsSettled (state g.S.Store h)) (sym c.into_connection-conn.ensures) (c.in-Ok.ensures.settled was)
+
+pub returns-in-Ok-clause-crash : goal.returns-in-Ok-clause-crash
+returns-in-Ok-clause-crash g c =
+    let old = state g.S.Store c.args.conn in
+    subst (λ h. Survives old (state g.S.Store h) (MayHold old.now)) (sym c.into_connection-conn.ensures) c.in-Ok.ensures.crash

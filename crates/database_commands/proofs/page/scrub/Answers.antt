@@ -7,7 +7,7 @@ use Rattle.inbox.specs.Ordered.{append_new}
 use Rattle.inbox.specs.Sets.{set_of}
 use Rattle.site.specs.Page.{page}
 use Rattle.database_commands.specs.Print.{batch_line}
-use Rattle.database_commands.proofs.HeldLemmas.{held_once}
+use Rattle.database_commands.proofs.HeldLemmas.{at_okay, held_once, on_ok}
 use Rattle.database_commands.proofs.page.scrub.Goals as goal
 
 pub returns-in-Ok-clause-did : goal.returns-in-Ok-clause-did
@@ -20,6 +20,9 @@ returns-in-Ok-clause-did g c = record {
       c.page_line-outcome.ensures;
   list = c.own_contents-conn.ensures.list;
   beside = c.own_contents-conn.ensures.beside;
+  stays_open = λ clean. on_ok c.page_line-outcome.result _ (at_okay _ _ _ c.in-Ok.is (c.own_contents-conn.ensures.stays_open clean));
+  settled = λ clean. on_ok c.page_line-outcome.result _ (at_okay _ _ _ c.in-Ok.is (c.own_contents-conn.ensures.settled clean));
+  crash = c.own_contents-conn.ensures.crash;
 }
 
 pub returns-in-Ok-clause-line : goal.returns-in-Ok-clause-line

@@ -33,3 +33,11 @@ returns-in-Ok-clause-line g c = IfOk-weaker c.row_lines-outcome.result _ _ (λ t
 
 pub returns-in-Err-clause-kept : goal.returns-in-Err-clause-kept
 returns-in-Err-clause-kept g c clean still = rows_kept (state g.S.Store c.args.conn).now (state g.S.Store c.in-Err.refused.conn).now (c.in-Err.ensures.back.same clean still)
+
+pub returns-in-Ok-clause-clean : goal.returns-in-Ok-clause-clean
+returns-in-Ok-clause-clean g c clean =
+    let late : HasCleanDisk (state g.S.Store c.row_lines-outcome.new.service.conn) = subst (λ h. HasCleanDisk (state g.S.Store h)) c.into_connection-conn.ensures clean in
+    omega (arith, c.in-Ok.ensures.left.clean, c.row_lines-outcome.ensures.same.clean, late)
+
+pub returns-in-Err-clause-clean : goal.returns-in-Err-clause-clean
+returns-in-Err-clause-clean g c clean = omega (arith, c.in-Err.ensures.back.clean, clean)

@@ -2,11 +2,12 @@ use Rattle.std.proofs.Common.{◌∙◌, inl, inr, suc, IsTrue, subst, sym}
 use Rattle.std.proofs.lemmas.Result.{IfErr-weaker, IfOk-weaker}
 use Rattle.sqlite.specs.Held.{state}
 use Rattle.sqlite.specs.State.{HasCleanDisk}
+use Rattle.outbox.specs.Call.{IsSettled}
 use Rattle.outbox.specs.Order.{Accepted}
-use Rattle.database_commands.specs.Held.{KeepsEvents, KeepsService, Orders}
+use Rattle.database_commands.specs.Held.{KeepsEvents, KeepsService, LeavesOrOrders, Orders}
 use Rattle.database_commands.proofs.BesideLemmas.{events_beside, events_over, events_same}
 use Rattle.database_commands.proofs.HeldLemmas.{either_way, on_err, on_ok, on_okay}
-use Rattle.database_commands.proofs.ServedLemmas.{kept_all, kept_served, ordered, refused_order}
+use Rattle.database_commands.proofs.ServedLemmas.{kept_all, kept_served, leaves_or_orders, made_or_orders, ordered, refused_order}
 use Rattle.database_commands.proofs.service.order.Goals as goal
 
 pub returns-in-Ok-clause-did : goal.returns-in-Ok-clause-did
@@ -34,6 +35,11 @@ returns-in-Ok-clause-did g c =
           (did.refused (late clean) (still is_open));
       another = IfErr-weaker c.command_line-outcome.result _ _ (λ f no is. absurd (no is)) did.fault;
       meant = λ named clean. on_ok c.command_line-outcome.result _ (λ s b commands h. sym (c.in-Ok.ensures.served (did.clean (late clean)) s b commands h).0 ∙ c.in-Ok.ensures.named named);
+      stays_open = λ clean. on_okay c.command_line-outcome.result _ _ (λ is_open. subst (λ h. IsTrue (state g.S.Store h).is_open) (sym back) is_open) (did.stays_open (late clean));
+      settled = λ clean. on_okay c.command_line-outcome.result _ _ (λ leaves. subst (λ h. IsSettled (state g.S.Store h)) (sym back) leaves) (did.settled (late clean));
+      clean = λ clean. c.in-Ok.ensures.clean (did.clean (late clean));
+      crash = subst (λ h. LeavesOrOrders c.args.source.now it (state g.S.Store c.args.conn) (state g.S.Store h)) (sym back)
+          (leaves_or_orders c.args.source.now it (state g.S.Store c.args.conn) (state g.S.Store mid.conn) (state g.S.Store last.conn) mid.source mid.base c.in-Ok.ensures.crash c.in-Ok.ensures.served c.in-Ok.ensures.beside c.in-Ok.ensures.stays_open did.clean did.crash);
       beside = λ clean is_open.
           let first = c.in-Ok.ensures.beside (did.clean (late clean)) in
           subst (λ h. KeepsEvents old (state g.S.Store h).now) (sym back)
@@ -63,4 +69,8 @@ returns-in-Err-clause-did g c = record {
   another = c.in-Err.ensures.another;
   meant = λ named clean. tt;
   beside = λ clean still. events_same _ _ (c.in-Err.ensures.back clean still);
+  stays_open = λ clean. tt;
+  settled = λ clean. tt;
+  clean = c.in-Err.ensures.clean_refused;
+  crash = made_or_orders c.args.source.now _ (state g.S.Store c.args.conn) (state g.S.Store c.in-Err.refused.conn) c.in-Err.ensures.crash_refused;
 }

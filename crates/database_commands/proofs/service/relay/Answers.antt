@@ -2,9 +2,12 @@ use Rattle.std.proofs.Common.{IsTrue, arith, subst, sym}
 use Rattle.std.proofs.lemmas.Result.{IfOk-weaker}
 use Rattle.sqlite.specs.Held.{state}
 use Rattle.sqlite.specs.State.{HasCleanDisk}
+use Rattle.outbox.specs.Call.{IsSettled}
 use Rattle.database_commands.specs.Held.{KeepsEvents, KeepsService}
+use Rattle.database_commands.specs.Service.{LeavesOrFounds}
 use Rattle.database_commands.proofs.BesideLemmas.{events_same}
-use Rattle.database_commands.proofs.ServedLemmas.{beside_read, kept_all, kept_read, shown_rows}
+use Rattle.database_commands.proofs.HeldLemmas.{on_okay}
+use Rattle.database_commands.proofs.ServedLemmas.{beside_read, kept_all, kept_read, made_or_founds, read_or_founds, shown_rows}
 use Rattle.database_commands.proofs.service.relay.Goals as goal
 
 pub returns-in-Ok-clause-shown : goal.returns-in-Ok-clause-shown
@@ -42,3 +45,30 @@ returns-in-Ok-clause-beside g c clean still =
 
 pub returns-in-Err-clause-beside : goal.returns-in-Err-clause-beside
 returns-in-Err-clause-beside g c clean still = events_same _ _ (c.in-Err.ensures.back clean still)
+
+pub returns-in-Ok-clause-stays_open : goal.returns-in-Ok-clause-stays_open
+returns-in-Ok-clause-stays_open g c clean =
+    let late : HasCleanDisk (state g.S.Store c.rows_line-outcome.new.service.conn) = subst (λ h. HasCleanDisk (state g.S.Store h)) c.into_connection-conn.ensures clean in
+    on_okay c.rows_line-outcome.result _ _ (λ still. subst (λ h. IsTrue (state g.S.Store h).is_open) (sym c.into_connection-conn.ensures) still) (c.rows_line-outcome.ensures.stays_open late)
+
+pub returns-in-Ok-clause-settled : goal.returns-in-Ok-clause-settled
+returns-in-Ok-clause-settled g c clean =
+    let late : HasCleanDisk (state g.S.Store c.rows_line-outcome.new.service.conn) = subst (λ h. HasCleanDisk (state g.S.Store h)) c.into_connection-conn.ensures clean in
+    on_okay c.rows_line-outcome.result _ _ (λ leaves. subst (λ h. IsSettled (state g.S.Store h)) (sym c.into_connection-conn.ensures) leaves) (c.rows_line-outcome.ensures.settled late)
+
+pub returns-in-Ok-clause-clean : goal.returns-in-Ok-clause-clean
+returns-in-Ok-clause-clean g c clean =
+    let late : HasCleanDisk (state g.S.Store c.rows_line-outcome.new.service.conn) = subst (λ h. HasCleanDisk (state g.S.Store h)) c.into_connection-conn.ensures clean in
+    let early : HasCleanDisk (state g.S.Store c.in-Ok.service.conn) = omega (arith, c.rows_line-outcome.ensures.same.clean, late) in
+    c.in-Ok.ensures.clean early
+
+pub returns-in-Ok-clause-crash : goal.returns-in-Ok-clause-crash
+returns-in-Ok-clause-crash g c =
+    let old = state g.S.Store c.args.conn in
+    let mid = c.in-Ok.service in
+    let last = c.rows_line-outcome.new.service in
+    subst (λ h. LeavesOrFounds c.args.source.now 0 old (state g.S.Store h)) (sym c.into_connection-conn.ensures)
+    (read_or_founds c.args.source.now old (state g.S.Store mid.conn) (state g.S.Store last.conn) mid.source mid.base mid.last c.in-Ok.ensures.crash c.in-Ok.ensures.stands c.rows_line-outcome.ensures.same c.rows_line-outcome.ensures.crash)
+
+pub returns-in-Err-clause-crash : goal.returns-in-Err-clause-crash
+returns-in-Err-clause-crash g c = made_or_founds c.args.source.now (state g.S.Store c.args.conn) (state g.S.Store c.in-Err.refused.conn) c.in-Err.ensures.crash_refused

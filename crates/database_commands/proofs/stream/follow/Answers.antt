@@ -1,5 +1,6 @@
-use Rattle.std.proofs.Common.{ap, inl}
+use Rattle.std.proofs.Common.{ap, arith, inl, subst}
 use Rattle.sqlite.specs.Held.{state}
+use Rattle.sqlite.specs.State.{HasCleanDisk}
 use Rattle.database_commands.proofs.BesideLemmas.{service_same}
 use Rattle.database_commands.proofs.StreamLemmas.{stays_unread, stream_beside, stream_followed, stream_settled, stream_stops, stream_told, stream_until, tells_none}
 use Rattle.database_commands.proofs.stream.follow.Goals as goal
@@ -17,6 +18,9 @@ returns-in-Ok g c =
       until = stream_until c.follow-ended.result c.outcome_of-outcome.result _ _ _ c.outcome_of-outcome.ensures c.follow-ended.ensures.until;
       beside = stream_beside (state g.S.Store c.args.conn).now (state g.S.Store c.in-Ok.table.conn) (state g.S.Store c.follow-ended.new.table.conn) _
           (ap (state g.S.Store) c.into_connection-conn.ensures) c.in-Ok.ensures.beside c.follow-ended.ensures.clean c.follow-ended.ensures.beside;
+      clean = λ clean.
+          let late : HasCleanDisk (state g.S.Store c.follow-ended.new.table.conn) = subst (λ h. HasCleanDisk (state g.S.Store h)) c.into_connection-conn.ensures clean in
+          omega (arith, c.in-Ok.ensures.crash.clean, c.follow-ended.ensures.clean late);
     }
 
 pub returns-in-Err-clause-stops : goal.returns-in-Err-clause-stops
@@ -27,3 +31,6 @@ returns-in-Err-clause-until g c = tells_none _ _
 
 pub returns-in-Err-clause-beside : goal.returns-in-Err-clause-beside
 returns-in-Err-clause-beside g c clean still = service_same _ _ (c.in-Err.ensures.back clean still)
+
+pub returns-in-Err-clause-clean : goal.returns-in-Err-clause-clean
+returns-in-Err-clause-clean g c clean = omega (arith, c.in-Err.ensures.crash_refused.clean, clean)

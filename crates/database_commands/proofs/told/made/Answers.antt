@@ -1,4 +1,4 @@
-use Rattle.std.proofs.Common.{◌≡◌, ◌∙◌, ◌⊎◌, false, inl, true, Bool, IsTrue, subst, sym}
+use Rattle.std.proofs.Common.{◌≡◌, ◌∙◌, ◌⊎◌, false, inl, true, arith, Bool, IsTrue, subst, sym}
 use Rattle.sqlite.specs.Held.{state}
 use Rattle.sqlite.specs.State.{HasCleanDisk}
 use Rattle.outbox.specs.Call.{IsFounded, IsSettled}
@@ -38,3 +38,11 @@ returns-in-Err-create-clause-fault g c =
     subst (λ (f : CommandFault). (f ≡ command.OutOfMemory) ⊎ (f ≡ command.Store)) (sym c.of_outbox.ensures)
     (no_foreign c.in-Err-create.refused.fault c.in-Err-create.ensures.fault
     (λ is. let e : ◌≡◌ {A = Bool} true false = sym (c.in-Err-create.ensures.foreign is) ∙ c.requires.none in cc))
+
+pub returns-in-Ok-create-clause-clean : goal.returns-in-Ok-create-clause-clean
+returns-in-Ok-create-clause-clean g c clean =
+    let late : HasCleanDisk (state g.S.Store c.in-Ok-create.service.conn) = subst (λ h. HasCleanDisk (state g.S.Store h)) c.into_connection-conn.ensures clean in
+    omega (arith, c.in-Ok-create.ensures.crash.clean, late)
+
+pub returns-in-Err-create-clause-clean : goal.returns-in-Err-create-clause-clean
+returns-in-Err-create-clause-clean g c clean = omega (arith, c.in-Err-create.ensures.crash_refused.clean, clean)

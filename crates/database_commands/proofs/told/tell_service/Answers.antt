@@ -1,4 +1,4 @@
-use Rattle.std.proofs.Common.{◌≡◌, ◌∙◌, ◌≤◌, ◌⊎◌, Bool, OnOk, false, inl, inr, refl, rules, subst, sym, true}
+use Rattle.std.proofs.Common.{◌≡◌, ◌∙◌, ◌≤◌, ◌⊎◌, Bool, OnOk, arith, false, inl, inr, refl, rules, subst, sym, true}
 use Rattle.std.specs.Prelude.{unwrap_or}
 use Rattle.std.proofs.lemmas.Result.{IfErr-weaker, IfOk-weaker}
 use Rattle.sqlite.specs.Held.{state}
@@ -42,6 +42,7 @@ returns-then-has_name-clause-did g c =
       settled = λ none clean. absurd (both _ there none);
       there = λ there. of.left.same;
       back = each_err c.told.result.outcome _ of.left.same;
+      clean = λ clean. omega (arith, of.left.clean, clean);
       crash = λ clean db may. inl (of.left.crash clean db may);
       another = of.another;
       foreign = of.foreign;
@@ -73,6 +74,7 @@ returns-clause-did g c =
       settled = λ none clean. of.settled clean;
       there = λ there. absurd (both _ there none);
       back = of.back;
+      clean = of.clean;
       crash = subst (λ n. LeavesOrFounds c.args.source.now n (state g.S.Store c.args.conn) (state g.S.Store c.made.result.conn)) base of.crash;
       another = IfErr-weaker c.made.result.outcome _ _ (λ f either is. absurd (no_other f either is)) of.fault;
       foreign = IfErr-weaker c.made.result.outcome _ _ (λ f either is. absurd (no_foreign f either is)) of.fault;

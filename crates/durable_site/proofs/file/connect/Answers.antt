@@ -1,4 +1,4 @@
-use Rattle.std.proofs.Common.{Bool, ap₂, cond, List, subst, ℕ}
+use Rattle.std.proofs.Common.{Bool, ap₂, cond, inr, List, subst, ℕ}
 use Rattle.sqlite_disk.specs.Events.{Event, replay}
 use Rattle.sqlite_wal.specs.Recovery.{Image}
 use Rattle.sqlite.specs.Files.{file_state}
@@ -21,3 +21,21 @@ returns-in-Ok-clause-over g c clean =
     (ap₂ (seen g.T.Start.log g.T.Start.db) log.which log.settled)
     (ap₂ (seen g.T.Start.log g.T.Start.db) db.which db.settled) in
     (c.in-Ok.ensures.opened clean, subst (λ i. FindsIn i (file_state c.in-Ok.conn)) same (record { holds = found.holds; reads = found.reads }))
+
+pub returns-clause-refused : goal.returns-clause-refused
+returns-clause-refused g c =
+    let log = c.in_ok-files.ensures.log in
+    let db = c.in_ok-files.ensures.db in
+    inr (
+      c.in-Err.error,
+      c.of_error.ensures,
+      record {
+        files = c.in_ok-files.files;
+        rest = c.in-Err.field-0-1;
+        held = ap₂ image_from
+            (ap₂ (seen g.T.Start.log g.T.Start.db) log.which log.settled)
+            (ap₂ (seen g.T.Start.log g.T.Start.db) db.which db.settled);
+        fails = c.in-Err.ensures.cause;
+        leaves = c.in-Err.ensures.unharmed;
+      },
+    )

@@ -16,6 +16,6 @@ overflow_sub-tally g c = let within = refused_within _ _ _ _ c.in-Err-take.ensur
 
 pub returns-clause-flushed : goal.returns-clause-flushed
 returns-clause-flushed g c = elim c.match-take.branch [
-  | in-Ok-take w ↦ (call (command.Take c.args.batch.now) (took (Ok w.in-Ok-take.counts)) ∷ [], w.in-Ok-take.ensures.went, flushed_ok _ _ _ _ _ _ _ _ c.requires.most w.in-Ok-take.ensures.step (search rules) (ap (λ z. z.fresh) w.tally-is) (ap (λ z. z.repeated) w.tally-is) (ap (λ z. z.refused) w.tally-is) w.ended-is, gated_call _ _ _ _ _ c.in-Ok.ensures c.after.ensures refl (ap (λ z. z.calls) w.tally-is) (ap (λ z. z.calls) w.tally-is) (λ s. let no = sym w.ended-is ∙ s in absurd (cc)))
-  | in-Err-take w ↦ (call (command.Take c.args.batch.now) (took (Err w.in-Err-take.fault)) ∷ [], w.in-Err-take.ensures.went, flushed_short _ _ _ _ _ _ _ _ _ c.requires.most w.in-Err-take.ensures.step w.short_of-short.ensures (ap (λ z. z.fresh) w.tally-is) (ap (λ z. z.repeated) w.tally-is) (ap (λ z. z.refused) w.tally-is) w.ended-is, gated_call _ _ _ _ _ c.in-Ok.ensures c.after.ensures refl (ap (λ z. z.calls) w.tally-is) (ap (λ z. z.calls) w.tally-is) (λ s. let no = sym w.ended-is ∙ s in absurd (cc)))
+  | in-Ok-take w ↦ (call (command.Take c.args.batch.now) (took (Ok w.in-Ok-take.counts)) ∷ [], w.in-Ok-take.ensures.went, flushed_ok _ _ _ _ _ _ _ _ c.requires.most w.in-Ok-take.ensures.step (search rules) (ap (λ z. z.fresh) w.tally-is) (ap (λ z. z.repeated) w.tally-is) (ap (λ z. z.refused) w.tally-is) w.ended-is, gated_call _ _ _ _ _ c.in-Ok.ensures c.tell.ensures refl (ap (λ z. z.calls) w.tally-is) (ap (λ z. z.calls) w.tally-is) (λ s. let no = sym w.ended-is ∙ s in absurd (cc)))
+  | in-Err-take w ↦ (call (command.Take c.args.batch.now) (took (Err w.in-Err-take.fault)) ∷ [], w.in-Err-take.ensures.went, flushed_short _ _ _ _ _ _ _ _ _ c.requires.most w.in-Err-take.ensures.step w.short_of-short.ensures (ap (λ z. z.fresh) w.tally-is) (ap (λ z. z.repeated) w.tally-is) (ap (λ z. z.refused) w.tally-is) w.ended-is, gated_call _ _ _ _ _ c.in-Ok.ensures c.tell.ensures refl (ap (λ z. z.calls) w.tally-is) (ap (λ z. z.calls) w.tally-is) (λ s. let no = sym w.ended-is ∙ s in absurd (cc)))
 ]

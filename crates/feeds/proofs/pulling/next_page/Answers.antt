@@ -11,5 +11,5 @@ returns-in-Ok-page-clause-page g c = (
   call (command.DeltaPage c.args.peer.now (c.args.tally.now.fresh + c.args.tally.now.repeated) 100) (Paged c.in-Ok-page.events) ∷ [],
   c.in-Ok-page.ensures.went,
   (refl, page_few _ _ _ _ _ c.in-Ok-page.ensures.step),
-  gated_call _ _ _ _ _ c.in-Ok.ensures c.after.ensures refl refl refl (λ s. absurd (cc)),
+  gated_call _ _ _ _ _ c.in-Ok.ensures c.tell.ensures refl refl refl (λ s. absurd (cc)),
 )

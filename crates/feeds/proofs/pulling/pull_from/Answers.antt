@@ -1,4 +1,4 @@
-use Rattle.std.proofs.Common.{◌≡◌, ◌+◌, length, subst, arith}
+use Rattle.std.proofs.Common.{◌≡◌, subst}
 use Rattle.site.specs.Machine.{Runs}
 use Rattle.feeds.proofs.PullLemmas.{pull_brings, pull_leaves}
 use Rattle.feeds.proofs.pulling.pull_from.Goals as goal
@@ -9,4 +9,4 @@ returns-clause-same g c = let p = c.pull.ensures in pull_leaves _ _ _ _ _ p.2 p.
 pub returns-clause-pulled : goal.returns-clause-pulled
 returns-clause-pulled g c = let p = c.pull.ensures in
     let same : c.pull.new.from ≡ c.args.from.now = pull_leaves _ _ _ _ _ p.2 p.4 in
-    (p.1, p.3, (p.0, subst (λ B. Runs c.args.from.now p.0 B) same p.2, p.4, (λ d. pull_brings _ _ _ _ _ _ p.2 p.4 p.5 d)), (length p.0 + length p.1, omega arith, p.6))
+    (p.0, p.1, p.3, (subst (λ B. Runs c.args.from.now p.0 B) same p.2, p.4, (λ d. pull_brings _ _ _ _ _ _ p.2 p.4 p.5 d)), p.6)

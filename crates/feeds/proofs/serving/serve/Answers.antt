@@ -1,8 +1,7 @@
 use Rattle.std.proofs.Common.{◌≡◌, ◌+◌, ◌∙◌, ap, arith, length, subst}
 use Rattle.feeds.specs.Serve.{EachAt}
 use Rattle.feeds.specs.steps.Serve.{AreAt, IsJobAt}
-use Rattle.feeds.specs.Serve.{AreGated}
-use Rattle.feeds.proofs.ServeLemmas.{all_gated, all_tell, at_finished, at_jobs, each_at_length, each_length, ends_are, serves, works_length}
+use Rattle.feeds.proofs.ServeLemmas.{all_tell, at_finished, at_jobs, each_at_length, each_length, serves, works_length}
 use Rattle.feeds.proofs.serving.serve.Goals as goal
 
 pub run_beside-requires-clause-own : goal.run_beside-requires-clause-own
@@ -38,14 +37,4 @@ returns-in-Some-clause-served g c =
     let q = c.close_all.new.pass in
     let jobs = subst (λ l. EachAt (IsJobAt p) 0 l c.split_all-jobs.result.items) c.of.ensures c.split_all-jobs.ensures.jobs in
     let opening : q.opening ≡ p.opening = c.close_all.ensures.same.0.opening ∙ c.split_all-jobs.ensures.same.0.opening in
-    serves p q _ _ _ _ _ (all_tell _ _ _ p q 0 _ _ _ opening jobs c.in-Some.ensures.each.0 c.close_all.ensures.told) c.close_all.ensures.reports c.close_all.ensures.asked
-
-pub returns-in-Some-clause-gated : goal.returns-in-Some-clause-gated
-returns-in-Some-clause-gated g c =
-    let p = c.args.pass.now in
-    let q = c.close_all.new.pass in
-    let jobs = subst (λ l. EachAt (IsJobAt p) 0 l c.split_all-jobs.result.items) c.of.ensures c.split_all-jobs.ensures.jobs in
-    let opening : q.opening ≡ p.opening = c.close_all.ensures.same.0.opening ∙ c.split_all-jobs.ensures.same.0.opening in
-    let told = all_tell _ _ _ p q 0 _ _ _ opening jobs c.in-Some.ensures.each.0 c.close_all.ensures.told in
-    subst (λ l. AreGated (g.G.Gate.lets c.args.gate.now) (g.G.Gate.shuts c.args.gate.now) (g.G.Gate.heard c.args.gate.now) p q 0 l)
-    (ends_are p q _ _ _ c.close_all.result _ told c.close_all.ensures.reports c.close_all.ensures.asked) (all_gated _ _ _ p q 0 _ _ _ jobs c.in-Some.ensures.each.0 c.close_all.ensures.told)
+    serves _ _ _ p q _ _ _ _ _ (all_tell _ _ _ p q 0 _ _ _ opening jobs c.in-Some.ensures.each.0 c.close_all.ensures.told) c.close_all.ensures.reports c.close_all.ensures.asked

@@ -3,7 +3,7 @@ use Rattle.attributes.specs.Event.{EventValue}
 use Rattle.site.specs.Page.{page}
 use Rattle.site_lock.specs.Pass.{leaves}
 use Rattle.keeper.specs.Keep.{AsksPages, max_page}
-use Rattle.keeper.proofs.GatherLemmas.{HasAsked, asked_on, asks_pages, both_long, first_asked, first_on, page_last, page_most, page_on}
+use Rattle.keeper.proofs.GatherLemmas.{HasAsked, asked_on, asks_pages, both_long, ends_paged, first_asked, first_on, page_last, page_most, page_on}
 use Rattle.keeper.proofs.gathered.gathered.Goals as goal
 
 pub returns-in-Err-clause-asked : goal.returns-in-Err-clause-asked
@@ -36,6 +36,7 @@ loop-page-init g c =
       omega (arith, c.len.ensures, c.if-len-lt-MAX_PAGE.false, most),
       omega arith,
       c.requires.some,
+      ends_paged _ _ _ _ made,
     )
 
 pub returns-in-Err-more-clause-asked : goal.returns-in-Err-more-clause-asked
@@ -104,4 +105,11 @@ loop-page-preserved g c =
       omega (arith, both, inv.4, c.len-is_full.ensures, c.if-not-is_full.false),
       omega (arith, inv.5),
       omega (arith, c.loop-page-test.true),
+      ends_paged _ _ _ _ made,
     )
+
+pub returns-then-len-lt-MAX_PAGE-clause-replied : goal.returns-then-len-lt-MAX_PAGE-clause-replied
+returns-then-len-lt-MAX_PAGE-clause-replied g c = ends_paged _ _ _ _ c.in-Ok.ensures.made
+
+pub returns-then-not-is_full-clause-replied : goal.returns-then-not-is_full-clause-replied
+returns-then-not-is_full-clause-replied g c = ends_paged _ _ _ _ c.in-Ok-more.ensures.made

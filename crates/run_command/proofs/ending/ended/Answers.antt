@@ -10,5 +10,5 @@ returns-clause-kept g c =
     let same : c.into_connection.result ≡ kept.conn = c.into_connection.ensures ∙ ap (λ (k : Kept _). k.conn) c.into_table.ensures in (
       kept.rows,
       subst (λ (z : Held _). KeepsRest (λ conn. state g.S.Store conn) c.args.closed.keeper (record { conn = z; rows = kept.rows }) c.args.closed.site c.args.closed.served c.args.closed.stopped c.keep_rest-stopped.result)
-          (sym same) c.keep_rest-stopped.ensures,
+          (sym same) c.keep_rest-stopped.ensures.rest,
     )

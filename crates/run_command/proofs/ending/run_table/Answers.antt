@@ -9,7 +9,7 @@ use Rattle.inbox_table.specs.Calls.{Kept}
 use Rattle.keeper.specs.Keep.{Grows}
 use Rattle.keeper.specs.steps.Flushes.{grows_none}
 use Rattle.run_command.specs.Shared.{IsClosed}
-use Rattle.run_command.proofs.EndLemmas.{blame, grown, has_run, ran, says, settles}
+use Rattle.run_command.proofs.EndLemmas.{blame, gated_run, grown, has_run, ran, says, settles}
 use Rattle.run_command.proofs.ending.run_table.Goals as goal
 
 pub returns-in-Ok-share : goal.returns-in-Ok-share
@@ -29,6 +29,7 @@ returns-in-Ok-share g c =
       said = says at c.args.jobs.feeds c.args.jobs.peers held closed.site c.in-Ok.kept.keeper closed.keeper last closed.served closed.stopped c.ended.result.stopped c.len-feeds.result c.ended.result.outcome is c.ended.ensures.kept.1 count c.len-feeds.ensures c.ended.ensures.told;
       feed = IfErr-weaker c.ended.result.outcome _ _ (λ why h. h.0) (blame at c.args.jobs.feeds c.args.jobs.peers held closed.site c.in-Ok.kept.keeper closed.keeper last closed.served closed.stopped c.ended.result.stopped c.len-feeds.result c.ended.result.outcome is c.ended.ensures.kept.1 count c.len-feeds.ensures c.ended.ensures.told);
       database = IfErr-weaker c.ended.result.outcome _ _ (λ why h. h.1) (blame at c.args.jobs.feeds c.args.jobs.peers held closed.site c.in-Ok.kept.keeper closed.keeper last closed.served closed.stopped c.ended.result.stopped c.len-feeds.result c.ended.result.outcome is c.ended.ensures.kept.1 count c.len-feeds.ensures c.ended.ensures.told);
+      gated = gated_run _ _ _ c.args.jobs.feeds c.args.jobs.peers c.args.jobs.asks closed.served c.len-feeds.result closed.site c.ended.result.stopped c.ended.result.outcome c.in-Ok-share.ensures.gated c.ended.ensures.told;
       grows = subst (λ (k : Kept _). Grows (at k.conn) (at c.ended.result.conn)) c.in-Ok.ensures.keeper (grown at c.args.jobs.feeds c.args.jobs.peers held closed.site c.in-Ok.kept.keeper closed.keeper last closed.served closed.stopped c.ended.result.stopped c.len-feeds.result c.ended.result.outcome is c.ended.ensures.kept.1 count c.len-feeds.ensures c.ended.ensures.told);
     }
 

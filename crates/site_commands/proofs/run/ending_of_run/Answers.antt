@@ -7,6 +7,6 @@ pub returns-in-Err : goal.returns-in-Err
 returns-in-Err g c =
     let shelf = c.args.shelf.now in let plan = c.args.plan.now in
     named_ending (AnswersRun (g.S.Shelf.is_content shelf) plan.peer plan.files) (RefusesRun (g.S.Shelf.is_content shelf) (g.S.Shelf.is_unread shelf) plan.peer plan.files)
-    _ _ c.in-Err.refusal c.refused.result c.of_run.ensures
+    _ _ c.in-Err.refusal c.refused.result c.of_run-names.ensures
     (subst (λ files. RefusesRun (g.S.Shelf.is_content shelf) (g.S.Shelf.is_unread shelf) plan.peer files c.in-Err.refusal) c.as_slice.ensures c.in-Err.ensures.err)
     c.refused.ensures

@@ -1,41 +1,21 @@
-use Rattle.std.proofs.Common.{List, ℕ, subst}
-use Rattle.command_words.specs.Plans.{IsPlan}
-use Rattle.site_commands.proofs.RunLemmas.{alone_allowed, faulty_run, planned_alone, planned_run, run_allowed, run_faulty, run_printed, run_within}
+use Rattle.site_commands.proofs.RunLemmas.{faulty_run, plan_allowed, planned_plan, run_faulty, run_printed, run_within}
 use Rattle.site_commands.specs.Inputs.{MayBeRead, MayBeUnread}
 use Rattle.site_commands.proofs.run.perform.Goals as goal
 
-pub perform_with-requires-clause-reader : goal.perform_with-requires-clause-reader
-perform_with-requires-clause-reader g c = record { shared = c.type_bounds.sync-R.shared }
+pub perform_plan-requires : goal.perform_plan-requires
+perform_plan-requires g c = (c.type_bounds.sync-R, plan_allowed c.args.words.now c.in-Ok.asked.plan (c.in-Ok.ensures.ok.is_word, c.in-Ok.ensures.ok.is_for.is_plan))
 
-pub perform_with-requires-clause-allowed : goal.perform_with-requires-clause-allowed
-perform_with-requires-clause-allowed g c = alone_allowed c.args.words.now c.in-Ok-Alone.plan (subst (IsPlan c.args.words.now) c.in-Ok-Alone.field-0-is c.in-Ok-Alone.ensures.ok)
+pub returns-in-Ok-clause-runs : goal.returns-in-Ok-clause-runs
+returns-in-Ok-clause-runs g c = planned_plan MayBeRead MayBeUnread c.args.words.now c.in-Ok.asked.plan _ _ _ _ _ (c.in-Ok.ensures.ok.is_word, c.in-Ok.ensures.ok.is_for.is_plan) c.perform_plan.ensures
 
-pub perform_run-requires : goal.perform_run-requires
-perform_run-requires g c = (c.type_bounds.sync-R, run_allowed c.args.words.now c.in-Ok-Run.plan (subst (IsPlan c.args.words.now) c.in-Ok-Run.field-0-is c.in-Ok-Run.ensures.ok))
+pub returns-in-Ok-clause-status : goal.returns-in-Ok-clause-status
+returns-in-Ok-clause-status g c = run_within MayBeRead MayBeUnread c.args.words.now _ _ _ _ _ (returns-in-Ok-clause-runs g c)
 
-pub returns-in-Ok-Alone-clause-runs : goal.returns-in-Ok-Alone-clause-runs
-returns-in-Ok-Alone-clause-runs g c = planned_alone MayBeRead MayBeUnread c.args.words.now c.in-Ok-Alone.plan _ _ _ _ _ (subst (IsPlan c.args.words.now) c.in-Ok-Alone.field-0-is c.in-Ok-Alone.ensures.ok) c.perform_with.ensures
+pub returns-in-Ok-clause-answer : goal.returns-in-Ok-clause-answer
+returns-in-Ok-clause-answer g c = run_printed MayBeRead MayBeUnread c.args.words.now _ _ _ _ _ (returns-in-Ok-clause-runs g c)
 
-pub returns-in-Ok-Alone-clause-status : goal.returns-in-Ok-Alone-clause-status
-returns-in-Ok-Alone-clause-status g c = run_within MayBeRead MayBeUnread c.args.words.now _ _ _ _ _ (returns-in-Ok-Alone-clause-runs g c)
-
-pub returns-in-Ok-Alone-clause-answer : goal.returns-in-Ok-Alone-clause-answer
-returns-in-Ok-Alone-clause-answer g c = run_printed MayBeRead MayBeUnread c.args.words.now _ _ _ _ _ (returns-in-Ok-Alone-clause-runs g c)
-
-pub returns-in-Ok-Alone-clause-faulty : goal.returns-in-Ok-Alone-clause-faulty
-returns-in-Ok-Alone-clause-faulty g c = run_faulty MayBeRead MayBeUnread c.args.words.now _ _ _ _ _ (returns-in-Ok-Alone-clause-runs g c)
-
-pub returns-in-Ok-Run-clause-runs : goal.returns-in-Ok-Run-clause-runs
-returns-in-Ok-Run-clause-runs g c = planned_run MayBeRead MayBeUnread c.args.words.now c.in-Ok-Run.plan _ _ _ _ _ (subst (IsPlan c.args.words.now) c.in-Ok-Run.field-0-is c.in-Ok-Run.ensures.ok) c.perform_run.ensures
-
-pub returns-in-Ok-Run-clause-status : goal.returns-in-Ok-Run-clause-status
-returns-in-Ok-Run-clause-status g c = run_within MayBeRead MayBeUnread c.args.words.now _ _ _ _ _ (returns-in-Ok-Run-clause-runs g c)
-
-pub returns-in-Ok-Run-clause-answer : goal.returns-in-Ok-Run-clause-answer
-returns-in-Ok-Run-clause-answer g c = run_printed MayBeRead MayBeUnread c.args.words.now _ _ _ _ _ (returns-in-Ok-Run-clause-runs g c)
-
-pub returns-in-Ok-Run-clause-faulty : goal.returns-in-Ok-Run-clause-faulty
-returns-in-Ok-Run-clause-faulty g c = run_faulty MayBeRead MayBeUnread c.args.words.now _ _ _ _ _ (returns-in-Ok-Run-clause-runs g c)
+pub returns-in-Ok-clause-faulty : goal.returns-in-Ok-clause-faulty
+returns-in-Ok-clause-faulty g c = run_faulty MayBeRead MayBeUnread c.args.words.now _ _ _ _ _ (returns-in-Ok-clause-runs g c)
 
 pub returns-in-Err-clause-runs : goal.returns-in-Err-clause-runs
 returns-in-Err-clause-runs g c = faulty_run MayBeRead MayBeUnread c.args.words.now c.in-Err.faulty c.said.result _ _ _ _ _ c.in-Err.ensures.err c.said.ensures c.finish.ensures

@@ -1,3 +1,4 @@
+use Rattle.std.proofs.Common.{arith}
 use Rattle.database_commands.proofs.commands.DescribeCommand.perform.Goals as goal
 
 pub returns-clause-did : goal.returns-clause-did
@@ -7,3 +8,6 @@ returns-clause-did g c = let it = c.describe.ensures in record {
   foreign = it.foreign;
   fault = it.fault;
 }
+
+pub returns-clause-clean : goal.returns-clause-clean
+returns-clause-clean g c clean = omega (arith, c.describe.ensures.left.clean, clean)

@@ -1,3 +1,4 @@
+use Rattle.std.proofs.Common.{arith}
 use Rattle.database_commands.proofs.commands.TakeEventsCommand.perform.Goals as goal
 
 pub returns-clause-did : goal.returns-clause-did
@@ -7,4 +8,10 @@ returns-clause-did g c = let it = c.take.ensures in record {
   beside = it.beside;
   told = it.told;
   upgraded = it.upgraded;
+  stays_open = it.stays_open;
+  settled = it.settled;
+  crash = it.crash;
 }
+
+pub returns-clause-clean : goal.returns-clause-clean
+returns-clause-clean g c clean = omega (arith, c.take.ensures.crash.clean, clean)

@@ -17,9 +17,9 @@ pub returns-in-Err : goal.returns-in-Err
 returns-in-Err g c =
     let it = c.self.inside in
     let none : it.fault ≡ None = search rules in
-    let after : Flushing _ = record { site = it.shared.now; keeper = c.steps.new.self; pass = c.steps.new.pass; fault = Some c.in-Err.fault } in
+    let after : Flushing _ = record { site = it.shared.now; keeper = c.steps.new.self; pass = c.steps.new.pass; fault = Some c.of.result } in
     subst (λ (f : Flushing _). Turns (λ conn. state g.S.Store conn) f after false) c.self.view_is
-    (refused (λ conn. state g.S.Store conn) it.shared.now it.keeper c.steps.new.self it.pass c.steps.new.pass it.fault none c.in-Err.ensures.asked c.in-Err.ensures.keeps.keeps.list c.in-Err.fault c.in-Err.ensures.keeps.keeps.mark_same)
+    (refused (λ conn. state g.S.Store conn) it.shared.now it.keeper c.steps.new.self it.pass c.steps.new.pass it.fault none c.in-Err.ensures.asked c.in-Err.ensures.keeps.keeps.list c.of.result c.in-Err.ensures.keeps.keeps.mark_same)
 
 pub invariant_of-self : goal.invariant_of-self
 invariant_of-self g c = ((pages_leave _ _ _ _ c.steps.ensures.asked).same.table ∙ c.self.invariant.0, c.steps.ensures.keeps.first)

@@ -25,8 +25,8 @@ returns-clause-keeps g c =
 
 pub returns-in-Err-clause-keeps : goal.returns-in-Err-clause-keeps
 returns-in-Err-clause-keeps g c =
-    subst (λ (k : Kept _). Keeps (λ conn. state g.S.Store conn) k c.keep_watched.new.self (Err c.from.result)) c.self.view_is
-    (keeps_refused (λ conn. state g.S.Store conn) c.self.inside.table c.keep_watched.new.self _ c.in-Err.ensures.crash c.in-Err.fault c.from.result c.from.ensures c.in-Err.ensures.call c.in-Err.ensures.effect)
+    subst (λ (k : Kept _). Keeps (λ conn. state g.S.Store conn) k c.keep_watched.new.self (Err c.of.result)) c.self.view_is
+    (keeps_refused (λ conn. state g.S.Store conn) c.self.inside.table c.keep_watched.new.self _ c.in-Err.ensures.crash c.in-Err.fault c.of.result (c.of.ensures ∙ c.from.ensures) c.in-Err.ensures.call c.in-Err.ensures.effect)
 
 pub returns-clause-crash : goal.returns-clause-crash
 returns-clause-crash g c =

@@ -3,6 +3,7 @@ use Rattle.sqlite.specs.Held.{state}
 use Rattle.inbox_table.specs.Calls.{Kept}
 use Rattle.site.specs.Page.{page}
 use Rattle.site_lock.specs.Pass.{leaves}
+use Rattle.keeper.proofs.GatherLemmas.{not_refused}
 use Rattle.keeper.proofs.PageLemmas.{pages_refused, pages_taken, pages_unasked}
 use Rattle.keeper.proofs.keeper.Keeper.steps.Goals as goal
 use Rattle.keeper.specs.Keep.{KeepsPages, KeepsUp, max_page}
@@ -29,3 +30,9 @@ pub returns-clause-keeps : goal.returns-clause-keeps
 returns-clause-keeps g c =
     pages_unasked (λ conn. state g.S.Store conn) c.args.self.now (max_page * c.args.pages) (leaves c.args.pass.now) (leaves c.gathered.new.pass) c.gathered.ensures.added.0 c.from-in-Err.result c.gathered.ensures.added.1
     c.requires.first c.from-in-Err.ensures
+
+pub returns-in-Ok-keep-clause-refused : goal.returns-in-Ok-keep-clause-refused
+returns-in-Ok-keep-clause-refused g c = λ refused. absurd (not_refused c.gathered.new.pass c.in-Ok.ensures.replied refused)
+
+pub returns-in-Ok-clause-refused : goal.returns-in-Ok-clause-refused
+returns-in-Ok-clause-refused g c = λ refused. absurd (not_refused c.gathered.new.pass c.in-Ok.ensures.replied refused)

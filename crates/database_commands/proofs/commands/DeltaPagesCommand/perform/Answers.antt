@@ -1,0 +1,5 @@
+use Rattle.std.proofs.Common.{arith}
+use Rattle.database_commands.proofs.commands.DeltaPagesCommand.perform.Goals as goal
+
+pub returns-clause-clean : goal.returns-clause-clean
+returns-clause-clean g c clean = omega (arith, c.delta_pages.ensures.did.left.clean, clean)

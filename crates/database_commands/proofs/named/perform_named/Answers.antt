@@ -1,0 +1,5 @@
+use Rattle.database_commands.proofs.NamedLemmas.{refused_on}
+use Rattle.database_commands.proofs.named.perform_named.Goals as goal
+
+pub returns-clause-refused : goal.returns-clause-refused
+returns-clause-refused g c = refused_on c.open_over.result c.performed.result _ c.performed.ensures.refused c.open_over.ensures.refused
