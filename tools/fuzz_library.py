@@ -28,10 +28,10 @@ WORDS = (
 )
 
 
-def seeds(folder, made):
+def seeds(folder: str, made: str) -> None:
     """Writes what is well and what nearly is, each behind the byte that says what it is given to."""
 
-    def seed(which, name, content):
+    def seed(which: bytes, name: str, content: bytes) -> None:
         with open(f"{folder}/{name}", "wb") as out:
             out.write(which + content)
 
@@ -51,7 +51,7 @@ def seeds(folder, made):
     seed(b"\2", "none.db", b"")
 
 
-def main():
+def main() -> int:
     words = argparse.ArgumentParser(description=__doc__, formatter_class=argparse.RawDescriptionHelpFormatter)
     words.add_argument("--seconds", type=int, default=60)
     words.add_argument("--library")

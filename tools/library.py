@@ -30,7 +30,7 @@ from kept import Damaged, Kept, file_sum, sum_of  # noqa: E402
 CRATE = "site_c"
 # How many archives are kept.
 MOST = 4
-PARTS = ("site.c", "outbox.c", "files.c", "heap.c", "errno.c")
+PARTS = ("site.c", "outbox.c", "numbers.c", "files.c", "heap.c", "errno.c")
 COMPILE = ["-std=c11", "-Wall", "-Wextra", "-Wconversion", "-O2", "-fPIC", "-fvisibility=hidden", "-ffunction-sections", "-c"]
 HEADER = f"{TOP}/bindings/c/jumbetai.h"
 PC = """prefix={prefix}
@@ -45,17 +45,17 @@ Libs: -L${{libdir}} -ljumbetai
 """
 
 
-def compiler():
-    """The C compiler, or none."""
-    return next((it for it in (os.environ.get("CC"), "cc", "gcc", "clang") if it and shutil.which(it)), None)
+def compiler() -> str:
+    """The C compiler, or an empty text where there is none."""
+    return next((it for it in (os.environ.get("CC"), "cc", "gcc", "clang") if it and shutil.which(it)), "")
 
 
-def compiled(source, to, *more):
+def compiled(source: str, to: str, *more: str) -> str:
     subprocess.run([compiler(), *COMPILE, *more, "-o", to, os.path.basename(source)], cwd=os.path.dirname(source), check=True)
     return to
 
 
-def proved_part(is_anew=False):
+def proved_part(is_anew: bool = False) -> str:
     """The archive of the proved crate, as its sources are: what is here, what was kept, or one that is built now."""
     archive = f"{TOP}/crates/{CRATE}/out/lib{CRATE}.a"
     made, kept_before = build.Made(build.crates_listed()), Kept("libraries")
@@ -82,7 +82,7 @@ def proved_part(is_anew=False):
     return archive
 
 
-def make(folder, proved):
+def make(folder: str, proved: str) -> str:
     """Makes the library in a folder, of the archive of the proved part."""
     os.makedirs(folder, exist_ok=True)
     archive = os.path.abspath(f"{folder}/libjumbetai.a")
@@ -96,25 +96,25 @@ def make(folder, proved):
     return archive
 
 
-def header():
+def header() -> str:
     with open(HEADER, encoding="utf-8") as file:
         return file.read()
 
 
-def version():
-    return re.search(r'^#define JUMBETAI_VERSION "(.+)"$', header(), re.M)[1]
+def version() -> str:
+    return str(re.findall(r'^#define JUMBETAI_VERSION "(.+)"$', header(), re.M)[0])
 
 
-def functions():
+def functions() -> list[str]:
     """The functions of the header, in its order."""
     return re.findall(r"^[a-z].*?\b(jumbetai_\w+)\(", header(), re.M)
 
 
-def soname():
+def soname() -> str:
     return f"libjumbetai.so.{version().partition('.')[0]}"
 
 
-def link(archive, to):
+def link(archive: str, to: str) -> str:
     """Makes the shared object of the archive."""
     archive, to = os.path.abspath(archive), os.path.abspath(to)
     with tempfile.TemporaryDirectory() as room:
@@ -126,7 +126,7 @@ def link(archive, to):
     return to
 
 
-def link_beside(archive, folder):
+def link_beside(archive: str, folder: str) -> str:
     """Makes the shared object in a folder under the name of its whole version, with the two links that lead to it."""
     name = f"libjumbetai.so.{version()}"
     link(archive, f"{folder}/{name}")
@@ -137,7 +137,7 @@ def link_beside(archive, folder):
     return f"{folder}/{name}"
 
 
-def install(archive, prefix, root=""):
+def install(archive: str, prefix: str, root: str = "") -> str:
     """Puts the library, its header and jumbetai.pc below a prefix, which lies below a root while it is packed."""
     prefix = os.path.abspath(prefix)
     for it in ("include", "lib/pkgconfig"):
@@ -151,7 +151,7 @@ def install(archive, prefix, root=""):
     return f"{root}{prefix}"
 
 
-def wheel(archive, folder):
+def wheel(archive: str, folder: str) -> str:
     """Makes the wheel for Python, which has the shared object, in a folder."""
     sys.path.insert(0, f"{TOP}/bindings/python")
     import build_wheel
@@ -161,7 +161,7 @@ def wheel(archive, folder):
         return f"{folder}/{build_wheel.made(folder, link(archive, f'{room}/libjumbetai.so'))}"
 
 
-def main():
+def main() -> int:
     words = argparse.ArgumentParser(description=__doc__, formatter_class=argparse.RawDescriptionHelpFormatter)
     words.add_argument("--from", dest="source", metavar="FOLDER")
     other = words.add_mutually_exclusive_group()

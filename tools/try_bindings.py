@@ -31,8 +31,8 @@ QUESTIONS = ("cover", "shown", "conflicts", "latest", "kinds", "days", "gaps")
 STRICT = ["-std=c11", "-Wall", "-Wextra", "-Wconversion", "-Werror", "-pedantic", "-O1", "-g"]
 # The tests of some of the C alone, without the proved part, and with what each is linked.
 ALONE = {
-    "bindings/c/test_files.c": ["files.c", "-Wl,--wrap=fcntl,--wrap=fsync,--wrap=syncfs,--wrap=open"],
-    "bindings/c/test_parts.c": ["heap.c", "outbox.c", "site.c", "-ffunction-sections", "-Wl,--gc-sections"],
+    "bindings/c/test_files.c": ["files.c", "errno.c", "-Wl,--wrap=fcntl,--wrap=fsync,--wrap=syncfs,--wrap=open"],
+    "bindings/c/test_parts.c": ["errno.c", "heap.c", "outbox.c", "site.c", "-ffunction-sections", "-Wl,--gc-sections"],
 }
 # The programs in C, and with what else each is linked.
 PROGRAMS = {
@@ -40,6 +40,8 @@ PROGRAMS = {
     "bindings/c/test_file.c": [],
     "bindings/c/test_outbox.c": [],
     "bindings/c/test_service.c": [],
+    "bindings/c/test_full.c": [],
+    "bindings/c/test_numbers.c": [],
     "bindings/c/try_want.c": [],
     "bindings/c/try_want_outbox.c": ["-Wl,--wrap=malloc,--wrap=realloc"],
     "examples/c/ask.c": [],
@@ -71,7 +73,9 @@ class Tries:
         return is_there
 
     def run(self, words, folder=None, **more):
-        ran = subprocess.run(words, cwd=folder or self.folder, env={**self.environment, **more}, stdin=subprocess.DEVNULL, stdout=subprocess.PIPE, stderr=subprocess.STDOUT)
+        ran = subprocess.run(
+            words, cwd=folder or self.folder, env={**self.environment, **more}, stdin=subprocess.DEVNULL, stdout=subprocess.PIPE, stderr=subprocess.STDOUT
+        )
         return ran.returncode, ran.stdout
 
     def passes(self, what, words, said=None, folder=None):
@@ -86,6 +90,26 @@ def worked_answers():
     with open(f"{TOP}/examples/README.md", encoding="utf-8") as file:
         text = file.read()
     return dict(re.findall(r"^## `(\w+)`$.*?^```\n(.*?)^```$", text, re.M | re.S))
+
+
+def is_apart(source):
+    """Whether a program in C is no test, or one that wants a disk of its own."""
+    return source.startswith("examples/") or source.endswith("/test_full.c")
+
+
+@contextlib.contextmanager
+def small_disk(folder):
+    """A folder on a file system of 2 MiB; none where this user can't mount one."""
+    os.makedirs(folder)
+    words = ["mount", "-t", "tmpfs", "-o", "size=2m", "tmpfs", folder]
+    is_mounted = shutil.which("mount") is not None and subprocess.run(words, capture_output=True, check=False).returncode == 0
+    if not is_mounted:
+        print("skipped: a full disk, since no file system can be mounted here", flush=True)
+    try:
+        yield folder if is_mounted else None
+    finally:
+        if is_mounted:
+            subprocess.run(["umount", folder], check=True)
 
 
 def made_batch(tries, name, events):
@@ -123,7 +147,7 @@ def try_sanitizers(tries):
         return
     whole = ["-Llibrary", "-ljumbetai"]
     rows = {it: (sources(more), []) for it, more in ALONE.items()}
-    rows.update({it: (sources(library.PARTS), whole) for it in PROGRAMS if it.startswith("bindings/c/test_")})
+    rows.update({it: (sources(library.PARTS), whole) for it in PROGRAMS if it.startswith("bindings/c/test_") and not is_apart(it)})
     # It gives the library its memory itself.
     rows["bindings/c/try_want.c"] = (sources(it for it in library.PARTS if it != "heap.c"), whole)
     for source, (more, last) in rows.items():
@@ -138,15 +162,14 @@ def try_c(tries):
     for source, more in PROGRAMS.items():
         name = os.path.basename(source).removesuffix(".c")
         words = [library.compiler(), *STRICT, "-Ilibrary", f"{TOP}/{source}", "-Llibrary", "-ljumbetai", *more, "-o", name]
-        if tries.passes(f"{source} is compiled", words) and not source.startswith("examples/"):
+        if tries.passes(f"{source} is compiled", words) and not is_apart(source):
             tries.passes(source, [f"./{name}"], DONE)
     if tries.has("c++", "the header in C++"):
         tries.passes("the header in C++", ["c++", "-x", "c++", "-Wall", "-Wextra", "-Werror", "-fsyntax-only", "library/jumbetai.h"])
     batch = made_batch(tries, "small.json", 2000)
     if tries.has("valgrind", "C under valgrind"):
         # Every request of an outbox over a file in turn would take minutes there.
-        left_out = ("bindings/c/try_want_outbox.c", "examples/c/ask.c", "examples/c/orders.c")
-        tested = [[f"./{os.path.basename(it).removesuffix('.c')}"] for it in PROGRAMS if it not in left_out]
+        tested = [[f"./{os.path.basename(it).removesuffix('.c')}"] for it in PROGRAMS if not is_apart(it) and "want_outbox" not in it]
         for words in (*tested, ["./ask", "delta", batch]):
             tries.passes(f"{words[0]} under valgrind", [*VALGRIND, *words])
     worked = worked_answers()
@@ -224,6 +247,53 @@ def try_statuses(tries):
     with open(f"{TOP}/bindings/c/site.c", encoding="utf-8") as text:
         told = re.findall(r"\[JUMBETAI_(\w+)\] = ", text.read())
     tries.judge("each status has words", told == list(statuses), told)
+    try_proved_statuses(tries, statuses)
+
+
+# The names of the proved code and of its definitions for what the header has another name for.
+CALLED = {"NOT_OPEN": "NOT_OPEN", "NO_BODY": "BAD_ARGUMENT", "NO_TIME": "BAD_TIME", "NO_ORDER_NUMBER": "BAD_ORDER", "NO_SOURCE": "BAD_SOURCE"}
+
+
+def try_proved_statuses(tries, statuses):
+    """The numbers of the proved code, and those of its definitions, are those of the header, by their names."""
+
+    def read(file):
+        with open(f"{TOP}/crates/{file}", encoding="utf-8") as text:
+            return text.read()
+
+    def header_name(name):
+        return CALLED.get(name) or re.sub(r"(?<=[a-z])(?=[A-Z])", "_", name).upper()
+
+    def judge(what, rows, most=None):
+        found = {header_name(name): int(number) for name, number in rows}
+        want = {name: statuses.get(name) for name in found}
+        tries.judge(f"the statuses of {what}", len(rows) >= (most or 1) and found == want, found)
+
+    constants = [
+        it
+        for file in ("calls", "file_calls", "number_calls", "offers", "outbox_calls")
+        for it in re.findall(r"const ([A-Z_]+): u32 = (\d+);", read(f"site_c/src/{file}.rt"))
+    ]
+    judge("the code's constants", constants, 14)
+    judge("the code's opening and table", re.findall(r"(?:Open|Table)Fault::(\w+) => (\d+),", read("site_c/src/file_calls.rt")), 7)
+    judge("the code's outbox", re.findall(r"OutboxFault::(\w+) => (\d+),", read("site_c/src/outbox_calls.rt")), 6)
+    judge("the code's numbers", re.findall(r"NumbererFault::(\w+).* => (\d+),", read("site_c/src/number_calls.rt")), 3)
+    summary = [(f"Summary{name}", number) for name, number in re.findall(r"SummaryFault::(\w+) => (\d+),", read("site_c/src/calls.rt"))]
+    judge("the code's summaries", summary, 4)
+    for what, file, word, names in (
+        ("opening", "site_c/specs/Files", "open_status opening", {}),
+        ("table", "site_c/specs/Files", "table_status table", {}),
+        ("outbox", "site_c/specs/Outboxes", "outbox_status outbox", {}),
+        ("numbers", "site_c/specs/Numbers", "number_status fault", {}),
+        ("summaries", "site_c/specs/Calls", "summary_status summary", {"OutOfMemory": "OutOfMemory"}),
+        ("reports", "file_reports/specs/Numbers", "fault_number fault", {"Read": "NoEvents", "Event": "NoNumber"}),
+    ):
+        function, variants = word.split()
+        rows = re.findall(rf"^{function} \(?{variants}\.(\w+).* = (\d+)$", read(f"{file}.antt"), re.M)
+        prefix = "Summary" if what == "summaries" else ""
+        judge(f"the definition of {what}", [(names.get(name, f"{prefix}{name}"), number) for name, number in rows], 3)
+    reports = re.findall(r"ReportFault::(\w+).* => (\d),", read("file_reports/src/refusal.rt"))
+    judge("the code's reports", [({"Read": "NoEvents", "Event": "NoNumber"}.get(name, name), number) for name, number in reports], 3)
 
 
 def try_orders(tries):
@@ -273,9 +343,7 @@ def try_placing(tries, orders):
 
 def try_hold(tries):
     """The example in Rust, which takes 1,100 events into a file, told by the program where it is there."""
-    events = [
-        f'{{"specversion":"1.0","id":"{it}","source":"/a","type":"t","sequence":"{it:020d}"}}' for it in range(1, 1101)
-    ]
+    events = [f'{{"specversion":"1.0","id":"{it}","source":"/a","type":"t","sequence":"{it:020d}"}}' for it in range(1, 1101)]
     with open(f"{tries.folder}/lines", "w", encoding="ascii") as out:
         out.write("\n".join(events[:100]) + "\n")
         for first in range(100, 1100, 100):
@@ -296,21 +364,32 @@ def try_rust(tries, batch, orders):
     more = {"JUMBETAI_BATCH": batch, "JUMBETAI_ORDERS": str(orders), "CARGO_TARGET_DIR": f"{tries.folder}/cargo"}
     status, out = tries.run(["cargo", "test", *manifest], f"{TOP}/bindings/rust", **more)
     passed = [int(it) for it in re.findall(rb"test result: ok\. (\d+) passed; 0 failed", out)]
-    is_right = status == 0 and sum(passed) >= 33 and b"warning:" not in out
+    is_right = status == 0 and sum(passed) >= 37 and b"warning:" not in out
     tries.judge("Rust: tests and the examples of its page", is_right, out.decode(errors="replace"))
-    linters = {
-        "cargo-clippy": ["clippy", *manifest, "--all-targets", "--", "-D", "warnings"],
-        "rustdoc": ["doc", *manifest, "--no-deps"],
-        "rustfmt": ["fmt", "--all", "--check", *manifest[2:4]],
-    }
-    for tool, words in linters.items():
-        if tries.has(tool, f"Rust by {tool}"):
-            status, out = tries.run(["cargo", *words], f"{TOP}/bindings/rust", **more, RUSTDOCFLAGS="-D warnings")
-            tries.judge(f"Rust by {tool}", status == 0, out.decode(errors="replace"))
+    if tries.has("rustdoc", "Rust by rustdoc"):
+        status, out = tries.run(["cargo", "doc", *manifest, "--no-deps"], f"{TOP}/bindings/rust", **more, RUSTDOCFLAGS="-D warnings")
+        tries.judge("Rust by rustdoc", status == 0, out.decode(errors="replace"))
     try_hold(tries)
     try_placing(tries, orders)
     with contextlib.suppress(FileNotFoundError):
         os.remove(f"{TOP}/bindings/rust/Cargo.lock")
+
+
+@contextlib.contextmanager
+def full_disk(tries):
+    """Bodies of several callers on a disk that is full in the middle of their transaction, from C; from Rust and Python their own tests do so."""
+    with small_disk(f"{tries.folder}/full") as full:
+        if full:
+            tries.environment["JUMBETAI_FULL"] = full
+            tries.passes("C: a full disk", ["./test_full"], DONE)
+        yield
+    tries.environment.pop("JUMBETAI_FULL", None)
+
+
+def try_kills(tries):
+    """Eight callers whose process is killed: nothing that was answered is missing, and nothing is there twice."""
+    words = [f"{TOP}/tools/kill_library.py", "--rounds", "20", "--library", "shared/libjumbetai.so"]
+    tries.passes("Python: eight callers that are killed", words, re.compile(rb"^20 of 20 rounds were right$", re.M))
 
 
 def try_wheel(tries):
@@ -334,9 +413,13 @@ def try_wheel(tries):
     for what, given, more in (("the wheel", made[0], alone), ("the package's folder", "package", source)):
         # A copy, in which pip may write.
         shutil.copytree(f"{TOP}/bindings/python", f"{folder}/package", ignore=shutil.ignore_patterns("__pycache__"), dirs_exist_ok=True)
-        tries.passes(f"pip installs {what}", ["env", *(f"{name}={it}" for name, it in more.items()), "fresh/bin/pip", "install", "-q", "--force-reinstall", f"./{given}"])
+        tries.passes(
+            f"pip installs {what}", ["env", *(f"{name}={it}" for name, it in more.items()), "fresh/bin/pip", "install", "-q", "--force-reinstall", f"./{given}"]
+        )
         status, out = tries.run(["fresh/bin/python", "-I", "-c", code], **alone)
-        tries.judge(f"{what} brings the library", status == 0 and out.startswith(f"{folder}/fresh/".encode()) and out.endswith(f" {version.version()}\n".encode()), out)
+        tries.judge(
+            f"{what} brings the library", status == 0 and out.startswith(f"{folder}/fresh/".encode()) and out.endswith(f" {version.version()}\n".encode()), out
+        )
 
 
 def try_python(tries, batch):
@@ -344,11 +427,7 @@ def try_python(tries, batch):
     words = [sys.executable, "-m", "unittest", "-v", "test_jumbetai"]
     status, out = tries.run(words, f"{TOP}/bindings/python", JUMBETAI_LIB=where, JUMBETAI_BATCH=batch)
     passed = len(re.findall(rb"\.\.\. ok$", out, re.M))
-    tries.judge("Python: tests and the example of its page", status == 0 and passed >= 38, out.decode(errors="replace"))
-    files, example = ["jumbetai", "build_wheel.py", "test_jumbetai.py"], f"{TOP}/examples/python/hand_on.py"
-    for words in (["flake8", *files, example], ["black", "--check", "-q", "-l", "120", *files, example], ["mypy", "--strict", "--cache-dir", f"{tries.folder}/mypy", *files[:2]]):
-        if tries.has(words[0], f"Python by {words[0]}"):
-            tries.passes(f"Python by {words[0]}", words, folder=f"{TOP}/bindings/python")
+    tries.judge("Python: tests and the example of its page", status == 0 and passed >= 40, out.decode(errors="replace"))
     try_wheel(tries)
 
 
@@ -389,8 +468,10 @@ def main():
         try_statuses(tries)
         try_orders(tries)
         batch = made_batch(tries, "batch.json", given.events)
-        try_rust(tries, batch, given.orders)
-        try_python(tries, batch)
+        with full_disk(tries):
+            try_rust(tries, batch, given.orders)
+            try_python(tries, batch)
+        try_kills(tries)
         print(f"{tries.right} of {tries.all} tries of the library were right")
         return 0 if tries.right == tries.all else 1
 

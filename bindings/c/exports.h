@@ -8,8 +8,8 @@
 #include <stdint.h>
 
 /* status: that of the call. fresh, repeated: what came of events that were taken. listed: how many
- * events the text has, where it is a page's. events: how many the site has. length: how many bytes
- * the text of the last answer has. Each call sets all of them. */
+ * events the text has, where it is a page's or what has a source and an id. events: how many the
+ * site has. length: how many bytes the text of the last answer has. Each call sets all of them. */
 struct jumbetai_reply {
     uint32_t status;
     uint64_t fresh, repeated, listed, events, length;
@@ -54,9 +54,15 @@ void jumbetai_site_tell(void *at, uint32_t what, const unsigned char *bytes, siz
  * their texts have `size` bytes, where that isn't 0. */
 void jumbetai_site_part(void *at, const unsigned char *summary, size_t length, uint64_t from,
                         uint64_t most, uint64_t size, struct jumbetai_reply *reply);
+/* The events of a source and an id, a line each, the shown one first; `listed` is how many. */
+void jumbetai_site_get(void *at, const unsigned char *source, size_t source_length,
+                       const unsigned char *id, size_t id_length, struct jumbetai_reply *reply);
 void jumbetai_site_name(void *at, struct jumbetai_set_name *name);
 void jumbetai_site_compare(void *at, const unsigned char *summary, size_t length,
                            struct jumbetai_set_lag *lag);
+/* Makes a copy of a site in other room of jumbetai_site_size() bytes, in which none lies: a site in
+ * memory with the same events, or with none where memory ran out. */
+void jumbetai_site_copy(void *at, void *to);
 void jumbetai_site_read(void *at, uint32_t piece, struct jumbetai_piece *out);
 void jumbetai_site_close(void *at);
 
@@ -85,9 +91,12 @@ void jumbetai_file_tell(void *at, uint32_t what, const unsigned char *bytes, siz
                         uint64_t from, struct jumbetai_reply *reply);
 void jumbetai_file_part(void *at, const unsigned char *summary, size_t length, uint64_t from,
                         uint64_t most, uint64_t size, struct jumbetai_reply *reply);
+void jumbetai_file_get(void *at, const unsigned char *source, size_t source_length,
+                       const unsigned char *id, size_t id_length, struct jumbetai_reply *reply);
 void jumbetai_file_name(void *at, struct jumbetai_set_name *name);
 void jumbetai_file_compare(void *at, const unsigned char *summary, size_t length,
                            struct jumbetai_set_lag *lag);
+void jumbetai_file_copy(void *at, void *to);
 /* Bodies of one transaction: each is offered, and refused (2, 3) or not; all are kept; it is asked
  * what became of the one at a place. At want of memory (1) all that were offered are let go, as by
  * any call but these three. */
@@ -123,5 +132,17 @@ void jumbetai_outbox_order(void *at, uint32_t action, uint64_t order, const unsi
 void jumbetai_outbox_rows(void *at, uint64_t after, struct jumbetai_outbox_reply *reply);
 void jumbetai_outbox_read(void *at, uint32_t piece, struct jumbetai_piece *out);
 void jumbetai_outbox_close(void *at);
+
+/* A numberer over files, in room of jumbetai_numbers_size() bytes. Where opening it is refused a
+ * numberer that isn't open lies there, which is closed too. Each source begins behind the base.
+ * `events` of the reply is how many events it numbered. */
+size_t jumbetai_numbers_size(void);
+void jumbetai_numbers_open(void *at, struct jumbetai_files *files, uint64_t base,
+                           struct jumbetai_reply *reply);
+/* The text is the line of the batch of the events with their numbers. */
+void jumbetai_numbers_number(void *at, const unsigned char *bytes, size_t length,
+                             struct jumbetai_reply *reply);
+void jumbetai_numbers_read(void *at, uint32_t piece, struct jumbetai_piece *out);
+void jumbetai_numbers_close(void *at);
 
 #endif

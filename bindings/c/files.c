@@ -1,5 +1,5 @@
 /* Opens the two files of a database and hands them to the library. Nothing of this file is proved,
- * and what it owes is said at struct jumbetai_files in exports.h: that nobody else has the files. */
+ * and what it owes is said at struct jumbetai_files in exports.h: nobody else has the files. */
 #define _GNU_SOURCE /* F_OFD_SETLK, O_PATH, getentropy, syncfs */
 #include "site.h"
 #include <errno.h>
@@ -11,7 +11,9 @@
 #include <unistd.h>
 
 /* The status of the call of the system that just failed. */
-static int failed(void) { return errno == ENOMEM ? JUMBETAI_OUT_OF_MEMORY : JUMBETAI_SYSTEM; }
+static int failed(void) {
+    return rattle_errno() == ENOMEM ? JUMBETAI_OUT_OF_MEMORY : JUMBETAI_SYSTEM;
+}
 
 /* SQLite's pending, reserved and shared locks. */
 enum { FIRST = 1 << 30, LENGTH = 512 };
@@ -211,8 +213,8 @@ static int settle(int fd) {
     return posix_fadvise(fd, 0, 0, POSIX_FADV_DONTNEED) ? JUMBETAI_SYSTEM : JUMBETAI_DONE;
 }
 
-/* The names that were made are on the disk. `path` is one without links. A folder that can't be read,
- * or not synced by itself, is synced with the whole file system of the database. */
+/* The names that were made are on the disk. `path` is one without links. A folder that can't be
+ * read, or not synced by itself, is synced with the whole file system of the database. */
 static int settle_folder(char *path, int db) {
     char *slash = strrchr(path, '/');
     if (!slash) return JUMBETAI_SYSTEM;

@@ -93,7 +93,7 @@ static long long count_in(const char *path, int *status) {
     return count;
 }
 
-/* A file of whatever bytes, in the folder where this runs, is opened or refused, each time alike. */
+/* A file of any bytes, in the folder where this runs, is opened or refused, each time alike. */
 static void try_file(const unsigned char *bytes, size_t length) {
     static const int answers[] = {
         JUMBETAI_DONE,    JUMBETAI_NO_DATABASE,   JUMBETAI_DAMAGED,   JUMBETAI_STORE,

@@ -1,7 +1,7 @@
 /* A site in a process of one's own: a set of CloudEvents in memory or over a database file, its
- * answers, its summary, and what another site lacks of it; and an outbox: the orders of a service
- * in a database file, with the events that tell of them. Link with libjumbetai.a:
- * cc program.c -ljumbetai
+ * answers, its summary, and what another site lacks of it; an outbox: the orders of a service in a
+ * database file, with the events that tell of them; and a numberer of events. Link with
+ * libjumbetai.a: cc program.c -ljumbetai
  *
  * A call answers a status, 0 where it is done. None prints or aborts, and only what is over a file
  * touches one. A site, in memory or over a file, or an outbox may go from thread to thread, as by a
@@ -58,7 +58,9 @@ enum jumbetai_status {
     JUMBETAI_BAD_ORDER = 26,      /* an order has a number from 1 to 2^63-1 */
     JUMBETAI_BAD_SOURCE = 27,     /* the source isn't one, or the base is above 2^63-1 */
     JUMBETAI_ANOTHER_SOURCE = 28, /* the outbox that is there has another source than was given */
-    JUMBETAI_NO_SUCH_ACTION = 29
+    JUMBETAI_NO_SUCH_ACTION = 29,
+    JUMBETAI_HAS_SEQUENCE = 30, /* an event that is to be numbered has a sequence */
+    JUMBETAI_TOO_LARGE = 31     /* with a number its text would have more than 262,144 bytes */
 };
 
 /* The seven questions, as `site` has them. */
@@ -115,8 +117,8 @@ typedef struct jumbetai_order_counts {
 
 /* A text of a site or an outbox: UTF-8, with a zero byte behind its last byte that `length` doesn't
  * count. It belongs to the caller, stays what it is whatever becomes of the other, and is given
- * back by jumbetai_free. `events` is how many events a page has, and 0 of other texts. Where a call
- * isn't done, all three are 0. */
+ * back by jumbetai_free. `events` is how many events a page has, or the text of jumbetai_get, and 0
+ * of other texts. Where a call isn't done, all three are 0. */
 typedef struct jumbetai_text {
     char *bytes;
     size_t length;
@@ -181,6 +183,13 @@ int jumbetai_keep_views(jumbetai_site *site);
 /* The answer to a question, in the lines that `site` prints. */
 int jumbetai_ask(jumbetai_site *site, int question, jumbetai_text *text);
 
+/* The events that have a source and an id: their canonical texts in lines, as jumbetai_ask prints
+ * those of JUMBETAI_SHOWN; the empty text where there is none. The first is the one that is shown;
+ * where there are more, they are in conflict, and come in the order of JUMBETAI_CONFLICTS. Bytes
+ * that are no UTF-8 name no event. Time with the logarithm of the events, and that of the text. */
+int jumbetai_get(jumbetai_site *site, const void *source, size_t source_length, const void *id,
+                 size_t id_length, jumbetai_text *text);
+
 /* The summary, as `site summary` prints it. Two sites whose summaries are equal have the same
  * events, or two texts have one SHA-256. */
 int jumbetai_summary(jumbetai_site *site, jumbetai_text *text);
@@ -218,9 +227,8 @@ int jumbetai_compare(jumbetai_site *site, const void *summary, size_t length, ju
 int jumbetai_arrivals(jumbetai_site *site, uint64_t after, jumbetai_text *text);
 
 /* A site in memory with the same events, come in the same order, for a reader beside the writer:
- * the two have nothing in common. Time and memory in proportion to the events, which are read as by
- * jumbetai_take, a page at a time: where one has more than 33,554,432 bytes the status is
- * JUMBETAI_NO_EVENTS. `*copy` is null where it isn't done. */
+ * the two have nothing in common. It keeps no views. Time and memory in proportion to the events.
+ * `*copy` is null where it isn't done. */
 int jumbetai_copy(jumbetai_site *site, jumbetai_site **copy);
 
 /* Gives back what a site keeps of its last answer, at most 64 KiB. A null pointer is let through.
@@ -267,9 +275,39 @@ int jumbetai_rows(jumbetai_outbox *outbox, uint64_t after, jumbetai_text *text);
  * pointer. Constant time. `counts` may be null. */
 void jumbetai_outbox_counts(const jumbetai_outbox *outbox, jumbetai_order_counts *counts);
 
+/* A numberer: it gives events that have no sequence their numbers. Made by jumbetai_open_numbers
+ * and given back by jumbetai_close_numbers. */
+typedef struct jumbetai_numbers jumbetai_numbers;
+
+/* The numberer of a database file, which is made where there is none. It is the one home of the
+ * sources that it numbers: each begins behind `base`, which is given again at each opening, else it
+ * is JUMBETAI_FOREIGN. The file is that of a site, whose events are those that were numbered; it is
+ * made, opened and kept busy as by jumbetai_open_file, with a cache of the same kind, and a process
+ * that was forked leaves it alone. Time and memory in proportion to its events. `*numbers` is null
+ * where it isn't done. */
+int jumbetai_open_numbers(const char *path, uint32_t cache_mib, uint64_t base,
+                          jumbetai_numbers **numbers);
+
+/* Gives a numberer, its memory and its file back. A null pointer is let through. */
+void jumbetai_close_numbers(jumbetai_numbers *numbers);
+
+/* The events that the bytes spell, one or a batch, without numbers, as a batch with their numbers,
+ * in their order, which jumbetai_take takes. A text that was numbered before has the number that it
+ * had, for ever; another one has its source's next. They are in the file, on the disk, once the
+ * call is done. JUMBETAI_HAS_SEQUENCE and JUMBETAI_TOO_LARGE number nothing; after JUMBETAI_FULL,
+ * JUMBETAI_STORE and want of memory the numberer is to be closed and opened again, and the same
+ * bytes may be given again. */
+int jumbetai_number(jumbetai_numbers *numbers, const void *bytes, size_t length,
+                    jumbetai_text *text);
+
 /* Gives a text back, and sets it to no text. Texts of no bytes and a null pointer are let through.
  */
 void jumbetai_free(jumbetai_text *text);
+
+/* Which error of the system stands behind the last call of this thread that opened, took, wrote or
+ * read rows, where that was JUMBETAI_STORE or JUMBETAI_SYSTEM: its number in <errno.h>, as ENOSPC
+ * of a full disk, or EIO of one that fails; 0 where the system refused nothing. */
+int jumbetai_why(void);
 
 /* A status in words, which are never to be given back. */
 const char *jumbetai_words(int status);

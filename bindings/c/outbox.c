@@ -13,7 +13,7 @@ struct jumbetai_outbox {
 /* Keeps what a call told of the rows and the orders. */
 static int note(jumbetai_outbox *outbox, const struct jumbetai_outbox_reply *reply) {
     outbox->counts = (jumbetai_order_counts){reply->base, reply->last, reply->orders};
-    return (int)reply->status;
+    return jumbetai_end((int)reply->status);
 }
 
 int jumbetai_open_outbox(const char *path, const char *source, uint64_t base, uint32_t cache_mib,
@@ -25,7 +25,8 @@ int jumbetai_open_outbox(const char *path, const char *source, uint64_t base, ui
     if (!outbox || !path) return JUMBETAI_BAD_ARGUMENT;
     jumbetai_outbox *made = malloc(sizeof *made + jumbetai_outbox_size());
     if (!made) return JUMBETAI_OUT_OF_MEMORY;
-    int status = jumbetai_open_files(path, &files, made->locks);
+    jumbetai_begin();
+    int status = jumbetai_end(jumbetai_open_files(path, &files, made->locks));
     if (!status) {
         jumbetai_outbox_open(made->room, &files, source != NULL, (const unsigned char *)given,
                              strlen(given), base, &reply);
@@ -63,6 +64,7 @@ int jumbetai_order(jumbetai_outbox *outbox, int action, uint64_t order, const ch
     if (!outbox || !time) return JUMBETAI_BAD_ARGUMENT;
     /* The room comes before the order is written, so that want of memory means that it isn't. */
     if (event && !(bytes = malloc(ROOM + 1))) return JUMBETAI_OUT_OF_MEMORY;
+    jumbetai_begin();
     jumbetai_outbox_order(outbox->room, (uint32_t)action, order, (const unsigned char *)time,
                           strlen(time), &reply);
     int status = note(outbox, &reply);
@@ -84,6 +86,7 @@ int jumbetai_rows(jumbetai_outbox *outbox, uint64_t after, jumbetai_text *text) 
     struct jumbetai_outbox_reply reply, unread;
     if (text) *text = (jumbetai_text){0};
     if (!outbox || !text) return JUMBETAI_BAD_ARGUMENT;
+    jumbetai_begin();
     jumbetai_outbox_rows(outbox->room, after, &reply);
     int status = note(outbox, &reply);
     if (!status) {

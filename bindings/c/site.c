@@ -57,12 +57,16 @@ static int copy_text(jumbetai_site *site, const struct jumbetai_reply *reply, ju
     return status;
 }
 
-jumbetai_site *jumbetai_open(void) {
+/* Room for a site in memory, in which none lies. */
+static jumbetai_site *room_of_one(void) {
     jumbetai_site *site = malloc(sizeof *site + jumbetai_site_size());
-    if (!site) return NULL;
-    site->events = 0;
-    site->is_file = 0;
-    jumbetai_site_open(site->room);
+    if (site) site->events = 0, site->is_file = 0;
+    return site;
+}
+
+jumbetai_site *jumbetai_open(void) {
+    jumbetai_site *site = room_of_one();
+    if (site) jumbetai_site_open(site->room);
     return site;
 }
 
@@ -73,10 +77,11 @@ int jumbetai_open_file(const char *path, uint32_t cache_mib, jumbetai_site **sit
     if (!site || !path) return JUMBETAI_BAD_ARGUMENT;
     jumbetai_site *made = malloc(sizeof *made + jumbetai_file_size());
     if (!made) return JUMBETAI_OUT_OF_MEMORY;
+    jumbetai_begin();
     int status = jumbetai_open_files(path, &files, made->locks);
     if (!status) {
         jumbetai_file_open(made->room, &files, &reply);
-        status = (int)reply.status;
+        status = jumbetai_end((int)reply.status);
         if (status) {
             jumbetai_file_close(made->room);
             jumbetai_unlock(made->locks);
@@ -84,7 +89,7 @@ int jumbetai_open_file(const char *path, uint32_t cache_mib, jumbetai_site **sit
     }
     if (status) {
         free(made);
-        return status;
+        return jumbetai_end(status);
     }
     made->events = reply.events;
     made->is_file = 1;
@@ -109,13 +114,14 @@ int jumbetai_take(jumbetai_site *site, const void *bytes, size_t length, jumbeta
     struct jumbetai_reply reply;
     if (counts) *counts = (jumbetai_counts){0, 0};
     if (!site || !is_range(bytes, length)) return JUMBETAI_BAD_ARGUMENT;
+    jumbetai_begin();
     if (site->is_file)
         jumbetai_file_take(site->room, start_of(bytes), length, &reply);
     else
         jumbetai_site_take(site->room, start_of(bytes), length, &reply);
     site->events = reply.events;
     if (counts) *counts = (jumbetai_counts){reply.fresh, reply.repeated};
-    return (int)reply.status;
+    return jumbetai_end((int)reply.status);
 }
 
 /* Sets the statuses of the answers from a place on, but for those of bodies that are refused. */
@@ -140,8 +146,9 @@ static int take_together(jumbetai_site *site, const jumbetai_body *bodies, size_
             return JUMBETAI_OUT_OF_MEMORY;
         }
     }
+    jumbetai_begin();
     jumbetai_file_keep(site->room, &reply);
-    int status = (int)reply.status;
+    int status = jumbetai_end((int)reply.status);
     site->events = reply.events;
     for (size_t i = 0; i < count; i++) {
         jumbetai_file_answer(site->room, i, &reply);
@@ -206,6 +213,17 @@ int jumbetai_ask(jumbetai_site *site, int question, jumbetai_text *text) {
     if (text) *text = (jumbetai_text){0};
     if (!site || !text) return JUMBETAI_BAD_ARGUMENT;
     tell(site, (uint32_t)question < SUMMARY ? (uint32_t)question : 0, NULL, 0, 0, &reply);
+    return copy_text(site, &reply, text);
+}
+
+int jumbetai_get(jumbetai_site *site, const void *source, size_t source_length, const void *id,
+                 size_t id_length, jumbetai_text *text) {
+    struct jumbetai_reply reply;
+    if (text) *text = (jumbetai_text){0};
+    if (!site || !text || !is_range(source, source_length) || !is_range(id, id_length))
+        return JUMBETAI_BAD_ARGUMENT;
+    (site->is_file ? jumbetai_file_get : jumbetai_site_get)(
+        site->room, start_of(source), source_length, start_of(id), id_length, &reply);
     return copy_text(site, &reply, text);
 }
 
@@ -275,29 +293,22 @@ int jumbetai_compare(jumbetai_site *site, const void *summary, size_t length, ju
     return (int)it.status;
 }
 
-/* Takes the events of a site into another, in the order in which they came, by pages. */
-static int take_over(jumbetai_site *site, jumbetai_site *to) {
-    for (;;) {
-        jumbetai_text page;
-        int status = jumbetai_arrivals(site, to->events, &page);
-        uint64_t events = page.events;
-        if (!status && events) status = jumbetai_take(to, page.bytes, page.length, NULL);
-        jumbetai_free(&page);
-        if (status || !events) return status;
-    }
-}
-
 int jumbetai_copy(jumbetai_site *site, jumbetai_site **copy) {
+    struct jumbetai_reply reply;
     if (copy) *copy = NULL;
     if (!site || !copy) return JUMBETAI_BAD_ARGUMENT;
-    jumbetai_site *made = jumbetai_open();
+    jumbetai_site *made = room_of_one();
     if (!made) return JUMBETAI_OUT_OF_MEMORY;
-    int status = take_over(site, made);
-    if (status)
+    (site->is_file ? jumbetai_file_copy : jumbetai_site_copy)(site->room, made->room);
+    /* It has all events, or none where memory ran out. */
+    tell(made, RELEASE, NULL, 0, 0, &reply);
+    made->events = reply.events;
+    if (made->events != site->events) {
         jumbetai_close(made);
-    else
-        *copy = made;
-    return status;
+        return JUMBETAI_OUT_OF_MEMORY;
+    }
+    *copy = made;
+    return JUMBETAI_DONE;
 }
 
 void jumbetai_release(jumbetai_site *site) {
@@ -343,6 +354,8 @@ const char *jumbetai_words(int status) {
         [JUMBETAI_BAD_SOURCE] = "the source, or the base, is none",
         [JUMBETAI_ANOTHER_SOURCE] = "the outbox that is there has another source",
         [JUMBETAI_NO_SUCH_ACTION] = "no such action",
+        [JUMBETAI_HAS_SEQUENCE] = "an event that is to be numbered has a sequence",
+        [JUMBETAI_TOO_LARGE] = "an event is too large for a number",
     };
     int count = (int)(sizeof words / sizeof *words);
     return status >= 0 && status < count ? words[status] : "no such status";

@@ -15,6 +15,15 @@ struct jumbetai_site {
 /* A text of more bytes isn't left in the library beside the caller's copy. */
 enum { JUMBETAI_LARGE = 65536 };
 
+/* Why a call of the system failed, which jumbetai_why is told of. */
+int32_t rattle_errno(void);
+
+/* Around what may be refused by the system: forgets what this thread met before, and keeps what it
+ * met since where the status says that there may be such a refusal behind it. Answers the status.
+ */
+void jumbetai_begin(void);
+int jumbetai_end(int status);
+
 /* Opens the two files of a database, alone and locked, of which `locks` gets copies. Where it isn't
  * done, nothing is open. */
 int jumbetai_open_files(const char *path, struct jumbetai_files *files, int locks[2]);

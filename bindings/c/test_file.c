@@ -1,6 +1,7 @@
-/* Sites over files, in a folder that is made here: what each call answers, that the file is busy
- * for another process, and that all that was answered is there after the process that took it was
- * killed. The last line is 'N passed, M failed'. */
+/* Sites over files, in a folder that is made here: what each call answers, what a log begins with
+ * and how large a cache is, that the file is busy for another process, and that all that was
+ * answered is there after the process that took it was killed. The last line is 'N passed, M
+ * failed'. */
 #define _DEFAULT_SOURCE
 #include "jumbetai.h"
 #include <fcntl.h>
@@ -188,11 +189,55 @@ static void try_kills(void) {
     IS(answered > 100, 1);
 }
 
+/* How many KiB of addresses the process has, and of memory: under a sanitizer it has all addresses
+ * from the start. */
+static long long room_of_process(void) {
+    long long addresses = -1, memory = 0;
+    FILE *file = fopen("/proc/self/statm", "r");
+    if (!file) return -1;
+    if (fscanf(file, "%lld %lld", &addresses, &memory) != 2) addresses = -1;
+    fclose(file);
+    return (addresses + memory) * (sysconf(_SC_PAGESIZE) / 1024);
+}
+
+/* The salts of a log of which the file of this path is the database; 0 where there is none. */
+static uint64_t salts_of(const char *path) {
+    char log[100];
+    uint64_t salts = 0;
+    snprintf(log, sizeof log, "%s-wal", path);
+    FILE *file = fopen(log, "rb");
+    if (!file) return 0;
+    if (fseek(file, 16, SEEK_SET) || fread(&salts, sizeof salts, 1, file) != 1) salts = 0;
+    fclose(file);
+    return salts;
+}
+
+/* A log's salts are drawn at random, and a cache has the size that was asked for. */
+static void try_given(void) {
+    jumbetai_site *small, *large;
+    jumbetai_counts counts;
+    long long before = room_of_process();
+    IS(jumbetai_open_file("small", 1, &small), JUMBETAI_DONE);
+    long long between = room_of_process();
+    IS(jumbetai_open_file("large", 256, &large), JUMBETAI_DONE);
+    long long after = room_of_process();
+    IS(between - before < 100 * 1024, 1);
+    IS(after - between > 200 * 1024, 1);
+    IS(take(small, 1, &counts), JUMBETAI_DONE);
+    IS(take(large, 1, &counts), JUMBETAI_DONE);
+    IS(salts_of("small") != 0, 1);
+    IS(salts_of("large") != 0, 1);
+    IS(salts_of("small") != salts_of("large"), 1);
+    jumbetai_close(small);
+    jumbetai_close(large);
+}
+
 int main(void) {
     char folder[] = "test-file-XXXXXX";
     if (!mkdtemp(folder) || chdir(folder)) return 2;
     try_calls();
     try_names();
+    try_given();
     try_kills();
     printf("%d passed, %d failed\n", passed, failed);
     return failed > 0;

@@ -259,7 +259,7 @@ static int opens_again(const char *path) {
     return descriptors() == had ? 0 : 15;
 }
 
-/* Where another has the file for itself one descriptor of it stays open, however often it is tried. */
+/* Where another has the file for itself one descriptor stays open, however often it is tried. */
 static int keeps_one_of_anothers(const char *path) {
     pid_t child = 0;
     int had = descriptors();
@@ -305,8 +305,7 @@ static int put_fifo_journal(void) { return unlink("a.db-journal") || mkfifo("a.d
 static int put_fifo_log(void) { return unlink("a.db-wal") || mkfifo("a.db-wal", 0600); }
 static int put_link(void) { return unlink("a.db") || symlink("moved.db", "a.db"); }
 
-/* What isn't a regular file neither makes the caller wait nor is followed, whenever it is put there.
- */
+/* What isn't a regular file neither makes the caller wait nor is followed, whenever it comes. */
 static void try_kinds(void) {
     alarm(20);
     write_file("a.db-journal", "");
@@ -397,12 +396,18 @@ static void try_folders(void) {
     before_folder = broken;
     IS(opened("a.db"), JUMBETAI_SYSTEM);
     before_folder_sync = broken;
-    IS(opened("a.db"), JUMBETAI_SYSTEM);
+    jumbetai_begin();
+    IS(jumbetai_end(opened("a.db")), JUMBETAI_SYSTEM);
+    IS(jumbetai_why(), EIO);
     IS(syncs_of_all, 2);
     before_folder_sync = unsupported, error_of_all = EIO;
     IS(opened("a.db"), JUMBETAI_SYSTEM);
     error_of_all = 0;
-    IS(opened("a.db"), JUMBETAI_DONE);
+    jumbetai_begin();
+    IS(jumbetai_why(), 0);
+    before_folder_sync = unsupported;
+    IS(jumbetai_end(opened("a.db")), JUMBETAI_DONE);
+    IS(jumbetai_why(), 0);
     /* Where everybody may go. */
     char folder[] = "/dev/shm/test-files-XXXXXX", file[80], log[90];
     if (geteuid() || !mkdtemp(folder)) return;

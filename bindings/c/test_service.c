@@ -214,6 +214,56 @@ static void try_sizes(jumbetai_site *site, const char *kind) {
     }
 }
 
+#define OTHER(type)                                                                                \
+    "{\"id\":\"k\",\"sequence\":\"00000000000000000007\",\"source\":\"/a b\",\"specversion\":"     \
+    "\"1.0\",\"type\":\"" type "\"}"
+
+static int get(jumbetai_site *site, const char *source, const char *id, jumbetai_text *text) {
+    return jumbetai_get(site, source, strlen(source), id, strlen(id), text);
+}
+
+/* Events by their source and id: one, those of a conflict by their texts, whatever came first, and
+ * none. */
+static void try_get(jumbetai_site *site, const char *kind) {
+    jumbetai_text text;
+    must(is_text(get(site, "/shop", "b", &text), &text, 1, EVENT("b", "02") "\n"), kind,
+         "an event");
+    must(is_text(get(site, "/shop", "a", &text), &text, 1, EVENT("a", "01") "\n"), kind,
+         "another event");
+    must(is_text(get(site, "/a b", "k", &text), &text, 0, ""), kind, "an event that isn't there");
+    must(jumbetai_take(site, OTHER("n"), strlen(OTHER("n")), NULL) == JUMBETAI_DONE &&
+             is_text(get(site, "/a b", "k", &text), &text, 1, OTHER("n") "\n"),
+         kind, "an event that came");
+    must(jumbetai_take(site, OTHER("m"), strlen(OTHER("m")), NULL) == JUMBETAI_DONE &&
+             jumbetai_take(site, OTHER("o"), strlen(OTHER("o")), NULL) == JUMBETAI_DONE &&
+             is_text(get(site, "/a b", "k", &text), &text, 3,
+                     OTHER("m") "\n" OTHER("n") "\n" OTHER("o") "\n"),
+         kind, "three events in conflict");
+    static const char *const none[][2] = {{"/shop", ""},      {"", "a"},         {"", ""},
+                                          {"/sho", "pa"},     {"a", "/shop"},    {"/shop", "A"},
+                                          {"/shop\xff", "a"}, {"/shop", "\xc3"}, {"/shop", "k"}};
+    for (size_t i = 0; i < sizeof none / sizeof *none; i++)
+        must(is_text(get(site, none[i][0], none[i][1], &text), &text, 0, ""), kind,
+             "a source and an id of no event");
+    must(is_text(jumbetai_get(site, "/shop\0", 6, "a", 1, &text), &text, 0, ""), kind,
+         "a source with a zero byte");
+    must(is_text(jumbetai_get(site, "/shops", 5, "ab", 1, &text), &text, 1, EVENT("a", "01") "\n"),
+         kind, "lengths that end a text");
+    must(is_text(jumbetai_get(site, NULL, 0, NULL, 0, &text), &text, 0, ""), kind, "no bytes");
+    must(is_refused(jumbetai_get(site, NULL, 1, "a", 1, &text), &text, JUMBETAI_BAD_ARGUMENT) &&
+             is_refused(jumbetai_get(site, "a", 1, NULL, 1, &text), &text, JUMBETAI_BAD_ARGUMENT),
+         kind, "a null source or id");
+    must(is_refused(jumbetai_get(site, "", (size_t)1 << 63, "a", 1, &text), &text,
+                    JUMBETAI_BAD_ARGUMENT) &&
+             is_refused(jumbetai_get(site, "a", 1, "", (size_t)1 << 63, &text), &text,
+                        JUMBETAI_BAD_ARGUMENT),
+         kind, "a source or an id of too many bytes");
+    must(is_refused(jumbetai_get(NULL, "a", 1, "a", 1, &text), &text, JUMBETAI_BAD_ARGUMENT), kind,
+         "an event without a site");
+    must(jumbetai_get(site, "a", 1, "a", 1, NULL) == JUMBETAI_BAD_ARGUMENT, kind,
+         "an event without a text");
+}
+
 static void try_copy(jumbetai_site *site, const char *kind) {
     jumbetai_site *copy;
     jumbetai_text text, same;
@@ -260,9 +310,10 @@ static void try_all(jumbetai_site *site, const char *kind) {
     try_lags(site, kind);
     try_parts(site, kind);
     try_sizes(site, kind);
+    try_get(site, kind);
     try_copy(site, kind);
     jumbetai_release(site), jumbetai_release(NULL);
-    must(jumbetai_count(site) == 2503, kind, "the count in the end");
+    must(jumbetai_count(site) == 2506, kind, "the count in the end");
     jumbetai_close(site);
 }
 
@@ -271,7 +322,7 @@ static void try_again(void) {
     jumbetai_site *site = NULL;
     jumbetai_text text;
     must(jumbetai_open_file("service.db", 0, &site) == JUMBETAI_DONE, "the file", "opened again");
-    must(jumbetai_count(site) == 2503, "the file", "the count again");
+    must(jumbetai_count(site) == 2506, "the file", "the count again");
     must(jumbetai_arrivals(site, 1, &text) == JUMBETAI_DONE && text.events == 100 &&
              !strncmp(text.bytes, "[" EVENT("a", "01") "," EVENT("c", "03") ",",
                       strlen("[" EVENT("a", "01") "," EVENT("c", "03") ",")),

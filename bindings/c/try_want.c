@@ -71,7 +71,7 @@ static bool try_take(jumbetai_site *site, long requests) {
 }
 
 /* The calls that answer a text: the questions, then these. */
-enum { SUMMARY = JUMBETAI_GAPS + 1, DELTA, PAGE, CHECK, VIEWS, PART, ARRIVALS, CALLS };
+enum { SUMMARY = JUMBETAI_GAPS + 1, DELTA, PAGE, CHECK, VIEWS, PART, ARRIVALS, GET, CALLS };
 
 static int call(jumbetai_site *site, int which, jumbetai_text *text) {
     int status;
@@ -81,6 +81,7 @@ static int call(jumbetai_site *site, int which, jumbetai_text *text) {
     case PAGE: return jumbetai_page(site, 0, text);
     case PART: return jumbetai_delta_part(site, nothing, sizeof nothing - 1, 0, 2000, 0, text);
     case ARRIVALS: return jumbetai_arrivals(site, 0, text);
+    case GET: return jumbetai_get(site, "/shop", 5, "a", 1, text);
     /* Views, and an answer that they give. */
     case VIEWS:
         *text = (jumbetai_text){0};

@@ -7,6 +7,7 @@ skipped, and said.
 import contextlib
 import ctypes
 import doctest
+import errno
 import gc
 import hashlib
 import itertools
@@ -118,6 +119,26 @@ class Sites(unittest.TestCase):
                         self.assertEqual((len(copy), len(site)), (251, 250))
             with Site(path) as again:
                 self.assertEqual(list(again.arrivals()), pages)
+
+    def test_events_by_their_source_and_id(self):
+        with tempfile.TemporaryDirectory() as folder:
+            for site in (Site(), Site(os.path.join(folder, "get.db"))):
+                with site:
+                    site.take(FEW)
+                    self.assertEqual(site.get("/shop", "251"), [])
+                    (found,) = site.get("/shop", "250")
+                    self.assertEqual(json.loads(found), event(250))
+                    self.assertEqual(site.take(found), Taken(0, 1))
+                    site.take(batch([event(7, type="zinc"), event(7, type="gold"), event(7, id="\u00e9 7")]))
+                    found = site.get(b"/shop", b"7")
+                    self.assertEqual([json.loads(it)["type"] for it in found], ["gold", "sold", "zinc"])
+                    self.assertIn(found[0] + b"\n", site.ask("shown"))
+                    conflict = b'{"events":[' + b",".join(found) + b'],"id":"7","source":"/shop"}\n'
+                    self.assertEqual(site.ask("conflicts"), conflict)
+                    self.assertEqual([json.loads(it)["id"] for it in site.get("/shop", "\u00e9 7")], ["\u00e9 7"])
+                    for source, name in (("/shop", ""), ("", "7"), ("/sho", "p7"), ("7", "/shop"), (b"\xff", "7")):
+                        self.assertEqual(site.get(source, name), [])
+                    self.assertEqual(len(site), 253)
 
     def test_names_and_covers(self):
         with Site() as site, Site() as other:
@@ -608,10 +629,32 @@ class Files(unittest.TestCase):
                     site.take(batch([event(number) for number in range(251, 1000)]))
             finally:
                 resource.setrlimit(resource.RLIMIT_FSIZE, limits)
-            self.assertIs(caught.exception.status, Status.STORE)
+            self.assertEqual((caught.exception.status, caught.exception.errno), (Status.STORE, errno.EFBIG))
             self.assertEqual(said(site), before)
         with Site(self.file) as site:
             self.assertEqual(said(site), before)
+
+    @unittest.skipUnless(os.environ.get("JUMBETAI_FULL"), "JUMBETAI_FULL names no folder on a small file system")
+    def test_a_full_disk_takes_none_of_the_bodies(self):
+        file, ballast = (os.path.join(os.environ["JUMBETAI_FULL"], it) for it in ("python.db", "ballast"))
+        few, many = batch([event(it) for it in range(1, 4)]), batch([event(it) for it in range(4, 404)])
+        with Site(file, cache_mib=1) as site:
+            site.take(few)
+            before = said(site)
+            with open(ballast, "wb", buffering=0) as out, contextlib.suppress(OSError):
+                while True:
+                    out.write(bytes(4096))
+            os.truncate(ballast, os.path.getsize(ballast) - 65536)
+            told = [(it.status, it.errno) for it in site.take_each([many, b"{}", few])]
+            full = (Status.STORE, errno.ENOSPC)
+            self.assertEqual(told, [full, (Status.NO_EVENTS, 0), full])
+            self.assertEqual(said(site), before)
+        os.remove(ballast)
+        with Site(file, cache_mib=1) as site:
+            self.assertEqual(said(site), before)
+            answers = site.take_each([many, b"{}", few])
+            self.assertEqual((answers[0], answers[2]), (Taken(400, 0), Taken(0, 3)))
+        os.remove(file)
 
     def test_each_status_has_words_of_its_own(self):
         words = {str(Error(status)) for status in [*Status, 1_000_000]}
@@ -909,6 +952,47 @@ class Outboxes(unittest.TestCase):
         copy = os.path.join(self.folder, "copy.db")
         shutil.copy(os.path.join(self.folder, "theirs.db"), copy)
         self.assertEqual(json.loads(run("service", "--db", copy))["rows"], 4)
+
+
+class Numberers(unittest.TestCase):
+    def bare(self, *ids, source="/a"):
+        made = [event(0, source=source, id=str(it)) for it in ids]
+        for it in made:
+            del it["sequence"]
+        return made
+
+    def numbers(self, told):
+        return [int(it["sequence"]) for it in json.loads(told)]
+
+    def test_a_text_has_one_number_for_ever(self):
+        with tempfile.TemporaryDirectory() as folder:
+            file = os.path.join(folder, "numbers.db")
+            with jumbetai.Numbers(file, base=40) as numbers:
+                given = batch([*self.bare(1, 2), *self.bare(1, source="/b"), *self.bare(1)])
+                told = numbers.number(given)
+                self.assertEqual(self.numbers(told), [41, 42, 41, 41])
+                self.assertEqual(Site().take(told), Taken(3, 1))
+                with self.assertRaises(Error) as caught:
+                    jumbetai.Numbers(file, base=40)
+                self.assertIs(caught.exception.status, Status.BUSY)
+            with self.assertRaises(Error) as caught:
+                jumbetai.Numbers(file)
+            self.assertIs(caught.exception.status, Status.FOREIGN)
+            with jumbetai.Numbers(file, base=40, cache_mib=1) as numbers:
+                self.assertEqual(self.numbers(numbers.number(batch(self.bare(2, 3)))), [42, 43])
+                others = len(json.dumps(self.bare("")[0], separators=(",", ":")))
+                for bytes_, status in (
+                    (batch([event(9)]), Status.HAS_SEQUENCE),
+                    (b"{}", Status.NO_EVENTS),
+                    (batch(self.bare("x" * (262_111 - others))), Status.TOO_LARGE),
+                ):
+                    with self.assertRaises(Error) as caught:
+                        numbers.number(bytes_)
+                    self.assertIs(caught.exception.status, status)
+            with Site(file) as site:
+                self.assertEqual(len(site), 4)
+            self.assertRaises(ValueError, jumbetai.Numbers, file, -1)
+            self.assertRaises(ValueError, jumbetai.Numbers, "a\0b")
 
 
 class HandingOn(unittest.TestCase):

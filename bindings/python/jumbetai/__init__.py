@@ -69,6 +69,7 @@ __all__ = [
     "QUESTIONS",
     "Error",
     "Lag",
+    "Numbers",
     "OrderCounts",
     "Outbox",
     "Page",
@@ -161,14 +162,19 @@ class Status(enum.IntEnum):
     BAD_ORDER = 26  # an order has a number from 1 to 2**63 - 1
     BAD_SOURCE = 27  # not 1 to 1,024 bytes without control characters; or the base isn't 0 to 2**63 - 1
     ANOTHER_SOURCE = 28  # the outbox that is there has another source than was given
+    HAS_SEQUENCE = 30  # an event that is to be numbered has a sequence
+    TOO_LARGE = 31  # with a number its text would have more than 262,144 bytes
 
 
 class Error(Exception):
-    """A call that isn't done: its status, one of Status where it is known, and that in words."""
+    """A call that isn't done: its status, one of Status where it is known, and that in words. Of Status.STORE and
+    Status.SYSTEM `errno` is the error of the system behind it, as errno.ENOSPC of a full disk; else 0, and where the
+    system refused nothing."""
 
     def __init__(self, status: int) -> None:
         super().__init__(_c.library().jumbetai_words(status).decode())
         self.status = Status(status) if status in set(Status) else status
+        self.errno: int = _c.library().jumbetai_why() if status in (Status.STORE, Status.SYSTEM) else 0
 
 
 def version() -> str:
@@ -334,6 +340,13 @@ class Site(_Open):
             raise ValueError(f"no such question: {question!r}")
         return self._text("jumbetai_ask", QUESTIONS.index(question) + 1)[0]
 
+    def get(self, source: Given, id: Given) -> "list[bytes]":
+        """The events that have a source and an id, as the texts that `ask("shown")` prints: none, the one, or those of
+        a conflict, in the order of `ask("conflicts")`. The first is the one that is shown. Time with the logarithm of
+        the events, and that of the texts."""
+        given, other = _bytes(source), _bytes(id)
+        return self._text("jumbetai_get", given, len(given), other, len(other))[0].splitlines()
+
     def summary(self) -> bytes:
         """The summary, by which another site finds what this one lacks: `delta` there."""
         return self._text("jumbetai_summary")[0]
@@ -361,9 +374,8 @@ class Site(_Open):
         return self._pages(_place(after), "jumbetai_arrivals")
 
     def copy(self) -> "Site":
-        """A site in memory that has the same events, come in the same order, for a reader beside the writer. Time and
-        memory in proportion to the events, which are read as by `take`, a page at a time: where one has more than
-        33,554,432 bytes it is Status.NO_EVENTS."""
+        """A site in memory that has the same events, come in the same order, for a reader beside the writer. It keeps
+        no views. Time and memory in proportion to the events."""
         site = Site.__new__(Site)
         _Open.__init__(site, "jumbetai_close", False)
         _judge(self._call("jumbetai_copy", ctypes.byref(site._raw)))
@@ -460,6 +472,32 @@ class Outbox(_Open):
         return self._text("jumbetai_order", action, order, time)[0]
 
 
+class Numbers(_Open):
+    """A numberer over a database file: it gives events that have no `sequence` their numbers. It is closed by `close`,
+    by `with`, or when nothing refers to it.
+
+    It is the one home of the sources that it numbers, each of which begins behind `base`; one that is there has to have
+    been given the same (Status.FOREIGN). A text that was numbered has its number for ever; another one has its source's
+    next. The file is that of a site, whose events are those that were numbered, and is made and kept busy as that is. A
+    process made by os.fork can't use it: it raises ValueError there."""
+
+    def __init__(self, path: FilePath, base: int = 0, cache_mib: int = 0) -> None:
+        super().__init__("jumbetai_close_numbers", True)
+        if not 0 <= base <= _MOST:
+            raise ValueError(f"no such base: {base!r}")
+        if not 0 <= cache_mib < 1 << 32:
+            raise ValueError(f"no such cache: {cache_mib!r}")
+        _judge(_c.library().jumbetai_open_numbers(_path(path), cache_mib, base, ctypes.byref(self._raw)))
+
+    def number(self, given: Given) -> bytes:
+        """The events of these bytes, one or a batch, as a batch with their numbers, in their order, which `Site.take`
+        takes. They are in the file, and synced, once it is done. Status.HAS_SEQUENCE and Status.TOO_LARGE number
+        nothing; after Status.FULL, Status.STORE and MemoryError it is to be opened again, and the same may be given
+        again."""
+        given = _bytes(given)
+        return self._text("jumbetai_number", given, len(given))[0]
+
+
 # The largest number that a call takes.
 _MOST = (1 << 64) - 1
 
@@ -486,11 +524,17 @@ def _text_of(given: Given, fault: Status) -> bytes:
     return text
 
 
-def _open(raw: ctypes.c_void_p, name: str, path: FilePath, *more: Any) -> None:
-    """Opens a file; the handle is in `raw` as soon as it is done."""
+def _path(path: FilePath) -> bytes:
+    """A path as C has it, which would end at a zero byte."""
     file = os.fsencode(path)
     if b"\0" in file:
         raise ValueError("embedded null byte")
+    return file
+
+
+def _open(raw: ctypes.c_void_p, name: str, path: FilePath, *more: Any) -> None:
+    """Opens a file; the handle is in `raw` as soon as it is done."""
+    file = _path(path)
     if not 0 <= more[-1] < 1 << 32:
         raise ValueError(f"no such cache: {more[-1]!r}")
     _judge(getattr(_c.library(), name)(file, *more, ctypes.byref(raw)))

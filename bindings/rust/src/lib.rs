@@ -94,8 +94,10 @@
 
 #![warn(missing_docs)]
 
+mod numbers;
 mod outbox;
 
+pub use numbers::Numbers;
 pub use outbox::{OrderCounts, Outbox, RowPages, Rows};
 
 use jumbetai_sys as ffi;
@@ -136,14 +138,14 @@ pub enum Error {
     /// No regular file with one name has this path: a folder, a device, a file that has a second
     /// name, a log that is a link, or a path with a zero byte.
     NoFile,
-    /// The system refuses to open, to lock, to read or to write a file.
+    /// The system refuses to open, to lock, to read or to write a file: [`why`] says which error it has.
     System,
     /// The file is no database of SQLite, or has what isn't read here.
     NoDatabase,
     /// A page of the file isn't what SQLite writes.
     Damaged,
-    /// The file has tables of others; or a statement was refused, as where the disk is full, and
-    /// nothing was taken, and no order written.
+    /// The file has tables of others; or a statement was refused, as where the disk is full, which
+    /// [`why`] says then, and nothing was taken, and no order written.
     Store,
     /// The tables aren't those that are made here, or their rows aren't those that are left here.
     Foreign,
@@ -166,6 +168,10 @@ pub enum Error {
     BadSource,
     /// The outbox that is there has another source than was given.
     AnotherSource,
+    /// An event that is to be numbered has a sequence; nothing was numbered.
+    HasSequence,
+    /// With a number the text of an event would have more than 262,144 bytes; nothing was numbered.
+    TooLarge,
     /// The library that is linked hasn't what this crate calls: [`version`] is before the crate's, or
     /// one that may have changed what a call means. Nothing was opened.
     Version,
@@ -203,6 +209,8 @@ impl Error {
             26 => Error::BadOrder,
             27 => Error::BadSource,
             28 => Error::AnotherSource,
+            30 => Error::HasSequence,
+            31 => Error::TooLarge,
             other => Error::Other(other),
         }
     }
@@ -235,6 +243,8 @@ impl Error {
             Error::BadOrder => 26,
             Error::BadSource => 27,
             Error::AnotherSource => 28,
+            Error::HasSequence => 30,
+            Error::TooLarge => 31,
             Error::Version | Error::NotUtf8 => -1,
             Error::Other(status) => status,
         }
@@ -473,6 +483,20 @@ impl Site {
             .0)
     }
 
+    /// The events that have a source and an id, as the texts that [`Question::Shown`] prints: none, the
+    /// one, or those of a conflict, in the order of [`Question::Conflicts`]. The first is the one that is
+    /// shown. Time with the logarithm of the events, and that of the texts.
+    pub fn get(&mut self, source: &str, id: &str) -> Result<Vec<String>, Error> {
+        let (at, length) = (source.as_ptr().cast(), source.len());
+        // SAFETY: the site is open, and source and id are lent for the call.
+        let (lines, events) = self.text(|raw, text| unsafe {
+            ffi::jumbetai_get(raw, at, length, id.as_ptr().cast(), id.len(), text)
+        })?;
+        let found: Vec<String> = lines.lines().map(str::to_string).collect();
+        debug_assert_eq!(found.len() as u64, events);
+        Ok(found)
+    }
+
     /// The summary, by which another site finds what this one lacks: [`Site::delta`] there.
     pub fn summary(&mut self) -> Result<String, Error> {
         // SAFETY: the site is open.
@@ -523,8 +547,7 @@ impl Site {
     }
 
     /// A site in memory that has the same events, come in the same order, for a reader beside the
-    /// writer. Time and memory in proportion to the events, which are read as by [`Site::take`], a page
-    /// at a time: where one has more than 33,554,432 bytes it is [`Error::NoEvents`].
+    /// writer. It keeps no views. Time and memory in proportion to the events.
     pub fn copy(&mut self) -> Result<Site, Error> {
         let mut raw = null_mut();
         // SAFETY: the site is open.
@@ -657,6 +680,17 @@ pub fn test(bytes: &[u8]) -> Result<u64, Error> {
     match unsafe { ffi::jumbetai_test(bytes.as_ptr().cast(), bytes.len(), &mut events) } {
         0 => Ok(events),
         status => Err(Error::of(status)),
+    }
+}
+
+/// Which error of the system stands behind the last call of this thread that opened, took, wrote or
+/// read rows, where that was [`Error::Store`] or [`Error::System`]: that of a full disk, or of one that
+/// fails. None where the system refused nothing.
+pub fn why() -> Option<std::io::Error> {
+    // SAFETY: the call asks for nothing.
+    match unsafe { ffi::jumbetai_why() } {
+        0 => None,
+        number => Some(std::io::Error::from_raw_os_error(number)),
     }
 }
 

@@ -188,6 +188,90 @@ fn arrivals_keep_their_numbers() {
 }
 
 #[test]
+fn an_event_is_found_by_its_source_and_its_id() {
+    let folder = Folder::new("get");
+    for mut site in both(&folder) {
+        let other = |kind: &str| event(7).replace("sold", kind);
+        site.take(&batch(1..300)).unwrap();
+        assert_eq!(site.get("/shop", "300").unwrap(), Vec::<String>::new());
+        let found = site.get("/shop", "250").unwrap();
+        assert_eq!(found.len(), 1);
+        assert!(found[0].contains(r#""id":"250""#) && found[0].contains(r#""source":"/shop""#));
+        // It is the text that is taken again, and that is shown.
+        assert_eq!(site.take(found[0].as_bytes()).unwrap().repeated, 1);
+        assert!(site.ask(Question::Shown).unwrap().contains(&found[0]));
+
+        site.take(other("zinc").as_bytes()).unwrap();
+        site.take(other("gold").as_bytes()).unwrap();
+        let found = site.get("/shop", "7").unwrap();
+        let kinds = ["gold", "sold", "zinc"].map(|kind| format!(r#""type":"{kind}""#));
+        assert_eq!(found.len(), 3);
+        assert!(found.iter().zip(&kinds).all(|(it, kind)| it.contains(kind)));
+        assert!(site.ask(Question::Shown).unwrap().contains(&found[0]));
+        let conflict = format!(
+            "{{\"events\":[{}],\"id\":\"7\",\"source\":\"/shop\"}}\n",
+            found.join(",")
+        );
+        assert_eq!(site.ask(Question::Conflicts).unwrap(), conflict);
+        for (source, id) in [
+            ("/shop", ""),
+            ("", "7"),
+            ("/sho", "p7"),
+            ("/shop", "07"),
+            ("7", "/shop"),
+        ] {
+            assert!(site.get(source, id).unwrap().is_empty(), "{source} {id}");
+        }
+        assert_eq!(site.len(), 301);
+    }
+}
+
+/// Fills a file system but for 64 KiB.
+fn fill(ballast: &Path) {
+    use std::io::Write;
+    let mut file = std::fs::File::create(ballast).unwrap();
+    let mut size = 0;
+    while let Ok(wrote) = file.write(&[0; 4096]) {
+        size += wrote as u64;
+    }
+    file.set_len(size.checked_sub(65_536).unwrap()).unwrap();
+}
+
+/// In the folder that JUMBETAI_FULL names, on a small file system.
+#[test]
+fn a_full_disk_takes_none_of_the_bodies() {
+    let Some(folder) = std::env::var_os("JUMBETAI_FULL") else {
+        return eprintln!("skipped: JUMBETAI_FULL names no folder");
+    };
+    let (file, ballast) = (
+        Path::new(&folder).join("rust.db"),
+        Path::new(&folder).join("ballast"),
+    );
+    let (few, many) = (batch(1..4), batch(4..404));
+    let bodies: [&[u8]; 3] = [&many, b"{}", &few];
+    let mut site = Site::open_with_cache(&file, 1).unwrap();
+    site.take(&few).unwrap();
+    let before = said(&mut site);
+    fill(&ballast);
+    let refused = [Err(Error::Store), Err(Error::NoEvents), Err(Error::Store)];
+    assert_eq!(site.take_each(&bodies).unwrap(), refused);
+    let why = jumbetai::why().map(|error| error.kind());
+    assert_eq!(why, Some(std::io::ErrorKind::StorageFull));
+    assert_eq!(said(&mut site), before);
+    assert_eq!(site.take(b"{}"), Err(Error::NoEvents));
+    assert!(jumbetai::why().is_none());
+    drop(site);
+    std::fs::remove_file(&ballast).unwrap();
+    let mut site = Site::open_with_cache(&file, 1).unwrap();
+    assert_eq!(said(&mut site), before);
+    let answers = site.take_each(&bodies).unwrap();
+    assert_eq!(answers[0].map(|taken| taken.fresh), Ok(400));
+    assert_eq!(answers[2].map(|taken| taken.repeated), Ok(3));
+    drop(site);
+    std::fs::remove_file(&file).unwrap();
+}
+
+#[test]
 fn a_set_has_one_name() {
     let folder = Folder::new("names");
     let mut names = Vec::new();
@@ -526,6 +610,8 @@ fn each_error_has_its_status_and_its_words() {
         (26, Error::BadOrder),
         (27, Error::BadSource),
         (28, Error::AnotherSource),
+        (30, Error::HasSequence),
+        (31, Error::TooLarge),
     ];
     let unknown = Error::Other(1_000_000).to_string();
     let mut words: Vec<String> = all.iter().map(|(_, it)| it.to_string()).collect();

@@ -24,6 +24,13 @@ pub struct Outbox {
     _is_not_shared: PhantomData<(*mut u8, PhantomPinned)>,
 }
 
+/// A numberer, which is used by pointer alone.
+#[repr(C)]
+pub struct Numbers {
+    _private: [u8; 0],
+    _is_not_shared: PhantomData<(*mut u8, PhantomPinned)>,
+}
+
 /// What came of events that were given.
 #[repr(C)]
 #[derive(Clone, Copy, Debug, Default)]
@@ -74,7 +81,7 @@ pub struct Text {
     pub bytes: *mut c_char,
     /// How many they are without that zero byte.
     pub length: usize,
-    /// How many events a page has, and 0 of other texts.
+    /// How many events a page has, or the text of `jumbetai_get`, and 0 of other texts.
     pub events: u64,
 }
 
@@ -126,6 +133,15 @@ extern "C" {
     pub fn jumbetai_keep_views(site: *mut Site) -> c_int;
     /// The answer to a question, 1 to 7.
     pub fn jumbetai_ask(site: *mut Site, question: c_int, text: *mut Text) -> c_int;
+    /// The events of a source and an id.
+    pub fn jumbetai_get(
+        site: *mut Site,
+        source: *const c_void,
+        source_length: usize,
+        id: *const c_void,
+        id_length: usize,
+        text: *mut Text,
+    ) -> c_int;
     /// The summary.
     pub fn jumbetai_summary(site: *mut Site, text: *mut Text) -> c_int;
     /// A page of the events that a peer lacks by its summary.
@@ -187,8 +203,26 @@ extern "C" {
     pub fn jumbetai_rows(outbox: *mut Outbox, after: u64, text: *mut Text) -> c_int;
     /// How many rows and orders there are.
     pub fn jumbetai_outbox_counts(outbox: *const Outbox, counts: *mut OrderCounts);
+    /// The numberer of a database file, whose sources begin behind the base.
+    pub fn jumbetai_open_numbers(
+        path: *const c_char,
+        cache_mib: u32,
+        base: u64,
+        numbers: *mut *mut Numbers,
+    ) -> c_int;
+    /// Gives a numberer, its memory and its file back; null is let through.
+    pub fn jumbetai_close_numbers(numbers: *mut Numbers);
+    /// Events that have no numbers, as a batch with their numbers.
+    pub fn jumbetai_number(
+        numbers: *mut Numbers,
+        bytes: *const c_void,
+        length: usize,
+        text: *mut Text,
+    ) -> c_int;
     /// Gives a text back; null and no text are let through.
     pub fn jumbetai_free(text: *mut Text);
+    /// Which error of the system stands behind the last call of this thread, 0 for none.
+    pub fn jumbetai_why() -> c_int;
     /// A status in words, which live as long as the program.
     pub fn jumbetai_words(status: c_int) -> *const c_char;
     /// The version of the library that is linked, which lives as long as the program.
