@@ -25,7 +25,7 @@ from try_service import MANY, ONE, Tries, event  # noqa: E402
 EVENT = json.dumps(event(1, "/fuzz", data={"a": "x"})).encode()
 COVER = b'{"sources":{"/fuzz":[[1,2],[4,9]]},"version":1}'
 KINDS = ("application/json", "text/plain", "image/png", 'a/b; charset="', "application/cloudevents+json;;;", "x/y+json", "")
-PATHS = ("/events", "/delta", "/arrivals", "/kinds", "/summary", "/check", "/", "/status")
+PATHS = ("/events", "/delta", "/arrivals", "/kinds", "/summary", "/check", "/", "/status", "/metrics", "/backup")
 
 
 def mutated(dice, text):
@@ -68,7 +68,9 @@ def one(site, dice):
         return site.ask("GET", f"{dice.choice(PATHS)}?{query}", headers=headers).status
     if kind == 4:
         return site.ask("POST", "/delta", mutated(dice, COVER)).status
-    raw = bytearray(b"POST /events HTTP/1.1\r\nHost: localhost\r\nContent-Type: %s\r\nContent-Length: %d\r\n\r\n%s" % (ONE["Content-Type"].encode(), len(EVENT), EVENT))
+    raw = bytearray(
+        b"POST /events HTTP/1.1\r\nHost: localhost\r\nContent-Type: %s\r\nContent-Length: %d\r\n\r\n%s" % (ONE["Content-Type"].encode(), len(EVENT), EVENT)
+    )
     for _ in range(dice.randrange(1, 8)):
         raw[dice.randrange(len(raw))] = dice.randrange(256)
     with socket.create_connection(("127.0.0.1", site.port), timeout=2) as it:

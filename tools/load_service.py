@@ -2,12 +2,19 @@
 """Durable events a second that jumbetaid takes over HTTP, beside PostgreSQL by as many clients on the same machine.
 
     tools/load_service.py [--program FILE] [--rounds N] [--seconds N] [--shapes LIST]
+    tools/load_service.py [--program FILE] --sync N
+    tools/load_service.py [--program FILE] --ask N
+    tools/load_service.py [--program FILE] --backup N
 
 A shape is CONNECTIONSxBATCH, by default 1x1,16x1,64x1,256x1,16x100. By turns each gets events of 350 bytes for so many
 seconds, 3 rounds of 3: the service by wrk, each event answered once it is synced; PostgreSQL by pgbench, prepared, with
 synchronous_commit, into a table with the keys of a site's. Told are the middle of the rounds, with the least and the most
-rate, and the median and the 99th percentile of the time to an answer. It wants wrk and, for the comparison, initdb and
-pgbench (on Debian wrk, postgresql-15); as root PostgreSQL runs as the user postgres. No part of a gate.
+rate, and the median and the 99th percentile of the time to an answer. --sync tells how long two services take to come to
+one view, where one has N events and where each has N others; --ask how long GET /kinds takes while a service over N events
+takes 1,000 a second, how long it took to start, and its memory; --backup how long a backup of N events takes while 1,000 a
+second come, what it does to their answers, and how long it takes a site whose disk is lost to be restored from it and to
+catch up from its peer: status 1 where an event that was acknowledged isn't there then. It wants wrk and, for the comparison,
+initdb and pgbench (on Debian wrk, postgresql-15); as root PostgreSQL runs as the user postgres. No part of a gate.
 """
 import argparse
 import contextlib
@@ -15,16 +22,18 @@ import glob
 import os
 import re
 import shutil
+import signal
 import statistics
 import subprocess
 import sys
 import tempfile
+import threading
 import time
 
 sys.dont_write_bytecode = True
 TOP = os.path.dirname(os.path.dirname(os.path.realpath(__file__)))
 sys.path.insert(0, f"{TOP}/tools")
-from try_service import Tries  # noqa: E402
+from try_service import Tries, event  # noqa: E402
 
 # The events of a thread of wrk, from a source of its own.
 SCRIPT = """
@@ -128,13 +137,171 @@ class Postgres:
         return float(rate[1]) * batch, times[len(times) // 2], times[int((len(times) - 1) * 0.99)]
 
 
+def fill(site, source, count):
+    for at in range(1, count + 1, 1000):
+        told = site.give(
+            [
+                event(it, source, subject=f"customer/{it * 7919 % 5000}", time="2024-02-29T10:00:00Z", data={"count": it % 19})
+                for it in range(at, min(at + 1000, count + 1))
+            ]
+        )
+        if told.status != 200:
+            sys.exit(f"the service refused: {told}")
+
+
+def of_sync(tries, count):
+    """Seconds in which two services come to one view: one way, and mutually."""
+    took = []
+    for is_mutual in (False, True):
+        sites = [tries.site(f"{name}{is_mutual}").start() for name in ("north", "south")]
+        for site, source in zip(sites, ("/north", "/south")):
+            if is_mutual or source == "/north":
+                fill(site, source, count)
+        for site, other in (sites, sites[::-1]):
+            site.set(f'[[peers]]\nname = "peer"\nurl = "http://127.0.0.1:{other.port}"\n')
+            site.ran.send_signal(signal.SIGHUP)
+        took.append(wait_for_one_view(sites))
+        for site in sites:
+            site.stop(seconds=30)
+    print(f"{count} events: one way {took[0]:.1f} s; as many others each {took[1]:.1f} s, {took[1] / took[0]:.2f} times that")
+
+
+class Writer(threading.Thread):
+    """Gives a service 1,000 events a second, in batches of ten, and notes which were acknowledged and how long each took."""
+
+    def __init__(self, site):
+        super().__init__(daemon=True)
+        self.site, self.over, self.acknowledged, self.times, self.refused = site, threading.Event(), 0, [], 0
+
+    def run(self):
+        number, due = 0, time.monotonic()
+        while not self.over.is_set():
+            began = time.monotonic()
+            told = self.site.give([event(number + it, "/now") for it in range(1, 11)])
+            if told.status == 200:
+                number += 10
+                self.acknowledged = number
+                self.times.append((began, (time.monotonic() - began) * 1000))
+            else:
+                self.refused += 1
+            due += 0.01
+            time.sleep(max(0.0, due - time.monotonic()))
+
+    def end(self):
+        self.over.set()
+        self.join()
+
+    def told(self, begin, end):
+        """How long the answers took that were asked for between two times."""
+        times = sorted(took for at, took in self.times if begin <= at < end)
+        return f"p50 {times[len(times) // 2]:.1f}, p99 {times[int((len(times) - 1) * 0.99)]:.1f}, at most {times[-1]:.1f} ms of {len(times)}"
+
+
+def resident(site):
+    """How many MiB of memory a service has, and how many it had at most."""
+    with open(f"/proc/{site.ran.pid}/status", encoding="ascii") as status:
+        text = status.read()
+    return [int(re.search(rf"{name}:\s+(\d+)", text)[1]) >> 10 for name in ("VmRSS", "VmHWM")]
+
+
+def wait_for_one_view(sites):
+    """Waits until services have one set, and answers how long that took."""
+    began = time.monotonic()
+    while len({it.get("/cover").headers["etag"] for it in sites}) > 1:
+        if time.monotonic() - began > 600:
+            sys.exit("they don't come to one view")
+        time.sleep(0.1)
+    return time.monotonic() - began
+
+
+def of_backup(tries, count):
+    """A backup of a service over so many events while more come; then its disk is lost, and it begins with the backup."""
+    folder = f"{tries.folder}/backups"
+    south = tries.site("south").start()
+    north = tries.site("north", f'backups = "{folder}"\n[[peers]]\nname = "south"\nurl = "http://127.0.0.1:{south.port}"\n').start()
+    south.set(f'[[peers]]\nname = "north"\nurl = "http://127.0.0.1:{north.port}"\n')
+    fill(north, "/before", count)
+    south.ran.send_signal(signal.SIGHUP)
+    wait_for_one_view([north, south])
+    before, writer = resident(north)[0], Writer(north)
+    writer.start()
+    begin = time.monotonic()
+    time.sleep(5)
+    began = time.monotonic()
+    told = north.ask("POST", "/backup", seconds=600)
+    made = time.monotonic()
+    time.sleep(2)
+    writer.end()
+    if told.status != 200 or writer.refused:
+        sys.exit(f"no backup, or {writer.refused} batches were refused: {told}")
+    copied, most = told.json, resident(north)[1]
+    print(f"a backup of {copied['events']} events, {copied['bytes'] >> 20} MiB, in {made - began:.1f} s, while 1,000 events a second came")
+    print(f"answers before: {writer.told(begin, began)}; meanwhile: {writer.told(began, made)}; memory {before} MiB before, at most {most}")
+    wait_for_one_view([north, south])
+    name = south.get("/cover").headers["etag"]
+    north.stop(signal.SIGKILL)
+    for file in glob.glob(f"{north.folder}/site.db*"):
+        os.remove(file)
+    shutil.copy(copied["file"], north.db)
+    began = time.monotonic()
+    north.start(seconds=600)
+    started = time.monotonic() - began
+    has, caught = int(north.get("/kinds").headers["site-events"]), wait_for_one_view([north, south])
+    is_right = north.get("/cover").headers["etag"] == name and north.cover() == {"/before": [[1, count]], "/now": [[1, writer.acknowledged]]}
+    lacked = count + writer.acknowledged - copied["events"]
+    print(f"restored: ready in {started:.1f} s with {has} events; {lacked} more from its peer in {caught:.1f} s")
+    print(f"the set is {'what it was' if is_right else 'ANOTHER'}, with all {count + writer.acknowledged} events that were acknowledged")
+    for site in (north, south):
+        site.stop(seconds=60)
+    return is_right
+
+
+def of_questions(tries, count):
+    """Times of GET /kinds while a service over so many events takes 1,000 a second."""
+    site = tries.site("asked").start()
+    fill(site, "/before", count)
+    site.stop(seconds=60)
+    began = time.monotonic()
+    site.start(seconds=600)
+    opened, times, writer = time.monotonic() - began, [], Writer(site)
+    writer.start()
+    until = time.monotonic() + 20
+    while time.monotonic() < until:
+        began = time.monotonic()
+        site.get("/kinds")
+        times.append((time.monotonic() - began) * 1000)
+        time.sleep(0.02)
+    writer.end()
+    memory = int(re.search(rb"process_resident_memory_bytes (\d+)", site.get("/metrics").body)[1])
+    has = int(site.get("/kinds").headers["site-events"])
+    site.stop(seconds=60)
+    times.sort()
+    p50, p99 = times[len(times) // 2], times[int((len(times) - 1) * 0.99)]
+    started = f"{count} events: start {opened:.1f} s, {memory >> 20} MiB"
+    print(f"{started}; {(has - count) / 20:.0f} events a second beside; GET /kinds p50 {p50:.1f}, p99 {p99:.1f} ms of {len(times)}")
+
+
 def main():
     words = argparse.ArgumentParser(description=__doc__, formatter_class=argparse.RawDescriptionHelpFormatter)
     words.add_argument("--program", default=f"{TOP}/out/service/jumbetaid")
     words.add_argument("--rounds", type=int, default=3)
     words.add_argument("--seconds", type=int, default=3)
     words.add_argument("--shapes", default="1x1,16x1,64x1,256x1,16x100")
+    words.add_argument("--sync", type=int, metavar="N")
+    words.add_argument("--ask", type=int, metavar="N")
+    words.add_argument("--backup", type=int, metavar="N")
     given = words.parse_args()
+    if given.sync or given.ask or given.backup:
+        with tempfile.TemporaryDirectory() as folder, contextlib.ExitStack() as end:
+            tries = Tries(folder, os.path.abspath(given.program))
+            end.callback(tries.end)
+            if given.sync:
+                of_sync(tries, given.sync)
+            if given.ask:
+                of_questions(tries, given.ask)
+            if given.backup and not of_backup(tries, given.backup):
+                return 1
+        return 0
     if not shutil.which("wrk"):
         sys.exit("skipped: wrk isn't there")
     shapes = [tuple(map(int, it.split("x"))) for it in given.shapes.split(",")]
@@ -162,7 +329,8 @@ def main():
             ratio = f"{statistics.median(rates) / statistics.median(other):.2f}" if other else ""
             told = f"{statistics.median(rates):,.0f} ({min(rates):,.0f}..{max(rates):,.0f}) | {statistics.median(middles):.1f}, {statistics.median(lates):.1f}"
             print(f"| {shape[0]} x {shape[1]} | {name} | {told} | {ratio} |")
+    return 0
 
 
 if __name__ == "__main__":
-    main()
+    sys.exit(main())

@@ -12,6 +12,7 @@ import os
 import shutil
 import subprocess
 import sys
+from typing import Any
 
 sys.dont_write_bytecode = True
 TOP = os.path.dirname(os.path.dirname(os.path.realpath(__file__)))
@@ -21,7 +22,7 @@ REGISTRY = "/usr/share/cargo/registry"
 CRATES = (
     *("base64", "clap", "clap-derive", "fastrand", "hyper", "hyper-rustls", "percent-encoding", "prometheus"),
     *("rustls-pemfile", "sd-notify", "serde", "serde-derive", "serde-json", "sha2", "socket2", "subtle", "tokio"),
-    *("tokio-rustls", "toml", "tracing", "tracing-subscriber"),
+    *("tokio-postgres", "tokio-rustls", "toml", "tracing", "tracing-subscriber"),
 )
 OFFLINE = [
     "--offline",
@@ -30,24 +31,26 @@ OFFLINE = [
 ]
 
 
-def install():
+def install() -> None:
     """Installs Debian's packages of the crates, as root."""
     packages = [f"librust-{it}-dev" for it in CRATES]
     subprocess.run(["apt-get", "install", "-y", "--no-install-recommends", *packages], check=True)
 
 
-def has_crates():
+def has_crates() -> bool:
     """Whether Debian's registry has each of the crates."""
     there = {it.rpartition("-")[0].replace("_", "-") for it in os.listdir(REGISTRY)} if os.path.isdir(REGISTRY) else set()
     return there >= set(CRATES)
 
 
-def cargo(words, library, target, **how):
+def cargo(words: list[str], library: str, target: str, **how: Any) -> subprocess.CompletedProcess[Any]:
     """Runs cargo over service/, with the library of a folder and a folder for what it makes."""
     lock = f"{TOP}/service/Cargo.lock"
     if os.path.exists(lock):
         os.remove(lock)
-    environment = {**os.environ, "JUMBETAI_LIB_DIR": os.path.abspath(library), "CARGO_TARGET_DIR": os.path.abspath(target)}
+    # A program has no path of the machine that builds it.
+    flags = f"{os.environ.get('RUSTFLAGS', '')} --remap-path-prefix={TOP}=. --remap-path-prefix={os.path.expanduser('~')}=~".strip()
+    environment = {**os.environ, "RUSTFLAGS": flags, "JUMBETAI_LIB_DIR": os.path.abspath(library), "CARGO_TARGET_DIR": os.path.abspath(target)}
     command, *rest = words
     told = ["cargo", command, *(OFFLINE if has_crates() and command != "fmt" else []), *rest]
     ran = subprocess.run(told, cwd=f"{TOP}/service", env=environment, check=False, **how)
@@ -56,7 +59,7 @@ def cargo(words, library, target, **how):
     return ran
 
 
-def make(folder, library, features=""):
+def make(folder: str, library: str, features: str = "") -> str:
     """Builds the program into a folder, and answers where it is."""
     os.makedirs(folder, exist_ok=True)
     target = f"{folder}/cargo"
@@ -66,7 +69,7 @@ def make(folder, library, features=""):
     return f"{folder}/jumbetaid"
 
 
-def main():
+def main() -> None:
     words = argparse.ArgumentParser(description=__doc__, formatter_class=argparse.RawDescriptionHelpFormatter)
     words.add_argument("--install", action="store_true")
     words.add_argument("--library")

@@ -15,12 +15,12 @@ FOLDER = f"{TOP}/contrib/prometheus"
 NAME = re.compile(r"\b(?:jumbetai|process)_[a-z_]+\b")
 
 
-def text_of(path):
+def text_of(path: str) -> str:
     with open(path, encoding="utf-8") as it:
         return it.read()
 
 
-def names_told():
+def names_told() -> set[str]:
     """The names of the series that the service tells."""
     told = set()
     for name in NAME.findall(text_of(f"{TOP}/service/src/metrics.rs")):
@@ -28,7 +28,7 @@ def names_told():
     return told
 
 
-def main():
+def main() -> int:
     told = names_told()
     answers = []
     for file in ("jumbetai.rules.yml", "dashboard.json", "jumbetai.rules.test.yml"):

@@ -1,12 +1,14 @@
 #!/usr/bin/env python3
 """Tries regions of jumbetaid that lose one another: each in a network namespace of its own, by hand and as root.
 
-    tools/try_partition.py [--program FILE] [--regions N] [--seconds N] [--seed N]     by default 3 regions for 60 seconds
+    tools/try_partition.py [--program FILE] [--regions N] [--seconds N] [--seed N] [--rate N]
 
-Writers give events to each region, and note what was acknowledged, while regions are cut off, cut off one way, slowed
-down, made to lose packets, stopped and killed. Behind it all regions have to come to the same summary, which has each
-event that was acknowledged, and none that nobody gave. Some sources are written by two regions, so that there are
-conflicts. It wants `ip`, `tc` and namespaces. The last line is 'N of M tries of regions that part were right'.
+By default it is 3 regions for 60 seconds, with 270 events a second each. Writers give events to each region, and note
+what was acknowledged, while regions are cut off, cut off one way, slowed down, made to lose packets, stopped and killed.
+Behind it all regions have to come to the same summary, which has each event that was acknowledged, and none that nobody
+gave. Some sources are written by two regions, so that there are conflicts. Each second memory and descriptors of each
+region are looked at, and how they grow is told: by the events, in the last half beside the first one, and what is left of
+both at rest. It wants `ip`, `tc` and namespaces. The last line is 'N of M tries of regions that part were right'.
 """
 import argparse
 import contextlib
@@ -20,6 +22,7 @@ import signal
 import subprocess
 import sys
 import tempfile
+import threading
 import time
 
 sys.dont_write_bytecode = True
@@ -164,6 +167,56 @@ class Net:
         return True
 
 
+def held(region):
+    """How many KiB of memory and how many descriptors a region has; `ip netns exec` became the service."""
+    with open(f"/proc/{region.ran.pid}/status", encoding="ascii") as status:
+        resident = int(re.search(r"VmRSS:\s+(\d+)", status.read())[1])
+    return resident, len(os.listdir(f"/proc/{region.ran.pid}/fd"))
+
+
+def slope(rows):
+    """The bytes of memory that go with an event more, by least squares within each start."""
+    above = below = 0.0
+    for pid in {it[0] for it in rows}:
+        events, memory = ([it[at] for it in rows if it[0] == pid] for at in (1, 2))
+        mean, middle = sum(events) / len(events), sum(memory) / len(memory)
+        above += sum((x - mean) * (y - middle) * 1024 for x, y in zip(events, memory))
+        below += sum((x - mean) ** 2 for x in events)
+    return above / below if below else 0.0
+
+
+class Watch(threading.Thread):
+    """Looks each second how much memory and how many descriptors each region has, and how many events."""
+
+    def __init__(self, regions):
+        super().__init__(daemon=True)
+        self.regions, self.is_over, self.rows = regions, threading.Event(), {it.name: [] for it in regions}
+
+    def run(self):
+        while not self.is_over.wait(1):
+            for it in self.regions:
+                with contextlib.suppress(OSError, ValueError, AttributeError, subprocess.SubprocessError):
+                    pid, events = it.ran.pid, json.loads(it.get("/status", 1) or "{}").get("events")
+                    if events is not None:
+                        self.rows[it.name].append((pid, events, *held(it)))
+
+    def tell(self):
+        """Says how it went; false where a region's descriptors or its memory for an event grew."""
+        is_right = True
+        for name, rows in self.rows.items():
+            last = [it for it in rows if it[0] == rows[-1][0]] if rows else []
+            if len(last) < 2:
+                continue
+            half = len(last) // 2
+            descriptors = [max(it[3] for it in part) for part in (last[:half], last[half:])]
+            told = f"{last[0][2] >> 10} to {last[-1][2] >> 10} MiB over {last[-1][1] - last[0][1]} events"
+            print(f"{name}, {len(last)} s since its last start: {told}; descriptors at most {descriptors[0]}, then {descriptors[1]}")
+            print(f"{name}, {len(rows)} s in {len({it[0] for it in rows})} starts: {slope(rows):.0f} bytes more for an event more")
+            # A connection or two more is no leak.
+            is_right = is_right and descriptors[1] <= descriptors[0] + 8
+        return is_right
+
+
 def trouble(region, dice):
     """Something that happens to a region, for some seconds; answers what."""
     what = dice.choice(["cut", "cut one way", "kill", "hang", "slow", "loss", "rest"])
@@ -196,6 +249,7 @@ def main():
     words.add_argument("--regions", type=int, default=3)
     words.add_argument("--seconds", type=float, default=60)
     words.add_argument("--seed", type=int, default=1)
+    words.add_argument("--rate", type=int, default=270, help="events a second in each region")
     given = words.parse_args()
     dice, did, answers = random.Random(given.seed), {}, []
     with tempfile.TemporaryDirectory() as folder, contextlib.ExitStack() as end:
@@ -206,10 +260,13 @@ def main():
             it.start()
         writers = []
         for it in net.regions:
-            for source, batch, rate in ((f"/{it.name}/single", 1, 60), (f"/{it.name}/batch", 10, 200), ("/shared", 1, 10)):
+            share = given.rate / 270
+            for source, batch, rate in ((f"/{it.name}/single", 1, 60 * share), (f"/{it.name}/batch", 10, 200 * share), ("/shared", 1, 10)):
                 file = f"{folder}/acked.{len(writers)}"
                 words = [sys.executable, os.path.realpath(__file__), "--write", it.address, source, str(batch), str(rate), it.name, file]
                 writers.append((it.started(*words), file))
+        watch = Watch(net.regions)
+        watch.start()
         until = time.monotonic() + given.seconds
         while time.monotonic() < until:
             what = trouble(dice.choice(net.regions), dice)
@@ -218,6 +275,9 @@ def main():
             ran.terminate()
         for ran, _ in writers:
             ran.wait(30)
+        watch.is_over.set()
+        watch.join()
+        answers.append(watch.tell())
         began = time.monotonic()
 
         def same():
@@ -238,6 +298,10 @@ def main():
                 print(f"wrong: {it.name} lacks {len(acked - has)} events that were acknowledged", flush=True)
         for question in QUESTIONS:
             answers.append(len({it.get(f"/{question}", 30) for it in net.regions}) == 1)
+        time.sleep(3)
+        for it in net.regions:
+            memory, descriptors = held(it)
+            print(f"{it.name} at rest: {memory >> 10} MiB, {descriptors} descriptors")
         conflicts = len((net.regions[0].get("/conflicts", 30) or b"").splitlines())
         answers.append(conflicts > 0)
         for it in net.regions:

@@ -3,12 +3,13 @@
 
     tools/try_service.py [--program FILE | --library FOLDER] [--site FILE] [TRY..]
 
-Without --program it is built, over the library of FOLDER or over one that is made; its tests in Rust are run, clippy and
-rustfmt look at it, and docs/SERVICE.md is run. The program `site`, by default crates/site_cli/out/site_cli, has to answer
-the same about the files that it leaves. TRY names some of the tries below. Each takes below ten seconds. What is
-left out since a tool or a right isn't there is told. The last line is 'N of M tries of the service were right'.
+Without --program it is built, over the library of FOLDER or over one that is made; its tests in Rust and docs/SERVICE.md
+are run. The program `site`, by default crates/site_cli/out/site_cli, has to answer the same about the files that it
+leaves. TRY names some of the tries below. Each takes below ten seconds. What is left out since a tool or a right isn't
+there is told. The last line is 'N of M tries of the service were right'.
 """
 import argparse
+import base64
 import contextlib
 import hashlib
 import http.client
@@ -24,6 +25,7 @@ import sys
 import tempfile
 import threading
 import time
+import urllib.parse
 from concurrent.futures import ThreadPoolExecutor
 
 sys.dont_write_bytecode = True
@@ -34,6 +36,7 @@ import service  # noqa: E402
 
 ONE = {"Content-Type": "application/cloudevents+json"}
 MANY = {"Content-Type": "application/cloudevents-batch+json"}
+FEATURES = "tls,postgres"
 QUESTIONS = ("cover", "gaps", "shown", "latest", "kinds", "days", "conflicts")
 # The head of a request whose body is given by hand.
 HEAD = b"POST /events HTTP/1.1\r\nHost: localhost\r\nContent-Type: application/cloudevents+json\r\n"
@@ -68,8 +71,8 @@ class Told:
 class Site:
     """A running service, with its folder for the database, the settings and the log."""
 
-    def __init__(self, tries, name, settings=""):
-        self.tries, self.name, self.prefix = tries, name, []
+    def __init__(self, tries, name, settings="", title=None):
+        self.tries, self.name, self.title, self.prefix = tries, name, title or name, []
         self.folder = f"{tries.folder}/{name}"
         os.makedirs(self.folder)
         self.port, self.ran, self.db = 0, None, f"{self.folder}/site.db"
@@ -78,7 +81,7 @@ class Site:
     def set(self, settings):
         """Writes the settings; those of a table stand behind the others."""
         with open(f"{self.folder}/settings.toml", "w", encoding="utf-8") as out:
-            out.write(f'name = "{self.name}"\ndb = "{self.db}"\nlisten = "127.0.0.1:0"\n{settings}')
+            out.write(f'name = {json.dumps(self.title)}\ndb = "{self.db}"\nlisten = "127.0.0.1:0"\n{settings}')
 
     def start(self, seconds=8):
         """Starts it, where it was before if it was, and waits until it is ready."""
@@ -171,8 +174,8 @@ class Tries:
     def skip(self, what, why):
         print(f"skipped: {what}, since {why}", flush=True)
 
-    def site(self, name, settings=""):
-        return Site(self, f"{self.what}-{name}", settings)
+    def site(self, name, settings="", title=None):
+        return Site(self, f"{self.what}-{name}", settings, title)
 
     def end(self):
         for it in self.running:
@@ -204,7 +207,9 @@ def try_modes(tries):
         is_right = (line.get("source"), line.get("subject"), line.get("extra")) == ("/b €", 'x "y"', "7")
         tries.judge("attributes of headers", is_right and line["datacontenttype"] == "application/json; charset=utf-8", shown)
         tries.judge("numbers of data keep their digits", "9007199254740993" in str(shown), shown)
-        for number, (kind, body, member) in enumerate(((("image/png", b"\0\xff", '"data_base64":"AP8="')), ("text/plain", b"hey", '"data":"hey"'), ("text/plain", b"", '"id":"12"')), 10):
+        for number, (kind, body, member) in enumerate(
+            ((("image/png", b"\0\xff", '"data_base64":"AP8="')), ("text/plain", b"hey", '"data":"hey"'), ("text/plain", b"", '"id":"12"')), 10
+        ):
             headers = {**binary, "ce-id": str(number), "ce-sequence": f"{number:020d}", "Content-Type": kind}
             told = site.give(body, headers)
             shown = site.get("/shown").body.decode()
@@ -321,10 +326,46 @@ def try_questions(tries):
     for it, body in answers.items():
         ran = subprocess.run([tries.other, it, "--db", site.db], capture_output=True, timeout=8, check=False)
         tries.judge(f"{it} of the program", (ran.returncode, ran.stdout) == (0, body), ran.stderr)
-    ran = subprocess.run([tries.other, "take", "--db", site.db, "-"], input=json.dumps(event(9, "/program")).encode(), capture_output=True, timeout=8, check=False)
+    ran = subprocess.run(
+        [tries.other, "take", "--db", site.db, "-"], input=json.dumps(event(9, "/program")).encode(), capture_output=True, timeout=8, check=False
+    )
     site.start()
     tries.judge("what the program took", ran.returncode == 0 and site.cover().get("/program") == [[9, 9]], ran)
     tries.judge("it ends well behind it", site.stop() == 0)
+
+
+def try_get(tries):
+    """The events of a source and an id."""
+    with serving(tries) as site:
+        strange = {"source": "/a b/%C3%A9?x=1&y#z", "id": "1+2 \u00e9\U0001f600"}
+        site.give([event(1, data="b"), {**event(1, data="a"), "id": "1"}, event(2), {**event(3), **strange}])
+
+        def get(source, id, **headers):
+            return site.get(f"/get?{urllib.parse.urlencode({'source': source, 'id': id})}", **headers)
+
+        told = get("/a", "2")
+        shown = [it for it in site.get("/shown").body.splitlines() if json.loads(it)["id"] == "2"]
+        tries.judge("an event", (told.status, told.body.splitlines()) == (200, shown) and told.headers["content-type"] == "application/x-ndjson", told)
+        told = get("/a", "1")
+        both = json.loads(site.get("/conflicts").body)["events"]
+        tries.judge("a conflict, with what is shown first", [json.loads(it) for it in told.body.splitlines()] == both and both[0]["data"] == "a", told)
+        told = get(**strange)
+        tries.judge("any letters", told.status == 200 and json.loads(told.body)["id"] == strange["id"], told)
+        for source, id in (("/a", "3"), ("/b", "1"), ("", ""), ("/a", "1\n")):
+            told = get(source, id)
+            tries.judge("none", (told.status, told.problem) == (404, "no-event") and told.headers["site-events"] == "4", told)
+        for query in ("", "?source=/a", "?id=1", "?source=%FF&id=1", "?source=/a&id=1&min=x"):
+            tries.judge(f"/get{query}", site.get(f"/get{query}").problem == "query", site.get(f"/get{query}"))
+        tag = site.get("/kinds").headers["etag"]
+        told = get("/a", "2", If_None_Match=tag)
+        tries.judge("one tag for all", (told.status, told.headers["etag"]) == (304, tag), told)
+        with ThreadPoolExecutor(1) as pool:
+            waits = pool.submit(lambda: get("/new", "7", If_None_Match=tag, Prefer="wait=8"))
+            time.sleep(0.2)
+            site.give(event(7, "/new"))
+            told = waits.result()
+        tries.judge("a wait for it", told.status == 200 and json.loads(told.body)["source"] == "/new", told)
+        tries.judge("what was given is read", get("/new", "7").status == 200)
 
 
 def try_arrivals(tries):
@@ -376,7 +417,7 @@ def try_arrivals(tries):
 
 def try_tokens(tries):
     """Who may what."""
-    roles = ("write", "read", "peer")
+    roles = ("write", "read", "peer", "backup")
     rows = "".join(f'[[tokens]]\nname = "{it}"\nroles = ["{it}"]\nsha256 = "{hashlib.sha256(f"tok-{it}".encode()).hexdigest()}"\n' for it in roles)
     file = f"{tries.folder}/token"
     with open(file, "w", encoding="utf-8") as out:
@@ -388,8 +429,10 @@ def try_tokens(tries):
             ("GET", "/cover", {"read", "peer"}),
             ("GET", "/summary", {"read", "peer"}),
             ("GET", "/shown", {"read"}),
+            ("GET", "/get", {"read"}),
             ("GET", "/arrivals", {"read"}),
             ("POST", "/delta", {"peer"}),
+            ("POST", "/backup", {"backup"}),
             ("GET", "/metrics", {"read"}),
             ("GET", "/status", {"read"}),
         ):
@@ -407,8 +450,159 @@ def try_tokens(tries):
         for host, status in (("x.example.com", 403), (f"localhost:{site.port}", 200), ("10.1.2.3", 200)):
             told = site.ask("GET", "/kinds", headers={"Host": host})
             tries.judge(f"without tokens, by the name {host}", told.status == status, told)
+        for origin, status in (
+            ("http://evil.example.com", 403),
+            ("null", 403),
+            ("http://127.0.0.1:1", 403),
+            (f"http://127.0.0.1:{site.port}", 200),
+            (f"http://localhost:{site.port}", 403),
+        ):
+            host = {"Host": f"127.0.0.1:{site.port}", "Origin": origin}
+            told = [site.ask("GET", "/kinds", headers=host), site.ask("POST", "/events", "[]", {**MANY, **host})]
+            tries.judge(f"without tokens, by a page of {origin}", [it.status for it in told] == [status] * 2, told)
     ran = subprocess.run([tries.program, "--db", "x.db", "--listen", "0.0.0.0:0"], cwd=tries.folder, capture_output=True, text=True, timeout=5, check=False)
     tries.judge("beyond loopback without tokens", ran.returncode == 1 and "tokens" in ran.stderr and not os.path.exists(f"{tries.folder}/x.db"), ran)
+
+
+def try_sources(tries):
+    """Tokens that may write events of some sources alone, and what whoever may write can do."""
+
+    def row(name, sources):
+        return f'[[tokens]]\nname = "{name}"\nroles = ["write", "read"]\n{sources}sha256 = "{hashlib.sha256(name.encode()).hexdigest()}"\n'
+
+    with serving(tries, row("tills", 'sources = ["/till/*", "/office"]\n') + row("all", "")) as site:
+
+        def give(what, token="tills", headers=None):
+            body = what if isinstance(what, (str, bytes)) else json.dumps(what)
+            return site.ask("POST", "/events", body, {**(headers or (MANY if isinstance(what, list) else ONE)), "Authorization": f"Bearer {token}"})
+
+        def shown():
+            return site.ask("GET", "/shown", headers={"Authorization": "Bearer all"}).body
+
+        tries.judge("events of its sources", give([event(1, "/till/1"), event(1, "/till/2/x"), event(1, "/office")]).json["new"] == 3)
+        before = shown()
+        binary = {"ce-specversion": "1.0", "ce-id": "9", "ce-type": "t", "ce-sequence": f"{9:020d}", "Content-Type": "text/plain"}
+        last = {**event(9, "/till/1")}
+        del last["source"]
+        for what, told in (
+            ("another source", give(event(9, "/bank"))),
+            ("one of many", give([event(it, "/till/1") for it in range(2, 100)] + [event(1, "/tills")])),
+            ("the beginning alone", give(event(9, "/till"))),
+            ("more than a whole source", give(event(9, "/office/2"))),
+            ("escaped", give('{"specversion":"1.0","id":"9","source":"\\u002fbank","type":"t","sequence":"%020d"}' % 9)),
+            ("in binary mode", give(b"x", headers={**binary, "ce-source": "%2Fbank"})),
+            ("with text before and behind", give(f"\n [ {json.dumps(event(9, '/bank'))} ] \n", headers=MANY)),
+        ):
+            tries.judge(f"refused: {what}", (told.status, told.problem) == (403, "source") and told.json["source"], told)
+        # Which of two members counts is for the library to say: it is asked, and whatever it says holds.
+        for first, second in (("/till/1", "/bank"), ("/bank", "/till/1")):
+            told = give(json.dumps({**last, "source": first})[:-1] + f',"source":"{second}"' + "}")
+            tries.judge("a source that is there twice", told.status in (400, 403) or b"/bank" not in shown(), told)
+        tries.judge("nothing of them is taken", shown() == before or b"/bank" not in shown(), shown())
+        tries.judge("events at fault are told as such", give({}).problem == "events-at-fault")
+        tries.judge(
+            "an escaped source of its own", give('{"specversion":"1.0","id":"e","source":"\\u002ftill/1","type":"t","sequence":"%020d"}' % 7).status == 200
+        )
+        # Of two events with one source and id the lesser text is shown, so whoever may write that source decides.
+        give(event(5, "/bank", data="m"), "all")
+        tries.judge("a token without sources may write any", give(event(5, "/bank", data="a"), "all").status == 200 and b'"data":"a"' in shown())
+        told = give(event(5, "/bank", data="A"))
+        tries.judge("one with sources changes nothing of another's", told.problem == "source" and b'"data":"A"' not in shown(), told)
+        both = site.ask("GET", "/conflicts", headers={"Authorization": "Bearer all"}).body
+        tries.judge("what was shown before is told", both.count(b"\n") == 1 and b'"m"' in both, both)
+        text = site.ask("GET", "/metrics", headers={"Authorization": "Bearer all"}).body
+        tries.judge("refusals are counted", b'jumbetai_refused_requests_total{reason="source"} ' in text, text)
+    for what, sources, why in (("a star within", '["/a*/b"]', "star"), ("no name", '[""]', "star"), ("no array", '"/a"', "sources")):
+        file = f"{tries.folder}/sources.toml"
+        with open(file, "w", encoding="utf-8") as out:
+            out.write(f'db = "{tries.folder}/none.db"\n{row("x", f"sources = {sources}" + chr(10))}')
+        ran = subprocess.run([tries.program, "--config", file, "--check"], capture_output=True, text=True, timeout=5, check=False)
+        tries.judge(f"settings: {what}", ran.returncode == 1 and why in ran.stderr, ran)
+
+
+def try_backup(tries):
+    """A backup while events come, and a site that is restored from it."""
+    quick = "[sync]\nevery_ms = 50\n"
+    with serving(tries, quick, name="south") as south:
+        folder = f"{tries.folder}/backups"
+        settings = f'backups = "{folder}"\n{quick}[[peers]]\nname = "south"\nurl = "http://127.0.0.1:{south.port}"\n'
+        with serving(tries, settings, name="north") as north:
+            north.give([event(it, "/first", data="x" * 100) for it in range(1, 2001)])
+            over, given = threading.Event(), []
+
+            def client(number):
+                sent = 0
+                while not over.is_set():
+                    sent += 1
+                    told = north.give([event(sent * 10 + it, f"/c{number}") for it in range(10)])
+                    given.append(told.status)
+
+            threads = [threading.Thread(target=client, args=(it,)) for it in range(4)]
+            for it in threads:
+                it.start()
+            time.sleep(0.3)
+            told = north.ask("POST", "/backup")
+            after = north.get("/arrivals?after=0&limit=1")
+            over.set()
+            for it in threads:
+                it.join()
+            tries.judge("a backup", told.status == 200 and os.path.isfile(told.json["file"]), told)
+            tries.judge("events come meanwhile", set(given) == {200} and after.status == 200, set(given))
+            made, has = told.json, int(north.get("/kinds").headers["site-events"])
+            tries.judge(
+                "its name says the set",
+                os.path.basename(made["file"]) == f"{made['events']:012d}-{made['name']}.db" and 2000 <= made["events"] <= has,
+                (made, has),
+            )
+            tries.judge("nothing else is left", os.listdir(folder) == [os.path.basename(made["file"])], os.listdir(folder))
+            with ThreadPoolExecutor(4) as pool:
+                told = list(pool.map(lambda _: north.ask("POST", "/backup"), range(4)))
+            tries.judge("one at a time", {it.status for it in told} <= {200, 409} and any(it.status == 200 for it in told), told)
+            last = next(it for it in told if it.status == 200).json
+            tag = north.get("/kinds").headers["etag"].strip('"')
+            tries.judge("of a set that stays there is one", (last["events"], last["name"]) == (has, tag) and len(os.listdir(folder)) == 2, last)
+            text = north.get("/metrics").body
+            tries.judge("it is counted", b'jumbetai_backups_total{result="done"}' in text and b"jumbetai_backup_last_success_timestamp_seconds 1" in text, text)
+            north_order = b"".join(north.get(f"/arrivals?after={it}").body for it in range(0, made["events"], 2000))
+            ran = subprocess.run([tries.program, "--db", made["file"], "--check"], capture_output=True, text=True, timeout=8, check=False)
+            tries.judge("--check of it", ran.returncode == 0 and f"{made['events']} events" in ran.stdout, ran)
+            # The south catches up; then the north loses its disk, and begins with the backup.
+            south.set(f'{quick}[[peers]]\nname = "north"\nurl = "http://127.0.0.1:{north.port}"\n')
+            south.ran.send_signal(signal.SIGHUP)
+            tries.judge("the south catches up", north.waits_for(lambda: north.get("/summary").body == south.get("/summary").body))
+            north.stop()
+            os.remove(north.db)
+            with contextlib.suppress(FileNotFoundError):
+                os.remove(f"{north.db}-wal")
+            shutil.copy(made["file"], north.db)
+            north.set(quick)
+            north.start()
+            told = north.get("/kinds")
+            tries.judge("the restored set", (told.headers["site-events"], told.headers["etag"]) == (str(made["events"]), f'"{made["name"]}"'), told.headers)
+            again = b"".join(north.get(f"/arrivals?after={it}").body for it in range(0, made["events"], 2000))
+            tries.judge("each event has its number of arrival", again == b"".join(it + b"\n" for it in north_order.split(b"\n")[: made["events"]]))
+            tries.judge("behind its end nothing came", north.get(f"/arrivals?after={made['events'] + 1}").problem == "beyond")
+            north.set(settings)
+            north.ran.send_signal(signal.SIGHUP)
+            tries.judge(
+                "it catches up",
+                north.waits_for(lambda: north.get("/summary").body == south.get("/summary").body and int(north.get("/kinds").headers["site-events"]) == has),
+            )
+            # What a crash broke off is taken away by the next one, and a folder that can't be written leaves nothing.
+            north.stop()
+            north.set(settings)
+            for it in (".partial-site.db", ".partial-site.db-wal"):
+                with open(f"{folder}/{it}", "wb") as out:
+                    out.write(b"half a copy")
+            north.start()
+            north.give(event(1, "/last"))
+            told = north.ask("POST", "/backup")
+            tries.judge("behind a crash", told.status == 200 and not [it for it in os.listdir(folder) if "partial" in it], (told, os.listdir(folder)))
+        with serving(tries, f'backups = "{north.db}"\n') as site:
+            told = site.ask("POST", "/backup")
+            tries.judge("a folder that is none", told.problem == "backup" and told.status == 503, told)
+        with serving(tries) as site:
+            tries.judge("no folder is set", site.ask("POST", "/backup").problem == "no-backups")
 
 
 def try_webhooks(tries):
@@ -440,21 +634,39 @@ def try_limits(tries):
         tries.judge("chunks without end", said.startswith(b"HTTP/1.1 413"), (said, took))
         said, took = site.raw(b"GET /kinds HTTP/1.1\r\nHost: localhost\r\n" + b"".join(b"X-%d: %s\r\n" % (it, b"y" * 900) for it in range(90)) + b"\r\n")
         tries.judge("a head of 81 KB", said.startswith(b"HTTP/1.1 431"), said[:200])
-        for what, headers in (("200 headers", b"A: b\r\n" * 200), ("a head of 8 MB", (b"A: %s\r\n" % (b"b" * 8000)) * 1000), ("a name without end", b"A" * 4_000_000)):
+        for what, headers in (
+            ("200 headers", b"A: b\r\n" * 200),
+            ("a head of 8 MB", (b"A: %s\r\n" % (b"b" * 8000)) * 1000),
+            ("a name without end", b"A" * 4_000_000),
+        ):
             said, took = site.raw(b"GET /kinds HTTP/1.1\r\nHost: localhost\r\n" + headers + b"\r\n")
             tries.judge(what, took is not None and (not said or said.startswith(b"HTTP/1.1 431")), said[:200])
         # What a proxy may take for one request and the service for two, or the other way round.
         behind = b"POST /events HTTP/1.1\r\nHost: localhost\r\n\r\n"
         chunked = b"%x\r\n%s\r\n0\r\n\r\n" % (len(whole), whole)
-        for what, lengths in (("length and chunks", b"Content-Length: 5\r\nTransfer-Encoding: chunked\r\n"), ("chunks and length", b"Transfer-Encoding: chunked\r\nContent-Length: 5\r\n")):
+        for what, lengths in (
+            ("length and chunks", b"Content-Length: 5\r\nTransfer-Encoding: chunked\r\n"),
+            ("chunks and length", b"Transfer-Encoding: chunked\r\nContent-Length: 5\r\n"),
+        ):
             said, took = site.raw(HEAD + lengths + b"\r\n" + chunked + behind)
             tries.judge(what, said.count(b"HTTP/1.1 ") == 1 and took is not None, (said, took))
-        for what, lengths in (("two lengths", b"Content-Length: 5\r\nContent-Length: 6\r\n"), ("another coding", b"Transfer-Encoding: gzip\r\n"), ("no number", b"Content-Length: +5\r\n")):
+        for what, lengths in (
+            ("two lengths", b"Content-Length: 5\r\nContent-Length: 6\r\n"),
+            ("another coding", b"Transfer-Encoding: gzip\r\n"),
+            ("no number", b"Content-Length: +5\r\n"),
+        ):
             said, took = site.raw(HEAD + lengths + b"\r\n" + chunked + behind)
             tries.judge(what, said.startswith(b"HTTP/1.1 400") and said.count(b"HTTP/1.1 ") == 1, (said, took))
-        said, took = site.raw(HEAD + b"Transfer-Encoding: chunked\r\n\r\n" + b"%x\r\n%s\r\n" % (len(whole) // 2, whole[: len(whole) // 2]) + b"%x\r\n%s\r\n0\r\n\r\n" % (len(whole) - len(whole) // 2, whole[len(whole) // 2 :]))
+        said, took = site.raw(
+            HEAD
+            + b"Transfer-Encoding: chunked\r\n\r\n"
+            + b"%x\r\n%s\r\n" % (len(whole) // 2, whole[: len(whole) // 2])
+            + b"%x\r\n%s\r\n0\r\n\r\n" % (len(whole) - len(whole) // 2, whole[len(whole) // 2 :])
+        )
         tries.judge("an event in chunks", b"HTTP/1.1 200" in said, (said, took))
-        said, _ = site.raw((HEAD + b"Content-Length: %d\r\n\r\n%s" % (len(whole), whole)) * 2 + b"GET /kinds HTTP/1.1\r\nHost: localhost\r\nConnection: close\r\n\r\n")
+        said, _ = site.raw(
+            (HEAD + b"Content-Length: %d\r\n\r\n%s" % (len(whole), whole)) * 2 + b"GET /kinds HTTP/1.1\r\nHost: localhost\r\nConnection: close\r\n\r\n"
+        )
         tries.judge("requests behind one another", said.count(b"HTTP/1.1 200 OK") == 3, said)
         said, _ = site.raw(b"\x16\x03\x01\x02\x00\x01\x00\x01\xfc\x03\x03 TLS at a plain port\r\n\r\n")
         tries.judge("no HTTP", said.startswith(b"HTTP/1.1 400") or not said, said)
@@ -610,7 +822,9 @@ def try_kills(tries):
         for it in threads:
             it.join()
         has = site.cover()
-        tries.judge("nothing that was acknowledged is lost", lost == 0 and acked and all(has[f"/c{it}"][0][1] >= last for it, last in acked.items()), (lost, acked))
+        tries.judge(
+            "nothing that was acknowledged is lost", lost == 0 and acked and all(has[f"/c{it}"][0][1] >= last for it, last in acked.items()), (lost, acked)
+        )
         tries.judge("nothing else is there", all(len(it) == 1 and it[0][0] == 1 and it[0][1] <= acked[int(name[2:])] + 1 for name, it in has.items()), has)
 
 
@@ -677,8 +891,8 @@ def try_lies(tries):
                     if line.lower().startswith(b"content-length:"):
                         length = int(line.split(b":")[1])
                 asked.read(length)
-                path = head.split()[1].split(b"?")[0].decode()
-                status, headers, body = answers[path]
+                path, _, query = head.split()[1].decode().partition("?")
+                status, headers, body = answers[path](query) if callable(answers[path]) else answers[path]
                 head = f"HTTP/1.1 {status} X\r\nContent-Length: {len(body)}\r\n{headers}\r\n"
                 with contextlib.suppress(OSError):
                     connection.sendall(head.encode() + body)
@@ -701,6 +915,13 @@ def try_lies(tries):
                 return site.get("/status").json["peers"]["liar"]
 
             tries.judge("numbers that never come", site.waits_for(lambda: why()["lacking"] == 2**63 - 1 and why()["state"] == "up"), why())
+            more = b'{"sources":{"/l":[[1,9223372036854775807]],"/m":[[1,9223372036854775807]]},"version":1}\n'
+            answers["/cover"] = (200, 'ETag: "w"\r\n', more)
+
+            def lag():
+                return float(re.search(rb'jumbetai_peer_lacking_numbers{peer="liar"} (\S+)', site.get("/metrics").body)[1])
+
+            tries.judge("the lag of such is never below nothing", site.waits_for(lambda: lag() > 2.0**63 + 1), lag())
             for what, path, answer, told in (
                 ("events at fault", "/delta", (200, "Site-Next: 1\r\n", b"[{}]\n"), "a page at fault"),
                 ("no place for the next page", "/delta", (200, "", json.dumps([event(1, "/l")]).encode() + b"\n"), "where the next one begins"),
@@ -711,6 +932,23 @@ def try_lies(tries):
                 answers[path] = answer
                 tries.judge(what, site.waits_for(lambda: why()["state"] == "down" and told in why()["why"]), why())
             tries.judge("the site goes on", site.give(event(1)).status == 200 and list(site.cover()) == ["/a"], site.cover())
+            # Pages without end, each of which says that there is one more, and answers without end.
+            pages = []
+
+            def endless(query):
+                pages.append(query)
+                return 200, f"Site-Next: {int(query.partition('=')[2]) + 1}\r\n", json.dumps([event(1, "/l")]).encode() + b"\n"
+
+            answers.update({"/cover": (200, 'ETag: "v"\r\n', cover), "/delta": endless})
+            tries.judge("pages that bring nothing", site.waits_for(lambda: "nothing new" in (why()["why"] or "")) and len(pages) > 60, (why(), len(pages)))
+            answers["/cover"] = (200, 'ETag: "u"\r\n', b'{"sources":{"/a":[[1,1]],"/l":[[1,1]]},"version":1}\n')
+            asked = len(pages)
+            tries.judge(
+                "blocks that never are the same", site.waits_for(lambda: why()["state"] == "up" and len(pages) > asked + 501), (why(), len(pages) - asked)
+            )
+            answers["/cover"] = (200, 'ETag: "t"\r\n', b" " * (65 << 20))
+            tries.judge("an answer without end", site.waits_for(lambda: "without end" in (why()["why"] or "")), why())
+            tries.judge("the site goes on beside it", site.give(event(2)).status == 200 and site.cover() == {"/a": [[1, 2]], "/l": [[1, 1]]}, site.cover())
 
 
 def try_disk(tries):
@@ -741,6 +979,83 @@ def try_disk(tries):
     told = site.give([event(kept + it, "/full", data="y" * 100) for it in range(1, 101)])
     tries.judge("with more room it goes on", told.status == 200 and site.get("/readyz").status == 200, told)
     tries.judge("it ends well", site.stop() == 0)
+
+
+def try_hung_disk(tries):
+    """A disk that hangs: who gives events waits, who asks doesn't; once it goes on, so does all that waited."""
+    if os.geteuid() or not all(map(shutil.which, ("unshare", "nsenter", "mkfs.ext4", "fsfreeze"))):
+        tries.skip("a disk that hangs", "only root may make one, by mkfs.ext4 and fsfreeze")
+        return
+    site = tries.site("hung")
+    disk, image = f"{site.folder}/disk", f"{site.folder}/image"
+    os.mkdir(disk)
+    with open(image, "wb") as out:
+        out.truncate(64 << 20)
+    subprocess.run(["mkfs.ext4", "-q", image], check=True, capture_output=True)
+    site.db = f"{disk}/site.db"
+    site.set("")
+    site.prefix = ["unshare", "-m", "sh", "-c", f'mount -o loop {image} {disk} && exec "$@"', "x"]
+    try:
+        site.start()
+    except OSError as why:
+        tries.skip("a disk that hangs", f"none can be mounted: {str(why)[-200:]}")
+        return
+
+    def freeze(word):
+        return subprocess.run(["nsenter", "-t", str(site.ran.pid), "-m", "fsfreeze", word, disk], capture_output=True, text=True, timeout=8, check=False)
+
+    site.give(event(1))
+    ran = freeze("-f")
+    if ran.returncode:
+        tries.skip("a disk that hangs", f"this one can't be frozen: {ran.stderr[-200:]}")
+        site.stop()
+        return
+    with ThreadPoolExecutor(4) as pool:
+        waits = [pool.submit(site.give, event(it)) for it in (2, 3, 4)]
+        time.sleep(1)
+        began = time.monotonic()
+        told = [site.get(it).status for it in ("/kinds", "/status", "/metrics", "/healthz", "/readyz")]
+        tries.judge(
+            "who asks doesn't wait", told == [200] * 5 and time.monotonic() - began < 1 and not any(it.done() for it in waits), (told, time.monotonic() - began)
+        )
+        tries.judge("nothing that isn't kept is told", site.cover() == {"/a": [[1, 1]]}, site.cover())
+        tries.judge("it goes on", freeze("-u").returncode == 0)
+        told = [it.result() for it in waits]
+    tries.judge("what waited is kept", {it.status for it in told} == {200} and site.cover() == {"/a": [[1, 4]]}, told)
+    tries.judge("it ends well", site.stop() == 0)
+
+
+def try_clock(tries):
+    """A clock that is put back and forth by years: events come, peers come to one view, and waits end in their time."""
+    fake = "/usr/lib/x86_64-linux-gnu/faketime/libfaketime.so.1"
+    if not os.path.exists(fake):
+        tries.skip("a clock that jumps", "libfaketime isn't there")
+        return
+    clock = f"{tries.folder}/clock"
+
+    def set_clock(shift):
+        with open(f"{clock}.new", "w", encoding="ascii") as out:
+            out.write(shift)
+        os.replace(f"{clock}.new", clock)
+
+    set_clock("+0")
+    faking = ["env", f"LD_PRELOAD={fake}", f"FAKETIME_TIMESTAMP_FILE={clock}", "FAKETIME_NO_CACHE=1", "DONT_FAKE_MONOTONIC=1"]
+    quick = "[sync]\nevery_ms = 50\nwait_seconds = 2\n"
+    with serving(tries, quick, name="south") as south:
+        settings = f'{quick}[[peers]]\nname = "south"\nurl = "http://127.0.0.1:{south.port}"\n'
+        with serving(tries, settings, name="north", prefix=faking) as north:
+            for number, shift in enumerate(("+0", "-300d", "+3000d", "-1d", "+0"), 1):
+                set_clock(shift)
+                south.give(event(number, "/south"))
+                told = north.give(event(number, "/north"))
+                tries.judge(f"an event at {shift}", told.status == 200 and told.json["new"] == 1, told)
+                tries.judge(f"what the peer has at {shift}", north.waits_for(lambda: north.cover().get("/south") == [[1, number]]), north.get("/status").json)
+                tag, began = north.get("/kinds").headers["etag"], time.monotonic()
+                told = north.get("/kinds", If_None_Match=tag, Prefer="wait=1")
+                tries.judge(f"a wait at {shift}", told.status == 304 and 0.9 < time.monotonic() - began < 3, time.monotonic() - began)
+                status = north.get("/status").json
+                shown = abs(status["recent"]["until"] - time.time() - {"-300d": -300, "+3000d": 3000, "-1d": -1}.get(shift, 0) * 86400)
+                tries.judge(f"/status at {shift}", shown < 30 and status["ready"], status)
 
 
 def try_words(tries):
@@ -780,31 +1095,347 @@ def try_watching(tries):
     """/metrics, /status, /healthz, /readyz, the page, and logs."""
     with serving(tries) as site:
         site.give([event(1), event(1)])
-        site.give([{}])
+        site.give([{}, {**event(2), "sequence": "2"}, {}])
+        site.give([event(4), event(9, "/b"), event(4, data=1)])
         text = site.get("/metrics").body.decode()
-        for it in ('jumbetai_taken_events_total{from="http",result="new"} 1', 'jumbetai_taken_events_total{from="http",result="repeated"} 1', 'jumbetai_refused_requests_total{reason="events-at-fault"} 1', "jumbetai_events 1", "jumbetai_commit_seconds_bucket"):
-            tries.judge(it, it in text, text)
+        told = dict(it.rsplit(" ", 1) for it in text.splitlines() if not it.startswith("#"))
+        for name, value in {
+            'jumbetai_taken_events_total{from="http",result="new"}': 4,
+            'jumbetai_taken_events_total{from="http",result="repeated"}': 1,
+            'jumbetai_refused_requests_total{reason="events-at-fault"}': 1,
+            'jumbetai_events_at_fault_total{fault="BadSequence",from="http"}': 1,
+            **{"jumbetai_events": 4, "jumbetai_sources": 2, "jumbetai_gaps": 2, "jumbetai_missing_numbers": 10, "jumbetai_conflicts": 1},
+            **{"jumbetai_commits_total": 2, "jumbetai_commit_seconds_count": 3, "jumbetai_queue_bodies": 0, "jumbetai_queue_bytes": 0},
+            "jumbetai_taken_bytes_total": sum(len(json.dumps(it)) for it in ([event(1), event(1)], [event(4), event(9, "/b"), event(4, data=1)])),
+            **{"jumbetai_database_bytes": os.path.getsize(site.db), "process_open_fds": len(os.listdir(f"/proc/{site.ran.pid}/fd"))},
+        }.items():
+            tries.judge(name, abs(float(told.get(name, "-1")) - value) <= 4 * (name == "process_open_fds"), (told.get(name), value))
+        for name in (
+            "jumbetai_commit_seconds_bucket",
+            "jumbetai_build_info",
+            "process_start_time_seconds",
+            "process_cpu_seconds_total",
+            "jumbetai_http_connections",
+        ):
+            tries.judge(name, any(it.startswith(name) for it in told), text)
+        faults = sum(float(value) for it, value in told.items() if it.startswith("jumbetai_events_at_fault_total"))
+        tries.judge("each event at fault is counted", faults == 3, text)
         if shutil.which("promtool"):
             ran = subprocess.run(["promtool", "check", "metrics"], input=text, capture_output=True, text=True, check=False)
-            tries.judge("promtool check metrics", ran.returncode == 0, ran.stderr)
+            tries.judge("promtool check metrics", (ran.returncode, ran.stdout + ran.stderr) == (0, ""), ran.stdout + ran.stderr)
         else:
             tries.skip("the names of metrics", "promtool isn't there")
         status = site.get("/status").json
-        tries.judge("/status", (status["events"], status["ready"], status["peers"]) == (1, True, {}), status)
+        tries.judge("/status", (status["events"], status["conflicts"], status["ready"], status["peers"]) == (4, 1, True, {}), status)
+        recent = status["recent"]
+        sums = [sum(it[name] for it in recent["rows"]) for name in ("clients", "peers", "refused")]
+        tries.judge("what was done within the last minutes", sums == [4, 0, 1] and recent["rows"][-1]["p99_ms"] > 0 and recent["until"] >= time.time(), recent)
         page = site.get("/")
-        tries.judge("the page", b"<!doctype html>" in page.body and "default-src 'none'" in page.headers["content-security-policy"], page)
+        policy = page.headers["content-security-policy"]
+        tries.judge("the page", b"<!doctype html>" in page.body and "default-src 'none'" in policy and "unsafe" not in policy, page)
         tries.judge("/healthz and /readyz", [site.get(it).status for it in ("/healthz", "/readyz")] == [200, 200])
         site.stop()
         lines = site.text_of_log().splitlines()
         tries.judge("logs are lines of JSON", lines and all({"timestamp", "level", "message"} <= json.loads(it).keys() for it in lines), lines)
         if shutil.which("curl"):
             site.start()
-            body = json.dumps(event(2))
+            body = json.dumps(event(3))
             words = ["curl", "-sS", "--json", body, "-H", f"Content-Type: {ONE['Content-Type']}", f"http://127.0.0.1:{site.port}/events"]
             ran = subprocess.run(words, capture_output=True, text=True, timeout=5, check=False)
             tries.judge("curl", ran.stdout == '{"events":1,"new":1,"repeated":0}\n', ran)
         else:
             tries.skip("curl", "it isn't there")
+
+
+def try_numbers(tries):
+    """Events that carry no number: each text of a source whose home is here gets one, for ever."""
+
+    def bare(text, source="/here/a", **more):
+        return {"specversion": "1.0", "id": str(text), "source": source, "type": "t", **more}
+
+    file = f"{tries.folder}/numbers.db"
+    there = '[[number]]\nsources = ["/there/*"]\nhome = "https://there.example.com"\n'
+    settings = f'numbers = "{file}"\n[[number]]\nsources = ["/here/*"]\n[[number]]\nsources = ["/odd"]\ncarry = true\n{there}'
+    with serving(tries, settings) as site:
+
+        def sequences(source="/here/a"):
+            lines = [json.loads(it) for it in site.get("/shown").body.splitlines()]
+            return {it["id"]: int(it["sequence"]) for it in lines if it["source"] == source}
+
+        told = site.give(bare("x"))
+        tries.judge("an event", (told.status, told.json) == (200, {"events": 1, "new": 1, "repeated": 0, "numbered": 1}), told)
+        told = site.give(bare("x"))
+        tries.judge("the same again", told.json == {"events": 1, "new": 0, "repeated": 1, "numbered": 1}, told)
+        told = site.give([bare("y"), event(1, "/counted"), bare("x"), bare("z", "/here/b"), bare("y")])
+        tries.judge("a batch of both kinds", told.json == {"events": 5, "new": 3, "repeated": 2, "numbered": 4}, told)
+        tries.judge("numbers of a source", sequences() == {"x": 1, "y": 2} and sequences("/here/b") == {"z": 1}, sequences())
+        binary = {"ce-specversion": "1.0", "ce-id": "w", "ce-source": "/here/a", "ce-type": "t", "Content-Type": "text/plain"}
+        tries.judge("binary mode", site.give(b"hey", binary).json.get("numbered") == 1 and sequences()["w"] == 3, sequences())
+        before = site.get("/shown").body
+        for what, events, homes in (
+            ("another source", [bare(1, "/else")], None),
+            ("a source that is numbered elsewhere", [bare(1), bare(2, "/there/x")], {"/there/x": "https://there.example.com"}),
+            ("another fault beside", [bare(1), {**bare(2), "type": ""}], None),
+            ("a number that is none", [bare(1), {**bare(2), "sequence": "7"}], None),
+            ("data that isn't carried", [bare(1, data=1.5)], None),
+        ):
+            told = site.give(events)
+            tries.judge(f"refused: {what}", told.problem == "events-at-fault" and told.json.get("homes") == homes, told)
+        tries.judge("nothing of them is taken", site.get("/shown").body == before)
+        tries.judge("or numbered", site.give(bare("v")).json["new"] == 1 and sequences()["v"] == 4, sequences())
+        told = site.give('{"specversion":"1.0","id":"p","source":"/odd","type":"t","data":{"price":12.50, "n":1e3}}')
+        line = next((it for it in site.get("/shown").body.decode().splitlines() if '"/odd"' in it), "{}")
+        carried = base64.b64decode(json.loads(line).get("data_base64", ""))
+        tries.judge(
+            "data as it came",
+            told.json.get("numbered") == 1 and carried == b'{"price":12.50, "n":1e3}' and json.loads(line)["datacontenttype"] == "application/json",
+            (told, line),
+        )
+        tries.judge("data as it came, with a number", site.give({**event(2, "/odd"), "data": 0.5}).json.get("new") == 1)
+        with ThreadPoolExecutor(16) as pool:
+            told = list(pool.map(lambda it: site.give([bare(it, "/here/many"), bare(it + 1, "/here/many")]), range(200)))
+        numbers = sequences("/here/many")
+        tries.judge(
+            "many at once", all(it.status == 200 for it in told) and sorted(numbers.values()) == list(range(1, 202)) and len(numbers) == 201, len(numbers)
+        )
+        # Killed while it numbers: what is given again has the number that it has.
+        over = threading.Event()
+
+        def client(number):
+            sent = 0
+            while not over.is_set():
+                try:
+                    if site.give(bare(f"{number}-{sent}", "/here/kill")).status == 200:
+                        sent += 1
+                except (OSError, http.client.HTTPException):
+                    time.sleep(0.02)
+            return sent
+
+        with ThreadPoolExecutor(8) as pool:
+            clients = [pool.submit(client, it) for it in range(8)]
+            for _ in range(3):
+                time.sleep(0.3)
+                site.stop(signal.SIGKILL)
+                site.start()
+            over.set()
+            sent = sum(it.result() for it in clients)
+        numbers = sequences("/here/kill")
+        given = site.give(
+            [
+                bare(f"{number}-{it}", "/here/kill")
+                for number in range(8)
+                for it in range(max([int(name.split("-")[1]) for name in numbers if name.startswith(f"{number}-")] + [-1]) + 2)
+            ]
+        )
+        numbers = sequences("/here/kill")
+        tries.judge(
+            "no gap and no double behind kills",
+            given.status == 200 and sorted(numbers.values()) == list(range(1, len(numbers) + 1)) and sent <= len(numbers) <= sent + 16,
+            (given, sent, len(numbers)),
+        )
+        tries.judge("no conflict", site.get("/conflicts").body == b"")
+    for what, text in (("no file", '[[number]]\nsources = ["/a"]\n'), ("a star within", f'numbers = "{file}"\n[[number]]\nsources = ["*a"]\n')):
+        with open(f"{tries.folder}/number.toml", "w", encoding="utf-8") as out:
+            out.write(f'db = "{tries.folder}/none.db"\n{text}')
+        ran = subprocess.run([tries.program, "--config", f"{tries.folder}/number.toml", "--check"], capture_output=True, text=True, timeout=5, check=False)
+        tries.judge(f"settings: {what}", ran.returncode == 1 and "number" in ran.stderr, ran)
+
+
+@contextlib.contextmanager
+def database(tries):
+    """A PostgreSQL of its own with an outbox; none where there is no PostgreSQL."""
+    from load_service import Postgres
+
+    folder = tempfile.mkdtemp(dir="/tmp")
+    server = Postgres(folder)
+    if not server.is_there():
+        tries.skip("an outbox in PostgreSQL", "it isn't there (postgresql-15)")
+        shutil.rmtree(folder)
+        yield None
+        return
+    try:
+        server.start()
+        server.sql = lambda text, *more: server.run(
+            "psql", "-h", server.folder, "-U", "load", "-v", "ON_ERROR_STOP=1", "-qAt", *more, "-c", text, "postgres"
+        ).strip()
+        server.sql("SELECT 1", "-f", f"{TOP}/contrib/postgresql/outbox.sql")
+        yield server
+    finally:
+        with contextlib.suppress(subprocess.SubprocessError):
+            server.stop()
+        shutil.rmtree(folder)
+
+
+def try_postgres(tries):
+    """Events out of PostgreSQL: writers that roll back, wait for one another and are killed; a service that is killed."""
+    asked = [tries.program, "--config", "/dev/stdin", "--check"]
+    ran = subprocess.run(asked, input=f'db = "{tries.folder}/none"\n[postgres]\nurl = "x"\n', capture_output=True, text=True, check=False)
+    if "the feature postgres" in ran.stderr:
+        tries.skip("an outbox in PostgreSQL", "the program is built without it")
+        return
+    with database(tries) as db:
+        if db is None:
+            return
+        settings = f'[postgres]\nurl = "host={db.folder} user=load dbname=postgres"\nevery_ms = 20\n'
+        with serving(tries, settings) as site:
+            data = '{"b":1,"a":[12345678901234567,"x\\u00e9"]}'
+            db.sql(f"""SELECT jumbetai.publish('/shop/"é\\', 'sold', '{data}', 'it''s', '2024-02-29 10:00+02', 'own', '{{"region":"eu"}}')""")
+            tries.judge("an event comes", site.waits_for(lambda: site.cover()), site.log()[-3:])
+            line = json.loads(site.get("/shown").body)
+            want = {
+                **{"specversion": "1.0", "source": '/shop/"é\\', "type": "sold", "subject": "it's", "id": "own", "region": "eu", "sequence": f"{1:020d}"},
+                **{"time": "2024-02-29T08:00:00.000000Z", "datacontenttype": "application/json", "data": {"b": 1, "a": [12345678901234567, "xé"]}},
+            }
+            tries.judge("each attribute", {name: line.get(name) for name in want} == want, line)
+            for what, values in (
+                ("a fraction", "'/a', 't', '1.5'"),
+                ("a large number", "'/a', 't', '[9223372036854775808]'"),
+                ("an exponent", "'/a', 't', '1e3'"),
+                ("no source", "'', 't'"),
+                ("no type", "'/a', NULL"),
+                ("a control character", "'/a', E'\\x07'"),
+                ("half a character", "'/a', 't', '\"\\ud800\"'"),
+                ("an extension that is an attribute", "'/a', 't', extensions => '{\"sequence\":\"1\"}'"),
+                ("a large event", "'/a', 't', to_json(repeat('x', 262000))"),
+            ):
+                try:
+                    db.sql(f"SELECT jumbetai.publish({values})")
+                    tries.judge(f"refused: {what}", False)
+                except subprocess.CalledProcessError as why:
+                    tries.judge(f"refused: {what}", "ERROR" in why.stderr, why.stderr)
+            db.sql("SELECT jumbetai.publish('/a', 't', E'{\"x\":\n\"1.5e3 9223372036854775808\"}')")
+            tries.judge("such in texts", site.waits_for(lambda: "/a" in site.cover()))
+            lines = db.sql("SELECT event FROM jumbetai.outbox ORDER BY source, number")
+            tries.judge("an event is a line", sorted(json.loads(it)["source"] for it in lines.splitlines()) == ["/a", '/shop/"é\\'], lines)
+            if os.path.exists(tries.other):
+                ran = subprocess.run(
+                    [tries.other, "follow", "--db", f"{tries.folder}/follow.db"], input=f"{lines}\n".encode(), capture_output=True, timeout=8, check=False
+                )
+                tries.judge("the program takes them", ran.returncode == 0 and ran.stdout.count(b'"new":1') == 2, ran)
+            db.sql("SELECT jumbetai.publish('/script', 't'); SELECT jumbetai.number(1)")
+            tries.judge("what another one numbered", site.waits_for(lambda: "/script" in site.cover()))
+            # Eight writers, of which each third transaction is rolled back; rows that two change keep their order; a
+            # transaction that is open for long beside.
+            db.sql("CREATE TABLE stock (name text PRIMARY KEY, count int); INSERT INTO stock VALUES ('a', 0), ('b', 0), ('c', 0)")
+            with open(f"{db.folder}/write.sql", "w", encoding="ascii") as out:
+                out.write(
+                    "\\set row random(0, 2)\n\\set dies random(0, 2)\nBEGIN;\n"
+                    "UPDATE stock SET count = count + 1 WHERE name = chr(97 + :row) RETURNING count AS c \\gset\n"
+                    "SELECT jumbetai.publish('/stock/' || :row, 'counted', to_json(:c), "
+                    "id => :row || '-' || :c || '-' || :client_id || '-' || random()::text);\n"
+                    "\\if :dies\nCOMMIT;\n\\else\nROLLBACK;\n\\endif\n"
+                )
+            long = subprocess.Popen(
+                [*db.user, f"{db.bin}/psql", "-h", db.folder, "-U", "load", "-qAt", "postgres"],
+                cwd=db.folder,
+                stdin=subprocess.PIPE,
+                stdout=subprocess.DEVNULL,
+                text=True,
+            )
+            long.stdin.write("BEGIN; SELECT jumbetai.publish('/long', 't');\n")
+            long.stdin.flush()
+            words = [*db.user, f"{db.bin}/pgbench", "-h", db.folder, "-U", "load", "-n", "-c", "8", "-j", "2", "-t", "30", "-f", "write.sql", "postgres"]
+            writers = subprocess.Popen(words, cwd=db.folder, stdout=subprocess.PIPE, stderr=subprocess.STDOUT, text=True)
+            tries.running += [long, writers]
+            for _ in range(2):
+                time.sleep(0.3)
+                site.stop(signal.SIGKILL)
+                site.start()
+            said = writers.communicate(timeout=20)[0]
+            tries.judge("the writers end", writers.returncode == 0, said)
+            tries.judge("what isn't committed doesn't come", "/long" not in site.cover())
+            long.communicate("COMMIT;\n", timeout=5)
+            counts = [int(it) for it in db.sql("SELECT count FROM stock ORDER BY name").split()]
+            want = {f"/stock/{it}": [[1, count]] for it, count in enumerate(counts) if count}
+            tries.judge(
+                "each committed event, once",
+                site.waits_for(lambda: {name: it for name, it in site.cover().items() if "stock" in name} == want),
+                (site.cover(), want),
+            )
+            tries.judge("what was committed late too", site.waits_for(lambda: site.cover().get("/long") == [[1, 1]]), site.cover())
+            lines = [json.loads(it) for it in site.get("/shown").body.splitlines()]
+            order = {name: [it["data"] for it in sorted((it for it in lines if it["source"] == name), key=lambda it: it["sequence"])] for name in want}
+            tries.judge("in the order of the rows that they tell of", all(it == list(range(1, len(it) + 1)) for it in order.values()), order)
+            tries.judge(
+                "it is told", b'jumbetai_outbox_up{kind="postgresql"} 1' in site.get("/metrics").body and b'from="postgres"' in site.get("/metrics").body
+            )
+            # The database goes and comes again; a restored site takes what it lacks again.
+            db.run("pg_ctl", "-D", "data", "-m", "immediate", "-w", "stop")
+            tries.judge("a database that is away is told", site.waits_for(lambda: b'jumbetai_outbox_up{kind="postgresql"} 0' in site.get("/metrics").body))
+            db.run("pg_ctl", "-D", "data", "-w", "-l", "log", "-o", f"-k {db.folder} -h '' -c max_connections=300", "start")
+            db.sql("SELECT jumbetai.publish('/again', 't')")
+            tries.judge("it is read again", site.waits_for(lambda: "/again" in site.cover()), site.log()[-3:])
+            whole = site.get("/summary").body
+            site.stop()
+            os.remove(site.db)
+            with contextlib.suppress(FileNotFoundError):
+                os.remove(f"{site.db}-wal")
+            site.set(f"{settings}trim = true\n")
+            site.start()
+            tries.judge("a site that lost all has all again", site.waits_for(lambda: site.get("/summary").body == whole), site.cover())
+            tries.judge(
+                "what all have is let go of",
+                site.waits_for(lambda: db.sql("SELECT count(*) FROM jumbetai.outbox") == "0"),
+                db.sql("SELECT count(*) FROM jumbetai.outbox"),
+            )
+            db.sql("SELECT jumbetai.publish('/a', 't')")
+            tries.judge("numbers go on behind that", site.waits_for(lambda: site.cover()["/a"] == [[1, 2]]), site.cover())
+
+
+def try_prometheus(tries):
+    """A real Prometheus with a token that may read, which loads the alerts."""
+    if not shutil.which("prometheus"):
+        tries.skip("a real Prometheus", "it isn't there")
+        return
+    token = f'[[tokens]]\nname = "watch"\nroles = ["read"]\nsha256 = "{hashlib.sha256(b"watch").hexdigest()}"\n'
+    with serving(tries, token) as site, socket.create_server(("127.0.0.1", 0)) as free:
+        folder, port = f"{tries.folder}/prometheus", free.getsockname()[1]
+        free.close()
+        os.mkdir(folder)
+        with open(f"{folder}/settings.yml", "w", encoding="utf-8") as out:
+            out.write(
+                f"global: {{scrape_interval: 200ms, evaluation_interval: 200ms}}\nrule_files: [{TOP}/contrib/prometheus/jumbetai.rules.yml]\n"
+                f"scrape_configs:\n- job_name: jumbetai\n  authorization: {{credentials: watch}}\n  static_configs: [{{targets: ['127.0.0.1:{site.port}']}}]\n"
+            )
+        words = [f"--config.file={folder}/settings.yml", f"--storage.tsdb.path={folder}/data", f"--web.listen-address=127.0.0.1:{port}"]
+        with open(f"{folder}/log", "wb") as log:
+            ran = subprocess.Popen(["prometheus", *words], stdout=log, stderr=log)
+        tries.running.append(ran)
+
+        def asked(path):
+            connection = http.client.HTTPConnection("127.0.0.1", port, timeout=5)
+            with contextlib.closing(connection), contextlib.suppress(OSError, ValueError):
+                connection.request("GET", f"/api/v1/{path}")
+                return json.loads(connection.getresponse().read())["data"]
+            return {}
+
+        def value(name):
+            found = asked(f"query?query={name}").get("result") or [{"value": [0, None]}]
+            return found[0]["value"][1]
+
+        tries.judge("it is scraped", site.waits_for(lambda: value("up") == "1" and value("jumbetai_events") == "0"), asked("targets"))
+        rules = [it for group in asked("rules").get("groups", []) for it in group["rules"]]
+        tries.judge(
+            "its alerts are loaded",
+            len(rules) > 8 and site.waits_for(lambda: all(it["health"] == "ok" for group in asked("rules")["groups"] for it in group["rules"])),
+            rules,
+        )
+        ran.terminate()
+        ran.wait(5)
+
+
+def try_page(tries):
+    """The page in a browser: tools/try_page.py, where there is Chromium."""
+    import try_page as pages
+
+    pages.try_all(tries, ("empty", "business", "markup", "tokens"))
+
+
+def try_page_sizes(tries):
+    """The page with many sources, large numbers and long names."""
+    import try_page as pages
+
+    pages.try_all(tries, ("many", "large", "long"))
 
 
 def try_tls(tries):
@@ -829,7 +1460,8 @@ def try_tls(tries):
     run("x509", "-req", "-in", "csr", "-CA", "ca.pem", "-CAkey", "ca.key", "-CAcreateserial", "-extfile", "ext", "-out", "cert.pem", "-days", "2")
     with open(f"{folder}/peer.token", "w", encoding="ascii") as out:
         out.write("a token\n")
-    both = f'[tls]\ncertificate = "{folder}/cert.pem"\nkey = "{folder}/key.pem"\n[sync]\nevery_ms = 50\nca = "{folder}/ca.pem"\n[[tokens]]\nname = "all"\nroles = ["write", "read", "peer"]\nfile = "{folder}/peer.token"\n'
+    both = f'[tls]\ncertificate = "{folder}/cert.pem"\nkey = "{folder}/key.pem"\n[sync]\nevery_ms = 50\nca = "{folder}/ca.pem"\n'
+    both += f'[[tokens]]\nname = "all"\nroles = ["write", "read", "peer"]\nfile = "{folder}/peer.token"\n'
     import ssl
 
     context = ssl.create_default_context(cafile=f"{folder}/ca.pem")
@@ -851,9 +1483,9 @@ def try_tls(tries):
 
 
 @contextlib.contextmanager
-def serving(tries, settings="", name="site", prefix=()):
+def serving(tries, settings="", name="site", prefix=(), title=None):
     """A service that runs, and ends well behind the block unless it was ended there."""
-    site = tries.site(f"{name}{len(tries.running)}", settings)
+    site = tries.site(f"{name}{len(tries.running)}", settings, title)
     site.prefix = list(prefix)
     yield site.start()
     if site.ran.poll() is None:
@@ -871,20 +1503,10 @@ def built(folder, given, tries):
     if given.library is None:
         given.library = f"{folder}/library"
         library.make(given.library, library.proved_part())
-    program = service.make(folder, given.library, "tls")
-    ran = service.cargo(["test", "--release", "--features", "tls"], given.library, f"{folder}/cargo", capture_output=True, text=True)
+    program = service.make(folder, given.library, FEATURES)
+    ran = service.cargo(["test", "--release", "--features", FEATURES], given.library, f"{folder}/cargo", capture_output=True, text=True)
     passed = re.search(r"test result: ok\. (\d+) passed; 0 failed", ran.stdout)
     tries.judge("tests in Rust", passed and int(passed[1]) > 20, ran.stdout + ran.stderr)
-    linters = {
-        "cargo-clippy": ["clippy", "--release", "--all-targets", "--features", "tls", "--", "-D", "warnings"],
-        "rustfmt": ["fmt", "--check"],
-    }
-    for tool, words in linters.items():
-        if shutil.which(tool):
-            ran = service.cargo(words, given.library, f"{folder}/cargo", capture_output=True, text=True)
-            tries.judge(tool, ran.returncode == 0, ran.stdout + ran.stderr)
-        else:
-            tries.skip(f"the service by {tool}", "it isn't there")
     ran = subprocess.run([f"{TOP}/tools/run_guide.py", "docs/SERVICE.md"], capture_output=True, text=True, timeout=150, check=False)
     tries.judge("docs/SERVICE.md", ran.returncode == 0, ran.stdout + ran.stderr)
     return program

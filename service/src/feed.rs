@@ -150,8 +150,17 @@ fn messages_of(page: &Page, next: &mut u64) -> Result<Bytes, Error> {
 }
 
 /// The events of a page, each the very text that stands in it.
-fn events_of(page: &Page) -> Result<Vec<&RawValue>, Error> {
+pub fn events_of(page: &Page) -> Result<Vec<&RawValue>, Error> {
     serde_json::from_str(&page.json).map_err(|_| Error::OutOfMemory)
+}
+
+/// The events of a body, an object or an array of them, each the very text that stands in it; none where it isn't JSON.
+pub fn raw_events(bytes: &[u8]) -> Option<Vec<&RawValue>> {
+    let is_array = bytes.iter().find(|it| !it.is_ascii_whitespace()) == Some(&b'[');
+    match is_array {
+        true => serde_json::from_slice(bytes).ok(),
+        false => serde_json::from_slice(bytes).ok().map(|it| vec![it]),
+    }
 }
 
 fn accepts_stream(headers: &HeaderMap) -> bool {

@@ -1,38 +1,129 @@
 //! Events that come: bodies within their limits, `POST /events` and `/check`, and the handshake of webhooks.
 
+use crate::access::Sources;
 use crate::events::{self, Mode, Unread, ACCEPTED};
 use crate::keeper::{Body as Given, Kept, Refusal};
 use crate::library::{self, Error};
+use crate::number::{Numberer, Plan, Planned};
+use crate::peers::now;
 use crate::problems::{bare, plain, problem, set, Answered, JSON};
 use crate::routes::Service;
 use hyper::body::{Body, Bytes, HttpBody};
 use hyper::{Request, StatusCode};
 use serde_json::{json, Value};
-use std::time::Duration;
+use std::collections::BTreeMap;
+use std::sync::Arc;
+use std::time::{Duration, Instant};
 
 /// Bytes that are read on the thread of their connection; more go to a thread of their own.
 const SMALL: usize = 64 << 10;
 
 impl Service {
-    /// `POST /events`: takes all events of the request, or none, and answers once they are synced.
-    pub async fn take(&self, request: Request<Body>) -> Answered {
+    /// `POST /events`: takes all events of the request, or none, and answers once they are synced. All have to be of the
+    /// sources of which whoever asks may give some.
+    pub async fn take(&self, request: Request<Body>, sources: Sources) -> Answered {
+        let start = Instant::now();
         let (mode, given) = match self.read(request).await {
             Ok(read) => read,
             Err(refused) => return refused,
         };
         let bytes = given.bytes.clone();
-        match self.keeper.take(given).await {
-            Ok(kept) => self.taken(kept),
-            Err(Refusal::Faulty) => self.faulty(mode, bytes).await,
+        if sources != Sources::Any {
+            match on_thread(bytes.clone(), library::sources_of).await {
+                Ok(found) => {
+                    if let Err(refused) = self.of_sources(&found, &sources) {
+                        return refused;
+                    }
+                }
+                Err(Error::NoEvents | Error::NoNumber) => return self.number(mode, given, &sources, start).await,
+                Err(why) => return self.refused(Refusal::Store(why)),
+            }
+        }
+        let (room, bytes) = (given.room, bytes);
+        match self.keeper.take(Given { bytes: bytes.clone(), room }).await {
+            Ok(kept) => self.taken(kept, start.elapsed(), 0),
+            Err(Refusal::Faulty) if self.settings.number.is_empty() => self.faulty(mode, bytes, BTreeMap::new()).await,
+            Err(Refusal::Faulty) => match self.keeper.room(bytes.len()).await {
+                Ok(room) => self.number(mode, Given { bytes, room }, &sources, start).await,
+                Err(why) => self.refused(why),
+            },
             Err(why) => self.refused(why),
         }
     }
 
-    fn taken(&self, kept: Kept) -> Answered {
+    /// Takes events of which some have no number, where the settings number them; else refuses them.
+    async fn number(&self, mode: Mode, given: Given, sources: &Sources, start: Instant) -> Answered {
+        let Given { bytes, room } = given;
+        let numbers = self.settings.number.clone();
+        let planning = move |bytes: &[u8]| Plan::of(bytes, &library::faults(bytes)?, &numbers);
+        let plan = match self.settings.number.is_empty() {
+            true => Ok(Planned::Refuse(BTreeMap::new())),
+            false => on_thread(bytes.clone(), planning).await,
+        };
+        let plan = match plan {
+            Ok(Planned::Number(plan)) => plan,
+            Ok(Planned::Refuse(homes)) => return self.faulty(mode, bytes, homes).await,
+            Err(Error::NoEvents | Error::NoNumber) => return self.faulty(mode, bytes, BTreeMap::new()).await,
+            Err(why) => return self.refused(Refusal::Store(why)),
+        };
+        if let Err(refused) = self.of_sources(&plan.sources, sources) {
+            return refused;
+        }
+        let numbered = plan.count();
+        let text = match self.numberer() {
+            _ if numbered == 0 => Ok("[]".to_owned()),
+            Some(numberer) => numberer.number(plan.to_number()).await,
+            None => Err(Error::Busy),
+        };
+        let whole = match text {
+            Ok(text) => plan.with(&text),
+            Err(Error::TooLarge) => return self.faulty_as("TooLarge", "with its number it has more than 256 KiB"),
+            Err(why) => return self.refused(Refusal::Store(why)),
+        };
+        let Some(bytes) = whole else {
+            return self.refused(Refusal::Store(Error::NotUtf8));
+        };
+        match self.keeper.take(Given { bytes: bytes.clone(), room }).await {
+            Ok(kept) => self.taken(kept, start.elapsed(), numbered),
+            Err(Refusal::Faulty) => self.faulty(mode, bytes, BTreeMap::new()).await,
+            Err(why) => self.refused(why),
+        }
+    }
+
+    fn numberer(&self) -> Option<Arc<Numberer>> {
+        self.numberer.read().unwrap().clone()
+    }
+
+    fn of_sources(&self, found: &[String], sources: &Sources) -> Result<(), Answered> {
+        match found.iter().find(|it| !sources.has(it)) {
+            Some(other) => Err(self.of_another(other)),
+            None => Ok(()),
+        }
+    }
+
+    fn faulty_as(&self, fault: &str, why: &str) -> Answered {
+        self.refuse("events-at-fault");
+        let errors = json!([{"fault": fault, "detail": why, "pointer": "#"}]);
+        problem(StatusCode::BAD_REQUEST, "events-at-fault", "Events at fault", why)
+            .with(json!({"faults": 1, "errors": errors}))
+    }
+
+    fn of_another(&self, source: &str) -> Answered {
+        self.refuse("source");
+        let detail = "nothing was taken: the token's sources are others";
+        problem(StatusCode::FORBIDDEN, "source", "The token may not give events of that source", detail)
+            .with(json!({ "source": source }))
+    }
+
+    fn taken(&self, kept: Kept, time: Duration, numbered: usize) -> Answered {
         let Kept { fresh, repeated, count } = kept;
+        self.metrics.recent.taken(now(), fresh, time);
         self.metrics.taken.with_label_values(&["new", "http"]).inc_by(fresh);
         self.metrics.taken.with_label_values(&["repeated", "http"]).inc_by(repeated);
-        let body = json!({"events": fresh + repeated, "new": fresh, "repeated": repeated});
+        let mut body = json!({"events": fresh + repeated, "new": fresh, "repeated": repeated});
+        if numbered > 0 {
+            body["numbered"] = numbered.into();
+        }
         let mut answer = plain(StatusCode::OK, JSON, format!("{body}\n"));
         set(&mut answer, "site-events", &count.to_string());
         answer
@@ -47,7 +138,7 @@ impl Service {
         let bytes = given.bytes.clone();
         match on_thread(bytes.clone(), library::test).await {
             Ok(events) => plain(StatusCode::OK, JSON, format!("{}\n", json!({"events": events, "faults": 0}))),
-            Err(Error::NoEvents | Error::NoNumber) => self.faulty(mode, bytes).await,
+            Err(Error::NoEvents | Error::NoNumber) => self.faulty(mode, bytes, BTreeMap::new()).await,
             Err(why) => self.refused(Refusal::Store(why)),
         }
     }
@@ -134,7 +225,7 @@ impl Service {
     }
 
     fn unread(&self, why: Unread) -> Answered {
-        self.metrics.refused.with_label_values(&["unread"]).inc();
+        self.refuse("unread");
         match why {
             Unread::Malformed(detail) => problem(StatusCode::BAD_REQUEST, "malformed", "No event", detail).into(),
             Unread::Media(detail) => {
@@ -166,17 +257,24 @@ impl Service {
                 (StatusCode::SERVICE_UNAVAILABLE, "unknown", "It isn't known whether the events are kept", detail)
             }
         };
-        self.metrics.refused.with_label_values(&[name]).inc();
+        self.refuse(name);
         problem(status, name, title, detail).into()
     }
 
-    /// The problem of a body at fault, with an entry for each event at fault, in the words of `site check`.
-    async fn faulty(&self, mode: Mode, bytes: Bytes) -> Answered {
+    fn refuse(&self, reason: &str) {
+        self.metrics.refused.with_label_values(&[reason]).inc();
+        self.metrics.recent.refused(now());
+    }
+
+    /// The problem of a body at fault, with an entry for each event at fault, in the words of `site check`, and the homes of
+    /// sources that are numbered elsewhere.
+    async fn faulty(&self, mode: Mode, bytes: Bytes, homes: BTreeMap<String, String>) -> Answered {
         let lines = match on_thread(bytes, library::faults).await {
             Ok(lines) => lines,
             Err(why) => return self.refused(Refusal::Store(why)),
         };
-        self.metrics.refused.with_label_values(&["events-at-fault"]).inc();
+        self.refuse("events-at-fault");
+        self.metrics.count_faults(&lines, "http");
         let entries: Vec<Value> = lines.lines().filter_map(|it| serde_json::from_str(it).ok()).collect();
         let faults = entries.len();
         let detail = match entries.first() {
@@ -185,8 +283,10 @@ impl Service {
         };
         let entries = entries.into_iter().take(self.settings.limits.faults);
         let errors: Vec<Value> = entries.map(|it| entry_of(mode, it)).collect();
-        problem(StatusCode::BAD_REQUEST, "events-at-fault", "Events at fault", detail)
-            .with(json!({"faults": faults, "errors": errors}))
+        problem(StatusCode::BAD_REQUEST, "events-at-fault", "Events at fault", detail).with(match homes.is_empty() {
+            true => json!({"faults": faults, "errors": errors}),
+            false => json!({"faults": faults, "errors": errors, "homes": homes}),
+        })
     }
 
     /// `OPTIONS /events`: what is taken, and the protection of CloudEvents' webhooks against abuse.

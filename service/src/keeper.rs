@@ -6,7 +6,7 @@
 
 use crate::library::{Error, Lag, Page, Site, Taken};
 use crate::metrics::Metrics;
-use crate::reader::{self, Answer, Ask, What};
+use crate::reader::{self, Answer, Ask, Figures, What};
 use crate::settings::Limits;
 use hyper::body::Bytes;
 use std::path::Path;
@@ -189,10 +189,13 @@ impl Keeper {
             return Err(Refusal::Closing);
         }
         let (reply, answer) = oneshot::channel();
+        let length = body.bytes.len() as i64;
         self.metrics.queue_bodies.inc();
+        self.metrics.queue_bytes.add(length);
         let take = Take { bytes: body.bytes, reply, _room: [body.room, turn] };
         if self.jobs.send(Job::Take(take)).is_err() {
             self.metrics.queue_bodies.dec();
+            self.metrics.queue_bytes.sub(length);
             return Err(Refusal::Closing);
         }
         answer.await.unwrap_or(Err(Refusal::Unknown))
@@ -225,6 +228,16 @@ impl Keeper {
     /// The events that came behind the first so many, as many as a page has.
     pub async fn arrivals(&self, after: u64) -> Result<Option<Arc<Page>>, Error> {
         self.asked(|reply| Ask::Arrivals(after, reply)).await
+    }
+
+    /// The events of a source and an id, a line each, the one that is shown first; with all that was kept before.
+    pub async fn get(&self, source: String, id: String) -> Result<Answer, Error> {
+        self.asked(|reply| Ask::Get(source, id, reply)).await
+    }
+
+    /// What is counted of the set, or was a while ago where counting takes long.
+    pub async fn figures(&self) -> Result<Figures, Error> {
+        self.asked(Ask::Figures).await
     }
 
     async fn asked<T>(&self, ask: impl FnOnce(oneshot::Sender<Result<T, Error>>) -> Ask) -> Result<T, Error> {
@@ -303,6 +316,7 @@ impl Writer {
 
     fn keep(&mut self, group: Vec<Take>) {
         self.metrics.queue_bodies.sub(group.len() as i64);
+        self.metrics.queue_bytes.sub(group.iter().map(|it| it.bytes.len() as i64).sum());
         self.metrics.commit_bodies.observe(group.len() as f64);
         let start = Instant::now();
         *self.state.busy.lock().unwrap() = Some(start);
@@ -311,6 +325,8 @@ impl Writer {
         *self.state.busy.lock().unwrap() = None;
         self.metrics.commit_seconds.observe(start.elapsed().as_secs_f64());
         self.note(&answers);
+        let kept = group.iter().zip(&answers).filter(|it| it.1.is_ok());
+        self.metrics.taken_bytes.inc_by(kept.map(|it| it.0.bytes.len() as u64).sum());
         let count = self.site.len();
         // What is owed is in the file, and is counted at the next take.
         let is_owed = answers.contains(&Err(Error::Owed));

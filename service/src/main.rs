@@ -4,6 +4,7 @@
 //! What is decided about events is decided by the library, which is proved; the service carries bytes and is tested.
 
 mod access;
+mod backup;
 mod connections;
 mod events;
 mod feed;
@@ -11,15 +12,21 @@ mod intake;
 mod keeper;
 mod library;
 mod metrics;
+mod number;
+mod page;
 mod peers;
+#[cfg(feature = "postgres")]
+mod postgres;
 mod problems;
 mod questions;
 mod reader;
+mod recent;
 mod routes;
 mod settings;
 mod sync;
 #[cfg(feature = "tls")]
 mod tls;
+mod watching;
 
 use clap::Parser;
 use library::Error;
@@ -79,6 +86,12 @@ fn check(settings: &Settings) -> Result<(), String> {
             Err(why) => return Err(format!("{db}: {why}")),
         }
     };
+    if let Some(path) = settings.numbers.as_ref().filter(|it| it.exists()) {
+        match library::Numbers::open(path, settings.cache_mib, settings.numbers_base) {
+            Ok(_) | Err(Error::Busy) => {}
+            Err(why) => return Err(format!("{}: {why}", path.display())),
+        }
+    }
     println!("the settings can be used; {db} {told}");
     Ok(())
 }
@@ -104,13 +117,19 @@ async fn serve(flags: &Flags, settings: Settings, live: Live) -> Result<(), Stri
     };
     let opened = opened.await.map_err(|it| it.to_string())?;
     let (keeper, threads) = opened.map_err(|why| format!("{}: {why}", settings.db.display()))?;
+    let numberer = number::Numberer::open(&settings);
+    let numberer =
+        numberer.map_err(|why| format!("{}: {why}", settings.numbers.as_deref().unwrap_or(&settings.db).display()))?;
+    let (numberer, numbering) = numberer.map_or((None, None), |it| (Some(it.0), Some(it.1)));
     let (events, ms) = (keeper.count(), start.elapsed().as_millis() as u64);
     tracing::info!(db = %settings.db.display(), events, ms, "the database is open");
     let (end, ends) = watch::channel(false);
     let service = Arc::new(Service {
+        backups: Arc::new(Semaphore::new(1)),
         held: Arc::new(Semaphore::new(settings.limits.connections / 2)),
         live: RwLock::new(Arc::new(live)),
         keeper: keeper.clone(),
+        numberer: RwLock::new(numberer.map(Arc::new)),
         metrics,
         peers: Arc::default(),
         ends,
@@ -118,7 +137,16 @@ async fn serve(flags: &Flags, settings: Settings, live: Live) -> Result<(), Stri
     });
     let served = serve_until_signal(flags, &service, signals, &end).await;
     keeper.close();
-    tokio::task::spawn_blocking(move || threads.join()).await.map_err(|it| it.to_string())?;
+    // Without whom nobody can ask it any more.
+    *service.numberer.write().unwrap() = None;
+    let joining = move || {
+        threads.join();
+        numbering.map(std::thread::JoinHandle::join)
+    };
+    tokio::task::spawn_blocking(joining)
+        .await
+        .map_err(|it| it.to_string())?
+        .map_or(Ok(()), |it| it.map_err(|_| "the numberer panicked".to_owned()))?;
     tracing::info!("the database is closed");
     served
 }
@@ -135,6 +163,8 @@ async fn serve_until_signal(
     let listener = connections::listen(settings.listen).map_err(|it| format!("{}: {it}", settings.listen))?;
     let at = listener.local_addr().map_err(|it| it.to_string())?;
     tasks.set(&settings.peers)?;
+    #[cfg(feature = "postgres")]
+    let outbox = settings.postgres.clone().map(|it| tokio::spawn(postgres::Outbox::new(it, service).run()));
     let connections = tokio::spawn(front.serve(listener));
     notify(NotifyState::Ready);
     tracing::info!(name = settings.name, listen = %at, "ready");
@@ -148,6 +178,10 @@ async fn serve_until_signal(
     notify(NotifyState::Stopping);
     let _ = end.send(true);
     tasks.end().await;
+    #[cfg(feature = "postgres")]
+    if let Some(outbox) = outbox {
+        let _ = tokio::time::timeout(Duration::from_secs(1), outbox).await;
+    }
     connections.await.map_err(|it| it.to_string())
 }
 

@@ -20,6 +20,9 @@ pub struct Seen {
     pub round_ms: u64,
     /// Why the last round failed, where it did.
     pub why: Option<String>,
+    /// What it last told of its numbers.
+    #[serde(skip)]
+    pub cover: Option<String>,
 }
 
 #[derive(Default)]
@@ -32,6 +35,12 @@ impl Peers {
 
     pub fn forget(&self, name: &str) {
         self.0.lock().unwrap().remove(name);
+    }
+
+    /// What each peer last told of its numbers; none where one hasn't yet.
+    #[cfg(feature = "postgres")]
+    pub fn covers(&self) -> Option<Vec<String>> {
+        self.0.lock().unwrap().values().map(|it| it.cover.clone()).collect()
     }
 
     pub fn all(&self) -> BTreeMap<String, Seen> {

@@ -8,7 +8,6 @@ use crate::routes::Service;
 use hyper::header::{HeaderMap, IF_NONE_MATCH};
 use hyper::{Body, Request, StatusCode};
 use percent_encoding::percent_decode_str;
-use std::sync::Arc;
 use std::time::Duration;
 use tokio::sync::watch;
 use tokio::time::Instant;
@@ -39,7 +38,43 @@ impl Service {
             let is_known = known.iter().any(|it| it == "*" || **it == *answer.tag);
             let waits = is_known || answer.count < at_least;
             if !waits || !wait.change().await {
-                return told(&answer, what, is_known);
+                let kind = if matches!(what, What::Summary | What::Cover) { JSON } else { NDJSON };
+                return told(&answer, kind, is_known);
+            }
+        }
+    }
+
+    /// `GET /get?source=S&id=I`: the events of a source and an id, a line each, the one that is shown first; 404 where
+    /// there is none. Tags, waits and `?min=N` are as for questions.
+    pub async fn get(&self, request: &Request<Body>) -> Answered {
+        let (Some(source), Some(id)) = (text_of(request, "source"), text_of(request, "id")) else {
+            let detail = "give source and id, percent-encoded";
+            return problem(StatusCode::BAD_REQUEST, "query", "No source and id", detail).into();
+        };
+        let at_least = match number_of(request, "min") {
+            Ok(at_least) => at_least.unwrap_or(0),
+            Err(refused) => return refused,
+        };
+        let known = tags_of(request.headers());
+        let mut wait = Wait::of(self, request.headers(), self.keeper.counted.clone());
+        loop {
+            wait.mark();
+            let answer = match self.keeper.get(source.clone(), id.clone()).await {
+                Ok(answer) => answer,
+                Err(why) => return self.unanswered(why),
+            };
+            let is_known = known.iter().any(|it| it == "*" || **it == *answer.tag);
+            let waits = is_known || answer.count < at_least;
+            if !waits || !wait.change().await {
+                return match answer.text.is_empty() && !is_known {
+                    true => {
+                        let mut none =
+                            problem(StatusCode::NOT_FOUND, "no-event", "No event", "of that source and id").into();
+                        tell_set(&mut none, &answer);
+                        none
+                    }
+                    false => told(&answer, NDJSON, is_known),
+                };
             }
         }
     }
@@ -85,16 +120,20 @@ impl Service {
     }
 }
 
-fn told(answer: &Arc<Answer>, what: What, is_known: bool) -> Answered {
-    let kind = if matches!(what, What::Summary | What::Cover) { JSON } else { NDJSON };
+fn told(answer: &Answer, kind: &'static str, is_known: bool) -> Answered {
     let mut told = match is_known {
         true => bare(StatusCode::NOT_MODIFIED),
         false => plain(StatusCode::OK, kind, answer.text.clone()),
     };
-    set(&mut told, "etag", &format!("\"{}\"", answer.tag));
-    set(&mut told, "site-events", &answer.count.to_string());
-    set(&mut told, "cache-control", "no-cache");
+    tell_set(&mut told, answer);
     told
+}
+
+/// Tells of which set of events something was answered.
+fn tell_set(told: &mut Answered, answer: &Answer) {
+    set(told, "etag", &format!("\"{}\"", answer.tag));
+    set(told, "site-events", &answer.count.to_string());
+    set(told, "cache-control", "no-cache");
 }
 
 fn no_summary(why: &str) -> Answered {

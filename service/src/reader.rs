@@ -4,9 +4,10 @@ use crate::keeper::{give_up, State};
 use crate::library::{Error, Lag, Page, Question, Site};
 use crate::metrics::Metrics;
 use hyper::body::Bytes;
+use serde::Deserialize;
 use std::collections::HashMap;
 use std::sync::{Arc, Mutex};
-use std::time::Instant;
+use std::time::{Duration, Instant};
 use tokio::sync::{mpsc, oneshot, watch};
 
 /// What an answer is to.
@@ -50,6 +51,54 @@ pub enum Ask {
     Delta(String, u64, u64, u64, Reply<Option<Page>>),
     Compare(String, Reply<Lag>),
     Arrivals(u64, Reply<Option<Arc<Page>>>),
+    Get(String, String, Reply<Answer>),
+    Figures(Reply<Figures>),
+}
+
+/// What is counted of the set.
+#[derive(Clone, Copy, Default, PartialEq, Debug)]
+pub struct Figures {
+    pub sources: u64,
+    /// Runs of numbers that a source lacks before its last one.
+    pub gaps: u64,
+    /// How many numbers they have; more than a whole number of 64 bits holds, where several sources lack most of theirs.
+    pub missing: f64,
+    pub conflicts: u64,
+}
+
+impl Figures {
+    /// Those of a cover and the answer to what conflicts; none where the cover isn't one.
+    fn of(cover: &str, conflicts: &str) -> Option<Figures> {
+        #[derive(Deserialize)]
+        struct Cover {
+            sources: HashMap<String, Vec<[u64; 2]>>,
+        }
+        let cover: Cover = serde_json::from_str(cover).ok()?;
+        let mut figures = Figures { sources: cover.sources.len() as u64, ..Figures::default() };
+        for intervals in cover.sources.values() {
+            let mut next = 1;
+            for [first, last] in intervals {
+                if *first > next {
+                    figures.gaps += 1;
+                    figures.missing += (first - next) as f64;
+                }
+                next = last.saturating_add(1);
+            }
+        }
+        figures.conflicts = conflicts.lines().count() as u64;
+        Some(figures)
+    }
+}
+
+/// To count takes at most one part in so many of the reader's time.
+const SHARE: u32 = 300;
+
+/// What was counted last: of how many events, when, and how long that took.
+struct Counted {
+    figures: Figures,
+    events: u64,
+    at: Instant,
+    took: Duration,
 }
 
 type Reply<T> = oneshot::Sender<Result<T, Error>>;
@@ -78,11 +127,12 @@ pub struct Reader {
     name: Option<(u64, Arc<str>)>,
     /// The last page of arrivals, with the mark that it is behind and how many events there were.
     page: Option<(u64, u64, Option<Arc<Page>>)>,
+    counted: Option<Counted>,
 }
 
 impl Reader {
     pub fn new(site: Site, count: watch::Sender<u64>, state: Arc<State>, metrics: Arc<Metrics>) -> Reader {
-        Reader { site, count, state, metrics, name: None, page: None }
+        Reader { site, count, state, metrics, name: None, page: None, counted: None }
     }
 
     /// Answers until nobody can ask any more.
@@ -109,6 +159,14 @@ impl Reader {
                 Ask::Arrivals(after, reply) => {
                     let _ = reply.send(self.arrivals(after));
                     "arrivals"
+                }
+                Ask::Get(source, id, reply) => {
+                    let _ = reply.send(self.get(&source, &id));
+                    "get"
+                }
+                Ask::Figures(reply) => {
+                    let _ = reply.send(self.figures());
+                    "figures"
                 }
             };
             let time = start.elapsed().as_secs_f64();
@@ -162,6 +220,29 @@ impl Reader {
         self.page = Some((after, count, page.clone()));
         Ok(page)
     }
+
+    /// The events of a source and an id, a line each, the one that is shown first.
+    fn get(&mut self, source: &str, id: &str) -> Result<Answer, Error> {
+        let mut text = String::new();
+        for event in self.site.get(source, id)? {
+            text.push_str(&event);
+            text.push('\n');
+        }
+        Ok(Answer { text: text.into(), count: self.site.len(), tag: self.tag()? })
+    }
+
+    fn figures(&mut self) -> Result<Figures, Error> {
+        let events = self.site.len();
+        let is_new = |it: &&Counted| it.events == events || it.at.elapsed() < it.took * SHARE;
+        if let Some(had) = self.counted.as_ref().filter(is_new) {
+            return Ok(had.figures);
+        }
+        let start = Instant::now();
+        let (cover, conflicts) = (self.site.cover()?, self.site.ask(Question::Conflicts)?);
+        let figures = Figures::of(&cover, &conflicts).ok_or(Error::NotUtf8)?;
+        self.counted = Some(Counted { figures, events, at: Instant::now(), took: start.elapsed() });
+        Ok(figures)
+    }
 }
 
 #[cfg(test)]
@@ -176,6 +257,16 @@ mod tests {
         let has = |what, at_least| cache.get(what, at_least).is_some();
         assert!(has(What::Summary, 0) && has(What::Summary, 7) && !has(What::Summary, 8));
         assert!(!has(What::Cover, 0));
+    }
+
+    #[test]
+    fn figures_are_counted() {
+        let cover = r#"{"sources":{"/a":[[1,2]],"/b":[[2,3],[9,9]],"/c\"":[[9223372036854775807,9223372036854775807]]},"version":1}"#;
+        let told = Figures::of(cover, "x\ny\n").unwrap();
+        assert_eq!((told.sources, told.gaps, told.conflicts), (3, 3, 2));
+        assert_eq!(told.missing, 6.0 + 9223372036854775806.0);
+        let none = Figures::of(r#"{"sources":{},"version":1}"#, "").unwrap();
+        assert_eq!(none, Figures::default());
     }
 
     #[test]

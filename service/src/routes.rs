@@ -1,39 +1,35 @@
 //! Which part answers a request, and who may ask it.
 
-use crate::access::{Access, Role, Verdict};
+use crate::access::{Access, Role, Sources, Verdict};
 use crate::keeper::Keeper;
 use crate::metrics::Metrics;
+use crate::number::Numberer;
+use crate::page::page;
 use crate::peers::Peers;
-use crate::problems::{plain, problem, set, Answered, JSON};
+use crate::problems::{problem, set, Answered};
 use crate::reader::{self, What};
 use crate::settings::Settings;
-use hyper::header::{AUTHORIZATION, CONTENT_LENGTH, HOST, TRANSFER_ENCODING};
+use hyper::header::{AUTHORIZATION, CONTENT_LENGTH, HOST, ORIGIN, TRANSFER_ENCODING};
 use hyper::{Body, Method, Request, StatusCode};
-use serde_json::json;
 use std::net::{IpAddr, SocketAddr};
 use std::sync::{Arc, RwLock};
-use std::time::{Duration, Instant};
+use std::time::Instant;
 use tokio::sync::{watch, Semaphore};
-
-const PAGE: &str = include_str!("page.html");
-/// What the page may do: nothing but its own style and script, and questions to where it came from.
-const PAGE_POLICY: &str = "default-src 'none'; style-src 'unsafe-inline'; script-src 'unsafe-inline'; \
-    connect-src 'self'; base-uri 'none'; form-action 'none'; frame-ancestors 'none'";
-
-/// A transaction that lasts longer is stuck.
-const STUCK: Duration = Duration::from_secs(60);
 
 /// All that answers stand on.
 pub struct Service {
     pub settings: Settings,
     pub live: RwLock<Arc<Live>>,
     pub keeper: Arc<Keeper>,
+    pub numberer: RwLock<Option<Arc<Numberer>>>,
     pub metrics: Arc<Metrics>,
     pub peers: Arc<Peers>,
     /// True once the service ends: nothing waits any more.
     pub ends: watch::Receiver<bool>,
     /// Room for answers that are held back or never end.
     pub held: Arc<Semaphore>,
+    /// Room for one backup at a time.
+    pub backups: Arc<Semaphore>,
 }
 
 /// The settings that may change while the service runs.
@@ -62,6 +58,8 @@ enum Route {
     Check,
     Delta,
     Arrivals,
+    Backup,
+    Get,
     Answer(What),
     Metrics,
     Status,
@@ -78,6 +76,8 @@ impl Route {
             "/check" => Route::Check,
             "/delta" => Route::Delta,
             "/arrivals" => Route::Arrivals,
+            "/backup" => Route::Backup,
+            "/get" => Route::Get,
             "/metrics" => Route::Metrics,
             "/status" => Route::Status,
             "/healthz" => Route::Health,
@@ -97,6 +97,8 @@ impl Route {
             Route::Check => "check",
             Route::Delta => "delta",
             Route::Arrivals => "arrivals",
+            Route::Backup => "backup",
+            Route::Get => "get",
             Route::Answer(what) => reader::name_of(what),
             Route::Metrics | Route::Status | Route::Health | Route::Ready => "watch",
             Route::Other => "other",
@@ -106,7 +108,7 @@ impl Route {
     fn methods(self) -> &'static str {
         match self {
             Route::Events => "POST, OPTIONS",
-            Route::Check | Route::Delta => "POST",
+            Route::Check | Route::Delta | Route::Backup => "POST",
             _ => "GET, HEAD",
         }
     }
@@ -118,6 +120,7 @@ impl Route {
             (Route::Page | Route::Health | Route::Ready, _) | (Route::Events, &Method::OPTIONS) => &[],
             (Route::Events, &Method::POST) => &[Role::Write],
             (Route::Delta, _) => &[Role::Peer],
+            (Route::Backup, _) => &[Role::Backup],
             (Route::Answer(What::Summary | What::Cover), _) => &[Role::Read, Role::Peer],
             _ => &[Role::Read],
         }
@@ -162,26 +165,27 @@ impl Service {
             return problem(StatusCode::BAD_REQUEST, "two-lengths", "No request", detail).into();
         }
         let method = request.method().clone();
-        if let Err(refused) = self.allow(&request, route.roles(&method)) {
-            return refused;
-        }
+        let sources = match self.allow(&request, route.roles(&method)) {
+            Ok(sources) => sources,
+            Err(refused) => return refused,
+        };
         let is_get = matches!(method, Method::GET | Method::HEAD);
         let is_post = method == Method::POST;
         match route {
             Route::Other => {
                 problem(StatusCode::NOT_FOUND, "not-found", "Nothing of that name", request.uri().path()).into()
             }
-            Route::Events if is_post => self.take(request).await,
+            Route::Events if is_post => self.take(request, sources).await,
             Route::Events if method == Method::OPTIONS => self.handshake(&request),
             Route::Check if is_post => self.check(request).await,
             Route::Delta if is_post => self.delta(request).await,
+            Route::Backup if is_post => self.backup().await,
             Route::Arrivals if is_get => self.arrivals(&request).await,
+            Route::Get if is_get => self.get(&request).await,
             Route::Answer(what) if is_get => self.ask(&request, what).await,
             Route::Page if is_get => page(),
-            Route::Metrics if is_get => {
-                plain(StatusCode::OK, "text/plain; version=0.0.4; charset=utf-8", self.metrics.text())
-            }
-            Route::Status if is_get => self.status(),
+            Route::Metrics if is_get => self.metrics().await,
+            Route::Status if is_get => self.status().await,
             Route::Health if is_get => self.health(),
             Route::Ready if is_get => self.ready(),
             _ => {
@@ -194,9 +198,10 @@ impl Service {
         }
     }
 
-    fn allow(&self, request: &Request<Body>, roles: &[Role]) -> Result<(), Answered> {
+    /// The sources of which whoever asks may give events, or why nothing may be done.
+    fn allow(&self, request: &Request<Body>, roles: &[Role]) -> Result<Sources, Answered> {
         if roles.is_empty() {
-            return Ok(());
+            return Ok(Sources::Of(Vec::new()));
         }
         let header = |name| request.headers().get(name).and_then(|it| it.to_str().ok());
         let live = self.live();
@@ -204,8 +209,12 @@ impl Service {
             let detail = "without tokens ask by an address, or by localhost";
             return Err(problem(StatusCode::FORBIDDEN, "host", "Not by this name", detail).into());
         }
+        if live.access.is_open() && !header(ORIGIN).map_or(true, |it| is_of(it, header(HOST))) {
+            let detail = "without tokens pages of others may do nothing here";
+            return Err(problem(StatusCode::FORBIDDEN, "origin", "Not for pages of others", detail).into());
+        }
         let (title, challenge) = match live.access.judge(header(AUTHORIZATION), roles) {
-            Verdict::Allowed => return Ok(()),
+            Verdict::Allowed(sources) => return Ok(sources),
             Verdict::OtherRole => {
                 let detail = "ask for a token with the role that this needs";
                 return Err(problem(StatusCode::FORBIDDEN, "role", "The token has another role", detail).into());
@@ -221,45 +230,6 @@ impl Service {
 
     pub fn live(&self) -> Arc<Live> {
         self.live.read().unwrap().clone()
-    }
-
-    fn health(&self) -> Answered {
-        let busy = self.keeper.busy();
-        if busy > STUCK {
-            let detail = format!("for {} seconds", busy.as_secs());
-            return problem(StatusCode::SERVICE_UNAVAILABLE, "stuck", "A transaction doesn't end", detail).into();
-        }
-        plain(StatusCode::OK, "text/plain", "ok\n")
-    }
-
-    fn ready(&self) -> Answered {
-        match self.trouble() {
-            Some((name, title, detail)) => problem(StatusCode::SERVICE_UNAVAILABLE, name, title, detail).into(),
-            None => plain(StatusCode::OK, "text/plain", "ready\n"),
-        }
-    }
-
-    fn trouble(&self) -> Option<(&'static str, &'static str, String)> {
-        if *self.ends.borrow() {
-            return Some(("closing", "The service ends", "what is under way is done".into()));
-        }
-        self.keeper.trouble().map(|why| ("store", "The database refused", why.to_string()))
-    }
-
-    fn status(&self) -> Answered {
-        let trouble = self.trouble();
-        let status = json!({
-            "name": self.settings.name,
-            "version": env!("CARGO_PKG_VERSION"),
-            "library": crate::library::version(),
-            "events": self.metrics.events.get(),
-            "commits": self.metrics.commits.get(),
-            "queue": self.metrics.queue_bodies.get(),
-            "ready": trouble.is_none(),
-            "why": trouble.map(|it| it.2),
-            "peers": self.peers.all(),
-        });
-        plain(StatusCode::OK, JSON, format!("{status}\n"))
     }
 }
 
@@ -277,12 +247,10 @@ fn is_local(host: Option<&str>) -> bool {
     name.eq_ignore_ascii_case("localhost") || bare.parse::<IpAddr>().is_ok()
 }
 
-fn page() -> Answered {
-    let mut answer = plain(StatusCode::OK, "text/html; charset=utf-8", PAGE);
-    set(&mut answer, "content-security-policy", PAGE_POLICY);
-    set(&mut answer, "x-content-type-options", "nosniff");
-    set(&mut answer, "referrer-policy", "no-referrer");
-    answer
+/// Whether a page that a browser says a request is of came from here.
+fn is_of(origin: &str, host: Option<&str>) -> bool {
+    let from = origin.strip_prefix("http://").or_else(|| origin.strip_prefix("https://"));
+    matches!((from, host), (Some(from), Some(host)) if from.eq_ignore_ascii_case(host))
 }
 
 #[cfg(test)]
@@ -301,6 +269,21 @@ mod tests {
     }
 
     #[test]
+    fn pages_of_others_are_told_apart() {
+        for (origin, host, is_own) in [
+            ("http://localhost:8087", "localhost:8087", true),
+            ("https://10.0.0.1", "10.0.0.1", true),
+            ("http://localhost:3000", "localhost:8087", false),
+            ("http://example.com", "127.0.0.1:8087", false),
+            ("null", "127.0.0.1:8087", false),
+            ("ftp://localhost:8087", "localhost:8087", false),
+        ] {
+            assert_eq!(is_of(origin, Some(host)), is_own, "{origin} {host}");
+        }
+        assert!(!is_of("http://localhost", None));
+    }
+
+    #[test]
     fn paths_have_routes_and_roles() {
         assert_eq!(Route::of("/kinds").name(), "kinds");
         for strange in ["/kinds/", "kinds", "//", "/Events", "", "/summary2"] {
@@ -313,8 +296,10 @@ mod tests {
             ("/events", Method::OPTIONS, &[]),
             ("/check", Method::POST, &[Role::Read]),
             ("/delta", Method::POST, &[Role::Peer]),
+            ("/backup", Method::POST, &[Role::Backup]),
             ("/cover", Method::GET, &[Role::Read, Role::Peer]),
             ("/shown", Method::GET, &[Role::Read]),
+            ("/get", Method::GET, &[Role::Read]),
             ("/arrivals", Method::GET, &[Role::Read]),
             ("/metrics", Method::GET, &[Role::Read]),
             ("/healthz", Method::GET, &[]),

@@ -1,6 +1,6 @@
 //! What the service is told: a TOML file, and flags over it.
 
-use crate::access::Role;
+use crate::access::{test_patterns, Role};
 use clap::Parser;
 use hyper::Uri;
 use serde::Deserialize;
@@ -44,6 +44,7 @@ pub struct Flags {
 pub struct Token {
     pub name: String,
     pub roles: Vec<Role>,
+    pub sources: Option<Vec<String>>,
     pub sha256: Option<String>,
     pub file: Option<PathBuf>,
 }
@@ -130,6 +131,31 @@ impl Default for Sync {
     }
 }
 
+/// An outbox in PostgreSQL that events are taken out of.
+#[derive(Deserialize, Clone, PartialEq, Eq, Debug)]
+#[serde(deny_unknown_fields)]
+pub struct Postgres {
+    pub url: String,
+    #[serde(default = "every_ms")]
+    pub every_ms: u64,
+    #[serde(default)]
+    pub trim: bool,
+}
+
+fn every_ms() -> u64 {
+    100
+}
+
+/// Sources whose events get their numbers here, or in another region.
+#[derive(Deserialize, Clone, PartialEq, Eq, Debug)]
+#[serde(deny_unknown_fields)]
+pub struct Number {
+    pub sources: Vec<String>,
+    #[serde(default)]
+    pub carry: bool,
+    pub home: Option<String>,
+}
+
 /// All settings. `jumbetaid.toml` says what each is for.
 #[derive(Deserialize, Clone, PartialEq, Eq, Debug)]
 #[serde(deny_unknown_fields, default)]
@@ -139,6 +165,9 @@ pub struct Settings {
     pub listen: SocketAddr,
     pub open_to_all: bool,
     pub cache_mib: u32,
+    pub backups: Option<PathBuf>,
+    pub numbers: Option<PathBuf>,
+    pub numbers_base: u64,
     pub workers: usize,
     pub log: String,
     pub log_text: bool,
@@ -146,7 +175,9 @@ pub struct Settings {
     pub webhook_rate: u32,
     pub tokens: Vec<Token>,
     pub peers: Vec<Peer>,
+    pub number: Vec<Number>,
     pub tls: Option<Tls>,
+    pub postgres: Option<Postgres>,
     pub limits: Limits,
     pub sync: Sync,
 }
@@ -159,6 +190,9 @@ impl Default for Settings {
             listen: SocketAddr::from(([127, 0, 0, 1], 8087)),
             open_to_all: false,
             cache_mib: 0,
+            backups: None,
+            numbers: None,
+            numbers_base: 0,
             workers: 0,
             log: "info".into(),
             log_text: false,
@@ -166,7 +200,9 @@ impl Default for Settings {
             webhook_rate: 0,
             tokens: Vec::new(),
             peers: Vec::new(),
+            number: Vec::new(),
             tls: None,
+            postgres: None,
             limits: Limits::default(),
             sync: Sync::default(),
         }
@@ -216,6 +252,15 @@ impl Settings {
         if self.tls.is_some() && !cfg!(feature = "tls") {
             return Err("[tls] needs a build with the feature tls".into());
         }
+        if self.postgres.is_some() && !cfg!(feature = "postgres") {
+            return Err("[postgres] needs a build with the feature postgres".into());
+        }
+        for it in &self.number {
+            test_patterns(&it.sources).map_err(|why| format!("number: sources: {why}"))?;
+        }
+        if self.numbers.is_none() && self.number.iter().any(|it| it.home.is_none()) {
+            return Err("[[number]] needs a file for the numbers: numbers".into());
+        }
         let mut names = HashSet::new();
         for peer in &self.peers {
             if peer.name.is_empty() || !names.insert(&peer.name) {
@@ -233,9 +278,13 @@ impl Settings {
             ("db", self.db != other.db),
             ("listen", self.listen != other.listen),
             ("cache_mib", self.cache_mib != other.cache_mib),
+            ("backups", self.backups != other.backups),
+            ("numbers", (&self.numbers, self.numbers_base) != (&other.numbers, other.numbers_base)),
+            ("number", self.number != other.number),
             ("workers", self.workers != other.workers),
             ("log", (&self.log, self.log_text) != (&other.log, other.log_text)),
             ("tls", self.tls != other.tls),
+            ("postgres", self.postgres != other.postgres),
             ("limits", self.limits != other.limits),
             ("sync", self.sync != other.sync),
         ];
@@ -309,7 +358,10 @@ mod tests {
     #[test]
     fn the_examples_of_the_file_can_be_used() {
         let text = DEFAULTS.replace("#: ", "");
-        let text = if cfg!(feature = "tls") { text } else { text.split("[tls]").next().unwrap().to_owned() };
+        let part = |name: &str| text.find(name).unwrap_or(text.len());
+        let end = if cfg!(feature = "tls") { text.len() } else { part("[tls]") };
+        let end = if cfg!(feature = "postgres") { end } else { end.min(part("[postgres]")) };
+        let text = text[..end].to_owned();
         let told = read(&text).unwrap();
         assert_eq!((told.tokens.len(), told.peers.len(), told.sync.ca.is_some()), (1, 1, true));
     }

@@ -30,6 +30,11 @@ type Connector = HttpConnector;
 /// More than any answer of a peer has.
 const MOST: usize = 64 << 20;
 
+/// So many pages in a row may bring nothing new: another peer may have brought it meanwhile, or blocks differ by what this
+/// site has.
+const IDLE_BY_NUMBERS: u32 = 64;
+const IDLE_BY_DIGESTS: u32 = 500;
+
 /// The tasks of the peers.
 pub struct Tasks {
     client: Client<Connector>,
@@ -105,6 +110,7 @@ impl Tasks {
             last_repair: Instant::now(),
             is_equal: false,
             is_behind: true,
+            repaired: 0,
             last: Default::default(),
         })
     }
@@ -131,6 +137,8 @@ struct Peer {
     is_equal: bool,
     /// Whether the peer had numbers then that this site lacks.
     is_behind: bool,
+    /// The place to which pages by digests have come, where they weren't all asked for.
+    repaired: u64,
     /// The name of the peer's set and its cover, as it last told them.
     last: (String, String),
 }
@@ -284,12 +292,14 @@ impl Peer {
     fn compared(&mut self, equal: bool, lag: Lag) {
         self.note_equal(equal);
         let (metrics, name) = (&self.metrics.peer, self.name.as_str());
-        metrics.lacking.with_label_values(&[name]).set(lag.lacking as i64);
-        metrics.ahead.with_label_values(&[name]).set(lag.ahead as i64);
+        metrics.lacking.with_label_values(&[name]).set(lag.lacking as f64);
+        metrics.ahead.with_label_values(&[name]).set(lag.ahead as f64);
         if equal {
             metrics.last_equal.with_label_values(&[name]).set(now());
         }
+        let cover = self.last.1.clone();
         self.peers.note(name, |it| {
+            it.cover = Some(cover);
             (it.lacking, it.ahead) = (lag.lacking, lag.ahead);
             if equal {
                 it.last_equal = Some(now());
@@ -308,25 +318,42 @@ impl Peer {
     }
 
     /// Takes what the peer has and this site lacks, page by page: while one is kept the next is asked for. What either
-    /// gets meanwhile may shift the pages: the next round finds what was passed over.
-    async fn pull(&self, by: By) -> Result<(), String> {
+    /// gets meanwhile may shift the pages: the next round finds what was passed over. A peer whose pages bring nothing has
+    /// no round without end: by numbers it fails, by digests it goes on from there at the next one.
+    async fn pull(&mut self, by: By) -> Result<(), String> {
         let what = if by == By::Numbers { What::Cover } else { What::Summary };
-        let mut own = self.own(what).await?;
-        let mut next = self.page(own.text.clone(), 0).await?;
+        let begin = if by == By::Numbers { 0 } else { self.repaired };
+        let (mut own, mut before, mut idle) = (self.own(what).await?, 0, 0);
+        let mut next = self.page(own.text.clone(), begin).await?;
         while let Some(page) = next {
+            let size = page.behind - page.from;
             let from = match by {
-                // This site's cover gets what was kept, so that only the page that is under way is to be passed over.
-                By::Numbers => page.behind - page.from,
+                // This site's cover has what was kept up to the page before the last: that and the one that is under way
+                // are to be passed over.
+                By::Numbers => before + size,
                 // A block is told again until both have the same of it, which may never be: places go on.
                 By::Digests => page.behind,
             };
-            let (kept, asked) = tokio::join!(self.keep(page.lines), self.page(own.text.clone(), from));
-            kept?;
-            next = asked?;
-            if by == By::Numbers {
-                own = self.own(what).await?;
+            // The cover is asked for first, so that it has nothing of this page; nobody waits for it meanwhile.
+            let cover = async {
+                match by {
+                    By::Numbers => self.own(what).await,
+                    By::Digests => Ok(own.clone()),
+                }
+            };
+            let (cover, kept, asked) = tokio::join!(cover, self.keep(page.lines), self.page(own.text.clone(), from));
+            idle = if kept? > 0 { 0 } else { idle + 1 };
+            (own, before) = (cover?, size);
+            if by == By::Digests {
+                self.repaired = from;
+            }
+            match by {
+                By::Numbers if idle > IDLE_BY_NUMBERS => return Err(format!("{idle} pages brought nothing new")),
+                By::Digests if idle > IDLE_BY_DIGESTS => return Ok(()),
+                _ => next = asked?,
             }
         }
+        self.repaired = 0;
         Ok(())
     }
 
@@ -344,8 +371,8 @@ impl Peer {
         Ok(Some(Page { lines: self.body(answer).await?, from, behind }))
     }
 
-    /// Keeps the events of pages, a batch a line; they are joined as other bodies are.
-    async fn keep(&self, pages: Bytes) -> Result<(), String> {
+    /// Keeps the events of pages, a batch a line, and tells how many were new; they are joined as other bodies are.
+    async fn keep(&self, pages: Bytes) -> Result<u64, String> {
         let (mut fresh, mut repeated) = (0, 0);
         for line in pages.split(|it| *it == b'\n').filter(|it| !it.is_empty()) {
             let bytes = pages.slice_ref(line);
@@ -360,6 +387,7 @@ impl Peer {
                 Ok(kept) => (fresh, repeated) = (fresh + kept.fresh, repeated + kept.repeated),
                 Err(Refusal::Faulty) => {
                     let lines = faults(&bytes).map_err(|it| it.to_string())?;
+                    self.metrics.count_faults(&lines, "peer");
                     return Err(format!("a page at fault: {}", lines.lines().next().unwrap_or("")));
                 }
                 Err(why) => return Err(format!("a page isn't kept: {why:?}")),
@@ -369,8 +397,9 @@ impl Peer {
             self.metrics.peer.pulled.with_label_values(&[&self.name, result]).inc_by(count);
             self.metrics.taken.with_label_values(&[result, "peer"]).inc_by(count);
         }
+        self.metrics.recent.pulled(now(), fresh);
         self.peers.note(&self.name, |it| it.pulled += fresh);
-        Ok(())
+        Ok(fresh)
     }
 
     async fn send(
