@@ -16,10 +16,10 @@ LINK = re.compile(r"\[([^][]*)\]\(([^()\s]+)\)")
 STRAY = re.compile(r"\./site\b|\./gate\b|(?<!\w)out/")
 
 
-def of_archive(text, folder, page):
+def of_archive(text: str, folder: str, page: str) -> str:
     """The text of a page as it stands in the archive."""
 
-    def link(found):
+    def link(found: re.Match[str]) -> str:
         to = found[2].partition("#")[0]
         where = os.path.join(folder, os.path.dirname(page), to)
         return found[0] if not to or re.match(r"[a-z]+:", to) or os.path.exists(where) else found[1]
@@ -28,7 +28,7 @@ def of_archive(text, folder, page):
     return LINK.sub(link, text).replace("out/library", "library")
 
 
-def main():
+def main() -> int:
     if len(sys.argv) != 2:
         sys.exit(__doc__)
     folder, wrong = sys.argv[1], 0

@@ -24,8 +24,9 @@ import subprocess
 import sys
 import tempfile
 import time
+from typing import Any, Iterable, Iterator, Optional
 
-from kept import SOURCES, Sums
+from kept import SOURCES, Crates, Sums
 
 TOP = os.path.dirname(os.path.dirname(os.path.realpath(__file__)))
 PROGRAM = "site_cli"
@@ -34,7 +35,7 @@ BUILT, OF_RT = "built", "rlib"
 FUNCTION = re.compile(r"^\s*(?:pub(?:\([a-z]+\))? )?(?:const |unsafe )*fn ", re.M)
 
 
-def crates_listed(top=TOP):
+def crates_listed(top: str = TOP) -> Crates:
     """The crates of crates.txt, each with those of the repository and those of the kit that it uses."""
     lines = {}
     with open(f"{top}/crates.txt", encoding="utf-8") as it:
@@ -42,17 +43,14 @@ def crates_listed(top=TOP):
             head, colon, names = line.partition(":")
             if colon and not line.lstrip().startswith("#"):
                 lines[head.split()[0]] = names.split()
-    return {
-        name: ([it for it in names if it in lines], [it for it in names if it not in lines])
-        for name, names in lines.items()
-    }
+    return {name: ([it for it in names if it in lines], [it for it in names if it not in lines]) for name, names in lines.items()}
 
 
-def reached(crates, roots):
+def reached(crates: Crates, roots: Iterable[str]) -> list[str]:
     """The roots and the crates that they stand on, each after those that it uses."""
     order = []
 
-    def visit(name):
+    def visit(name: str) -> None:
         if name not in order:
             for below in crates[name][0]:
                 visit(below)
@@ -63,39 +61,40 @@ def reached(crates, roots):
     return order
 
 
-def kit():
+def kit() -> str:
     """The folder of the Rattle kit."""
     return os.path.dirname(subprocess.run(["rt", "doc"], capture_output=True, text=True, check=True).stdout.strip())
 
 
-def free_memory():
+def free_memory() -> int:
     with open("/proc/meminfo", encoding="ascii") as it:
-        return 1024 * int(re.search(r"MemAvailable:\s+(\d+)", it.read())[1])
+        found = re.search(r"MemAvailable:\s+(\d+)", it.read())
+    return 1024 * int(found[1]) if found else 0
 
 
-def lanes_for(jobs):
+def lanes_for(jobs: int) -> int:
     """How many checks run side by side: as many as asked for, else as there are processors and memory."""
     return jobs or max(1, min(len(os.sched_getaffinity(0)), int(free_memory() // MEMORY_EACH)))
 
 
-def is_program(name):
+def is_program(name: str) -> bool:
     return os.path.exists(f"{TOP}/crates/{name}/src/main.rt")
 
 
-def is_static(name):
+def is_static(name: str) -> bool:
     """Whether a crate is a static library, as crates.txt says."""
     with open(f"{TOP}/crates.txt", encoding="utf-8") as it:
         return any(line.split(":")[0].split() == [name, "staticlib"] for line in it)
 
 
-def sources(name):
+def sources(name: str) -> Iterator[str]:
     """The files that a crate is made of."""
     for part in SOURCES:
         for at, _, files in os.walk(f"{TOP}/crates/{name}/{part}"):
             yield from (f"{at}/{it}" for it in files)
 
 
-def made_of(name, folder=None):
+def made_of(name: str, folder: Optional[str] = None) -> str:
     """The file below a crate's out/ that tells that it is built."""
     if is_program(name):
         return name
@@ -109,32 +108,33 @@ class Made:
     and of the kit. What has no note was built by `rt`, and counts where it is newer than all these sources.
     """
 
-    def __init__(self, crates):
-        self.crates, self.sums, self.changed = crates, Sums(TOP, crates, kit()), {}
+    def __init__(self, crates: Crates) -> None:
+        self.crates, self.sums = crates, Sums(TOP, crates, kit())
+        self.changed: dict[str, float] = {}
 
     @staticmethod
-    def note_of(name, file):
+    def note_of(name: str, file: str) -> str:
         return f"{TOP}/crates/{name}/out/{file.split('/')[0]}.sum"
 
     @staticmethod
-    def stamp(name, file):
+    def stamp(name: str, file: str) -> str:
         """What tells whether something else was built in its place."""
         found = os.stat(f"{TOP}/crates/{name}/out/{file}")
         return f"{found.st_ino} {found.st_size} {found.st_mtime_ns}"
 
-    def note(self, name, file, total):
+    def note(self, name: str, file: str, total: str) -> None:
         """Notes what a crate was built from."""
         with open(self.note_of(name, file), "w", encoding="ascii") as it:
             it.write(f"{total}\n{self.stamp(name, file)}\n")
 
-    def changed_last(self, name):
+    def changed_last(self, name: str) -> float:
         """When a source of the crate or of one below it was last written."""
         if name not in self.changed:
             own = [os.path.getmtime(it) for it in [*sources(name), f"{TOP}/crates.txt"]]
             self.changed[name] = max([*own, *(self.changed_last(it) for it in self.crates[name][0])])
         return self.changed[name]
 
-    def is_made(self, name, file):
+    def is_made(self, name: str, file: str) -> bool:
         """Whether a file below the crate's out/ was built from what is there now."""
         if not os.path.exists(f"{TOP}/crates/{name}/out/{file}"):
             return False
@@ -144,20 +144,20 @@ class Made:
                 return total == self.sums.of(name)
         return self.changed_last(name) <= os.path.getmtime(f"{TOP}/crates/{name}/out/{file}")
 
-    def folder(self, name):
+    def folder(self, name: str) -> Optional[str]:
         """The folder of out/ where the library is as its sources are: where `rt` leaves it, or where this script puts it."""
         return next((it for it in (OF_RT, BUILT) if self.is_made(name, made_of(name, it))), None)
 
-    def folders(self, names):
+    def folders(self, names: list[str]) -> dict[str, str]:
         """The folders of libraries, those that aren't built as this script will build them."""
         return {it: self.folder(it) or BUILT for it in names if not is_program(it) and not is_static(it)}
 
-    def stale(self, names):
+    def stale(self, names: list[str]) -> list[str]:
         """Those of the crates, in their order, that aren't built as their sources are."""
         return [it for it in names if not (self.is_made(it, made_of(it)) or self.is_made(it, made_of(it, OF_RT)))]
 
 
-def clear_of_rt(made):
+def clear_of_rt(made: Made) -> None:
     """Removes the libraries that `rt` left, where one isn't as its sources are: else `rt ci` puts them back behind its run."""
     there = [it for it in made.crates if os.path.exists(f"{TOP}/crates/{it}/out/{OF_RT}")]
     if not all(made.is_made(it, made_of(it, OF_RT)) for it in there):
@@ -165,7 +165,7 @@ def clear_of_rt(made):
             shutil.rmtree(f"{TOP}/crates/{name}/out/{OF_RT}", ignore_errors=True)
 
 
-def note_of_rt(before):
+def note_of_rt(before: Made) -> None:
     """Notes of what `rt ci` left what it was built from, where no source changed since `before`: it takes libraries of
     earlier runs too, which are older than a new clone's sources."""
     after = Made(crates_listed())
@@ -176,7 +176,7 @@ def note_of_rt(before):
             after.note(name, file, after.sums.of(name))
 
 
-def words_of(crates, name, folders, where):
+def words_of(crates: Crates, name: str, folders: dict[str, str], where: str) -> list[str]:
     """The words by which `rattle` reads the crate in the current folder, over libraries each in its folder of out/."""
     own, of_kit = crates[name]
     words = ["--crate-name", name, f"src/{'main' if is_program(name) else 'lib'}.rt", "-L", f"dependency={where}/rlibs"]
@@ -193,7 +193,7 @@ def words_of(crates, name, folders, where):
 class Build:
     """One crate's proof and building, running."""
 
-    def __init__(self, crates, name, jobs, nice, where, folders):
+    def __init__(self, crates: Crates, name: str, jobs: int, nice: int, where: str, folders: dict[str, str]) -> None:
         self.name, self.started, self.processor = name, time.monotonic(), 0.0
         self.folder = f"{TOP}/crates/{name}"
         self.log = tempfile.TemporaryFile("w+", errors="replace")
@@ -212,19 +212,19 @@ class Build:
             steps = [[*words, "--statements", "-o", f"out/{BUILT}/{name}.rlib"]]
         os.makedirs(f"{self.folder}/out", exist_ok=True)
         script = " && ".join(f'"${{@:{at + 1}:{count}}}"' for at, count in spans(steps))
-        how = {"cwd": self.folder, "stdin": subprocess.DEVNULL, "stdout": self.log, "stderr": subprocess.STDOUT}
+        how: dict[str, Any] = {"cwd": self.folder, "stdin": subprocess.DEVNULL, "stdout": self.log, "stderr": subprocess.STDOUT}
         how["env"] = {**os.environ, "PATH": f"{os.environ.get('PATH', '')}:{where}/bin"}
         words = ["nice", "-n", str(nice), "bash", "-c", script, "bash", *sum(steps, [])]
         self.process = subprocess.Popen(words, start_new_session=True, **how)
 
-    def seconds(self):
+    def seconds(self) -> float:
         return time.monotonic() - self.started
 
-    def said(self):
+    def said(self) -> str:
         self.log.seek(0)
         return self.log.read()
 
-    def has_ended(self):
+    def has_ended(self) -> bool:
         """Whether its process has ended, whose processor time is then known."""
         if self.process.returncode is None:
             pid, status, used = os.wait4(self.process.pid, os.WNOHANG)
@@ -233,18 +233,18 @@ class Build:
                 self.processor = used.ru_utime + used.ru_stime
         return self.process.returncode is not None
 
-    def note_time(self):
+    def note_time(self) -> None:
         with open(f"{self.folder}/out/build.seconds", "w", encoding="ascii") as it:
             it.write(f"{self.processor:.0f}\n")
 
-    def end(self):
+    def end(self) -> None:
         if not self.has_ended():
             os.killpg(self.process.pid, 15)
             self.process.wait()
         self.log.close()
 
 
-def spans(steps):
+def spans(steps: list[list[str]]) -> Iterator[tuple[int, int]]:
     """Where each step's words begin in the list of all, and how many they are."""
     at = 0
     for words in steps:
@@ -252,7 +252,7 @@ def spans(steps):
         at += len(words)
 
 
-def functions(name):
+def functions(name: str) -> int:
     """How many functions a crate's text has."""
     count = 0
     for file in sources(name):
@@ -262,7 +262,7 @@ def functions(name):
     return count
 
 
-def weight(name):
+def weight(name: str) -> tuple[float, bool]:
     """The processor seconds that a crate took when it was last built, else a guess by its lines; and whether it is known."""
     try:
         with open(f"{TOP}/crates/{name}/out/build.seconds", encoding="ascii") as it:
@@ -276,27 +276,27 @@ def weight(name):
     return 20 + lines / 20, False
 
 
-def minutes(seconds):
+def minutes(seconds: float) -> str:
     return f"{max(round(seconds), 0) // 60}:{max(round(seconds), 0) % 60:02}"
 
 
 class Show:
     """How far something is, on standard error."""
 
-    def __init__(self):
+    def __init__(self) -> None:
         self.is_terminal = sys.stderr.isatty()
 
-    def line(self, text):
+    def line(self, text: str) -> None:
         if self.is_terminal:
             width = shutil.get_terminal_size().columns - 1
             sys.stderr.write(f"\r\033[K{text[:width]}")
             sys.stderr.flush()
 
-    def say(self, text):
+    def say(self, text: str) -> None:
         sys.stderr.write(("\r\033[K" if self.is_terminal else "") + text + "\n")
         sys.stderr.flush()
 
-    def over(self):
+    def over(self) -> None:
         if self.is_terminal:
             sys.stderr.write("\r\033[K")
             sys.stderr.flush()
@@ -305,7 +305,7 @@ class Show:
 class Plan:
     """Crates to build: what waits for what, how long each takes, and how far all are."""
 
-    def __init__(self, names, made):
+    def __init__(self, names: list[str], made: Made) -> None:
         self.names, self.crates, self.made = names, made.crates, made
         self.folders = {**made.folders(reached(self.crates, names)), **dict.fromkeys(names, BUILT)}
         self.sums = {it: made.sums.of(it) for it in names}
@@ -319,20 +319,22 @@ class Plan:
             for below in self.crates[name][0]:
                 if below in self.behind:
                     self.behind[below] = max(self.behind[below], self.behind[name])
-        self.left, self.running, self.done, self.started = sorted(names, key=lambda it: -self.behind[it]), [], [], time.monotonic()
+        self.left, self.started = sorted(names, key=lambda it: -self.behind[it]), time.monotonic()
+        self.running: list[Build] = []
+        self.done: list[str] = []
 
-    def ready(self):
+    def ready(self) -> list[str]:
         """The crates that wait for nothing, those first that most waits for."""
         unmade = {*self.left, *(it.name for it in self.running)}
         return [it for it in self.left if not unmade.intersection(self.crates[it][0])]
 
     @staticmethod
-    def processes(ahead, crowd, lanes):
+    def processes(ahead: int, crowd: int, lanes: int) -> int:
         """By how many processes a crate is proved, where for so many of those that run more waits, and so many run or wait for
         a lane alone."""
         return lanes if ahead == 0 or crowd < lanes else 1
 
-    def start(self, lanes, where):
+    def start(self, lanes: int, where: str) -> None:
         ready = self.ready()
         crowd = len(self.running) + len(ready)
         for name in ready:
@@ -343,7 +345,7 @@ class Plan:
             jobs = self.processes(ahead, crowd, lanes)
             self.running.append(Build(self.crates, name, jobs, 5 * ahead, where, self.folders))
 
-    def wait_left(self, lanes):
+    def wait_left(self, lanes: int) -> float:
         """How many seconds are left, by the last build's times."""
         done = {it.name: min(it.seconds() * lanes / len(self.running), self.weights[it.name]) for it in self.running}
         ends = [self.behind[it] / lanes for it in self.left]
@@ -351,7 +353,7 @@ class Plan:
         work = sum(self.weights[it] for it in self.left) + sum(self.weights[it] - seconds for it, seconds in done.items())
         return max([work / lanes, *ends])
 
-    def far(self, lanes):
+    def far(self, lanes: int) -> str:
         done = sum(self.functions[it] for it in self.done)
         wait = f", {minutes(self.wait_left(lanes))} left by the last build" if self.is_known and self.running else ""
         now = ", ".join(it.name for it in self.running)
@@ -359,13 +361,13 @@ class Plan:
         return f"site: proved {crates} in {minutes(time.monotonic() - self.started)}{wait}; now {now}"
 
 
-def note_built(plan, name):
+def note_built(plan: Plan, name: str) -> None:
     """Notes what a crate was built from, if that is what is still there: what changed meanwhile is built again."""
     now = Made(plan.crates).sums.of(name)
     plan.made.note(name, made_of(name), now if now == plan.sums[name] else "changed")
 
 
-def build(names, lanes, show, made):
+def build(names: list[str], lanes: int, show: Show, made: Made) -> Optional[tuple[str, str]]:
     """Builds crates; answers the name of the one that failed, with what it said, if any did."""
     plan, where = Plan(names, made), kit()
     try:
@@ -391,7 +393,7 @@ def build(names, lanes, show, made):
     return None
 
 
-def main():
+def main() -> int:
     words = argparse.ArgumentParser(description=__doc__, formatter_class=argparse.RawDescriptionHelpFormatter)
     words.add_argument("--jobs", type=int, default=0, help="how many processors may be used")
     words.add_argument("crates", nargs="*")

@@ -23,11 +23,12 @@ import shutil
 import subprocess
 import sys
 import tempfile
+from typing import Iterator, Optional
 
 sys.dont_write_bytecode = True
 TOP = os.path.dirname(os.path.dirname(os.path.abspath(__file__)))
 sys.path.insert(0, f"{TOP}/tools")
-import build
+import build  # noqa: E402
 
 FUNCTION = re.compile(r"(\s*)(?:pub(?:\([a-z]+\))? )?(?:const )?fn ([a-z_0-9]+)")
 TYPE = re.compile(r"^(?:pub(?:\([a-z]+\))? )?(?:struct|enum|union) ([A-Za-z0-9_]+)", re.M)
@@ -35,12 +36,12 @@ TYPE = re.compile(r"^(?:pub(?:\([a-z]+\))? )?(?:struct|enum|union) ([A-Za-z0-9_]
 PARTS = {"Code", "Given", "Goals", "Key", "Kinds", "Layout", "Links", "Lts", "Met", "Proof", "Routine", "Statement", "Symbol", "TheLink", "Tie"}
 
 
-def names_in(text):
+def names_in(text: str) -> list[str]:
     """The names of a type, without its lifetimes."""
     return re.findall(r"[A-Za-z_][A-Za-z0-9_]*", re.sub(r"'[a-z_]+", "", text))
 
 
-def parted(head):
+def parted(head: str) -> tuple[str, str]:
     """The parameters of an `impl`, and what stands behind them."""
     if not head.startswith("<"):
         return "", head
@@ -48,18 +49,18 @@ def parted(head):
     for at, letter in enumerate(head):
         depth += (letter == "<") - (letter == ">" and head[at - 1] != "-")
         if depth == 0:
-            return head[1:at], head[at + 1:].strip()
+            return head[1:at], head[at + 1 :].strip()
     return "", head
 
 
-def name_of_impl(parameters, trait, its_type):
+def name_of_impl(parameters: str, trait: str, its_type: str) -> str:
     """The name of the module of a trait's functions for a type: each name of both but the parameters, as types are named."""
     bound = set(re.findall(r"(?:^|,)\s*(?:const )?([A-Za-z_][A-Za-z0-9_]*)", parameters))
     words = [names_in(its_type)[0], *(it for it in names_in(trait) if it not in bound)]
     return "".join(it[0].upper() + it[1:] for it in words)
 
 
-def owner_of(lines, at):
+def owner_of(lines: list[str], at: int) -> tuple[str, str]:
     """Whose functions follow the line of an `impl`: a type's, or those of a trait for a type."""
     head = lines[at]
     while "{" not in head.split("ghost")[0] and at + 1 < len(lines):
@@ -70,18 +71,19 @@ def owner_of(lines, at):
         return ("type", names_in(head)[0])
     trait, its_type = head.split(" for ", 1)
     if trait == "Drop":
-        return ("none", None)
+        return ("none", "")
     return ("trait", name_of_impl(parameters, trait, its_type))
 
 
-def functions_of(text, modules, home):
+def functions_of(text: str, modules: list[str], home: dict[str, list[str]]) -> Iterator[list[str]]:
     """The paths of the functions of a file whose theorems stand alone: cycles, tests and those of traits have none."""
-    owner, is_cycle, lines = None, False, text.split("\n")
+    owner: Optional[tuple[str, str]] = None
+    is_cycle, lines = False, text.split("\n")
     for at, line in enumerate(lines):
         if line.startswith("impl"):
             owner = owner_of(lines, at)
         elif re.match(r"(pub(\([a-z]+\))? )?trait ", line):
-            owner = ("none", None)
+            owner = ("none", "")
         elif line == "}":
             owner = None
         is_cycle = is_cycle or "#[cycle(" in line
@@ -98,7 +100,7 @@ def functions_of(text, modules, home):
             yield [*modules, owner[1], found[2]]
 
 
-def sources_of(crate):
+def sources_of(crate: str) -> Iterator[tuple[str, list[str]]]:
     """The sources of a crate, each with the path of its module."""
     for at, _, files in os.walk(f"{crate}/src"):
         for name in sorted(files):
@@ -107,7 +109,7 @@ def sources_of(crate):
             yield f"{at}/{name}", [] if modules in (["lib"], ["main"]) else modules
 
 
-def copy_with_holes(crate, name, to):
+def copy_with_holes(crate: str, name: str, to: str) -> int:
     """Copies a crate, with a hole as each function's proof, and answers how many there are."""
     shutil.rmtree(to, ignore_errors=True)
     shutil.copytree(crate, to, ignore=shutil.ignore_patterns("out", "edits", "must-fail", "data"))
@@ -130,7 +132,7 @@ def copy_with_holes(crate, name, to):
     return count
 
 
-def sum_of(crate):
+def sum_of(crate: str) -> str:
     """A checksum of what a crate's copy is made of."""
     sums = hashlib.sha256()
     for at, folders, files in os.walk(crate):
@@ -142,7 +144,7 @@ def sum_of(crate):
     return sums.hexdigest()
 
 
-def bring_copy(name, keep):
+def bring_copy(name: str, keep: str) -> None:
     """Makes the copy of a crate anew where the crate changed."""
     crate, to, mark = f"{TOP}/crates/{name}", f"{keep}/below/{name}", f"{keep}/{name}.sum"
     now = sum_of(crate)
@@ -152,7 +154,7 @@ def bring_copy(name, keep):
             it.write(now)
 
 
-def words_of(name, keep, jobs):
+def words_of(name: str, keep: str, jobs: int) -> tuple[list[str], dict[str, str]]:
     """The words of the check, up to those that the caller gives."""
     crates, where = build.crates_listed(TOP), build.kit()
     own, of_kit = crates[name]
@@ -170,21 +172,21 @@ def words_of(name, keep, jobs):
     return [*words, "--allow-holes", "--short-goals"], {**os.environ, "PATH": f"{os.environ['PATH']}:{where}/bin"}
 
 
-def seconds_by_function(folder):
+def seconds_by_function(folder: str) -> dict[str, float]:
     """How long each function took, by the times of the modules that were kept."""
     kept = []
     for at, folders, files in os.walk(folder):
         folders[:] = [it for it in folders if it != "records"]
         kept += [(os.stat(f"{at}/{it}").st_mtime, it[:-6]) for it in files if it.endswith(".oantt")]
     kept.sort()
-    seconds = collections.Counter()
+    seconds: dict[str, float] = collections.defaultdict(float)
     for (before, _), (after, module) in zip(kept, kept[1:]):
         path = module.split("-", 1)[-1].split(".")
         seconds[".".join(it for it in path if it not in PARTS)] += after - before
     return seconds
 
 
-def main():
+def main() -> int:
     words = argparse.ArgumentParser(description=__doc__, formatter_class=argparse.RawDescriptionHelpFormatter)
     words.add_argument("--only", action="append", default=[])
     words.add_argument("--test", action="store_true")
@@ -198,6 +200,7 @@ def main():
     call += [word for it in given.only for word in ("--only", it)] + ["--test"] * given.test
     ran = subprocess.Popen(call, cwd=f"{TOP}/crates/{given.name}", env=names, stdout=subprocess.PIPE, stderr=subprocess.STDOUT, text=True)
     left, is_judged = set(), False
+    assert ran.stdout
     for line in ran.stdout:
         is_judged = is_judged or re.match(r"only=\d|holes=\d|logic=", line) is not None
         if line.startswith(f"{given.keep}/below") or f"={given.keep}/below" in line:
@@ -211,7 +214,8 @@ def main():
             continue
         print(line, end="", flush=True)
     ran.wait()
-    for function, seconds in seconds_by_function(f"{given.keep}/{given.name}").most_common(given.dear):
+    taken = seconds_by_function(f"{given.keep}/{given.name}")
+    for function, seconds in sorted(taken.items(), key=lambda it: -it[1])[: given.dear]:
         print(f"{seconds:7.1f} s  {function}")
     if not is_judged and not left:
         print("nothing was judged: the check stopped before, at what it says of the copies below", flush=True)

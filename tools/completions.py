@@ -13,6 +13,7 @@ import os
 import re
 import subprocess
 import sys
+from typing import Iterator, Optional
 
 TOP = os.path.dirname(os.path.dirname(os.path.realpath(__file__)))
 OPTION = re.compile(r"^\s+(?:-(\w), |)--([\w-]+)(?: <(\w+)>)?(?:\s\s+(\S.*))?$")
@@ -23,8 +24,12 @@ CHOICE = re.compile(r": ((?:\w+, )*\w+ or \w+)$")
 # A row of the table of exit statuses.
 STATUS = re.compile(r"^\| (\d) \| (.*?) \|", re.M)
 # The values that are files, and those that aren't.
-FILES = {"DB", "FILE", "SUMMARY"}
-NO_FILES = {"ACTION", "ORDER", "N", "S", "TIME"}
+FILES = {"DB", "FILE", "NUMBERS", "SUMMARY"}
+NO_FILES = {"ACTION", "NAME", "N", "ORDER", "S", "SECONDS", "TIME"}
+
+
+# Its short word or none, its long one, its value or none, and what it is for.
+Option = tuple[Optional[str], str, Optional[str], str]
 
 
 class Unknown(Exception):
@@ -34,11 +39,14 @@ class Unknown(Exception):
 class Help:
     """A help text: its first paragraph, its usage, and the rows of its parts."""
 
-    def __init__(self, text):
+    def __init__(self, text: str) -> None:
         lines = text.splitlines()
         self.about = " ".join(it.strip() for it in lines[: next((at for at, it in enumerate(lines) if it.startswith("Usage:")), 1)] if it.strip())
         self.usage = next((it.removeprefix("Usage:").strip() for it in lines if it.startswith("Usage:")), "")
-        self.options, self.arguments, self.commands, part = [], [], [], ""
+        self.options: list[Option] = []
+        self.arguments: list[tuple[str, bool, str]] = []
+        self.commands: list[tuple[str, str]] = []
+        part = ""
         for line in lines:
             if re.match(r"^\w[\w ]*:$", line):
                 part = line[:-1]
@@ -52,9 +60,10 @@ class Help:
                 raise Unknown(f"a line of help isn't understood: {line.strip()}")
 
 
-def read(program):
+def read(program: str) -> tuple[Help, dict[str, Help]]:
     """The help of the program, and that of each command by its word, in the order in which help lists them."""
-    def asked(*words):
+
+    def asked(*words: str) -> Help:
         return Help(subprocess.run([program, *words, "--help"], capture_output=True, text=True).stdout)
 
     whole = asked()
@@ -70,7 +79,7 @@ def read(program):
     return whole, commands
 
 
-def statuses():
+def statuses() -> list[tuple[str, str]]:
     """Each exit status with what it means."""
     with open(f"{TOP}/docs/FORMATS.md", encoding="utf-8") as it:
         found = STATUS.findall(it.read().partition("\n## Exit statuses")[2].partition("\n## ")[0])
@@ -79,21 +88,21 @@ def statuses():
     return found
 
 
-def dashed(option):
+def dashed(option: Option) -> list[str]:
     short, long, _, _ = option
     return [f"-{short}"] * bool(short) + [f"--{long}"]
 
 
-def words_of(name, about):
+def words_of(name: str, about: str) -> tuple[list[str], bool]:
     """What an argument or an option's value may be, where its help lists the words, and whether it is a file."""
     found = CHOICE.search(about)
     return re.split(", | or ", found[1]) if found else [], name in FILES
 
 
-def bash(whole, commands):
+def bash(whole: Help, commands: dict[str, Help]) -> Iterator[str]:
     yield "# Completes the words of `site` in bash: source it, or put it where bash-completion looks."
     yield "_site() {"
-    yield '    local word=${COMP_WORDS[COMP_CWORD]} before=${COMP_WORDS[COMP_CWORD-1]} words= files='
+    yield "    local word=${COMP_WORDS[COMP_CWORD]} before=${COMP_WORDS[COMP_CWORD-1]} words= files="
     yield '    if [ "$COMP_CWORD" = 1 ]; then'
     every = [it for it, _ in whole.commands] + [it for option in whole.options for it in dashed(option)]
     yield f"        words='{' '.join(every)}'"
@@ -122,11 +131,11 @@ def bash(whole, commands):
     yield "complete -o filenames -F _site site"
 
 
-def escaped(text):
+def escaped(text: str) -> str:
     return text.replace("'", "'\\''").replace("[", "\\[").replace("]", "\\]").replace(":", "\\:")
 
 
-def zsh(whole, commands):
+def zsh(whole: Help, commands: dict[str, Help]) -> Iterator[str]:
     yield "#compdef site"
     yield "# Completes the words of `site` in zsh: put it as _site into a folder of $fpath."
     yield "_site() {"
@@ -172,11 +181,16 @@ def zsh(whole, commands):
     yield '_site "$@"'
 
 
-def fish(whole, commands):
+def fish(whole: Help, commands: dict[str, Help]) -> Iterator[str]:
     yield "# Completes the words of `site` in fish: put it into ~/.config/fish/completions."
     yield "complete -c site -f"
-    quoted = lambda text: "'" + text.replace("\\", "\\\\").replace("'", "\\'") + "'"
-    named = lambda option: f"-l {option[1]}" + (f" -s {option[0]}" if option[0] else "")
+
+    def quoted(text: str) -> str:
+        return "'" + text.replace("\\", "\\\\").replace("'", "\\'") + "'"
+
+    def named(option: Option) -> str:
+        return f"-l {option[1]}" + (f" -s {option[0]}" if option[0] else "")
+
     for word, about in whole.commands:
         yield f"complete -c site -n __fish_use_subcommand -a {word} -d {quoted(about)}"
     for option in whole.options:
@@ -187,7 +201,7 @@ def fish(whole, commands):
         for option in its.options:
             line = f"{on} {named(option)}"
             if option[2]:
-                line += " -r -F" if words_of(*option[2:])[1] else " -x"
+                line += " -r -F" if words_of(option[2], option[3])[1] else " -x"
             yield f"{line} -d {quoted(option[3])}"
         for name, _, about in its.arguments:
             given, is_file = words_of(name, about)
@@ -197,11 +211,11 @@ def fish(whole, commands):
                 yield f"{on} -F"
 
 
-def roff(text):
+def roff(text: str) -> str:
     return text.replace("\\", "\\e").replace("-", "\\-")
 
 
-def rows(options):
+def rows(options: list[Option]) -> Iterator[str]:
     """The rows of a man page on these options."""
     for option in options:
         yield ".TP"
@@ -209,7 +223,7 @@ def rows(options):
         yield roff(option[3])
 
 
-def man(whole, commands):
+def man(whole: Help, commands: dict[str, Help]) -> Iterator[str]:
     yield ".TH SITE 1"
     yield ".SH NAME"
     yield "site \\- an inbox for CloudEvents that several regions keep alike"
@@ -223,11 +237,11 @@ def man(whole, commands):
     yield from rows(whole.options)
     yield ".SH COMMANDS"
     for word, about in whole.commands:
-        its = commands.get(word)
         yield f".SS {word}"
         yield roff(about)
-        if not its:
+        if word not in commands:
             continue
+        its = commands[word]
         for name, _, meant in its.arguments:
             yield ".TP"
             yield f".I {roff(name)}"
@@ -245,7 +259,7 @@ def man(whole, commands):
 KINDS = {"bash": (bash, "site.bash"), "zsh": (zsh, "_site"), "fish": (fish, "site.fish"), "man": (man, "site.1")}
 
 
-def main():
+def main() -> int:
     words = argparse.ArgumentParser(description=__doc__, formatter_class=argparse.RawDescriptionHelpFormatter)
     words.add_argument("--program", default=f"{TOP}/crates/site_cli/out/site_cli")
     words.add_argument("--all", metavar="FOLDER")

@@ -14,11 +14,14 @@ With --region: the events of one of two regions that are to come to one view. Ha
 otherwise in each, with another subject: one source and id, two events. No number is left out and no event stands
 twice, and they come in an order that has nothing to do with their numbers. 100,000 events are 19 MB.
 """
+from __future__ import annotations
+
 import argparse
 import datetime
 import json
 import random
 import sys
+from typing import Any, Dict, TextIO
 
 KINDS = {
     "orders": ["order.placed", "order.shipped", "order.cancelled"],
@@ -29,17 +32,18 @@ KINDS = {
 }
 REGIONS = ["eu-north", "eu-south", "us-east", "ap-west"]
 ZONES = ["Z", "+00:00", "+01:00", "-05:00", "+05:30", "+14:00", "-12:00"]
+Event = Dict[str, Any]
 
 
-def time(dice, days):
+def time(dice: random.Random, days: int) -> str:
     """A time of one of that many days from 2026 on, by the clock of some zone."""
     day = datetime.date(2026, 1, 1) + datetime.timedelta(days=dice.randrange(days))
     second = dice.randrange(86_400)
     return f"{day}T{second // 3600:02d}:{second // 60 % 60:02d}:{second % 60:02d}{dice.choice(ZONES)}"
 
 
-def event(dice, service, region, number, options):
-    made = {
+def event(dice: random.Random, service: str, region: str, number: int, options: argparse.Namespace) -> Event:
+    made: Event = {
         "specversion": "1.0",
         "id": f"{service}-{region}-{number:012d}-{dice.getrandbits(40):010x}",
         "source": f"/{region}/{service}",
@@ -54,7 +58,7 @@ def event(dice, service, region, number, options):
         made["time"] = time(dice, options.days)
     if options.data:
         made["datacontenttype"] = "application/json"
-        lines = []
+        lines: list[Event] = []
         while len(json.dumps(lines, separators=(",", ":"))) < options.data - 30:
             sku = f"{dice.getrandbits(32):08x}"
             lines.append({"sku": sku, "count": dice.randrange(1, 20), "gift": dice.random() < 0.1})
@@ -68,11 +72,11 @@ def event(dice, service, region, number, options):
     return made
 
 
-def batch(options):
+def batch(options: argparse.Namespace) -> list[Event]:
     """The events of many services."""
     dice = random.Random(options.seed)
     streams = [(service, region) for service in KINDS for region in REGIONS]
-    events = []
+    events: list[Event] = []
     numbers = {stream: 0 for stream in streams}
     while len(events) < options.events:
         stream = dice.choice(streams)
@@ -89,7 +93,7 @@ def batch(options):
     return events
 
 
-def event_of_region(source, number, subject):
+def event_of_region(source: str, number: int, subject: str) -> Event:
     return {
         "specversion": "1.0",
         "id": f"{source[1:]}-{number * 7919 % 1_000_003:07d}-{number:07d}",
@@ -101,7 +105,7 @@ def event_of_region(source, number, subject):
     }
 
 
-def region(name, count):
+def region(name: str, count: int) -> list[Event]:
     """The events of a region: half are its own, half those that both have, some of which stand otherwise here."""
     shared = count // 2
     differ = shared * 3 // 100
@@ -110,11 +114,11 @@ def region(name, count):
     for number in range(1, shared + 1):
         whose = name if number % every == 0 and number // every <= differ else "both"
         events.append(event_of_region("/shared", number, f"customer/{whose}-{number % 7000:05d}"))
-    events.sort(key=lambda it: it["id"][-3:] + it["id"])
+    events.sort(key=lambda it: str(it["id"][-3:] + it["id"]))
     return events
 
 
-def write(events, out):
+def write(events: list[Event], out: TextIO) -> None:
     out.write("[")
     for place, made in enumerate(events):
         out.write(",\n" if place else "\n")
@@ -122,7 +126,7 @@ def write(events, out):
     out.write("\n]\n")
 
 
-def main():
+def main() -> None:
     parser = argparse.ArgumentParser()
     parser.add_argument("--events", type=int, default=120_000)
     parser.add_argument("--seed", type=int, default=1)

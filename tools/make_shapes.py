@@ -15,7 +15,7 @@ import random
 import sys
 
 
-def order(kind, count, dice):
+def order(kind: str, count: int, dice: random.Random) -> list[int]:
     places = list(range(count))
     if kind == "descending":
         places.reverse()
@@ -24,9 +24,9 @@ def order(kind, count, dice):
     return places
 
 
-def event(place, options):
+def event(place: int, options: argparse.Namespace) -> str:
     """The event of a place in the order that was asked for."""
-    key, source, kind, number, more = place, "/s", "t", place + 1, ""
+    key, source, kind, number, more = str(place), "/s", "t", place + 1, ""
     if options.sources:
         source, number = f"/s/{place:06d}", 1
     elif options.numbers == "scattered":
@@ -39,12 +39,10 @@ def event(place, options):
         kind = f"t{place:06d}"
     elif options.days:
         more = f',"time":"{datetime.date.min + datetime.timedelta(days=place)}T12:00:00Z"'
-    return (
-        f'{{"specversion":"1.0","id":"{key}","source":"{source}","type":"{kind}","sequence":"{number:020d}"{more}}}'
-    )
+    return f'{{"specversion":"1.0","id":"{key}","source":"{source}","type":"{kind}","sequence":"{number:020d}"{more}}}'
 
 
-def main():
+def main() -> None:
     parser = argparse.ArgumentParser(description=__doc__, formatter_class=argparse.RawTextHelpFormatter)
     shape = parser.add_mutually_exclusive_group(required=True)
     shape.add_argument("--sources", choices=["ascending", "descending", "shuffled"])

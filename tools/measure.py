@@ -25,11 +25,12 @@ import subprocess
 import sys
 import tempfile
 import time
+from typing import Any, Callable
 
 TOP = os.path.dirname(os.path.dirname(os.path.realpath(__file__)))
 QUESTIONS = ("cover", "shown", "gaps", "latest", "kinds", "days", "conflicts")
 # A batch: the name of its file, and how tools/make_batch.py makes it.
-BATCHES = {
+BATCHES: dict[str, list[str]] = {
     "plain": [],
     "data": ["--data", "200", "--events", "60000"],
     "conflicts": ["--events", "110000", "--conflicts", "0.05", "--gaps", "0.05", "--days", "30", "--subjects", "5000"],
@@ -47,13 +48,16 @@ WAITING = 1_000
 class Measured:
     """What the runs of one program took."""
 
-    def __init__(self):
-        self.processor, self.clock, self.memory, self.output = [], [], 0, None
+    def __init__(self) -> None:
+        self.processor: list[float] = []
+        self.clock: list[float] = []
+        self.memory, self.output = 0, ""
 
-    def add(self, words, folder):
+    def add(self, words: list[str], folder: str) -> None:
         began = time.monotonic()
         with subprocess.Popen(words, cwd=folder, stdin=subprocess.DEVNULL, stdout=subprocess.PIPE) as ran:
             digest = hashlib.sha256()
+            assert ran.stdout
             while chunk := ran.stdout.read(1 << 20):
                 digest.update(chunk)
             _, status, used = os.wait4(ran.pid, 0)
@@ -65,14 +69,15 @@ class Measured:
         self.memory = max(self.memory, used.ru_maxrss * 1024)
         self.output = digest.hexdigest()
 
-    def text(self):
+    def text(self) -> str:
         return f"{min(self.processor):.2f} s, {min(self.clock):.2f} s, {self.memory / 1e6:.0f} MB"
 
 
-def waited(words, events):
+def waited(words: list[str], events: list[dict[str, Any]]) -> list[float]:
     """How long each line took to its answer, the first apart, which waits for the open."""
     took = []
     with subprocess.Popen(words, stdin=subprocess.PIPE, stdout=subprocess.PIPE) as ran:
+        assert ran.stdin and ran.stdout
         for event in events:
             began = time.monotonic()
             ran.stdin.write(json.dumps(event).encode() + b"\n")
@@ -84,24 +89,24 @@ def waited(words, events):
     return took[1:]
 
 
-def middle(values):
+def middle(values: list[float]) -> float:
     return sorted(values)[len(values) // 2]
 
 
 class Bench:
-    def __init__(self, given, folder):
+    def __init__(self, given: argparse.Namespace, folder: str) -> None:
         self.given, self.folder, self.well = given, folder, True
         held = ["taskset", "--cpu-list", f"0-{given.threads - 1}"] if given.threads else []
         self.ours = [*held, given.program]
 
-    def batch(self, name):
+    def batch(self, name: str) -> str:
         path = f"{self.folder}/{name}.json"
         if not os.path.exists(path):
             with open(path, "wb") as out:
                 subprocess.run([f"{TOP}/tools/make_batch.py", *BATCHES[name]], stdout=out, check=True)
         return path
 
-    def turns(self, runs, before=lambda: None):
+    def turns(self, runs: Any, before: Callable[[], object] = lambda: None) -> Any:
         """What each of some programs took, run in turn."""
         found = [Measured() for _ in runs]
         for _ in range(self.given.rounds):
@@ -110,7 +115,7 @@ class Bench:
                 it.add(words, self.folder)
         return found
 
-    def question(self, what, words):
+    def question(self, what: str, words: list[str]) -> None:
         ours, plain = self.turns([[*self.ours, *words], [self.given.plain, *words]])
         if ours.output != plain.output:
             print(f"{what}: the outputs differ", file=sys.stderr)
@@ -118,16 +123,16 @@ class Bench:
         ratios = [min(ours.processor) / min(plain.processor), min(ours.clock) / min(plain.clock), ours.memory / plain.memory]
         print(f"| {what} | {ours.text()} | {plain.text()} | {' | '.join(f'{it:.2f}' for it in ratios)} |", flush=True)
 
-    def heads(self, title):
+    def heads(self, title: str) -> None:
         print(f"\n{title}\n\n| what | `site` | plain Rust | processor | clock | memory |\n|---|---|---|---|---|---|")
 
-    def questions(self, name):
+    def questions(self, name: str) -> None:
         path = self.batch(name)
         self.heads(f"{os.path.basename(path)}, {os.path.getsize(path) / 1e6:.1f} MB")
         for it in QUESTIONS:
             self.question(f"`{it}`", [it, path])
 
-    def files(self):
+    def files(self) -> None:
         eight = [self.batch(f"part{i}") for i in range(1, 9)]
         size = sum(os.path.getsize(it) for it in eight)
         self.heads(f"several files with data, eight of {size / 1e6:.1f} MB in all")
@@ -135,10 +140,10 @@ class Bench:
             self.question(f"`{it}` of eight files", [it, *eight])
         self.question("`cover` of four of them", ["cover", *eight[:4]])
 
-    def tables(self):
+    def tables(self) -> None:
         database = f"{self.folder}/measured.db"
 
-        def gone():
+        def gone() -> None:
             for end in ("", "-wal", "-shm", "-journal"):
                 if os.path.exists(database + end):
                     os.remove(database + end)
@@ -159,7 +164,7 @@ class Bench:
             print(f"| plain Rust takes the 60,000 with data | {found.text()} | {middle(found.clock):.2f} s |", flush=True)
         gone()
 
-    def streams(self):
+    def streams(self) -> None:
         """Lines of one event each, sent without waiting and each behind the answer to the one before; pages; questions."""
         batch, lines, few = self.batch("plain"), f"{self.folder}/lines", f"{self.folder}/few"
         with open(batch, encoding="utf-8") as file:
@@ -172,7 +177,7 @@ class Bench:
         if self.given.plain_tables:
             programs.append([self.given.plain_tables, "follow", names[1], lines])
 
-        def gone():
+        def gone() -> None:
             for name in names:
                 for end in ("", "-wal", "-shm", "-journal"):
                     if os.path.exists(name + end):
@@ -205,7 +210,7 @@ class Bench:
             print(f"| {what} | {it.text()} | {middle(it.clock):.2f} s |", flush=True)
         gone()
 
-    def million(self):
+    def million(self) -> None:
         """Forty files, and the memory that grows from twenty of them to all: that of the files and what is kept."""
         paths = [self.batch(f"many{i}") for i in range(1, 41)]
         sizes = [os.path.getsize(it) for it in paths]
@@ -218,14 +223,14 @@ class Bench:
         print(f"\n{events} events of {text / 1e6:.0f} MB of canonical text; kept of them are {kept / 1e6:.0f} MB: ", end="")
         print(f"{kept / text:.2f} times the text, or the text and {(kept - text) / events:.0f} bytes an event")
 
-    def run(self, group):
+    def run(self, group: str) -> None:
         if group in ("files", "tables", "streams", "million"):
             getattr(self, group)()
         else:
             self.questions("plain" if group == "questions" else group)
 
 
-def main():
+def main() -> int:
     words = argparse.ArgumentParser(description=__doc__, formatter_class=argparse.RawDescriptionHelpFormatter)
     words.add_argument("plain")
     words.add_argument("plain_tables", nargs="?")

@@ -11,6 +11,7 @@ import subprocess
 import sys
 import tempfile
 import threading
+from typing import Any
 
 SHIM = r"""
 #define _GNU_SOURCE
@@ -44,7 +45,7 @@ int posix_memalign(void **p, size_t a, size_t n) { return refuses() ? ENOMEM : N
 class Refuser:
     """Runs commands with one allocation refused."""
 
-    def __enter__(self):
+    def __enter__(self) -> "Refuser":
         self.room = tempfile.TemporaryDirectory()
         with open(f"{self.room.name}/shim.c", "w") as out:
             out.write(SHIM)
@@ -52,10 +53,10 @@ class Refuser:
         subprocess.run(["cc", "-O1", "-shared", "-fPIC", "-o", self.shim, f"{self.room.name}/shim.c", "-ldl"], check=True)
         return self
 
-    def __exit__(self, *why):
+    def __exit__(self, *why: object) -> None:
         self.room.cleanup()
 
-    def ran(self, words, at, **how):
+    def ran(self, words: list[str], at: int, **how: Any) -> tuple[subprocess.CompletedProcess[bytes], bool]:
         """The run of the words whose allocation of this number, from 1, is refused, and whether it came so far."""
         mark = f"{self.room.name}/mark-{threading.get_ident()}-{at}"
         env = {**os.environ, "LD_PRELOAD": self.shim, "REFUSE_AT": str(at), "REFUSE_MARK": mark}
@@ -68,7 +69,7 @@ class Refuser:
         return ran, was_met
 
 
-def main():
+def main() -> int:
     program, words = os.path.abspath(sys.argv[1]), sys.argv[2:]
     whole = subprocess.run([program, *words], capture_output=True)
     bad, refused, at = 0, 0, 0

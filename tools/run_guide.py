@@ -29,6 +29,7 @@ import shutil
 import subprocess
 import sys
 import tempfile
+from typing import Any, Iterable, Iterator, Optional
 
 HERE = os.path.dirname(os.path.dirname(os.path.realpath(__file__)))
 
@@ -39,32 +40,38 @@ SERVICE = os.path.join(HERE, "out/service/jumbetaid")
 # What a stand-in for ssh does: it leaves out the host, and joins the words to one text for a shell, as ssh does.
 SSH = '#!/bin/sh\nshift\nexec sh -c "$*"\n'
 
+# The heading that a block stands below, the words of its mark, and its lines.
+Block = tuple[str, list[str], list[str]]
+# A command with what it is to print, or a text for a file, whose command is none and which stands with the file's name.
+Step = tuple[Optional[str], Any]
 
-def blocks(page):
+
+def blocks(page: str) -> Iterator[Block]:
     """The blocks of a page: the heading that each stands below, the words of its mark, and its lines."""
     with open(os.path.join(HERE, page), encoding="utf-8") as file:
         text = file.read()
-    heading, inside = "", None
+    heading = ""
+    inside: Optional[Block] = None
     for line in text.splitlines():
         if line.startswith("```") and inside is None:
             inside = (heading, line[3:].split(), [])
+        elif inside is None:
+            heading = line.lstrip("# ") if line.startswith("#") else heading
         elif line.startswith("```"):
             yield inside
             inside = None
-        elif inside is not None:
+        else:
             inside[2].append(line)
-        elif line.startswith("#"):
-            heading = line.lstrip("# ")
 
 
-def absent(mark):
+def absent(mark: list[str]) -> set[str]:
     """The programs that a block wants and that aren't there."""
     return {it for it in mark[1:] if "=" not in it and not (os.path.exists(SERVICE) if it == "jumbetaid" else shutil.which(it))}
 
 
-def of_console(mark, lines, times, of):
+def of_console(mark: list[str], lines: list[str], times: int, of: int) -> list[tuple[str, str]]:
     """The commands of a block, each with what it is to print."""
-    found = []
+    found: list[tuple[str, list[str]]] = []
     sizes = [size for word in mark[1:] if word.startswith("sizes=") for size in word[6:].split(",")]
     for line in lines:
         for size in sizes:
@@ -76,11 +83,12 @@ def of_console(mark, lines, times, of):
     return [(command, "".join(line + "\n" for line in lines)) for command, lines in found]
 
 
-def steps(page, part=None, times=1, of=1):
+def steps(page: str, part: Optional[str] = None, times: int = 1, of: int = 1) -> tuple[list[Step], set[str]]:
     """The commands of a page's console blocks, or of those below a heading, with what each is to print, and the
     programs that blocks want and that aren't there. The sizes of a block are multiplied by `times` and divided by
     `of`."""
-    found, lacking = [], set()
+    found: list[Step] = []
+    lacking: set[str] = set()
     for heading, mark, lines in blocks(page):
         if mark[:1] != ["console"] or part not in (None, heading):
             continue
@@ -90,10 +98,12 @@ def steps(page, part=None, times=1, of=1):
     return found, lacking
 
 
-def script(page, of):
+def script(page: str, of: int) -> tuple[list[Step], set[str]]:
     """All that a page gives to its shell, in order: commands with what each is to print, and texts that are written
     into files, whose command is none; and the programs that blocks want and that aren't there."""
-    found, lacking, is_answered = [], set(), False
+    found: list[Step] = []
+    lacking: set[str] = set()
+    is_answered = False
     for _, mark, lines in blocks(page):
         text = "".join(line + "\n" for line in lines)
         file = next((word[5:] for word in mark if word.startswith("file=")), None)
@@ -111,7 +121,7 @@ def script(page, of):
 
 
 @contextlib.contextmanager
-def room(program, ssh=SSH):
+def room(program: str, ssh: str = SSH) -> Iterator[tuple[str, dict[str, str]]]:
     """An empty folder, and an environment in which a shell finds what the guide names."""
     with tempfile.TemporaryDirectory() as folder, tempfile.TemporaryDirectory() as path:
         os.symlink(os.path.realpath(program), os.path.join(path, "site"))
@@ -123,12 +133,12 @@ def room(program, ssh=SSH):
         yield folder, dict(os.environ, PATH=path + os.pathsep + os.environ["PATH"])
 
 
-def gone_to(folder, command):
+def gone_to(folder: str, command: str) -> str:
     """The folder that what stands below a command is run in."""
     return os.path.normpath(os.path.join(folder, command[3:])) if re.fullmatch(r"cd [\w./-]+", command) else folder
 
 
-def typed(steps_of_page, mark):
+def typed(steps_of_page: Iterable[Step], mark: str) -> Iterator[str]:
     """The text for bash: each command, and behind it a mark, which leaves the status as it was."""
     for command, rest in steps_of_page:
         if command is None:
@@ -139,7 +149,7 @@ def typed(steps_of_page, mark):
         yield f"_status=$?; printf '%s\\n' '{mark}'; (exit $_status)\n"
 
 
-def run(page, program, seconds, of):
+def run(page: str, program: str, seconds: float, of: int) -> tuple[int, int]:
     """How many commands of a page were right, and how many there are."""
     commands, lacking = script(page, of)
     if lacking:
@@ -148,7 +158,7 @@ def run(page, program, seconds, of):
     with room(program) as (folder, environment):
         with open(os.path.join(folder, f".{mark}"), "w", encoding="utf-8") as file:
             file.write("".join(typed(commands, mark)))
-        how = {"env": environment, "stdin": subprocess.DEVNULL, "stdout": subprocess.PIPE, "stderr": subprocess.STDOUT}
+        how: dict[str, Any] = {"env": environment, "stdin": subprocess.DEVNULL, "stdout": subprocess.PIPE, "stderr": subprocess.STDOUT}
         with subprocess.Popen(["bash", f".{mark}"], cwd=folder, start_new_session=True, **how) as ran:
             try:
                 said = ran.communicate(timeout=seconds)[0].decode("utf-8", "replace")
@@ -156,7 +166,7 @@ def run(page, program, seconds, of):
                 os.killpg(ran.pid, 9)
                 said = ran.communicate()[0].decode("utf-8", "replace")
                 print(f"wrong: {page} takes more than {seconds} s")
-    parts = [re.sub(rf"\.{mark}: line \d+: ", "bash: ", it) for it in said.split(f"{mark}\n")]
+    parts: list[Optional[str]] = [*(re.sub(rf"\.{mark}: line \d+: ", "bash: ", it) for it in said.split(f"{mark}\n"))]
     parts = parts[:-1] + [None] * (len(commands) + 1 - len(parts))
     for (command, want), got in zip(commands, parts):
         want = "" if command is None else want
@@ -166,7 +176,7 @@ def run(page, program, seconds, of):
     return len(commands) - wrong, len(commands)
 
 
-def main():
+def main() -> None:
     words = argparse.ArgumentParser(description=__doc__, formatter_class=argparse.RawDescriptionHelpFormatter)
     words.add_argument("--program", default=os.path.join(HERE, "crates/site_cli/out/site_cli"))
     words.add_argument("--seconds", type=int, default=120)

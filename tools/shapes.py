@@ -20,16 +20,17 @@ import sqlite3
 import subprocess
 import sys
 import tempfile
+from typing import Any, Callable, Iterable, Iterator, Optional
 
 NUMBER = '"sequence":"%020d"'
 BASE = '"specversion":"1.0","id":"%s","source":"%s","type":"%s",' + NUMBER
 
 
-def event(place, more="", source="/s", number=None, key=None, kind="t"):
+def event(place: int, more: str = "", source: str = "/s", number: Optional[int] = None, key: Optional[str] = None, kind: str = "t") -> str:
     return "{" + BASE % (key or f"e{place}", source, kind, number or place + 1) + more + "}"
 
 
-def batch(size, make):
+def batch(size: int, make: Callable[[int], str]) -> str:
     """A batch of about that size, of the events that are made of their places."""
     parts, length, place = [], 2, 0
     while length < size:
@@ -40,7 +41,7 @@ def batch(size, make):
     return "[" + ",\n".join(parts) + "]"
 
 
-def ordered(size, kind, make):
+def ordered(size: int, kind: str, make: Callable[[int], str]) -> str:
     """Events in an order of their places; all files of a size have the same events."""
     count = size // len(make(100_000))
     places = list(range(count))
@@ -51,7 +52,7 @@ def ordered(size, kind, make):
     return "[" + ",\n".join(make(place) for place in places) + "]"
 
 
-def names(kind, count):
+def names(kind: str, count: int) -> list[str]:
     made = [f"a{place:05d}" for place in range(count)]
     if kind == "descending":
         made.reverse()
@@ -60,72 +61,72 @@ def names(kind, count):
     return made
 
 
-def with_attributes(kind, count):
+def with_attributes(kind: str, count: int) -> Callable[[int], str]:
     more = "".join(f',"{name}":"v"' for name in names(kind, count))
     return lambda place: event(place, more)
 
 
-def with_data(text):
+def with_data(text: str) -> Callable[[int], str]:
     return lambda place: event(place, ',"data":' + text)
 
 
-def of_one_hash(place):
+def of_one_hash(place: int) -> str:
     """A text for each place; all of them have one hash where characters are summed up by powers of 31."""
     return "".join("BB" if place >> bit & 1 else "Aa" for bit in range(20))
 
 
-def of_many_hashes(place):
+def of_many_hashes(place: int) -> str:
     return of_one_hash(place).replace("BB", "Bb")
 
 
-def of_the_known_hash(place):
+def of_the_known_hash(place: int) -> str:
     """A subject for each place; all of them have one hash in a table of the kit that has no seed of its own."""
     return f"subject-00000677B2[Pp8PM{place:08d}"
 
 
-def near_the_known_hash(place):
+def near_the_known_hash(place: int) -> str:
     return of_the_known_hash(place).replace("PM", "Pm")
 
 
-def hidden(size):
+def hidden(size: int) -> str:
     """Events of one subject by their numbers; then from the last one down each again, with a lesser text."""
     count = size // len(event(100_000, ',"subject":"x"')) // 2
     firsts = [event(place, ',"subject":"x"') for place in range(count)]
     return "[" + ",\n".join(firsts + [event(place, ',"subject":"w"') for place in reversed(range(count))]) + "]"
 
 
-def largest(place):
+def largest(place: int) -> str:
     """An event whose canonical text has 262,144 bytes, the most that is allowed."""
     room = 262_144 - len(event(place, ',"x":""'))
     return event(place, ',"x":"' + "b" * room + '"')
 
 
-def members(kind):
+def members(kind: str) -> str:
     return "{" + ",".join(f'"{name}":1' for name in names(kind, 2_000)) + "}"
 
 
-def shapes(size):
+def shapes(size: int) -> Iterator[tuple[str, ...]]:
     """Name of the shape, the odd file, the friendly file."""
-    def by_source(place):
+
+    def by_source(place: int) -> str:
         return event(place, source=f"/s/{place:07d}", number=1)
 
-    def by_number(place):
+    def by_number(place: int) -> str:
         return event(place, number=2 * place + 1, key="k")
 
-    def by_subject(subject):
+    def by_subject(subject: Callable[[int], int]) -> Callable[[int], str]:
         return lambda place: event(place, f',"subject":"s{subject(place):07d}"')
 
-    def by_type(kind):
+    def by_type(kind: Callable[[int], int]) -> Callable[[int], str]:
         return lambda place: event(place, kind=f"t{kind(place):07d}")
 
-    def by_day(day):
-        return lambda place: event(
-            place, f',"time":"{datetime.date.min + datetime.timedelta(days=day(place))}T12:00:00Z"')
+    def by_day(day: Callable[[int], int]) -> Callable[[int], str]:
+        return lambda place: event(place, f',"time":"{datetime.date.min + datetime.timedelta(days=day(place))}T12:00:00Z"')
 
-    def its_own(place):
+    def its_own(place: int) -> int:
         return place
 
-    def of_ten(place):
+    def of_ten(place: int) -> int:
         return place % 10
 
     sources = ordered(size, "ascending", by_source)
@@ -160,11 +161,14 @@ def shapes(size):
     yield "a name repeated", batch(size, lambda place: event(place, ',"x":1' * 30)), few
     yield "bodies of 262,144 bytes", batch(size, largest), plain
 
-    def by_id(place):
+    def by_id(place: int) -> str:
         return event(place, key=f"e{place:07d}")
 
-    def by_text(text):
+    def by_text(text: Callable[[int], str]) -> Callable[[int], str]:
         return lambda place: event(place, f',"subject":"{text(place)}"', key=text(place), kind=text(place))
+
+    def by_its_text(text: Callable[[int], str]) -> Callable[[int], str]:
+        return lambda place: event(place, f',"subject":"{text(place)}"')
 
     ids = ordered(size, "ascending", by_id)
     yield "ids descending", ordered(size, "descending", by_id), ids
@@ -174,14 +178,13 @@ def shapes(size):
     texts = of_one_hash, of_many_hashes
     yield "one hash for all", *(ordered(size, "shuffled", by_text(it)) for it in texts)
     subjects = of_the_known_hash, near_the_known_hash
-    yield "one known hash for all", *(
-        ordered(size, "shuffled", lambda place, by=by: event(place, f',"subject":"{by(place)}"')) for by in subjects)
+    yield "one known hash for all", *(ordered(size, "shuffled", by_its_text(it)) for it in subjects)
     yield "the latest hidden by each next", hidden(size), ten_subjects
     apart = ordered(size, "shuffled", lambda place: event(place, number=1024 * place + 1))
     yield "each number in a block of its own", apart, numbers
 
 
-def refused(size):
+def refused(size: int) -> Iterator[tuple[str, ...]]:
     """Name of the shape, the odd file, which is refused, and the friendly file."""
     plain = batch(size, lambda place: event(place, ',"x":"' + "a" * 200 + '"'))
     nested = batch(size, with_data("[" * 120 + "]" * 120))
@@ -197,8 +200,7 @@ def refused(size):
 
 
 TABLES = (
-    "CREATE TABLE service (one INTEGER PRIMARY KEY CHECK (one = 1), source TEXT NOT NULL, "
-    "base INTEGER NOT NULL CHECK (base >= 0)) STRICT",
+    "CREATE TABLE service (one INTEGER PRIMARY KEY CHECK (one = 1), source TEXT NOT NULL, " "base INTEGER NOT NULL CHECK (base >= 0)) STRICT",
     "CREATE TABLE orders (number INTEGER PRIMARY KEY, state INTEGER NOT NULL CHECK (state >= 1 AND state <= 3)) STRICT",
     "CREATE TABLE outbox (number INTEGER PRIMARY KEY, kind INTEGER NOT NULL CHECK (kind >= 1 AND kind <= 3), "
     "order_number INTEGER NOT NULL, at TEXT NOT NULL) STRICT",
@@ -206,9 +208,10 @@ TABLES = (
 AT = "2026-11-25T12:00:00Z"
 
 
-def services(count):
+def services(count: int) -> Iterator[tuple[str, Any, Any]]:
     """Name of the shape; of the odd service and the friendly one the base, and each row's kind, order and time."""
-    def placed(numbers, at=AT):
+
+    def placed(numbers: list[int], at: str = AT) -> list[tuple[int, int, str]]:
         return [(1, number, at) for number in numbers]
 
     numbers = list(range(1, count + 1))
@@ -223,7 +226,7 @@ def services(count):
     yield "each shipped in the end", (0, placed(half) + [(2, it, AT) for it in half[::-1]]), friendly
 
 
-def make_service(path, base, rows):
+def make_service(path: str, base: int, rows: list[tuple[int, int, str]]) -> None:
     """A database with a service of these rows."""
     forget(path)
     made = sqlite3.connect(f"{path}.db", isolation_level=None)
@@ -241,15 +244,15 @@ def make_service(path, base, rows):
 QUESTIONS = ["cover", "shown", "gaps", "latest", "kinds", "days", "conflicts", "check"]
 # Commands that bring a file into a new database, and those over what a `take` leaves.
 WRITERS = ["take", "run", "follow"]
-READERS = {"summary": [], "scrub": ["--all"], "delta": ["--all", "empty.summary"]}
-OF_ORDERS = {
+READERS: dict[str, list[str]] = {"summary": [], "scrub": ["--all"], "delta": ["--all", "empty.summary"]}
+OF_ORDERS: dict[str, list[str]] = {
     "relay": ["--after", "0", "--all"],
     "service": [],
     "order": ["--at", AT, "place", str(1 << 61)],
 }
 
 
-def words(command, path):
+def words(command: str, path: str) -> list[str]:
     """The words of a command about a file, or about its database."""
     if command == "follow":
         return [command, "--db", f"{path}.db", f"{path}.lines"]
@@ -260,14 +263,14 @@ def words(command, path):
     return [command, "--db", f"{path}.db", *{**READERS, **OF_ORDERS}[command]]
 
 
-def forget(path):
+def forget(path: str) -> None:
     """Removes the database of a file."""
     for end in (".db", ".db-wal", ".db-shm", ".db-journal"):
         if os.path.exists(path + end):
             os.remove(path + end)
 
 
-def write(path, text):
+def write(path: str, text: str) -> None:
     """A file as a batch, and its events one a line."""
     forget(path)
     for name, content in ((path, text), (f"{path}.lines", text[1:-1].replace(",\n", "\n"))):
@@ -275,10 +278,10 @@ def write(path, text):
             file.write(content)
 
 
-def seconds(program, command, path, wanted=0):
+def seconds(program: str, command: str, path: str, wanted: int = 0) -> float:
     """The processor time of one run, which has to end with that status."""
     where = os.path.dirname(path)
-    how = {"cwd": where, "stdout": subprocess.DEVNULL, "stderr": subprocess.DEVNULL}
+    how: dict[str, Any] = {"cwd": where, "stdout": subprocess.DEVNULL, "stderr": subprocess.DEVNULL}
     if command in WRITERS:
         forget(path)
     elif command in READERS and not os.path.exists(f"{path}.db"):
@@ -302,14 +305,13 @@ def seconds(program, command, path, wanted=0):
 class Bench:
     """The files that are compared, and how many shapes were dear."""
 
-    def __init__(self, options, folder):
+    def __init__(self, options: argparse.Namespace, folder: str) -> None:
         self.options, self.dear = options, 0
         self.odd, self.friendly = f"{folder}/odd.json", f"{folder}/friendly.json"
 
-    def compare(self, name, command, scale, wanted=0):
+    def compare(self, name: str, command: str, scale: Any, wanted: int = 0) -> None:
         """Runs both in turn, the odd file to a status, and compares the least of each."""
-        turns = [[seconds(self.options.program, command, *it) for it in ((self.odd, wanted), (self.friendly,))]
-                 for _ in range(self.options.runs)]
+        turns = [[seconds(self.options.program, command, *it) for it in ((self.odd, wanted), (self.friendly, 0))] for _ in range(self.options.runs)]
         mine, theirs = (min(it) for it in zip(*turns))
         ratio = mine / theirs / scale
         mark = " DEAR" if ratio > self.options.limit else ""
@@ -317,7 +319,7 @@ class Bench:
         times = f"{mine:6.2f} s  friendly {theirs:6.2f} s  ratio a byte {ratio:5.2f}{mark}"
         print(f"{name:32} {command:9}  {times}", flush=True)
 
-    def files(self, commands, made=shapes, wanted=0):
+    def files(self, commands: Iterable[str], made: Any = shapes, wanted: int = 0) -> None:
         for name, text, other in made(self.options.size):
             if commands and self.options.only in name:
                 write(self.odd, text)
@@ -326,7 +328,7 @@ class Bench:
                 for command in commands:
                     self.compare(name, command, scale, wanted)
 
-    def orders(self, commands):
+    def orders(self, commands: Iterable[str]) -> None:
         for name, odd, friendly in services(self.options.size // 50):
             if commands and self.options.only in name:
                 make_service(self.odd, *odd)
@@ -336,7 +338,7 @@ class Bench:
                     self.compare(name, command, scale)
 
 
-def main():
+def main() -> int:
     parser = argparse.ArgumentParser(description=__doc__, formatter_class=argparse.RawTextHelpFormatter)
     parser.add_argument("program")
     parser.add_argument("--size", type=int, default=16_000_000)

@@ -8,6 +8,7 @@ import shutil
 import subprocess
 import sys
 import tempfile
+from typing import Iterator, Optional
 
 sys.dont_write_bytecode = True
 TOP = os.path.dirname(os.path.dirname(os.path.realpath(__file__)))
@@ -37,13 +38,13 @@ print(library.proved_part("--anew" in sys.argv))
 class Built(Copy):
     """A repository of two crates that are built by a script in the prover's place."""
 
-    def __init__(self, folder):
+    def __init__(self, folder: str) -> None:
         super().__init__(folder)
         shutil.copy(f"{TOP}/tools/library.py", f"{self.top}/tools/library.py")
         self.write("top/note.py", NOTE)
         self.write("top/library.py", LIBRARY)
 
-    def ran(self, words, top=None):
+    def ran(self, words: list[str], top: Optional[str] = None) -> tuple[int, str, list[str]]:
         """The status of a command, what it said, and which crates the prover built."""
         built = f"{self.folder}/asked.built"
         with open(built, "w", encoding="utf-8"):
@@ -53,17 +54,17 @@ class Built(Copy):
         with open(built, encoding="utf-8") as it:
             return ran.returncode, (ran.stdout + ran.stderr).strip(), it.read().split()
 
-    def build(self, top=None):
+    def build(self, top: Optional[str] = None) -> list[str]:
         return self.ran(["tools/build.py", "small"], top)[2]
 
-    def rlib(self, name, times=None):
+    def rlib(self, name: str, times: Optional[tuple[float, float]] = None) -> None:
         """What `rt` leaves of a library, at a time."""
         self.write(f"top/crates/{name}/out/rlib/{name}.rlib/format", "built")
         if times:
             os.utime(f"{self.top}/crates/{name}/out/rlib/{name}.rlib/format", times)
 
 
-def of_builds(folder):
+def of_builds(folder: str) -> Iterator[tuple[bool, str]]:
     copy = Built(f"{folder}/builds")
     yield copy.build() == ["low", "small"], "all is built at first"
     yield copy.build() == [], "nothing is built twice"
@@ -83,7 +84,7 @@ def of_builds(folder):
     yield copy.build() == ["low"], "what stands there, older than its sources"
 
 
-def of_rt(folder):
+def of_rt(folder: str) -> Iterator[tuple[bool, str]]:
     copy = Built(f"{folder}/rt")
     copy.rlib("low")
     yield copy.build() == ["small"], "a library that `rt` left, newer than its sources"
@@ -105,7 +106,7 @@ def of_rt(folder):
     yield os.path.exists(f"{copy.top}/crates/low/out/rlib"), "what is stays"
 
 
-def of_library(folder):
+def of_library(folder: str) -> Iterator[tuple[bool, str]]:
     copy = Built(f"{folder}/library")
     copy.write("top/crates.txt", "low: std\nsmall staticlib: low\n")
     call = [sys.executable, "library.py"]
@@ -129,14 +130,14 @@ def of_library(folder):
     yield copy.ran(call)[2] == ["low", "small"], "a source below that changed"
 
 
-def of_processes():
+def of_processes() -> Iterator[tuple[bool, str]]:
     yield Plan.processes(0, 7, 4) == 4, "the crate for which most waits has a process for each processor"
     yield Plan.processes(1, 7, 4) == 1, "another has one where enough others wait"
     yield Plan.processes(1, 4, 4) == 1, "and where there are as many as processors"
     yield Plan.processes(2, 3, 4) == 4, "where there are fewer it has one for each"
 
 
-def main():
+def main() -> int:
     with tempfile.TemporaryDirectory(prefix="built-") as folder:
         answers = [*of_builds(folder), *of_rt(folder), *of_library(folder), *of_processes()]
     for is_right, text in answers:

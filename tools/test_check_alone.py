@@ -53,13 +53,13 @@ ROWS = {
 }
 
 
-def write(path, text):
+def write(path: str, text: str) -> None:
     os.makedirs(os.path.dirname(path), exist_ok=True)
     with open(path, "w", encoding="utf-8") as it:
         it.write(text)
 
 
-def main():
+def main() -> int:
     passed = failed = 0
     with tempfile.TemporaryDirectory(prefix="alone-") as top:
         write(f"{top}/crates.txt", "low:\nhigh: low\n")
@@ -72,7 +72,9 @@ def main():
             ran = subprocess.run([sys.executable, f"{top}/tools/check_alone.py", "--keep", f"{top}/keep", "high"], capture_output=True, text=True)
             last = ran.stdout.strip().split("\n")[-1]
             is_right = ran.returncode == status and last == line
-            print(f"{'right' if is_right else 'WRONG'}: {row}" + ("" if is_right else f": {ran.returncode} {ran.stdout[-500:]} {ran.stderr[-500:]}"), flush=True)
+            print(
+                f"{'right' if is_right else 'WRONG'}: {row}" + ("" if is_right else f": {ran.returncode} {ran.stdout[-500:]} {ran.stderr[-500:]}"), flush=True
+            )
             passed, failed = passed + is_right, failed + (not is_right)
     print(f"{passed} passed, {failed} failed")
     return 1 if failed else 0

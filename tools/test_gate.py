@@ -7,6 +7,7 @@ import os
 import shutil
 import sys
 import tempfile
+from typing import Iterator
 
 sys.dont_write_bytecode = True
 TOP = os.path.dirname(os.path.dirname(os.path.realpath(__file__)))
@@ -56,7 +57,8 @@ echo "end try_edits" >>FOLDER/order
 exit $status
 """
 SCRIPTS = ["try_bindings.py", "try_release.py", "try_refusals.py", "try_rows.py", "try_program.sh", "try_reports.sh", "try_databases.sh", "try_run.sh"]
-SCRIPTS += ["try_reading.py", "try_papers.py", "run_guide.py", "try_streams.py", "try_terminal.py", "try_together.py", "try_service.py"]
+SCRIPTS += ["lint.py", "try_mistakes.py", "try_numbers.py", "try_reading.py", "try_papers.py", "run_guide.py"]
+SCRIPTS += ["try_streams.py", "try_terminal.py", "try_together.py", "try_service.py"]
 ALONE = SCRIPTS[-4:]
 TESTS = ["test_gate.py", "test_build.py", "test_try_rows.py", "test_try_edits.py", "test_prometheus.py"]
 
@@ -64,7 +66,7 @@ TESTS = ["test_gate.py", "test_build.py", "test_try_rows.py", "test_try_edits.py
 class Tried(Copy):
     """A repository with the gate, whose edits are tried by the real script with a script in the prover's place."""
 
-    def __init__(self, folder):
+    def __init__(self, folder: str) -> None:
         super().__init__(folder)
         shutil.copy(f"{TOP}/gate", f"{self.top}/gate")
         os.rename(f"{self.top}/tools/try_edits.py", f"{self.top}/tools/try_edits_itself.py")
@@ -76,7 +78,7 @@ class Tried(Copy):
         self.write("top/tools/try_edits.py", EDITS.replace("FOLDER", folder))
         os.chmod(f"{self.top}/tools/try_edits.py", 0o755)
 
-    def gate(self, *words):
+    def gate(self, *words: str) -> tuple[int, list[str], list[str]]:
         """Its status, what it said, and the order in which its scripts began and ended."""
         self.write("order", "")
         path = f"{self.folder}/bin:{os.environ['PATH']}"
@@ -86,7 +88,7 @@ class Tried(Copy):
             return ran.returncode, ran.stdout.splitlines() + ran.stderr.splitlines(), it.read().splitlines()
 
 
-def rows(folder):
+def rows(folder: str) -> Iterator[tuple[bool, str]]:
     """Pairs of whether the gate did as it is to do, and what is wrong."""
     copy = Tried(f"{folder}/first")
     status, said, order = copy.gate()
@@ -128,7 +130,7 @@ def rows(folder):
         yield (status, said[-1]) == (1, f"{counts - 1} passed, 1 failed"), f"{script} fails: {said[-8:]}"
 
 
-def main():
+def main() -> int:
     with tempfile.TemporaryDirectory(prefix="gate-tried-") as folder:
         answers = [*rows(folder)]
     for is_right, text in answers:

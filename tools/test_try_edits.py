@@ -8,6 +8,7 @@ import shutil
 import subprocess
 import sys
 import tempfile
+from typing import Callable, Iterator, Optional
 
 import build
 import try_edits
@@ -51,6 +52,8 @@ pub returns-clause-less : goal.returns-clause-less
 returns-clause-less c = search rules
 """
 # What is tried: the function, the clause, the old line, the new one; whether it counts as refused, and what is told.
+Try = tuple[str, str, str, str, bool, str]
+Row = tuple[str, Try]
 ROWS = {
     "a wrong body": ("least", "second", BODY, "first", True, "refused at returns-clause-second"),
     "a body that proves": ("least", "second", BODY, "if first <= second { first } else { second }", False, "LET THROUGH"),
@@ -62,7 +65,7 @@ ROWS = {
 }
 
 
-def tried(room, row):
+def tried(room: str, row: Row) -> tuple[bool, str]:
     """Whether the script says of a row's edit what it is to say, and what it said."""
     name, (_, _, _, _, is_refused, told) = row
     well, text, _ = try_edits.tried({"small": ([], [])}, written(room, row), {}, f"{room}/kept")
@@ -84,7 +87,7 @@ BESIDE = {
 }
 
 
-def written(room, row):
+def written(room: str, row: Row) -> str:
     name, (only, clause, old, new, _, _) = row
     file = f"{room}/crates/small/edits/{name.replace(' ', '_')}.edit"
     with open(file, "w", encoding="utf-8") as it:
@@ -92,7 +95,7 @@ def written(room, row):
     return file
 
 
-def tried_together(room, rows):
+def tried_together(room: str, rows: dict[str, Try]) -> Iterator[tuple[bool, str]]:
     """Whether the script says of each of some edits, tried in as few checks as it can, what it is to say."""
     files = [written(room, row) for row in rows.items()]
     found = try_edits.tried_of({"small": ([], [])}, files, {})
@@ -100,7 +103,7 @@ def tried_together(room, rows):
         yield well == is_refused and text.startswith(told), f"wrong: {name}: {text}, and not {told}"
 
 
-def told_of_tables(room):
+def told_of_tables(room: str) -> tuple[bool, str]:
     """Whether a table that lacks an edit, and one that names one too many, are told."""
     folder = f"{room}/crates/small/edits"
     with open(f"{folder}/README.md", "w", encoding="utf-8") as it:
@@ -156,7 +159,7 @@ SMALL = "".join(f"/// The number.\npub fn {it}() -> u8\n{{\n    {it}_is_right\n}
 class Copy:
     """A repository of two crates with these scripts, the prover's and the kit's stead."""
 
-    def __init__(self, folder):
+    def __init__(self, folder: str) -> None:
         self.folder, self.top = folder, f"{folder}/top"
         for name, text in {"low": LOW, "small": SMALL}.items():
             self.write(f"top/crates/{name}/src/lib.rt", text)
@@ -175,20 +178,20 @@ class Copy:
             self.edit(name, only, f"{only}_is_wrong")
         self.table("one", "two", "three")
 
-    def write(self, name, text):
+    def write(self, name: str, text: str) -> None:
         os.makedirs(os.path.dirname(f"{self.folder}/{name}"), exist_ok=True)
         with open(f"{self.folder}/{name}", "w", encoding="utf-8") as it:
             it.write(text)
 
-    def edit(self, name, only, new):
+    def edit(self, name: str, only: str, new: str) -> None:
         lines = ("only: " + only, "clause: right", "file: src/lib.rt", f"old: {only}_is_right", f"new: {new}")
         self.write(f"top/crates/small/edits/{name}.edit", "\n".join(lines) + "\n")
 
-    def table(self, *names):
+    def table(self, *names: str) -> None:
         self.write("top/crates/small/edits/README.md", "".join(f"| `{it}` |\n" for it in names))
 
     @contextlib.contextmanager
-    def changed(self, name, text):
+    def changed(self, name: str, text: Optional[str]) -> Iterator[None]:
         """Changes a file, a line more where no text is given, and makes it again what it was."""
         file, was = f"{self.folder}/{name}", None
         if os.path.exists(file):
@@ -196,14 +199,14 @@ class Copy:
             shutil.copy(file, f"{self.folder}/was")
             with open(file, encoding="utf-8") as it:
                 text = text or it.read() + "\n"
-        self.write(name, text)
+        self.write(name, text or "")
         yield
         os.remove(file)
         if was:
             shutil.copy(f"{self.folder}/was", file)
             os.utime(file, ns=(was.st_atime_ns, was.st_mtime_ns))
 
-    def run(self, *words, top=None, **more):
+    def run(self, *words: str, top: Optional[str] = None, **more: str) -> tuple[int, list[str], list[str]]:
         """Its status, how many were kept and tried anew, how many passed and failed, and what the prover was asked for."""
         asked = f"{self.folder}/asked"
         with open(asked, "w", encoding="utf-8"):
@@ -233,11 +236,11 @@ CHANGES = {
 }
 
 
-def kept_files(folder):
+def kept_files(folder: str) -> list[str]:
     return [f"{folder}/kept/edits/{it}" for it in sorted(os.listdir(f"{folder}/kept/edits"))]
 
 
-def told_of_kept(folder):
+def told_of_kept(folder: str) -> Iterator[tuple[bool, str]]:
     """What is kept, and when it is taken: pairs of whether the script did as it is to do, and what is wrong."""
     copy = Copy(f"{folder}/first")
     status, said, checks = copy.run()
@@ -258,7 +261,7 @@ def told_of_kept(folder):
     yield (status, said[-2:], checks) == (0, ALL_KEPT, []), f"wrong: all as it was before: {said} {checks}"
 
 
-def told_of_bad(folder):
+def told_of_bad(folder: str) -> Iterator[tuple[bool, str]]:
     """What isn't kept, and what fails."""
     copy = Copy(f"{folder}/bad")
     copy.edit("two", "first", "first_is_as_right")
@@ -271,11 +274,12 @@ def told_of_bad(folder):
     copy = Copy(f"{folder}/damaged")
     copy.run()
     one, other, _ = kept_files(copy.folder)
-    for name, damage in {"cut off": lambda: os.truncate(one, 40), "of another edit": lambda: shutil.copy(other, one)}.items():
+    damages: dict[str, Callable[[], object]] = {"cut off": lambda: os.truncate(one, 40), "of another edit": lambda: shutil.copy(other, one)}
+    for name, damage in damages.items():
         damage()
         status, said, checks = copy.run()
-        is_told = sum("ERROR: what was kept of it was damaged" in it for it in said)
-        yield (status, is_told, checks) == (1, 1, []), f"wrong: a kept result that is {name}: {said}"
+        times = sum("ERROR: what was kept of it was damaged" in it for it in said)
+        yield (status, times, checks) == (1, 1, []), f"wrong: a kept result that is {name}: {said}"
         status, said, checks = copy.run()
         wanted = [ALL_KEPT[0].replace("3", "2").replace("0", "1"), ALL_KEPT[1]]
         yield (status, said[-2:], len(checks)) == (0, wanted, 1), f"wrong: after one that is {name}: {said}"
@@ -297,7 +301,7 @@ def told_of_bad(folder):
             yield (status, said[-2:]) == (0, ALL_TRIED), f"wrong: a place that isn't the user's own: {said}"
 
 
-def told_of_copies(folder):
+def told_of_copies(folder: str) -> Iterator[tuple[bool, str]]:
     """Whether a copy's folder of proofs is found and renamed, and a copy that stayed as it was is known, where the edit
     names its function by the end of its path."""
     at = f"{folder}/copies/proofs/outer/inner"
@@ -317,7 +321,7 @@ def told_of_copies(folder):
     yield not try_edits.is_faithful("small", "inner::least_edit1", ["fn small::least_edit1: proved"]), "wrong: a copy elsewhere"
 
 
-def main():
+def main() -> int:
     with tempfile.TemporaryDirectory(prefix="edits-tried-") as room:
         os.makedirs(f"{room}/crates/small/src")
         os.makedirs(f"{room}/crates/small/edits")
@@ -328,7 +332,8 @@ def main():
             it.write(ANSWERS)
         with open(f"{room}/crates.txt", "w", encoding="utf-8") as it:
             it.write("small\n")
-        build.TOP = try_edits.TOP = room
+        build.TOP = room
+        setattr(try_edits, "TOP", room)
         answers = [tried(room, row) for row in ROWS.items()] + [told_of_tables(room)]
         for rows in (TOGETHER, BESIDE):
             answers += tried_together(room, rows)

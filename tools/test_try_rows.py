@@ -58,11 +58,16 @@ ROWS = {
     "a call of which no line says what it may leave": (FIRST + THREE.replace("~ once 1 came\n~ 2 came\n", ""), 0, 0, "4 passed, 0 failed"),
     "a refused call that answers otherwise later": (FIRST + THREE, 1, 1, "and not ['> sum', '4']"),
     "what isn't refused": (FIRST + "# No allocation is refused of what follows.\n\n" + THREE.replace("~ 2 came\n", ""), 0, 0, "3 passed, 0 failed"),
-    "one line more of what may be left once": (FIRST + THREE.replace("put 3", "put 2").replace("~ 2 came\n", "").replace("\n4\n", "\n3\n"), 0, 0, "3 passed, 0 failed"),
+    "one line more of what may be left once": (
+        FIRST + THREE.replace("put 3", "put 2").replace("~ 2 came\n", "").replace("\n4\n", "\n3\n"),
+        0,
+        0,
+        "3 passed, 0 failed",
+    ),
 }
 
 
-def told(folder, text, forgets):
+def told(folder: str, text: str, forgets: int) -> tuple[int, str]:
     """The status of the script over these rows, and what it said."""
     program = f"{folder}/driver{forgets}"
     if not os.path.exists(program):
@@ -79,7 +84,7 @@ def told(folder, text, forgets):
     return ran.returncode, ran.stdout + ran.stderr
 
 
-def main():
+def main() -> int:
     right = 0
     with tempfile.TemporaryDirectory(prefix="rows-tried-") as folder:
         for name, (text, forgets, wanted, line) in ROWS.items():

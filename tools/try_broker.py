@@ -23,7 +23,6 @@ import signal
 import socket
 import subprocess
 import sys
-import tempfile
 import time
 
 sys.dont_write_bytecode = True
@@ -60,9 +59,11 @@ class Trial:
             it.bind(("127.0.0.1", 0))
             self.port = it.getsockname()[1]
         with open(f"{folder}/broker.conf", "w", encoding="ascii") as it:
-            it.write(f"listener {self.port} 127.0.0.1\nallow_anonymous true\npersistence true\npersistence_location {folder}/\n"
-                     # Else a broker that root starts goes over to a user of its own, who can't write here.
-                     f"user {pwd.getpwuid(os.getuid()).pw_name}\nautosave_interval 1\nmax_queued_messages 0\n")
+            it.write(
+                f"listener {self.port} 127.0.0.1\nallow_anonymous true\npersistence true\npersistence_location {folder}/\n"
+                # Else a broker that root starts goes over to a user of its own, who can't write here.
+                f"user {pwd.getpwuid(os.getuid()).pw_name}\nautosave_interval 1\nmax_queued_messages 0\n"
+            )
         self.publishes, self.subscribes, self.mends = of_guide()
         self.broker, self.followers = None, {}
 

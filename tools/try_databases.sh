@@ -36,7 +36,7 @@ is 'what it lacks from a place' 0 "[$e3]$lf" ''
 run delta --db s.db nothing.json
 is 'a summary with a line end' 0 "[$e1,$e2,$e3]$lf" ''
 run delta --db new.db nothing.json
-is 'a new file' 0 "[]$lf" ''
+is 'a new file' 0 "[]$lf" "site: new.db: made, it wasn't there$lf"
 # What came, in the order in which it came: here not that of the keys.
 run take --db came.db two.json
 run take --db came.db three.json
@@ -116,6 +116,7 @@ for words in 'delta --db many.db --all nothing.json' 'scrub --db many.db --all' 
     is "$words" 0 '100 100 50 ' ''
     place=--from
     [ "${words%% *}" != arrivals ] || place=--after
+    # shellcheck disable=SC2046
     for from in 0 100 200; do "$program" "${words%% *}" --db many.db "$place" "$from" $(printf '%s' "$words" | grep -o 'nothing.json'); done >got.out 2>got.err
     status=$?
     cmp -s got.out all.out || status='other bytes'
@@ -164,6 +165,7 @@ for question in cover gaps shown latest kinds days conflicts; do
 done
 run take --db s.db three.json
 is 'a question changes nothing' 0 "read 3 new 0 repeated 3$lf" ''
+# shellcheck disable=SC2218
 run order --db served.db --at 2024-02-29T10:00:00Z place 7
 cp served.db served.before
 run summary --db served.db
@@ -175,6 +177,7 @@ status=$?
 : >got.out
 is 'nothing is made beside it' 0 '' ''
 for words in 'summary' 'scrub --all' 'arrivals --after 0' 'delta --all nothing.json' 'cover' 'kinds three.json'; do
+    # shellcheck disable=SC2086
     set -- $words
     word=$1
     shift
@@ -366,7 +369,7 @@ sed 's/.*"source":"\([^"]*\)".*/\1/' got.out >source
 cp source got.out
 is 'no source named' 0 "/south$lf" ''
 run relay --db early.db --after 0
-is 'a relay before the first order' 0 "[]$lf" ''
+is 'a relay before the first order' 0 "[]$lf" "site: early.db: made, it wasn't there$lf""site: early.db: a service /orders was made in it$lf"
 run_over early.db order --db early.db --source /north --at 2024-02-29T10:00:00Z place 1
 is 'the service that it made has the usual source' 1 '' "site: early.db: another source$lf"
 run order --db early.db --source /orders --at 2024-02-29T10:00:00Z place 1
@@ -419,7 +422,7 @@ run_over pages.db relay --db pages.db --after 50 --all
 cmp -s got.out want.pages || status='other rows'
 cut -c1-32 got.out >begun
 cp begun got.out
-is 'pages of rows behind a number' 0 "[{\"id\":\"00000000000000000051\",\"s$lf[{\"id\":\"00000000000000000151\",\"s$lf" ''
+is 'pages of rows behind a number' 0 "[{\"id\":\"00000000000000000051\",\"s${lf}[{\"id\":\"00000000000000000151\",\"s$lf" ''
 [ ! -e unplaced ]
 status=$?
 : >got.out
@@ -659,7 +662,7 @@ trouble_is hot.db Store 'SQLite left a journal that it alone can play back: open
 ln is.db linked.db
 trouble_is linked.db Store "$system"
 rm linked.db
-busy='another program has the file open: wait for its end, or let flock keep commands apart'
+busy='another program has the file open: --wait 30 waits for it, at most 30 seconds'
 python3 -c 'import sqlite3, subprocess, sys
 base = sqlite3.connect("is.db", isolation_level=None)
 base.execute("BEGIN EXCLUSIVE")
@@ -686,6 +689,31 @@ for mib in 0 1048577 18446744073709551616 '' x -1 1.5 '1 '; do
     trouble_is is.db Cache "the variable $cache"
 done
 unset SITE_CACHE_MIB
+
+# A log's salts are drawn at random, and the cache is as large as the variable says: of two streams that
+# stay open, whose first bytes are many, by what their logs begin with and what memory they asked for.
+python3 - "$program" "$e1" >got.out 2>got.err <<'END'
+import os, subprocess, sys
+salts, sizes = [], []
+for mib in (1, 256):
+    given, line = os.pipe()
+    os.write(line, (sys.argv[2] + " " * 60000 + "\n").encode())
+    words = [sys.argv[1], "follow", "--db", f"salts{mib}.db"]
+    ran = subprocess.Popen(words, stdin=given, stdout=subprocess.PIPE, env=os.environ | {"SITE_CACHE_MIB": str(mib)})
+    os.close(given)
+    print(ran.stdout.readline().decode(), end="")
+    with open(f"/proc/{ran.pid}/status", encoding="ascii") as said:
+        sizes += [int(it.split()[1]) for it in said if it.startswith("VmSize:")]
+    with open(f"salts{mib}.db-wal", "rb") as log:
+        salts.append(log.read(32)[16:24])
+    os.close(line)
+    ran.wait(30)
+print("the salts are", "others" if len({bytes(8), *salts}) == 3 else salts)
+print("the caches are", "others" if sizes[1] - sizes[0] > 200 * 1024 else sizes)
+END
+status=$?
+one='{"line":1,"new":1,"repeated":0}'
+is 'salts, and a cache of 1 MiB and of 256' 0 "$one$lf$one${lf}the salts are others${lf}the caches are others$lf" ''
 
 # Names that mean no file to SQLite.
 every_file() { find . -type f ! -name 'got.*' ! -name 'want.*' -exec cksum {} + | LC_ALL=C sort; }

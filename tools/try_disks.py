@@ -18,6 +18,7 @@ import sqlite3
 import subprocess
 import sys
 import tempfile
+from typing import Any, Callable
 
 TOP = os.path.dirname(os.path.dirname(os.path.realpath(__file__)))
 STORE = (1, b"", b"site: x.db: Store\n")
@@ -32,40 +33,41 @@ COMMANDS = {
 }
 
 
-def event(number):
+def event(number: int) -> dict[str, str]:
     name = f"e{number:05}"
     return {"id": name, "sequence": f"{number:020}", "source": "/s", "specversion": "1.0", "subject": "x" * 300, "type": "t"}
 
 
-def limited(bound):
+def limited(bound: int) -> Callable[[], None]:
     """What a child does before it runs: a write past the limit answers an error, and no signal ends the child."""
 
-    def before():
+    def before() -> None:
         signal.signal(signal.SIGXFSZ, signal.SIG_IGN)
         resource.setrlimit(resource.RLIMIT_FSIZE, (bound, bound))
 
     return before
 
 
-def unprivileged():
+def unprivileged() -> None:
     os.setgid(NOBODY)
     os.setuid(NOBODY)
 
 
 class Trial:
-    def __init__(self, program):
-        self.program, self.passed, self.wrong = program, 0, []
+    def __init__(self, program: str) -> None:
+        self.program, self.passed = program, 0
+        self.wrong: list[str] = []
 
-    def is_good(self, good, what):
+    def is_good(self, good: bool, what: str) -> None:
         self.passed += good
         if not good:
             self.wrong.append(what)
 
-    def ran(self, words, room, given=b"", **how):
+    def ran(self, words: list[str], room: str, given: bytes = b"", **how: Any) -> tuple[int, bytes, bytes]:
         ran = subprocess.run([self.program, *words], cwd=room, input=given, capture_output=True, timeout=60, restore_signals=False, **how)
         return ran.returncode, ran.stdout, ran.stderr
 
-    def held(self, room):
+    def held(self, room: str) -> Any:
         """The numbers of the events and the orders that a sound file holds; none where it isn't sound."""
         base = sqlite3.connect(f"{room}/x.db")
         try:
@@ -76,24 +78,24 @@ class Trial:
             base.close()
         return (events, orders) if sound else None
 
-    def start(self, room):
+    def start(self, room: str) -> None:
         for name, numbers in (("first", range(1, 41)), ("more", range(41, 141)), ("others", range(141, 241))):
             with open(f"{room}/{name}.json", "w", encoding="utf-8") as it:
                 json.dump([event(n) for n in numbers], it, separators=(",", ":"))
         assert self.ran(["take", "--db", "x.db", "first.json"], room)[0] == 0
         assert self.ran(["order", "--db", "x.db", "--at", AT, "place", "8"], room)[0] == 0
 
-    def is_kept(self, before, after, kind, acknowledged):
+    def is_kept(self, before: Any, after: Any, kind: str, acknowledged: Any) -> bool:
         """Whether what was held is held, nothing twice, and what came since is whole or, of some commands, a part."""
         if after is None or after[0][: len(before[0])] != before[0] or after[1][: len(before[1])] != before[1]:
             return False
         events, orders = after[0][len(before[0]) :], after[1][len(before[1]) :]
         if len(set(after[0])) != len(after[0]) or not set(range(41, 41 + acknowledged)) <= set(after[0]):
             return False
-        whole = {"take": ([[], list(range(41, 141))], [[]]), "order": ([[]], [[], [9]])}
+        whole: dict[str, Any] = {"take": ([[], list(range(41, 141))], [[]]), "order": ([[]], [[], [9]])}
         return kind not in whole or events in whole[kind][0] and orders in whole[kind][1]
 
-    def full(self, kind):
+    def full(self, kind: str) -> None:
         given = b"".join(json.dumps(event(n)).encode() + b"\n" for n in range(41, 141)) if kind == "follow" else b""
         bound, refused = 0, 0
         with tempfile.TemporaryDirectory() as start:
@@ -115,7 +117,7 @@ class Trial:
                 bound += PAGE
         print(f"a full disk, {kind}: {refused} limits refused it, at {bound} bytes it was done", flush=True)
 
-    def unwritable(self):
+    def unwritable(self) -> None:
         """A folder and a file of another's, read as nobody in particular; only the superuser can become that."""
         if os.getuid() != 0:
             print("a folder that can't be written: left out, since it takes the superuser")
@@ -136,12 +138,13 @@ class Trial:
             self.is_good(self.held(room) == before and not os.path.exists(f"{room}/n.db"), "a folder that can't be written was changed")
             os.chmod(room, 0o755)
 
-    def removed(self):
+    def removed(self) -> None:
         """The folder goes while a stream is taken: the next line is acknowledged, into the file that is open and has no name
         any more, or the end is named."""
         room = tempfile.mkdtemp()
         self.start(room)
         ran = subprocess.Popen([self.program, *COMMANDS["follow"]], cwd=room, stdin=subprocess.PIPE, stdout=subprocess.PIPE, stderr=subprocess.PIPE)
+        assert ran.stdin and ran.stdout
         ran.stdin.write(json.dumps(event(41)).encode() + b"\n")
         ran.stdin.flush()
         first = ran.stdout.readline()
@@ -149,11 +152,11 @@ class Trial:
         out, err = ran.communicate(json.dumps(event(42)).encode() + b"\n", timeout=60)
         ended = (ran.returncode, out, err)
         good = first == b'{"line":1,"new":1,"repeated":0}\n' and ended in (STORE, (0, b'{"line":2,"new":1,"repeated":0}\n', b""))
-        self.is_good(good, f"a folder that is removed: {first} {ended}")
+        self.is_good(good, f"a folder that is removed: {first!r} {ended}")
         print(f"a folder that is removed meanwhile: {ended}")
 
 
-def main():
+def main() -> int:
     given = sys.argv[1] if len(sys.argv) > 1 else f"{TOP}/crates/site_cli/out/site_cli"
     trial = Trial(os.path.abspath(given))
     for kind in COMMANDS:

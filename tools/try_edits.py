@@ -32,10 +32,11 @@ import subprocess
 import sys
 import tempfile
 from concurrent.futures import ThreadPoolExecutor, as_completed
+from typing import Any, Iterable, Optional, Sequence
 
 import kept
 from build import TOP, Made, crates_listed, kit, lanes_for, reached, words_of
-from kept import SOURCES, Damaged, Kept, Sums, file_sum, sum_of
+from kept import SOURCES, Crates, Damaged, Kept, Sums, file_sum, sum_of
 
 # A proof that cites what the edit took away says nothing of the clause.
 TAKEN_AWAY = re.compile(r"is not in scope|has no field|has no `|is no name|was not admitted")
@@ -49,12 +50,19 @@ IN_CYCLE = re.compile(r"^\s*#\[cycle\(", re.M)
 # What the answers rest on beside the sources and the kit.
 SCRIPTS = [os.path.realpath(it) for it in (__file__, kept.__file__, f"{os.path.dirname(__file__)}/build.py")]
 
+# A path with its old and new text each; the function, the clause and the changes; those with their file; and goals, each
+# with whether its proof only names what was taken away.
+Changes = list[tuple[str, str, str]]
+Edit = tuple[str, str, Changes]
+Given = tuple[str, Edit]
+Goals = dict[str, bool]
+
 
 class BadEdit(Exception):
     """The edit can't be tried."""
 
 
-def read_edit(file):
+def read_edit(file: str) -> Edit:
     """The function, the clause and the changes, a path with its old and new text each."""
     only = clause = path = old = None
     changes = []
@@ -81,33 +89,38 @@ def read_edit(file):
     return only, clause, changes
 
 
-def is_goal_of(clause, goal):
+def is_goal_of(clause: str, goal: str) -> bool:
     """Whether a goal, as a check names it, is of the clause: `returns-in-Ok-clause-count` is of `count`."""
     if clause == "ensures":
         return goal.startswith("returns") and "-clause-" not in goal
     return goal == clause or goal.startswith("returns") and goal.endswith(f"-clause-{clause}")
 
 
-def goals_of(only, changes, lines, room):
+def goals_of(only: str, changes: Changes, lines: list[str], room: str) -> Goals:
     """The goals of a function that a check refused, by what it said, each with whether its proof only names what was
     taken away. An answer that is written stands in a folder of the function's path; where none is, the place in the
     source is that of the function."""
-    goals, name = {}, only.split("::")[-1]
+    name = only.split("::")[-1]
+    goals: Goals = {}
     for line in lines:
         answered, searched = ANSWERED.match(line), SEARCHED.match(line)
         if answered:
+            goal = answered[2]
             folder, own = f"/{answered[1]}", "/" + only.replace("::", "/")
             # Functions that call one another have one folder, `+` and a name, in the place of theirs.
             in_cycle = os.path.basename(folder).startswith("+")
             is_of = os.path.dirname(folder).endswith(os.path.dirname(own)) if in_cycle else folder.endswith(own)
         elif searched:
-            is_of = any(path == searched[1] for path, _, _ in changes) and names_at(room, *searched.groups()[:2]) == name
-        if (answered or searched) and is_of:
-            goals.setdefault((answered or searched)[answered and 2 or 3], TAKEN_AWAY.search(line) is not None)
+            goal = searched[3]
+            is_of = any(path == searched[1] for path, _, _ in changes) and names_at(room, searched[1], searched[2]) == name
+        else:
+            continue
+        if is_of:
+            goals.setdefault(goal, TAKEN_AWAY.search(line) is not None)
     return goals
 
 
-def names_at(room, path, line):
+def names_at(room: str, path: str, line: str) -> Optional[str]:
     """The function in which a line of a source stands; that line may be one of the lines right above it."""
     with open(f"{room}/{path}", encoding="utf-8") as it:
         lines = it.read().splitlines()
@@ -120,18 +133,18 @@ def names_at(room, path, line):
     return None
 
 
-def asked_and_proved(status, lines):
+def asked_and_proved(status: int, lines: list[str]) -> Optional[tuple[int, int]]:
     """How many functions a check was asked for and how many it proved, or None where the prover wasn't reached."""
     counts = re.fullmatch(r"only=(\d+) proved=(\d+)", lines[-1] if lines else "")
     return None if not counts or counts[1] == "0" or status not in (0, 1) else (int(counts[1]), int(counts[2]))
 
 
-def unreached(lines):
+def unreached(lines: list[str]) -> tuple[bool, str]:
     first = next((it for it in lines if re.search(r"\berror\b[:\[]", it)), lines[-1] if lines else "nothing was said")
     return False, f"ERROR: the edit did not reach the prover: {first[:200]}"
 
 
-def judged(only, clause, goals):
+def judged(only: str, clause: str, goals: Goals) -> tuple[bool, str]:
     """Whether the goals that were refused are what is wanted, and what to tell."""
     met = [it for it in goals if is_goal_of(clause, it)]
     if any(not goals[it] for it in met):
@@ -141,14 +154,14 @@ def judged(only, clause, goals):
     return False, f"REFUSED ELSEWHERE, not at {clause}: {', '.join(goals) or 'no goal of its own'}"
 
 
-def is_faithful(name, control, lines):
+def is_faithful(name: str, control: str, lines: list[str]) -> bool:
     """Whether a check of a crate says of a copy that stayed as it was that its own goals are met: it is proved, or it is
     not for the sole reason that it calls what another edit made wrong."""
     said = next((it for it in lines if re.match(rf"fn {name}::(\w+::)*{control}: ", it)), "")
     return re.fullmatch(r"fn \S+: (proved|no proof: it calls (`\S+`( and )?)+, which (is|are) not proved)", said) is not None
 
 
-def apply(room, changes):
+def apply(room: str, changes: Changes) -> None:
     """Makes the changes in a copy of the crate, all or none."""
     texts = {}
     for path, old, new in changes:
@@ -166,20 +179,20 @@ def apply(room, changes):
 class Placed:
     """An edit's place in a copy of its crate: the function that it changes, or the copy of that function."""
 
-    def __init__(self, file, edit, name=None):
+    def __init__(self, file: str, edit: Edit, name: Optional[str] = None) -> None:
         self.file, (self.only, self.clause, self.changes) = file, edit
         self.name = name or self.only.split("::")[-1]
         self.path = "::".join([*self.only.split("::")[:-1], self.name])
-        self.control = None
+        self.control = ""
 
 
-def function_in(lines, name):
+def function_in(lines: list[str], name: str) -> Optional[tuple[int, int]]:
     """Where a function stands among a source's lines, with what stands right above it, or None where it can't be copied."""
     found = [at for at, text in enumerate(lines) if re.match(rf"{FUNCTION}{name}\b", text)]
     if len(found) != 1:
         return None
     start = at = found[0]
-    indent = re.match(r"\s*", lines[at])[0]
+    indent = lines[at][: len(lines[at]) - len(lines[at].lstrip())]
     end = next((it for it in range(at, len(lines)) if re.match(rf"{indent}(}}|\S.*{{}}|{{}})$", lines[it])), at)
     while start and lines[start - 1].strip() and not lines[start - 1].endswith(("{", "}")):
         start -= 1
@@ -188,12 +201,12 @@ def function_in(lines, name):
     return (start, end + 1) if is_alone else None
 
 
-def text_of(room, path):
+def text_of(room: str, path: str) -> str:
     with open(f"{room}/{path}", encoding="utf-8") as it:
         return it.read()
 
 
-def body_of(room, only, changes):
+def body_of(room: str, only: str, changes: Changes) -> Optional[str]:
     """The text of an edit's function, if all that the edit changes stands in it once and nowhere else."""
     paths = {path for path, _, _ in changes}
     if len(paths) != 1:
@@ -205,14 +218,14 @@ def body_of(room, only, changes):
     return body if body and all(text.count(old) == body.count(old) == 1 for _, old, _ in changes) else None
 
 
-def folder_of(room, only):
+def folder_of(room: str, only: str) -> Optional[str]:
     """The folder of a function's proofs, below that of all, or None: an edit may name the function by the end of its path."""
     own = f"/{only.replace('::', '/')}"
     found = [at for at, _, files in os.walk(f"{room}/proofs") if at.endswith(own) and any(it.endswith(".antt") for it in files)]
     return os.path.relpath(found[0], f"{room}/proofs") if len(found) == 1 else None
 
 
-def copy_proofs(room, only, name):
+def copy_proofs(room: str, only: str, name: str) -> None:
     """Copies a function's folder of proofs for its copy of another name."""
     folder = folder_of(room, only)
     if folder is None:
@@ -227,11 +240,13 @@ def copy_proofs(room, only, name):
             it.write(text)
 
 
-def add_copy(room, only, path, name, body):
+def add_copy(room: str, only: str, path: str, name: str, body: str) -> None:
     """Puts a copy of a function, with a body of its own, behind it."""
     own = only.split("::")[-1]
     lines = text_of(room, path).split("\n")
-    _, end = function_in(lines, own)
+    place = function_in(lines, own)
+    assert place
+    end = place[1]
     body = re.sub(rf"^({FUNCTION}){own}\b", rf"\g<1>{name}", body, count=1, flags=re.M)
     lines[end:end] = ["", *body.split("\n")]
     with open(f"{room}/{path}", "w", encoding="utf-8") as it:
@@ -239,11 +254,14 @@ def add_copy(room, only, path, name, body):
     copy_proofs(room, only, name)
 
 
-def placed(room, edits, has_copies):
+def placed(room: str, edits: Sequence[Given], has_copies: bool) -> tuple[list[Placed], list[Given]]:
     """Makes edits in a copy of their crate, each further one of a function in a copy of it, as far as that goes. Answers
     those that were made, and those that are left."""
     bodies = {file: body_of(room, only, changes) for file, (only, _, changes) in edits}
-    here, copies, left, taken = {}, [], [], []
+    here: dict[str, Placed] = {}
+    copies: list[Given] = []
+    left: list[Given] = []
+    taken: list[tuple[str, str]] = []
     for file, edit in sorted(edits, key=lambda it: bodies[it[0]] is not None):
         only, _, changes = edit
         if only in here:
@@ -256,9 +274,10 @@ def placed(room, edits, has_copies):
             taken += [(path, text) for path, *texts in changes for text in texts]
     for it in here.values():
         apply(room, it.changes)
-    made, controls = [], {}
+    made: list[Placed] = []
+    controls: dict[str, str] = {}
     for file, (only, clause, changes) in copies:
-        path, body, own = changes[0][0], bodies[file], only.split("::")[-1]
+        path, body, own = changes[0][0], bodies[file] or "", only.split("::")[-1]
         if only not in controls:
             controls[only] = f"{own}_edit1"
             add_copy(room, only, path, controls[only], body)
@@ -271,7 +290,9 @@ def placed(room, edits, has_copies):
     return [*here.values(), *made], left
 
 
-def checked(crates, name, edits, folders, kept, has_copies=False):
+def checked(
+    crates: Crates, name: str, edits: Sequence[Given], folders: dict[str, str], kept: str, has_copies: bool = False
+) -> tuple[int, list[str], float, list[tuple[Placed, Goals]], list[Given]]:
     """Checks the edits' functions over a copy of the crate with as many of these edits as go into one. Answers the status,
     the lines that the check said, the processor seconds, each edit that was made with its refused goals, and the edits
     that weren't."""
@@ -280,11 +301,12 @@ def checked(crates, name, edits, folders, kept, has_copies=False):
             if os.path.isdir(f"{TOP}/crates/{name}/{part}"):
                 shutil.copytree(f"{TOP}/crates/{name}/{part}", f"{room}/{part}")
         made, left = placed(room, edits, has_copies)
-        how = {"cwd": room, "stdin": subprocess.DEVNULL, "stdout": subprocess.PIPE, "stderr": subprocess.STDOUT}
+        how: dict[str, Any] = {"cwd": room, "stdin": subprocess.DEVNULL, "stdout": subprocess.PIPE, "stderr": subprocess.STDOUT}
         words = ["rattle", "check", *words_of(crates, name, folders, kit()), "--jobs", "1", "--incremental", kept]
         for only in dict.fromkeys([*(it.path for it in made), *(it.control for it in made if it.control)]):
             words += ["--only", only]
         with subprocess.Popen(words, errors="replace", **how) as ran:
+            assert ran.stdout
             lines = ran.stdout.read().splitlines()
             _, status, used = os.wait4(ran.pid, 0)
             ran.returncode = os.waitstatus_to_exitcode(status)
@@ -292,7 +314,7 @@ def checked(crates, name, edits, folders, kept, has_copies=False):
         return ran.returncode, lines, used.ru_utime + used.ru_stime, goals, left
 
 
-def tried(crates, file, folders, kept):
+def tried(crates: Crates, file: str, folders: dict[str, str], kept: str) -> tuple[bool, str, float]:
     """Whether an edit is refused at its clause, alone, what to tell, and the processor seconds that it took. The
     libraries below stand in their folders of out/, and `kept` has what earlier checks of the crate proved."""
     try:
@@ -309,7 +331,7 @@ def tried(crates, file, folders, kept):
     return *judged(only, clause, goals[0][1]), seconds
 
 
-def tried_of(crates, files, folders):
+def tried_of(crates: Crates, files: list[str], folders: dict[str, str]) -> list[tuple[str, bool, str, float]]:
     """What came of a crate's edits. All are tried in one check, as far as they go into one; where that isn't read, once
     more without copies; and what isn't shown refused at its clause is tried alone."""
     found, edits = {}, []
@@ -331,14 +353,14 @@ def tried_of(crates, files, folders):
                 todo = left
                 for it, refused in goals:
                     well, text = judged(it.only, it.clause, refused)
-                    if well and (it.control is None or is_faithful(name, it.control, lines)):
+                    if well and (not it.control or is_faithful(name, it.control, lines)):
                         found[it.file] = well, text, seconds / len(goals)
             else:
                 break
         return [(file, *(found.get(file) or tried(crates, file, folders, kept))) for file in files]
 
 
-def untold(files):
+def untold(files: list[str]) -> list[str]:
     """What is wrong with the README.md beside a crate's edits: its table has a row for each of them, and no other."""
     names = {os.path.basename(it).removesuffix(".edit") for it in files}
     try:
@@ -350,7 +372,7 @@ def untold(files):
     return lacking + [f"ERROR: its table names {it}, which isn't there" for it in sorted(rows - names)]
 
 
-def folders_of(crates, names):
+def folders_of(crates: Crates, names: Iterable[str]) -> Optional[dict[str, str]]:
     """The folders of out/ in which the libraries below these crates are as their sources are, which are built first where
     they aren't. None where they can't be built."""
     below = reached(crates, [it for name in names for it in crates[name][0]])
@@ -360,7 +382,7 @@ def folders_of(crates, names):
     return Made(crates).folders(below)
 
 
-def keys_of(sums, files):
+def keys_of(sums: Sums, files: Iterable[str]) -> dict[str, str]:
     """The sums of all that what came of each edit rests on."""
     scripts = [file_sum(it) for it in SCRIPTS]
     names = {file: file.split(os.sep)[-3] for file in files}
@@ -370,14 +392,14 @@ def keys_of(sums, files):
 class Tally:
     """What came of all edits, told as it comes."""
 
-    def __init__(self, kept):
+    def __init__(self, kept: Kept) -> None:
         self.kept, self.passed, self.failed, self.taken = kept, 0, 0, 0
 
-    def tell(self, file, well, text):
+    def tell(self, file: str, well: bool, text: str) -> None:
         self.passed, self.failed = self.passed + well, self.failed + (not well)
         print(f"{os.path.relpath(file, f'{TOP}/crates')}: {text}", flush=True)
 
-    def is_kept(self, file, key):
+    def is_kept(self, file: str, key: str) -> bool:
         """Whether an edit was refused at its clause before; a kept result that is damaged fails, and is tried the next time."""
         try:
             found = self.kept.result(key)
@@ -390,7 +412,7 @@ class Tally:
         return found is not None
 
 
-def main():
+def main() -> int:
     words = argparse.ArgumentParser(description=__doc__, formatter_class=argparse.RawDescriptionHelpFormatter)
     words.add_argument("--jobs", type=int, default=0)
     words.add_argument("--anew", action="store_true", help="try those too of which it is kept that they were refused")

@@ -46,10 +46,27 @@ UNTOLD = ("outbox.at", "service.source")
 KINDS = {1: "order.placed", 2: "order.shipped", 3: "order.cancelled"}
 # The fields of a file's header, by the place where each begins.
 HEADER = {
-    0: "magic", 16: "page size", 18: "write version", 19: "read version", 20: "reserved space", 21: "fractions",
-    24: "change counter", 28: "count of pages", 32: "first free page", 36: "count of free pages", 40: "schema cookie",
-    44: "schema format", 48: "cache size", 52: "vacuum", 56: "encoding", 60: "user version", 64: "vacuum",
-    68: "application id", 72: "for later", 92: "change counter of the version", 96: "version of SQLite",
+    0: "magic",
+    16: "page size",
+    18: "write version",
+    19: "read version",
+    20: "reserved space",
+    21: "fractions",
+    24: "change counter",
+    28: "count of pages",
+    32: "first free page",
+    36: "count of free pages",
+    40: "schema cookie",
+    44: "schema format",
+    48: "cache size",
+    52: "vacuum",
+    56: "encoding",
+    60: "user version",
+    64: "vacuum",
+    68: "application id",
+    72: "for later",
+    92: "change counter of the version",
+    96: "version of SQLite",
 }
 COLUMNS = {
     "schema": ("type", "name", "tbl_name", "rootpage", "sql"),

@@ -14,6 +14,7 @@ import os
 import re
 import subprocess
 import sys
+from typing import Iterator, Optional
 
 sys.dont_write_bytecode = True
 TOP = os.path.dirname(os.path.dirname(os.path.realpath(__file__)))
@@ -26,7 +27,7 @@ LIMITS = {
     "CHANGELOG.md": (None, 1500),  # grows by at most 30 lines a version
     "CONTRIBUTING.md": (None, 1700),  # what a walk by the prover doesn't name
     "SECURITY.md": (None, 500),
-    "docs/ARCHITECTURE.md": (100, 2000),
+    "docs/ARCHITECTURE.md": (104, 2000),  # a row a crate
     "docs/DECISIONS.md": (None, 3500),
     "docs/DEVELOPMENT.md": (60, 1000),
     "docs/FORMATS.md": (None, 5500),  # every rule, line and fault that others implement against
@@ -44,9 +45,9 @@ LIMITS = {
 }
 OF_CRATES = (60, 1000)
 OTHERS = (None, 600)
-# All of these together, the page of the service among them with its 1,100; what stands beside code that people copy
-# (NOT_COUNTED) has limits of its own alone.
-ALL_WORDS = 46_300
+# All of these together, the page of the service among them with its 1,100, and those of the numberer with 600; what
+# stands beside code that people copy (NOT_COUNTED) has limits of its own alone.
+ALL_WORDS = 47_980
 NOT_COUNTED = ("bindings/", "contrib/", "examples/", "tools/")
 PAGES_WITH_DATES = ("CHANGELOG.md", "docs/PERFORMANCE.md")
 DATE = re.compile(r"\b20\d\d-[01]\d-[0-3]\d\b")
@@ -57,30 +58,28 @@ WANTED = ("mosquitto_", "psql ", "mariadb ", "tar -x", "./site", "./gate", "tool
 SHELLS = ("sh", "console", "bash")
 
 
-def pages():
+def pages() -> list[str]:
     """All pages of the repository but those of edits, which tools/try_edits.py holds against the edits."""
-    said = subprocess.run(
-        ["git", "ls-files", "*.md"], cwd=TOP, capture_output=True, text=True, check=True
-    ).stdout.split("\n")
+    said = subprocess.run(["git", "ls-files", "*.md"], cwd=TOP, capture_output=True, text=True, check=True).stdout.split("\n")
     return [it for it in said if it and "/edits/" not in it and os.path.exists(f"{TOP}/{it}")]
 
 
-def text_of(page):
+def text_of(page: str) -> str:
     with open(f"{TOP}/{page}", encoding="utf-8") as file:
         return file.read()
 
 
-def without_code(text):
+def without_code(text: str) -> str:
     return re.sub(r"`[^`\n]*`", "", re.sub(r"^```.*?^```", "", text, flags=re.M | re.S))
 
 
-def anchors(page):
+def anchors(page: str) -> set[str]:
     """The names by which headings are linked to."""
     found = re.findall(r"^#+ (.*)$", re.sub(r"^```.*?^```", "", text_of(page), flags=re.M | re.S), re.M)
     return {re.sub(r"[^\w\- ]", "", it.lower()).replace(" ", "-") for it in found}
 
 
-def links(page):
+def links(page: str) -> Iterator[str]:
     """What is wrong with the links of a page."""
     for to in LINK.findall(re.sub(r"^```.*?^```", "", text_of(page), flags=re.M | re.S)):
         if re.match(r"[a-z]+:", to):
@@ -93,7 +92,7 @@ def links(page):
             yield f"{to}: there is no such heading"
 
 
-def pipes(page):
+def pipes(page: str) -> Iterator[str]:
     """Pipes of a page that stand before it says how their status is told."""
     is_told = False
     for _, mark, lines in blocks(page):
@@ -104,7 +103,7 @@ def pipes(page):
                 yield f"a pipe without pipefail: {lines[0]}"
 
 
-def runs(page):
+def runs(page: str) -> Iterator[str]:
     """Blocks that are to be run and aren't."""
     for _, mark, lines in blocks(page):
         text = "\n".join(lines)
@@ -114,20 +113,20 @@ def runs(page):
             yield f"a block that could be run: {lines[0]}"
 
 
-def dates(page):
+def dates(page: str) -> Iterator[str]:
     if page not in PAGES_WITH_DATES:
         yield from (f"a date: {it}" for it in DATE.findall(without_code(text_of(page))))
 
 
-def paths(page):
+def paths(page: str) -> Iterator[str]:
     yield from (f"the path of a machine: {it}" for it in PATH.findall(text_of(page)))
 
 
-def limit_of(page):
+def limit_of(page: str) -> tuple[Optional[int], int]:
     return LIMITS.get(page, OF_CRATES if page.startswith("crates/") else OTHERS)
 
 
-def lengths(page):
+def lengths(page: str) -> Iterator[str]:
     text, (most_lines, most_words) = text_of(page), limit_of(page)
     if most_lines and text.count("\n") > most_lines:
         yield f"{text.count(chr(10))} lines, and at most {most_lines} are allowed"
@@ -135,14 +134,14 @@ def lengths(page):
         yield f"{len(text.split())} words, and at most {most_words} are allowed"
 
 
-def sources(crate):
+def sources(crate: str) -> Iterator[str]:
     for at, _, files in os.walk(f"{TOP}/crates/{crate}/src"):
         for it in files:
             with open(f"{at}/{it}", encoding="utf-8") as file:
                 yield file.read()
 
 
-def contracts(page):
+def contracts(page: str) -> Iterator[str]:
     """Functions that docs/GUARANTEES.md names and that their crates don't have."""
     if page != "docs/GUARANTEES.md":
         return
@@ -161,7 +160,7 @@ def contracts(page):
 CHECKS = (links, pipes, runs, dates, paths, lengths, contracts)
 
 
-def main():
+def main() -> int:
     words = argparse.ArgumentParser(description=__doc__, formatter_class=argparse.RawDescriptionHelpFormatter)
     words.add_argument("--words", action="store_true")
     given = words.parse_args()

@@ -147,11 +147,12 @@ for name in - /dev/stdin; do
     status=$?
     is "lines of $name" 0 "$again" ''
 done
+# shellcheck disable=SC2002
 cat lines | "$program" follow --db stream.db >got.out 2>got.err
 status=$?
 is 'lines of a pipe' 0 "$again" ''
 rm ./-
-cp lines -
+cp lines ./-
 run follow --db stream.db ./-
 is 'lines of a file that is named -' 0 "$again" ''
 run follow --db stream.db -- -x.json
@@ -351,15 +352,15 @@ run --help
 options site <got.out >named
 awk '/^[A-Z][a-z]*:$/ { part = $1; next } part == "Commands:" && NF { print $1 }' got.out >words
 tr '\n' ' ' <words >got.out
-commands='cover gaps shown latest kinds days conflicts check take follow summary delta scrub arrivals run service order relay'
+commands='cover gaps shown latest kinds days conflicts check take follow summary delta scrub arrivals run service order relay number'
 is 'the commands of help' 2 "$commands help " ''
 for word in $commands; do "$program" "$word" --help | options "$word"; done >>named
 LC_ALL=C sort words named -o named
 grep '^delta' named | tr '\n' ' ' >got.out
-is 'the options of delta' 2 'delta delta --all delta --db delta --from delta --help delta -h ' ''
+is 'the options of delta' 2 'delta delta --all delta --db delta --from delta --help delta --wait delta -h ' ''
 making '' "$program" --all shells
 is 'completions and a man page' 0 '' ''
-ls shells | tr '\n' ' ' >got.out
+(cd shells && printf '%s ' *) >got.out
 is 'their files' 0 '_site site.1 site.bash site.fish ' ''
 cat >ask <<'END'
 . shells/site.bash
@@ -425,11 +426,12 @@ completes() {
 completes 'take ' ta
 completes '--help --version -V -h ' -
 completes 'days delta ' help d
-completes '--at --db --help --source -h cancel place ship ' order ''
+completes '--at --db --help --source --wait -h cancel place ship ' order ''
 completes 'cancel ' order --db x ca
 completes 'site.1 site.bash site.fish ' take --db si
 completes 'site.1 site.bash site.fish ' delta si
 completes '' scrub --from ''
+# shellcheck disable=SC2016
 printf '#!/bin/sh\n"$SITE" "$@" | sed "$EDIT"\n' >edited
 chmod +x edited
 while read -r edit why; do

@@ -20,14 +20,12 @@ PAGE = os.sysconf("SC_PAGE_SIZE")
 SIZE = 4_000_000
 
 
-def event(place, more):
+def event(place: int, more: str) -> str:
     """An event of one source, with more members."""
-    return (
-        f'{{"specversion":"1.0","id":"{place:07d}","source":"/s","type":"t","sequence":"{place + 1:020d}"{more}}}'
-    )
+    return f'{{"specversion":"1.0","id":"{place:07d}","source":"/s","type":"t","sequence":"{place + 1:020d}"{more}}}'
 
 
-def batch(more, bad=""):
+def batch(more: str, bad: str = "") -> str:
     """A batch of about SIZE bytes, whose events have more members; a last one may be bad."""
     count = SIZE // len(event(0, more))
     made = [event(place, more) for place in range(count)]
@@ -48,7 +46,7 @@ ROWS = (
 )
 
 
-def faults(words, folder):
+def faults(words: list[str], folder: str) -> tuple[int, int]:
     """The status of a run, and how many pages it touched."""
     with subprocess.Popen(words, cwd=folder, stdin=subprocess.DEVNULL, stdout=subprocess.DEVNULL, stderr=subprocess.DEVNULL) as ran:
         _, status, used = os.wait4(ran.pid, 0)
@@ -56,7 +54,7 @@ def faults(words, folder):
     return ran.returncode, used.ru_minflt
 
 
-def main():
+def main() -> int:
     program = os.path.abspath(sys.argv[1]) if len(sys.argv) > 1 else PROGRAM
     passed = failed = 0
     for name, words, text, wanted, most in ROWS:

@@ -170,6 +170,7 @@ class Trial:
 
     def count(self):
         """How many allocations the command makes."""
+
         def is_met(at):
             with self.room() as room:
                 return self.refuser.ran([self.program, *self.row.words], at, cwd=room)[1]

@@ -23,6 +23,7 @@ import subprocess
 import sys
 import tempfile
 import time
+from typing import Iterator, Optional
 
 sys.dont_write_bytecode = True
 TOP = os.path.dirname(os.path.dirname(os.path.realpath(__file__)))
@@ -57,11 +58,15 @@ LogLevel ERROR
 """
 
 
+# A command with what it prints, or none where that isn't known.
+Line = tuple[str, Optional[str]]
+
+
 class Runs:
-    def __init__(self, folder, environment):
+    def __init__(self, folder: str, environment: dict[str, str]) -> None:
         self.folder, self.environment, self.passed, self.failed = folder, environment, 0, 0
 
-    def run(self, command, want=None):
+    def run(self, command: str, want: Optional[str] = None) -> float:
         """Runs a command of the shell, compares what it prints where that is known, and says what it took."""
         before, began = resource.getrusage(resource.RUSAGE_CHILDREN), time.monotonic()
         words = ["bash", "-o", "pipefail", "-c", command]
@@ -74,18 +79,18 @@ class Runs:
         self.folder = gone_to(self.folder, command)
         return clock
 
-    def judge(self, is_right, why):
+    def judge(self, is_right: bool, why: str) -> None:
         self.passed, self.failed = self.passed + is_right, self.failed + (not is_right)
         if not is_right:
             print(f"wrong: {why}")
 
 
-def sshd():
-    return shutil.which("sshd") or shutil.which("sshd", path="/usr/sbin:/usr/local/sbin")
+def sshd() -> str:
+    return shutil.which("sshd") or shutil.which("sshd", path="/usr/sbin:/usr/local/sbin") or ""
 
 
 @contextlib.contextmanager
-def server(keys, folder, path):
+def server(keys: str, folder: str, path: str) -> Iterator[None]:
     """A server of ssh, whose commands are run in the folder of both regions, and what its client has to know."""
     with socket.socket() as it:
         it.bind(("127.0.0.1", 0))
@@ -112,9 +117,14 @@ def server(keys, folder, path):
         ran.wait()
 
 
-def lines(given):
+def of_part(part: str, times: int = 1, of: int = 1) -> list[Line]:
+    """The commands of a part of the guide, each with what it prints."""
+    return [(command, want) for command, want in steps(GUIDE, part, times, of)[0] if command is not None]
+
+
+def lines(given: argparse.Namespace) -> tuple[list[Line], list[Line], list[Line]]:
     """The lines of the guide: those in front of the exchange, those of it, and those behind, each with what it prints."""
-    every, _ = steps(GUIDE, AT_SIZE, given.events, 100_000)
+    every = of_part(AT_SIZE, given.events, 100_000)
     places = [place for place, (command, _) in enumerate(every) if "site summary" in command]
     exchange = every[places[0] : places[-1] + 1]
     if given.by == "take":
@@ -122,11 +132,11 @@ def lines(given):
         exchange = [(command, None if "site take" in command else want) for command, (_, want) in zip(by_take, exchange)]
     elif given.by == "ssh":
         # What the streams acknowledge stands there for the few events of that part.
-        exchange = [(it, None if "follow" in it else want) for it, want in steps(GUIDE, OVER_SSH)[0] if "site summary" in it]
+        exchange = [(it, None if "follow" in it else want) for it, want in of_part(OVER_SSH) if "site summary" in it]
     return every[: places[0]], exchange, every[places[-1] + 1 :]
 
 
-def main():
+def main() -> int:
     words = argparse.ArgumentParser(description=__doc__, formatter_class=argparse.RawDescriptionHelpFormatter)
     words.add_argument("--program", default=f"{TOP}/crates/site_cli/out/site_cli")
     words.add_argument("--events", type=int, default=100_000)

@@ -61,7 +61,7 @@ lesser_source='{"id":"b","sequence":"00000000000000000001","source":"/","specver
 # Questions.
 printf '[]' >empty
 printf '%s' "$numbers" >numbers
-printf '%s' "$more" >more
+printf '%s' "$more" >./more
 printf '%s' "$last" >last
 printf '%s' "$first" >first
 printf '%s' "$spelled" >spelled
@@ -121,6 +121,7 @@ refuses 'none: cannot read' cover bad none
 refuses 'over: too large' cover bad over none
 refuses 'full: not JSON' cover full
 refuses '.: cannot read' cover .
+# shellcheck disable=SC1003
 refuses 'a\tb\n\u001b[1m\u009bé\: cannot read' cover "$(printf 'a\tb\n\033[1m\302\233\303\251\\')"
 printf '[]' >-
 answers "{\"sources\":{},\"version\":1}$lf" cover ./-
@@ -142,10 +143,12 @@ deep() {
     printf '{"data":%s%s,"id":"d","sequence":"00000000000000000002","source":"/orders","specversion":"1.0","type":"t"}' \
         "$(head -c "$1" /dev/zero | tr '\0' '[')" "$(head -c "$1" /dev/zero | tr '\0' ']')"
 }
+# shellcheck disable=SC2094
 deep 120 >deep
 answers "$(deep 120)$lf" shown deep
 printf '[%s,%s]' "$first" "$(deep 120)" >deep
 answers "$first$lf$(deep 120)$lf" shown deep
+# shellcheck disable=SC2094
 deep 121 >deep
 refuses 'deep: event 0: TooDeep' shown deep
 printf '[%s,%s]' "$first" "$(deep 121)" >deep

@@ -22,6 +22,7 @@ import os
 import sys
 import threading
 from concurrent.futures import ThreadPoolExecutor
+from typing import Optional
 
 sys.dont_write_bytecode = True
 TOP = os.path.dirname(os.path.dirname(os.path.realpath(__file__)))
@@ -33,7 +34,7 @@ UNREFUSED = "# No allocation is refused"
 AGAIN, LEFT, ONCE = "(again)", "~ ", "~ once "
 
 
-def groups_of(text):
+def groups_of(text: str) -> list[str]:
     """The groups of a text of rows, each with the empty line behind it."""
     found, lines = [], []
     for line in text.splitlines(True):
@@ -47,16 +48,19 @@ def groups_of(text):
 class Group:
     """A group behind the first one, which names what all others use."""
 
-    def __init__(self, program, first, own, wanted, refuser):
+    def __init__(self, program: str, first: str, own: str, wanted: str, refuser: Refuser) -> None:
         self.program, self.given, self.wanted, self.refuser = program, first + own, wanted, refuser
-        self.lines, self.wrong, self.again, self.ended = wanted.splitlines(), [], 0, 0
-        self.may, self.met = self.left_lines(), {}
+        self.lines, self.again, self.ended = wanted.splitlines(), 0, 0
+        self.wrong: list[str] = []
+        self.may = self.left_lines()
+        self.met: dict[tuple[int, str], int] = {}
         comments = [it for it in own.splitlines() if it.startswith("#")]
         self.name = (comments[0] if comments else own).removeprefix("# ")[:100]
 
-    def left_lines(self):
+    def left_lines(self) -> dict[int, list[str]]:
         """By the place of each call what it may leave behind."""
-        may, call = {}, None
+        may: dict[int, list[str]] = {}
+        call = -1
         for at, line in enumerate(self.lines):
             if line.startswith("> "):
                 call = at
@@ -64,11 +68,11 @@ class Group:
                 may.setdefault(call, []).append(line)
         return may
 
-    def ran(self, at):
+    def ran(self, at: int) -> tuple[int, str, bool]:
         ran, was_met = self.refuser.ran([self.program], at, input=self.given.encode())
         return ran.returncode, ran.stdout.decode(errors="replace"), was_met
 
-    def judge(self, status, said):
+    def judge(self, status: int, said: str) -> Optional[str]:
         """What is wrong with a run to which an allocation was refused, if anything."""
         if status == 1 and self.wanted.startswith(said) and said[-1:] in ("", "\n"):
             self.ended += 1
@@ -85,7 +89,7 @@ class Group:
             return f"{lines[at - 1:at + 1]}, and not {self.lines[at - 1:at + 1]}"
         return self.left_behind(places[0] - 1, line) if places and line != AGAIN else None
 
-    def left_behind(self, call, line):
+    def left_behind(self, call: int, line: str) -> Optional[str]:
         left = line.removeprefix(f"{AGAIN} ")
         if call not in self.may:
             return None
@@ -95,7 +99,7 @@ class Group:
                 return None
         return f"{self.lines[call]} left behind: {left}"
 
-    def play(self, start):
+    def play(self, start: Optional[int]) -> int:
         """Plays the group whole, and with each allocation from that number on refused; answers how many were."""
         status, said, was_met = self.ran(0)
         if (status, said) != (0, self.wanted):
@@ -125,7 +129,7 @@ class Group:
 class Rows:
     """The rows of one driver."""
 
-    def __init__(self, name, program, folder, refuser):
+    def __init__(self, name: str, program: str, folder: str, refuser: Refuser) -> None:
         with open(f"{folder}/stdin", encoding="utf-8") as it:
             rows = groups_of(it.read())
         with open(f"{folder}/stdout", encoding="utf-8") as it:
@@ -135,21 +139,23 @@ class Rows:
         self.name, self.lock = name, threading.Lock()
         at = next((at for at, it in enumerate(rows) if UNREFUSED in it), len(rows))
         self.first = Group(program, "", rows[0], wanted[0], refuser)
-        self.groups = [(Group(program, rows[0], it, wanted[0] + answer, refuser), number < at) for number, (it, answer) in enumerate(zip(rows[1:], wanted[1:]), 1)]
+        self.groups = [
+            (Group(program, rows[0], it, wanted[0] + answer, refuser), number < at) for number, (it, answer) in enumerate(zip(rows[1:], wanted[1:]), 1)
+        ]
         self.passed = self.failed = 0
 
-    def tell(self, group, count):
+    def tell(self, group: Group, count: int) -> None:
         with self.lock:
             self.passed, self.failed = self.passed + 1 + count - len(group.wrong), self.failed + len(group.wrong)
             print(f"{self.name}: {group.name}: {count} allocations, {group.again} calls played again, {group.ended} ends, {len(group.wrong)} wrong", flush=True)
             for line in group.wrong[:5]:
                 print(f"wrong: {line}", flush=True)
 
-    def play(self, jobs):
+    def play(self, jobs: int) -> None:
         start = self.first.play(1) + 1
         self.tell(self.first, start - 1)
 
-        def one(it):
+        def one(it: tuple[Group, bool]) -> None:
             group, is_refused = it
             self.tell(group, group.play(start if is_refused else None))
 
@@ -157,7 +163,7 @@ class Rows:
             list(pool.map(one, self.groups))
 
 
-def main():
+def main() -> int:
     words = argparse.ArgumentParser(description=__doc__, formatter_class=argparse.RawDescriptionHelpFormatter)
     words.add_argument("--jobs", type=int, default=len(os.sched_getaffinity(0)))
     words.add_argument("--program", help="the built driver, where it isn't in its crate's out/")

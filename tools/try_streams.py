@@ -18,6 +18,7 @@ import shutil
 import subprocess
 import sys
 import tempfile
+from typing import Any
 
 TOP = os.path.dirname(os.path.dirname(os.path.realpath(__file__)))
 AT = "2024-02-29T10:00:00Z"
@@ -94,13 +95,13 @@ ssize_t write(int fd, const void *bytes, size_t count) {
 """
 
 
-def event(number, kind="t.a"):
+def event(number: int, kind: str = "t.a") -> dict[str, str]:
     """An event whose text has 111 bytes."""
     members = {"id": f"a{number}", "sequence": f"{number:020d}", "source": "/orders", "specversion": "1.0"}
     return {**members, "subject": "x", "type": kind}
 
 
-def text(value):
+def text(value: object) -> bytes:
     return json.dumps(value, separators=(",", ":")).encode()
 
 
@@ -174,8 +175,9 @@ WRITES = (
 
 
 class Trial:
-    def __init__(self, program, room):
-        self.program, self.passed, self.wrong, self.shim = program, 0, [], f"{room}/shim.so"
+    def __init__(self, program: str, room: str) -> None:
+        self.program, self.passed, self.shim = program, 0, f"{room}/shim.so"
+        self.wrong: list[str] = []
         with open(f"{room}/shim.c", "w", encoding="ascii") as it:
             it.write(SHIM)
         subprocess.run(["cc", "-O1", "-shared", "-fPIC", "-o", self.shim, f"{room}/shim.c", "-ldl"], check=True)
@@ -187,13 +189,13 @@ class Trial:
         for words in MADE:
             subprocess.run([program, *words], cwd=self.start, check=True, capture_output=True, stdin=subprocess.DEVNULL)
 
-    def room(self):
+    def room(self) -> tempfile.TemporaryDirectory[str]:
         """A folder as each command finds it."""
         room = tempfile.TemporaryDirectory(prefix="streams-")
         shutil.copytree(self.start, room.name, dirs_exist_ok=True)
         return room
 
-    def ran(self, room, words, stdin=None, **streams):
+    def ran(self, room: str, words: list[str], stdin: Any = None, **streams: Any) -> tuple[int, bytes, bytes]:
         """The status and both streams of a run, where each stream goes as it is told."""
         env = {**os.environ, **{f"STREAM_{key.upper()}": value for key, value in streams.items()}}
         if streams:
@@ -202,7 +204,7 @@ class Trial:
             ran = subprocess.run([self.program, *words], cwd=room, env=env, stdin=given, capture_output=True, timeout=120)
         return ran.returncode, ran.stdout, ran.stderr
 
-    def is_so(self, what, got, want, left=None, wanted=None):
+    def is_so(self, what: str, got: Any, want: Any, left: Any = None, wanted: Any = None) -> None:
         """Whether a run ended so, and left what it was to leave."""
         if got == want and left == wanted:
             self.passed += 1
@@ -210,7 +212,7 @@ class Trial:
         why = f"{clipped(got)} in place of {clipped(want)}" if got != want else "other files or rows are left"
         self.wrong.append(f"{what}: {why}")
 
-    def read(self, words, name):
+    def read(self, words: list[str], name: str) -> None:
         """Reads an input in pieces, up to each read that fails, and without an end."""
         stdin = None if name in words else name
         said = f"site: {name if name in words else '-'}: ".encode()
@@ -236,7 +238,7 @@ class Trial:
             got = self.ran(room, words, stdin, input=name, **{"in": "1,0,1"})
             self.is_so(f"{words}, no end", got, (1, b"", said + b"too large\n"), contents(room), before)
 
-    def follow(self, words):
+    def follow(self, words: list[str]) -> None:
         """Follows lines, a line a read, up to each read and each write that fails."""
         stdin = None if "lines" in words else "lines"
         name = "lines" if "lines" in words else "-"
@@ -259,29 +261,30 @@ class Trial:
                 # A line is kept before it is acknowledged.
                 self.is_so(f"{words}, write {fails} fails", got, want, self.shown(room), events[:fails])
 
-    def shown(self, room):
+    def shown(self, room: str) -> list[bytes]:
         """The texts of the events that the new database has, in the order of their numbers."""
         return self.ran(room, ["shown", "--db", "n.db"])[1].splitlines() if os.path.exists(f"{room}/n.db") else []
 
-    def left(self, room, words):
+    def left(self, room: str, words: list[str]) -> Any:
         """What the database of the words tells of itself, since two with the same rows may differ in their bytes, and
         the bytes of all other files but logs."""
         told = [self.ran(room, it) for name, it in TOLD if name in words and os.path.exists(f"{room}/{name}")]
         others = {name: it for name, it in contents(room).items() if name not in words or name not in dict(TOLD)}
         return told, {name: it for name, it in others.items() if not name.endswith("-wal")}
 
-    def write(self, row):
+    def write(self, row: Any) -> None:
         """Writes in pieces, up to each write that fails, and to a stream that takes nothing."""
         with self.room() as room:
             whole = self.ran(room, row.words)
             after = self.left(room, row.words)
-        units = whole[row.output].splitlines(keepends=True) if row.by_line else [whole[row.output]]
+        given: bytes = whole[2] if row.output == 2 else whole[1]
+        units = given.splitlines(keepends=True) if row.by_line else [given]
         output = str(row.output)
-        for step in (0, -(-len(whole[row.output]) // 7)):
+        for step in (0, -(-len(given) // 7)):
             pieces = [part for unit in units for part in cut(unit, step or len(unit))]
             for fails in range(1, len(pieces) + 2):
                 what = f"{row.words}, write {fails} of {len(pieces)} fails"
-                want = list(whole)
+                want: list[Any] = list(whole)
                 if fails <= len(pieces):
                     want[0], want[row.output] = 1, b"".join(pieces[: fails - 1])
                 with self.room() as room:
@@ -292,11 +295,11 @@ class Trial:
             self.is_so(f"{row.words}, nothing is taken", got, (1, b"", b""), self.left(room, row.words), after)
 
 
-def cut(given, step):
+def cut(given: bytes, step: int) -> list[bytes]:
     return [given[at : at + step] for at in range(0, len(given), step)]
 
 
-def contents(room):
+def contents(room: str) -> dict[str, bytes]:
     """The bytes of each file of a folder."""
     found = {}
     for name in os.listdir(room):
@@ -305,11 +308,11 @@ def contents(room):
     return found
 
 
-def clipped(said):
+def clipped(said: object) -> str:
     return repr(said)[:300]
 
 
-def main():
+def main() -> int:
     program = os.path.realpath(sys.argv[1] if len(sys.argv) > 1 else f"{TOP}/crates/site_cli/out/site_cli")
     with tempfile.TemporaryDirectory(prefix="streams-shim-") as room:
         trial = Trial(program, room)

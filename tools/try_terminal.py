@@ -72,8 +72,10 @@ def before(now, old):
     """Makes a file of before, whose inbox has no blocks, of the inbox of a file of now."""
     with contextlib.closing(sqlite3.connect(old)) as base:
         base.execute("ATTACH ? AS now", (now,))
-        base.execute("CREATE TABLE inbox (place INTEGER PRIMARY KEY, source TEXT NOT NULL, id TEXT NOT NULL, "
-                     "number INTEGER NOT NULL, body TEXT NOT NULL, UNIQUE (source, id, body)) STRICT")
+        base.execute(
+            "CREATE TABLE inbox (place INTEGER PRIMARY KEY, source TEXT NOT NULL, id TEXT NOT NULL, "
+            "number INTEGER NOT NULL, body TEXT NOT NULL, UNIQUE (source, id, body)) STRICT"
+        )
         base.execute("INSERT INTO inbox SELECT place, source, id, number, body FROM now.inbox2 ORDER BY place")
         base.commit()
 
@@ -108,10 +110,8 @@ def main():
             status, out, seen = ran(program, words, True)
             is_so(f"{what}: its answer", status == 0 and out.startswith(b"read 5000 "), (status, out))
             shown = seen.split(AWAY)
-            is_so(f"{what}: files that are left", shown[1:3] == [
-                b"site: files left to read: 2", b"site: files left to read: 1"], seen)
-            is_so(f"{what}: events that are kept", any(
-                line.startswith(b"site: ") and line.endswith(b" events kept") for line in shown[3:]), seen)
+            is_so(f"{what}: files that are left", shown[1:3] == [b"site: files left to read: 2", b"site: files left to read: 1"], seen)
+            is_so(f"{what}: events that are kept", any(line.startswith(b"site: ") and line.endswith(b" events kept") for line in shown[3:]), seen)
             is_so(f"{what}: the line is gone", shown[0] == b"" and shown[-1] == b"", seen)
             status, out, seen = ran(program, words, False)
             is_so(f"{what}: silent on a pipe", status == 0 and out and seen == b"", (status, out, seen))
@@ -121,8 +121,7 @@ def main():
         status, out, seen = ran(program, ["take", "--db", "old.db", "one"], True)
         shown = seen.split(AWAY)
         is_so("take into a file of before: its answer", status == 0 and out == b"read 1 new 1 repeated 0\n", (status, out))
-        is_so("take into a file of before: how many of its events are in the new table", any(
-            b" of 5000 events kept" in line for line in shown), seen)
+        is_so("take into a file of before: how many of its events are in the new table", any(b" of 5000 events kept" in line for line in shown), seen)
         is_so("take into a file of before: the line is gone", shown[0] == b"" and shown[-1] == b"", seen)
         with open("lines", "w", encoding="ascii") as file:
             file.writelines(json.dumps(event("c", number + 1)) + "\n" for number in range(2500))
@@ -143,12 +142,12 @@ def main():
             file.writelines(json.dumps(event("d", number + 1)) + "\n" for number in range(1500))
             file.write("no\n")
         status, out, seen = ran(program, ["follow", "--db", "follow.db", "faulty"], True)
-        line = b"site: 1 lines refused\r\n"
-        is_so("follow: a refusal", status == 1 and seen.endswith(AWAY + line), (status, seen[-200:]))
+        line = b"site: 1 lines refused\r\nsite: hint: "
+        is_so("follow: a refusal, and a hint", status == 1 and AWAY + line in seen, (status, seen[-200:]))
         for words in (["take", "--db", "void.db", "void"], ["run", "--db", "void.db", "void"]):
             status, out, seen = ran(program, words, True)
-            line = b"site: void: not JSON\r\n"
-            is_so(f"{words[0]}: a refusal", status == 1 and not out and seen.endswith(AWAY + line), (out, seen))
+            line = b"site: void: not JSON\r\nsite: hint: it is empty"
+            is_so(f"{words[0]}: a refusal, and a hint", status == 1 and not out and AWAY + line in seen, (out, seen))
         status, out, seen = ran(program, ["cover", "a"], True)
         is_so("cover shows nothing", status == 0 and out and seen == b"", (out, seen))
     print(f"{right} of {tried} things were right")

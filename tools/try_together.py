@@ -19,6 +19,7 @@ import sys
 import tempfile
 import threading
 import time
+from typing import Any
 
 HERE = os.path.dirname(os.path.dirname(os.path.realpath(__file__)))
 AT = "2024-02-29T10:00:00Z"
@@ -26,7 +27,7 @@ AT = "2024-02-29T10:00:00Z"
 PATIENCE = 15
 
 
-def event(source, number):
+def event(source: str, number: int) -> dict[str, str]:
     """An event of the source and the number."""
     return {
         "id": f"{source}-{number}",
@@ -37,7 +38,7 @@ def event(source, number):
     }
 
 
-def row(number, order, kind="placed"):
+def row(number: int, order: int, kind: str = "placed") -> dict[str, str]:
     """The event of a row of an outbox."""
     return {
         "id": f"{number:020}",
@@ -50,31 +51,35 @@ def row(number, order, kind="placed"):
     }
 
 
-def write(name, events):
+def write(name: str, events: list[dict[str, str]]) -> None:
     with open(name, "w", encoding="utf-8") as file:
         json.dump(events, file, separators=(",", ":"))
+
+
+# The status and both streams of a run.
+Answer = tuple[int, str, str]
 
 
 class Trial:
     """The program, and how many of the things that were looked at were right."""
 
-    def __init__(self, program):
+    def __init__(self, program: str) -> None:
         self.program, self.right, self.all = program, 0, 0
 
-    def look(self, what, is_right, told=""):
+    def look(self, what: str, is_right: object, told: object = "") -> None:
         self.all += 1
         if is_right:
             self.right += 1
         else:
             print(f"wrong: {what}: {told}"[:400], flush=True)
 
-    def run(self, *words, prefix=()):
+    def run(self, *words: str, prefix: tuple[str, ...] = ()) -> Answer:
         """The status and both streams of one run."""
-        how = {"stdin": subprocess.DEVNULL, "capture_output": True, "text": True, "timeout": PATIENCE}
+        how: dict[str, Any] = {"stdin": subprocess.DEVNULL, "capture_output": True, "text": True, "timeout": PATIENCE}
         ran = subprocess.run([*prefix, self.program, *words], **how)
         return ran.returncode, ran.stdout, ran.stderr
 
-    def run_at_once(self, commands):
+    def run_at_once(self, commands: list[list[str]]) -> list[Answer]:
         """The status and both streams of each command; all of them begin at one moment."""
         gate, opened = os.pipe()
         children = []
@@ -101,7 +106,7 @@ class Trial:
                 answers.append((status, out.read(), err.read()))
         return answers
 
-    def insist(self, refusal, *words):
+    def insist(self, refusal: Answer, *words: str) -> tuple[Answer, int]:
         """The first answer that isn't this refusal, and how often the program was run for it."""
         until, tries = time.monotonic() + PATIENCE, 0
         while True:
@@ -111,9 +116,9 @@ class Trial:
                 return answer, tries
             time.sleep(random.uniform(0.005, 0.05))
 
-    def rows(self, db):
+    def rows(self, db: str) -> Any:
         """All rows of the outbox of a file, page after page; what was said where there are none."""
-        found = []
+        found: list[Any] = []
         while True:
             status, out, err = self.run("relay", "--db", db, "--after", str(len(found)))
             if status:
@@ -123,9 +128,9 @@ class Trial:
                 return found
             found += page
 
-    def events(self, db):
+    def events(self, db: str) -> Any:
         """All events of a file, page after page; what was said where there are none."""
-        found = []
+        found: list[Any] = []
         while True:
             status, out, err = self.run("scrub", "--db", db, "--from", str(len(found)))
             if status:
@@ -136,16 +141,16 @@ class Trial:
             found += page
 
 
-def is_store(answer, db):
+def is_store(answer: Answer, db: str) -> bool:
     return answer == (1, "", f"site: {db}: Store\n")
 
 
-def side_by_side(jobs, count):
+def side_by_side(jobs: Any, count: int) -> Any:
     """Calls the jobs in so many threads, and answers what each gave, in their order."""
     given, rest = [None] * len(jobs), list(enumerate(jobs))
     lock = threading.Lock()
 
-    def work():
+    def work() -> None:
         while True:
             with lock:
                 if not rest:
@@ -161,7 +166,7 @@ def side_by_side(jobs, count):
     return given
 
 
-def take_at_once(trial, round_number):
+def take_at_once(trial: Trial, round_number: int) -> int:
     """Twenty takes into one new file."""
     db = f"new{round_number}.db"
     for i in range(20):
@@ -184,11 +189,11 @@ def take_at_once(trial, round_number):
     return len(done)
 
 
-def place(db, order):
+def place(db: str, order: int) -> list[str]:
     return ["order", "--db", db, "--at", AT, "place", str(order)]
 
 
-def look_at_orders(trial, what, db, answers, orders):
+def look_at_orders(trial: Trial, what: str, db: str, answers: list[Answer], orders: Any) -> None:
     """Each order was answered by its row, and the rows are these, numbered from 1 on."""
     said = {}
     for order, (status, out, err) in zip(orders, answers):
@@ -205,19 +210,19 @@ def look_at_orders(trial, what, db, answers, orders):
     )
     trial.look(f"{what}: each answer is the row of its order", all(it == row(numbers[o], o) for o, it in said.items()))
     found = trial.rows(db)
-    trial.look(f"{what}: the outbox has just these rows", found == sorted(said.values(), key=lambda it: it["id"]), found)
+    trial.look(f"{what}: the outbox has just these rows", found == sorted(said.values(), key=lambda it: str(it["id"])), found)
 
 
-def orders_again_and_again(trial):
+def orders_again_and_again(trial: Trial) -> int:
     """Fifty orders, each placed by processes of its own until it is done, twelve at a time."""
     db, orders = "again.db", random.sample(range(100, 1000), 50)
     refusal = (1, "", f"site: {db}: Store\n")
     given = side_by_side([lambda it=it: trial.insist(refusal, *place(db, it)) for it in orders], 12)
     look_at_orders(trial, "fifty orders, tried again", db, [it[0] for it in given], orders)
-    return sum(it[1] for it in given) - len(orders)
+    return int(sum(it[1] for it in given)) - len(orders)
 
 
-def orders_by_flock(trial):
+def orders_by_flock(trial: Trial) -> None:
     """The same, one after another by a lock, each tried once."""
     db, orders = "lock.db", random.sample(range(100, 1000), 50)
     flock = shutil.which("flock")
@@ -228,7 +233,7 @@ def orders_by_flock(trial):
     look_at_orders(trial, "fifty orders by flock", db, answers, orders)
 
 
-def one_order_at_once(trial):
+def one_order_at_once(trial: Trial) -> None:
     """Twenty times the same order, at one moment: it is placed once."""
     db = "one.db"
     refusal = (1, "", f"site: {db}: Store\n")
@@ -240,7 +245,7 @@ def one_order_at_once(trial):
     trial.look("one order by twenty: one row", trial.rows(db) == [row(1, 7)])
 
 
-def both_at_once(trial):
+def both_at_once(trial: Trial) -> None:
     """Takes and orders into one new file, each until it is done: the file has both."""
     db = "both.db"
     refusal = (1, "", f"site: {db}: Store\n")
@@ -260,7 +265,7 @@ def both_at_once(trial):
     )
 
 
-def read_while_written(trial):
+def read_while_written(trial: Trial) -> int:
     """Readers beside a take of many events: each sees all that was before, or all, or that the file is busy."""
     db = "read.db"
     # A source behind the others, so that its events come behind theirs in key order.
@@ -297,13 +302,13 @@ def read_while_written(trial):
     return sum(is_store(it, db) for pair in seen for it in pair)
 
 
-def killed_in_between(trial):
+def killed_in_between(trial: Trial) -> int:
     """Orders by many processes, of which some are killed: what was said is there, and each goes on."""
     db, orders = "killed.db", list(range(1, 31))
     refusal = (1, "", f"site: {db}: Store\n")
     trial.run("relay", "--db", db, "--after", "0")  # the service, so that rows can be asked for
 
-    def once(order):
+    def once(order: int) -> Answer:
         """Places an order, or is killed at a moment within the usual time; then what was said by then."""
         ran = subprocess.Popen(
             [trial.program, *place(db, order)],
@@ -318,7 +323,7 @@ def killed_in_between(trial):
         return ran.returncode, out, err
 
     first = side_by_side([lambda it=it: once(it) for it in orders], 6)
-    killed = sum(it[0] == -signal.SIGKILL for it in first)
+    killed: int = sum(it[0] == -signal.SIGKILL for it in first)
     odd = [it for it in first if it[0] not in (0, -signal.SIGKILL) and it != refusal]
     trial.look("killed processes: no other answer", not odd, odd[:2])
     said = {order: json.loads(it[1]) for order, it in zip(orders, first) if it[1].endswith("\n")}
@@ -343,7 +348,7 @@ def killed_in_between(trial):
     return killed
 
 
-def held_by_another(trial):
+def held_by_another(trial: Trial) -> None:
     """A file that another program of SQLite has: busy, unchanged, and then as ever."""
     db = "held.db"
     trial.run("take", "--db", db, "t0.json")
@@ -359,7 +364,7 @@ def held_by_another(trial):
     trial.look("given free: take", trial.run("take", "--db", db, "t1.json") == (0, "read 3 new 3 repeated 0\n", ""))
 
 
-def main():
+def main() -> int:
     program = sys.argv[1] if len(sys.argv) > 1 else os.path.join(HERE, "crates/site_cli/out/site_cli")
     trial = Trial(os.path.realpath(program))
     if not os.access(trial.program, os.X_OK):

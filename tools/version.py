@@ -9,6 +9,7 @@ release of CHANGELOG.md; status 1 then.
 import os
 import re
 import sys
+from typing import Optional
 
 TOP = os.path.dirname(os.path.dirname(os.path.realpath(__file__)))
 NUMBER = r"(\d+\.\d+\.\d+(?:-[0-9A-Za-z.-]+)?)"
@@ -20,23 +21,23 @@ OTHERS = (
 )
 
 
-def told_in(file, pattern):
+def told_in(file: str, pattern: str) -> Optional[str]:
     """The first version that a file tells, or none."""
     with open(f"{TOP}/{file}", encoding="utf-8") as it:
         found = re.search(pattern, it.read(), re.M)
     return found[1] if found else None
 
 
-def version():
+def version() -> Optional[str]:
     return told_in(*ONE)
 
 
-def told():
+def told() -> dict[str, Optional[str]]:
     """The version that each other place tells."""
     return {file: told_in(file, pattern) for file, pattern in OTHERS}
 
 
-def main():
+def main() -> int:
     others = {file: it for file, it in told().items() if it != version()} if "--check" in sys.argv[1:] else {}
     for file, it in others.items():
         print(f"version: {file} has {it}, and {ONE[0]} {version()}", file=sys.stderr)

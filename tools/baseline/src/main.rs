@@ -36,9 +36,7 @@ impl std::fmt::Display for Refusal {
 fn bytes_of(path: &str) -> Result<Vec<u8>, Refusal> {
     let file = File::open(path).map_err(|_| Refusal::CannotRead)?;
     let mut bytes = Vec::new();
-    file.take(MAX_INPUT + 1)
-        .read_to_end(&mut bytes)
-        .map_err(|_| Refusal::CannotRead)?;
+    file.take(MAX_INPUT + 1).read_to_end(&mut bytes).map_err(|_| Refusal::CannotRead)?;
     if bytes.len() as u64 > MAX_INPUT {
         return Err(Refusal::TooLarge);
     }

@@ -88,7 +88,9 @@ impl Held {
             }
             last = key;
         }
-        let lines = counts.iter().map(|(kind, count)| Value::from(vec![Value::from(*kind), Value::from(*count)]).to_string() + "\n");
+        let lines = counts
+            .iter()
+            .map(|(kind, count)| Value::from(vec![Value::from(*kind), Value::from(*count)]).to_string() + "\n");
         Ok(lines.collect())
     }
 }

@@ -204,16 +204,22 @@ fn place(path: &str, order: i64) -> Done {
     let last: i64 = change.query_row("SELECT coalesce(max(number), 0) FROM outbox", [], |row| row.get(0))?;
     let at = "2024-02-29T10:00:00Z";
     change.execute("INSERT INTO orders (number, state) VALUES (?1, 1)", params![order])?;
-    change.execute("INSERT INTO outbox (number, kind, order_number, at) VALUES (?1, 1, ?2, ?3)", params![last + 1, order, at])?;
+    change.execute(
+        "INSERT INTO outbox (number, kind, order_number, at) VALUES (?1, 1, ?2, ?3)",
+        params![last + 1, order, at],
+    )?;
     change.commit()?;
     Ok(event_of(last + 1, order, 1, at) + "\n")
 }
 
 fn relay(path: &str, after: i64) -> Done {
     let base = open_orders(path)?;
-    let mut rows = base.prepare("SELECT number, order_number, kind, at FROM outbox WHERE number > ?1 ORDER BY number LIMIT ?2")?;
+    let mut rows =
+        base.prepare("SELECT number, order_number, kind, at FROM outbox WHERE number > ?1 ORDER BY number LIMIT ?2")?;
     let texts = rows
-        .query_map(params![after, PAGE], |row| Ok(event_of(row.get(0)?, row.get(1)?, row.get(2)?, &row.get::<_, String>(3)?)))?
+        .query_map(params![after, PAGE], |row| {
+            Ok(event_of(row.get(0)?, row.get(1)?, row.get(2)?, &row.get::<_, String>(3)?))
+        })?
         .collect::<Result<Vec<String>, _>>()?;
     Ok(batch(&texts))
 }
