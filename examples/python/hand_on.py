@@ -15,19 +15,20 @@ import urllib.error
 import urllib.request
 
 import jumbetai
+from typing import Optional
 
 # What may be otherwise the next time: too slow, too much at once, and a service that ends or whose disk is full.
 LATER = (408, 429, 502, 503, 504)
 
 
-def read_mark(file):
+def read_mark(file: str) -> int:
     if not os.path.exists(file):
         return 0
     with open(file, encoding="ascii") as mark:
         return int(mark.read())
 
 
-def write_mark(file, number):
+def write_mark(file: str, number: int) -> None:
     with open(f"{file}.new", "w", encoding="ascii") as mark:
         mark.write(f"{number}\n")
         mark.flush()
@@ -35,7 +36,7 @@ def write_mark(file, number):
     os.replace(f"{file}.new", file)
 
 
-def give(url, batch, token):
+def give(url: str, batch: bytes, token: Optional[str]) -> None:
     """Gives a batch until it is kept. What is refused for what it is ends the program."""
     headers = {"Content-Type": "application/cloudevents-batch+json"}
     if token:
@@ -53,7 +54,7 @@ def give(url, batch, token):
         time.sleep(min(0.1 * 2**tries, 10))
 
 
-def main():
+def main() -> None:
     words = argparse.ArgumentParser(description=__doc__, formatter_class=argparse.RawDescriptionHelpFormatter)
     for it in ("db", "url", "mark"):
         words.add_argument(it)
