@@ -21,13 +21,7 @@ use std::io::Write;
 /// Numbers the events of a file's lines as they come, and prints each line's on `out` once they are
 /// kept; answers the status. Why lines are refused is said on `err` as it comes, and what is wrong
 /// else once nothing more is printed.
-pub fn number<
-    S: Streams + Looks,
-    D: Databases + Numberers + Drop,
-    O: Write,
-    E: Write,
-    P: Progress,
->(
+pub fn number<S: Streams + Looks, D: Databases + Numberers + Drop, O: Write, E: Write, P: Progress>(
     alloc: Global,
     shelf: &S,
     databases: &D,

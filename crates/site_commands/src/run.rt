@@ -152,14 +152,7 @@ pub fn perform_alone<
     O: Write,
     E: Write,
     P: Progress,
->(
-    rt: &R,
-    databases: &D,
-    plan: &Alone,
-    out: &mut O,
-    err: &mut E,
-    progress: &P,
-) -> u8
+>(rt: &R, databases: &D, plan: &Alone, out: &mut O, err: &mut E, progress: &P) -> u8
     requires { IsAllowedAlone plan.now }
     ensures { RunsAlone MayBeRead MayBeUnread plan.now result
         (O.contents out.old) (O.contents out.new) (E.contents err.old) (E.contents err.new) }
@@ -292,14 +285,12 @@ fn ending_of<S: Looks, F: EventReader, D: Databases + Drop, P: Progress>(
 }
 
 /// What a run comes to over a shelf of files, before anything is written.
-fn ending_of_run<R: Threads + Wait + Sync, S: Looks, D: Databases + Numberers + Runs + Drop, P: Progress>(
-    rt: &R,
-    alloc: Global,
-    shelf: &S,
-    databases: &D,
-    plan: &Run,
-    progress: &P,
-) -> Ending
+fn ending_of_run<
+    R: Threads + Wait + Sync,
+    S: Looks,
+    D: Databases + Numberers + Runs + Drop,
+    P: Progress,
+>(rt: &R, alloc: Global, shelf: &S, databases: &D, plan: &Run, progress: &P) -> Ending
     requires { AreFew (is_some plan.now.peer) (length plan.now.files) }
     ensures { IsRunEnding (S.is_content shelf.now) (S.is_unread shelf.now) plan.now result }
 {
