@@ -1,8 +1,8 @@
 #!/usr/bin/env python3
-"""Looks at all that the prover doesn't: Python, shell, C and Rust by their linters, and the subjects of commits.
+"""Looks at texts: the layout of Rattle, Python, shell, C and Rust by their linters, and the subjects of commits.
 
     tools/lint.py [CHECK..]     all checks, or those of these names
-    tools/lint.py --fix         lays out what black, clang-format and rustfmt lay out
+    tools/lint.py --fix         lays out what rattle, black, clang-format and rustfmt lay out
     tools/lint.py --install     Debian's packages of the linters, as root
 
 The settings stand in pyproject.toml, .flake8, .clang-format and .shellcheckrc, and for Rust in rustfmt.toml and
@@ -108,6 +108,11 @@ def rustfmt(*how: str) -> Said:
     return clean(wanted("rustfmt"), *(how or ("--check",)), "--edition", "2021", *files(".rs"))
 
 
+def rattle() -> Said:
+    """The layout without which `rt ci` refuses a crate, though only when its turn comes."""
+    return clean(wanted("rattle"), "fmt", "--check", *files(".rt", ".antt"))
+
+
 def clippy() -> Said:
     """Over the bindings and their examples, which stand on nothing else."""
     wanted("cargo-clippy")
@@ -140,6 +145,7 @@ def subjects() -> Said:
 
 
 CHECKS: dict[str, Callable[[], Said]] = {
+    "rattle": rattle,
     "flake8": flake8,
     "black": black,
     "mypy": mypy,
@@ -166,7 +172,7 @@ def look(name: str) -> Optional[bool]:
 
 
 def fix() -> int:
-    each = (black("-q"), clang_format("-i"), rustfmt("-q"))
+    each = (clean(wanted("rattle"), "fmt", "--write", *files(".rt", ".antt")), black("-q"), clang_format("-i"), rustfmt("-q"))
     print(*(it for it in each if it), sep="\n", end="")
     return 1 if any(each) else 0
 
@@ -178,7 +184,8 @@ def main() -> int:
     words.add_argument("checks", nargs="*", metavar="CHECK", choices=[[], *CHECKS])
     given = words.parse_args()
     if given.install:
-        return subprocess.run(["apt-get", "install", "-y", "--no-install-recommends", *PACKAGES], check=False).returncode
+        each = (["apt-get", "update"], ["apt-get", "install", "-y", "--no-install-recommends", *PACKAGES])
+        return max(subprocess.run(it, check=False).returncode for it in each)
     os.makedirs(OUT, exist_ok=True)
     if given.fix:
         return fix()

@@ -34,6 +34,7 @@ OFFLINE = [
 def install() -> None:
     """Installs Debian's packages of the crates, as root."""
     packages = [f"librust-{it}-dev" for it in CRATES]
+    subprocess.run(["apt-get", "update"], check=True)
     subprocess.run(["apt-get", "install", "-y", "--no-install-recommends", *packages], check=True)
 
 

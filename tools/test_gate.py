@@ -57,9 +57,10 @@ echo "end try_edits" >>FOLDER/order
 exit $status
 """
 SCRIPTS = ["try_bindings.py", "try_release.py", "try_refusals.py", "try_rows.py", "try_program.sh", "try_reports.sh", "try_databases.sh", "try_run.sh"]
-SCRIPTS += ["lint.py", "try_mistakes.py", "try_numbers.py", "try_reading.py", "try_papers.py", "run_guide.py"]
+SCRIPTS += ["try_mistakes.py", "try_numbers.py", "try_reading.py", "try_papers.py", "run_guide.py"]
 SCRIPTS += ["try_streams.py", "try_terminal.py", "try_together.py", "try_service.py"]
 ALONE = SCRIPTS[-4:]
+FIRST = ["lint.py"]
 TESTS = ["test_gate.py", "test_build.py", "test_try_rows.py", "test_try_edits.py", "test_prometheus.py"]
 
 
@@ -72,7 +73,7 @@ class Tried(Copy):
         os.rename(f"{self.top}/tools/try_edits.py", f"{self.top}/tools/try_edits_itself.py")
         self.write("bad_script", "none\n")
         self.write("bin/rt", RT.replace("FOLDER", folder))
-        for it in [*SCRIPTS, *TESTS]:
+        for it in [*FIRST, *SCRIPTS, *TESTS]:
             self.write(f"top/tools/{it}", "#!/bin/sh\necho 1 passed, 0 failed\n" if it.startswith("test") else SCRIPT.replace("FOLDER", folder))
             os.chmod(f"{self.top}/tools/{it}", 0o755)
         self.write("top/tools/try_edits.py", EDITS.replace("FOLDER", folder))
@@ -92,7 +93,7 @@ def rows(folder: str) -> Iterator[tuple[bool, str]]:
     """Pairs of whether the gate did as it is to do, and what is wrong."""
     copy = Tried(f"{folder}/first")
     status, said, order = copy.gate()
-    counts = 2 + len(TESTS) + 3 + 4 * len(SCRIPTS)
+    counts = 2 + len(TESTS) + 3 + 4 * len([*FIRST, *SCRIPTS])
     yield (status, said[-1]) == (0, f"{counts} passed, 0 failed"), f"a first run: {said[-8:]}"
     told = ["proofs: 1 kept, 1 tried anew", "library: 1 kept, 0 built anew", "edits: 0 kept, 3 tried anew"]
     yield sorted(said[-4:-1]) == sorted(told), f"what a first run took: {said[-6:]}"
@@ -100,10 +101,10 @@ def rows(folder: str) -> Iterator[tuple[bool, str]]:
     behind = [order.index(f"begin {it}") > order.index("end try_edits") for it in ALONE]
     yield all(behind), f"scripts alone behind them: {order}"
     turns = [it for it in order if "try_edits" not in it]
-    yield turns == [f"{what} {it}" for it in SCRIPTS for what in ("begin", "end")], f"each script in turn: {order}"
+    yield turns == [f"{what} {it}" for it in [*FIRST, *SCRIPTS] for what in ("begin", "end")], f"each script in turn: {order}"
     with open(f"{copy.top}/out/gate/times", encoding="utf-8") as it:
         times = it.read()
-    yield all(f"tools/{it}: " in times for it in [*SCRIPTS, "try_edits.py"]), f"the times: {times}"
+    yield all(f"tools/{it}: " in times for it in [*FIRST, *SCRIPTS, "try_edits.py"]), f"the times: {times}"
     yield not os.path.exists(f"{copy.top}/crates/small/out/built"), "a library was built that `rt ci` had left"
     status, said, _ = copy.gate()
     yield (status, said[-1]) == (0, f"{counts} passed, 0 failed"), f"a second run: {said[-8:]}"
@@ -112,8 +113,14 @@ def rows(folder: str) -> Iterator[tuple[bool, str]]:
     yield "edits: 0 kept, 3 tried anew" in said, f"with --anew: {said[-6:]}"
     copy.write("bad_row", "")
     status, said, order = copy.gate()
-    yield (status, said[-1], order) == (1, "1 passed, 1 failed", []), f"a row that is answered otherwise: {said[-8:]} {order}"
+    only_first = [f"{what} {it}" for it in FIRST for what in ("begin", "end")]
+    yield (status, said[-1], order) == (1, "5 passed, 1 failed", only_first), f"a row that is answered otherwise: {said[-8:]} {order}"
     os.remove(f"{copy.folder}/bad_row")
+    copy.write("bad_script", "lint.py\n")
+    status, said, order = copy.gate()
+    yield (status, said[-1], order) == (1, "3 passed, 1 failed", only_first), f"a text that is laid out otherwise: {said[-8:]} {order}"
+    yield not any("small proved" in it for it in said), f"a proof behind a bad layout: {said}"
+    copy.write("bad_script", "none\n")
     file = kept_files(copy.folder)[0]
     os.truncate(file, 30)
     status, said, _ = copy.gate()
