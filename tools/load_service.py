@@ -1,5 +1,5 @@
 #!/usr/bin/env python3
-"""Durable events a second that jumbetaid takes over HTTP, beside PostgreSQL by as many clients on the same machine.
+"""Durable events a second that jumbetaid takes over HTTP, beside PostgreSQL and Redis by as many clients.
 
     tools/load_service.py [--program FILE] [--rounds N] [--seconds N] [--shapes LIST]
     tools/load_service.py [--program FILE] --sync N
@@ -8,13 +8,15 @@
 
 A shape is CONNECTIONSxBATCH, by default 1x1,16x1,64x1,256x1,16x100. By turns each gets events of 350 bytes for so many
 seconds, 3 rounds of 3: the service by wrk, each event answered once it is synced; PostgreSQL by pgbench, prepared, with
-synchronous_commit, into a table with the keys of a site's. Told are the middle of the rounds, with the least and the most
+synchronous_commit, into a table with the keys of a site's; Redis by redis-benchmark, a batch as commands in one write,
+into a stream with appendfsync always, which has no keys and tells no repeat. Told are the middle of the rounds, with the least and the most
 rate, and the median and the 99th percentile of the time to an answer. --sync tells how long two services take to come to
 one view, where one has N events and where each has N others; --ask how long GET /kinds takes while a service over N events
 takes 1,000 a second, how long it took to start, and its memory; --backup how long a backup of N events takes while 1,000 a
 second come, what it does to their answers, and how long it takes a site whose disk is lost to be restored from it and to
 catch up from its peer: status 1 where an event that was acknowledged isn't there then. It wants wrk and, for the comparison,
-initdb and pgbench (on Debian wrk, postgresql-15); as root PostgreSQL runs as the user postgres. No part of a gate.
+initdb and pgbench, redis-server and redis-benchmark (on Debian wrk, postgresql-15, redis-server, redis-tools); as root
+PostgreSQL runs as the user postgres. No part of a gate.
 """
 import argparse
 import contextlib
@@ -135,6 +137,49 @@ class Postgres:
         if not rate or not times:
             sys.exit(f"pgbench did nothing in its time: {said}")
         return float(rate[1]) * batch, times[len(times) // 2], times[int((len(times) - 1) * 0.99)]
+
+
+class Redis:
+    """A server of its own in a folder, over a socket there, into a stream."""
+
+    # An event of a source, with as many bytes as those of the others.
+    EVENT = (
+        '{"specversion":"1.0","id":"/load/1-__rand_int__","source":"/load/1","type":"com.example.order.placed",'
+        '"subject":"customer/000007","sequence":"00000000__rand_int__","time":"2024-02-29T10:00:00Z","attempt":1,'
+        '"datacontenttype":"application/json","data":{"lines":[{"sku":"0000ab12","count":7}],"note":"%s"}}' % ("x" * 50)
+    )
+
+    def __init__(self, folder):
+        self.folder, self.socket, self.ran = f"{folder}/redis", f"{folder}/redis/socket", None
+
+    @staticmethod
+    def is_there():
+        return all(shutil.which(it) for it in ("redis-server", "redis-benchmark", "redis-cli"))
+
+    def start(self):
+        os.mkdir(self.folder)
+        words = ["redis-server", "--port", "0", "--unixsocket", self.socket, "--dir", self.folder]
+        words += ["--appendonly", "yes", "--appendfsync", "always", "--save", ""]
+        self.ran = subprocess.Popen(words, stdout=subprocess.DEVNULL)
+        until = time.monotonic() + 10
+        while not os.path.exists(self.socket) and time.monotonic() < until:
+            time.sleep(0.05)
+
+    def stop(self):
+        self.ran.terminate()
+        self.ran.wait(30)
+
+    def asked(self, shape, count):
+        connections, batch = shape
+        words = ["redis-benchmark", "-s", self.socket, "-c", str(connections), "-P", str(batch), "-n", str(count), "--csv", "-r", "1000000"]
+        said = subprocess.run([*words, "XADD", "load", "*", "event", self.EVENT], capture_output=True, text=True, check=True, timeout=120)
+        rate, _, _, middle, _, late, _ = said.stdout.splitlines()[-1].replace('"', "").rsplit(",", 7)[1:]
+        return float(rate), float(middle), float(late)
+
+    def load(self, shape, seconds):
+        subprocess.run(["redis-cli", "-s", self.socket, "flushall"], capture_output=True, check=True)
+        count = 100 * shape[0] * shape[1]
+        return self.asked(shape, max(count, int(self.asked(shape, count)[0] * seconds)))
 
 
 def fill(site, source, count):
@@ -315,6 +360,11 @@ def main():
             postgres.start()
             end.callback(postgres.stop)
             systems["PostgreSQL"] = lambda shape: postgres.load(shape, given.seconds)
+        redis = Redis(folder)
+        if redis.is_there():
+            redis.start()
+            end.callback(redis.stop)
+            systems["Redis"] = lambda shape: redis.load(shape, given.seconds)
         for turn in range(given.rounds):
             for shape in shapes:
                 for name in list(systems)[:: 1 if turn % 2 else -1]:
