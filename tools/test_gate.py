@@ -58,8 +58,8 @@ exit $status
 """
 SCRIPTS = ["try_bindings.py", "try_release.py", "try_refusals.py", "try_rows.py", "try_program.sh", "try_reports.sh", "try_databases.sh", "try_run.sh"]
 SCRIPTS += ["try_mistakes.py", "try_numbers.py", "try_reading.py", "try_papers.py", "run_guide.py"]
-SCRIPTS += ["try_streams.py", "try_terminal.py", "try_together.py", "try_service.py"]
-ALONE = SCRIPTS[-4:]
+SCRIPTS += ["try_streams.py", "try_terminal.py", "try_together.py", "try_service.py", "try_partition.py"]
+ALONE = SCRIPTS[-5:]
 FIRST = ["lint.py"]
 TESTS = ["test_gate.py", "test_build.py", "test_try_rows.py", "test_try_edits.py", "test_prometheus.py"]
 

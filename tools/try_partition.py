@@ -1,5 +1,5 @@
 #!/usr/bin/env python3
-"""Tries regions of jumbetaid that lose one another: each in a network namespace of its own, by hand and as root.
+"""Tries regions of jumbetaid that lose one another: each in a network namespace of its own, as root.
 
     tools/try_partition.py [--program FILE] [--regions N] [--seconds N] [--seed N] [--rate N]
 
@@ -8,7 +8,8 @@ what was acknowledged, while regions are cut off, cut off one way, slowed down, 
 Behind it all regions have to come to the same summary, which has each event that was acknowledged, and none that nobody
 gave. Some sources are written by two regions, so that there are conflicts. Each second memory and descriptors of each
 region are looked at, and how they grow is told: by the events, in the last half beside the first one, and what is left of
-both at rest. It wants `ip`, `tc` and namespaces. The last line is 'N of M tries of regions that part were right'.
+both at rest. It wants `ip`, `tc`, curl and namespaces, and the built service: what isn't there is told, and nothing is
+tried. The last line is 'N of M tries of regions that part were right'.
 """
 import argparse
 import contextlib
@@ -243,6 +244,19 @@ def trouble(region, dice):
     return what
 
 
+def lacks(program):
+    """What isn't there that is wanted, or None."""
+    if os.geteuid() or not all(map(shutil.which, ("ip", "tc", "curl"))):
+        return "it wants root, ip, tc and curl"
+    if not os.path.exists(program):
+        return "the service isn't built (tools/service.py)"
+    name = f"jumbetai-{os.getpid()}"
+    if run("ip", "netns", "add", name, check=False).returncode:
+        return "no network namespace can be made"
+    run("ip", "netns", "del", name)
+    return None
+
+
 def main():
     words = argparse.ArgumentParser(description=__doc__, formatter_class=argparse.RawDescriptionHelpFormatter)
     words.add_argument("--program", default=f"{TOP}/out/service/jumbetaid")
@@ -251,6 +265,10 @@ def main():
     words.add_argument("--seed", type=int, default=1)
     words.add_argument("--rate", type=int, default=270, help="events a second in each region")
     given = words.parse_args()
+    why = lacks(given.program)
+    if why:
+        print(f"skipped: regions that part, since {why}\n0 of 0 tries of regions that part were right")
+        return 0
     dice, did, answers = random.Random(given.seed), {}, []
     with tempfile.TemporaryDirectory() as folder, contextlib.ExitStack() as end:
         net = Net(folder, os.path.abspath(given.program), given.regions)
@@ -320,6 +338,4 @@ if __name__ == "__main__":
         place, source_given, batch_given, rate_given, region_given, file_given = sys.argv[2:]
         write(place, source_given, int(batch_given), float(rate_given), region_given, file_given)
         sys.exit(0)
-    if os.geteuid() or not all(map(shutil.which, ("ip", "tc", "curl"))):
-        sys.exit("skipped: regions that part, since that wants root, ip, tc and curl")
     sys.exit(main())
