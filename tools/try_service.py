@@ -27,6 +27,7 @@ import threading
 import time
 import urllib.parse
 from concurrent.futures import ThreadPoolExecutor
+from typing import Any, Optional
 
 sys.dont_write_bytecode = True
 TOP = os.path.dirname(os.path.dirname(os.path.realpath(__file__)))
@@ -161,8 +162,9 @@ class Site:
 
 
 class Tries:
-    def __init__(self, folder, program, site=""):
-        self.folder, self.program, self.other, self.right, self.all, self.running = folder, program, site, 0, 0, []
+    def __init__(self, folder: str, program: Optional[str], site: str = "") -> None:
+        self.folder, self.program, self.other, self.right, self.all = folder, program, site, 0, 0
+        self.running: list[Any] = []
         self.what = ""
 
     def judge(self, what, is_right, why=""):
@@ -177,7 +179,7 @@ class Tries:
     def site(self, name, settings="", title=None):
         return Site(self, f"{self.what}-{name}", settings, title)
 
-    def end(self):
+    def end(self) -> None:
         for it in self.running:
             if it.poll() is None:
                 it.kill()
@@ -1198,6 +1200,15 @@ def try_numbers(tries):
         tries.judge(
             "many at once", all(it.status == 200 for it in told) and sorted(numbers.values()) == list(range(1, 202)) and len(numbers) == 201, len(numbers)
         )
+        if os.path.exists(tries.other):
+            # As behind a stop between the two files, whose event is never given again.
+            site.stop()
+            ran = subprocess.run(
+                [tries.other, "number", "--db", file], input=json.dumps(bare("late", "/here/late")).encode(), capture_output=True, timeout=8, check=False
+            )
+            site.start()
+            tries.judge("what was numbered and not taken", ran.returncode == 0 and sequences("/here/late") == {"late": 1}, (ran, sequences("/here/late")))
+            tries.judge("it is told", any(it.get("events") == 1 and "numbered" in it["message"] for it in site.log()), site.log()[-3:])
         # Killed while it numbers: what is given again has the number that it has.
         over = threading.Event()
 
@@ -1264,6 +1275,13 @@ def database(tries):
         with contextlib.suppress(subprocess.SubprocessError):
             server.stop()
         shutil.rmtree(folder)
+
+
+def try_outbox_kills(tries):
+    """An outbox in PostgreSQL, its writers and its readers, killed at random moments."""
+    import kill_outbox
+
+    kill_outbox.kill(tries, 20, 1)
 
 
 def try_postgres(tries):

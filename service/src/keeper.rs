@@ -9,7 +9,6 @@ use crate::metrics::Metrics;
 use crate::reader::{self, Answer, Ask, Figures, What};
 use crate::settings::Limits;
 use hyper::body::Bytes;
-use std::path::Path;
 use std::sync::atomic::{AtomicBool, AtomicU64, Ordering::SeqCst};
 use std::sync::{Arc, Mutex};
 use std::thread::JoinHandle;
@@ -96,9 +95,8 @@ impl Threads {
     }
 }
 
-/// Opens the site, copies it, and starts the threads. Time and memory in proportion to the events.
-pub fn open(path: &Path, mib: u32, limits: &Limits, metrics: Arc<Metrics>) -> Result<(Arc<Keeper>, Threads), Error> {
-    let mut site = Site::open_with_cache(path, mib)?;
+/// Copies the site, and starts the threads. Time and memory in proportion to the events.
+pub fn start(mut site: Site, limits: &Limits, metrics: Arc<Metrics>) -> Result<(Arc<Keeper>, Threads), Error> {
     let mut copy = site.copy()?;
     copy.keep_views()?;
     let before = site.len();
@@ -388,7 +386,8 @@ mod tests {
         }
 
         fn open(&self, limits: &Limits) -> (Arc<Keeper>, Threads) {
-            open(&self.0.join("site.db"), 0, limits, Arc::new(Metrics::new())).unwrap()
+            let site = Site::open_with_cache(self.0.join("site.db"), 0).unwrap();
+            start(site, limits, Arc::new(Metrics::new())).unwrap()
         }
     }
 

@@ -29,10 +29,11 @@ mod tls;
 mod watching;
 
 use clap::Parser;
-use library::Error;
+use library::{Error, Site};
 use routes::{Live, Service};
 use sd_notify::NotifyState;
 use settings::{Flags, Settings};
+use std::path::Path;
 use std::process::ExitCode;
 use std::sync::{Arc, RwLock};
 use std::time::{Duration, Instant};
@@ -106,20 +107,33 @@ fn log_to_stderr(settings: &Settings) -> Result<(), String> {
     Ok(())
 }
 
+type Opened = (Arc<keeper::Keeper>, keeper::Threads, Option<(number::Numberer, std::thread::JoinHandle<()>)>);
+
+/// Opens the files of the settings, and starts the threads that have them.
+fn open(settings: &Settings, metrics: Arc<metrics::Metrics>) -> Result<Opened, String> {
+    let of = |file: &Path, why: Error| format!("{}: {why}", file.display());
+    let of_db = |why| of(&settings.db, why);
+    let of_numbers = |why| of(settings.numbers.as_deref().unwrap_or(&settings.db), why);
+    let mut site = Site::open_with_cache(&settings.db, settings.cache_mib).map_err(of_db)?;
+    let events = number::settle(&mut site, settings).map_err(of_numbers)?;
+    if events > 0 {
+        tracing::warn!(events, "what was numbered and hadn't been taken is taken");
+    }
+    let (keeper, threads) = keeper::start(site, &settings.limits, metrics).map_err(of_db)?;
+    let numberer = number::Numberer::open(settings).map_err(of_numbers)?;
+    Ok((keeper, threads, numberer))
+}
+
 /// Opens the site, serves until a signal ends it, and closes the site, whatever came between.
 async fn serve(flags: &Flags, settings: Settings, live: Live) -> Result<(), String> {
     let signals = Signals::new().map_err(|it| it.to_string())?;
     let metrics = Arc::new(metrics::Metrics::new());
     let start = Instant::now();
-    let opened = {
+    let opening = {
         let (settings, metrics) = (settings.clone(), metrics.clone());
-        tokio::task::spawn_blocking(move || keeper::open(&settings.db, settings.cache_mib, &settings.limits, metrics))
+        tokio::task::spawn_blocking(move || open(&settings, metrics))
     };
-    let opened = opened.await.map_err(|it| it.to_string())?;
-    let (keeper, threads) = opened.map_err(|why| format!("{}: {why}", settings.db.display()))?;
-    let numberer = number::Numberer::open(&settings);
-    let numberer =
-        numberer.map_err(|why| format!("{}: {why}", settings.numbers.as_deref().unwrap_or(&settings.db).display()))?;
+    let (keeper, threads, numberer) = opening.await.map_err(|it| it.to_string())??;
     let (numberer, numbering) = numberer.map_or((None, None), |it| (Some(it.0), Some(it.1)));
     let (events, ms) = (keeper.count(), start.elapsed().as_millis() as u64);
     tracing::info!(db = %settings.db.display(), events, ms, "the database is open");

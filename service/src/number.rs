@@ -5,7 +5,7 @@
 
 use crate::access::matches;
 use crate::feed::raw_events;
-use crate::library::{self, Error, Numbers};
+use crate::library::{self, Error, Numbers, Site};
 use crate::settings::{Number, Settings};
 use hyper::body::Bytes;
 use serde_json::value::RawValue;
@@ -166,6 +166,20 @@ fn array_of<T: AsRef<str>>(events: &[T]) -> String {
     }
     text.push(']');
     text
+}
+
+/// Takes into the site what was numbered and isn't in it, and answers how many events that were. A stop came between the
+/// two files, or the database refused; whoever gave such an event may never give it again, and then its number would be a
+/// gap for ever. Time and memory in proportion to what was numbered; the memory is given back.
+pub fn settle(site: &mut Site, settings: &Settings) -> Result<u64, Error> {
+    let Some(path) = settings.numbers.as_deref().filter(|it| it.exists()) else {
+        return Ok(0);
+    };
+    let (mut numbered, mut fresh) = (Site::open_with_cache(path, settings.cache_mib)?, 0);
+    for page in numbered.delta(&site.cover()?) {
+        fresh += site.take(page?.json.as_bytes())?.fresh;
+    }
+    Ok(fresh)
 }
 
 /// Bytes that spell an array of events without numbers, and where their numbered text goes.
