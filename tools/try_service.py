@@ -239,6 +239,8 @@ def try_faults(tries):
         tries.judge("which are at fault", [it["index"] for it in errors] == [1, 2], told)
         first = {name: errors[0].get(name) for name in ("pointer", "fault", "attribute")}
         tries.judge("where and why", first == {"pointer": "#/1/sequence", "fault": "BadSequence", "attribute": "sequence"} and errors[0]["detail"], told)
+        told = site.give([event(8), {**event(9), "data": {"a/b": [1, 0.5]}}])
+        tries.judge("where in data", [it["pointer"] for it in told.json["errors"]] == ["#/1/data/a~1b/1"], told)
         told = site.give([{}] * 150)
         tries.judge("at most a hundred entries", told.json["faults"] == 150 and len(told.json["errors"]) == 100, told.json["faults"])
         for what, body, headers, name in (

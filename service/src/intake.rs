@@ -345,7 +345,9 @@ fn entry_of(mode: Mode, mut line: Value) -> Value {
         (Mode::Batched, Some(index)) => format!("#/{index}"),
         _ => "#".to_owned(),
     };
-    if let Some(name) = entry.get("attribute").and_then(Value::as_str) {
+    if let Some(Value::String(within)) = entry.remove("pointer") {
+        pointer.push_str(&within);
+    } else if let Some(name) = entry.get("attribute").and_then(Value::as_str) {
         pointer.push('/');
         pointer.push_str(&name.replace('~', "~0").replace('/', "~1"));
     }
@@ -367,6 +369,8 @@ mod tests {
         let want = json!({"index": 2, "fault": "F", "attribute": "a/b~c", "pointer": "#/2/a~1b~0c", "detail": "h"});
         assert_eq!(batched, want);
         assert_eq!(entry_of(Mode::Structured, line)["pointer"], "#/a~1b~0c");
+        let line = json!({"file": "-", "index": 1, "fault": "DataNumber", "attribute": "data", "pointer": "/data/a~1b/0"});
+        assert_eq!(entry_of(Mode::Batched, line)["pointer"], "#/1/data/a~1b/0");
         assert_eq!(entry_of(Mode::Batched, json!({"fault": "not JSON"}))["pointer"], "#");
     }
 }

@@ -5,9 +5,12 @@ use Rattle.std.specs.Fmt.{decimal}
 use Rattle.serde_json.specs.Data.{Data, null, boolean, number, string, array, object}
 use Rattle.serde_json.specs.Find.{get, as_str, is_float}
 use Rattle.serde_json.specs.Written.{compact_text}
+use Rattle.attributes.specs.declared.fault.Fault.{Fault}
+use Rattle.attributes.specs.declared.fault.Fault.TheVariants as fault
 use Rattle.event_json.specs.Faulty.{FaultyMember, TellsFaulty, RefusesWhole}
 use Rattle.event_json.specs.declared.fault.ReadFault.{ReadFault}
 use Rattle.fault_lines.specs.Member.{member_at_fault}
+use Rattle.fault_lines.specs.Place.{place}
 use Rattle.fault_lines.specs.Words.{fault_name, hint, whole_hint, whole_words}
 
 -- a text as a JSON string
@@ -38,6 +41,21 @@ attribute_members None tree = []
 attribute_members (Some name) tree =
     codes ",\"attribute\":" ++ (string_text name ++ value_member (get name tree))
 
+-- the member `pointer`, where a number of the data is at fault: where in the event it stands
+abbrev pub pointer_member : Option (List ℕ) → List ℕ
+pointer_member None = []
+pointer_member (Some at) = codes ",\"pointer\":" ++ string_text (codes "/data" ++ at)
+
+-- where in the data of an event the fault is, if it is of a number there
+abbrev pub place_at_fault : Fault → Data → Option (List ℕ)
+place_at_fault fault.DataNumber tree = option_and_then place (get (codes "data") tree)
+place_at_fault why tree = None
+
+-- the members that tell where in an event a fault is
+abbrev pub where_members : Fault → Data → List ℕ
+where_members why tree =
+    attribute_members (member_at_fault why tree) tree ++ pointer_member (place_at_fault why tree)
+
 -- the member `id`, where there is one
 abbrev pub id_member : Option (List ℕ) → List ℕ
 id_member None = []
@@ -52,7 +70,7 @@ abbrev pub member_line : List ℕ → FaultyMember → List ℕ
 member_line file m =
     codes "{\"file\":" ++ (file ++ (codes ",\"index\":" ++ (decimal m.index
     ++ (id_member (id_of m.tree) ++ (codes ",\"fault\":\"" ++ (fault_name m.fault ++ (codes "\""
-    ++ (attribute_members (member_at_fault m.fault m.tree) m.tree
+    ++ (where_members m.fault m.tree
     ++ (codes ",\"hint\":\"" ++ (hint m.fault ++ (codes "\"}" ++ 10 ∷ [])))))))))))
 
 -- a line for each member at fault

@@ -4,6 +4,7 @@
 mod laws;
 mod line;
 mod member;
+mod place;
 mod words;
 
 pub use laws::good_files_are_quiet;

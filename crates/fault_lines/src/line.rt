@@ -6,9 +6,10 @@ ghost use Rattle.serde_json.specs.View.{view};
 ghost use Rattle.serde_json.specs.Written.{has_float};
 ghost use Rattle.event_json.specs.Faulty.{member_of};
 ghost use Rattle.fault_lines.specs.Member.{member_at_fault};
-ghost use Rattle.fault_lines.specs.Lines.{IsFaultText, attribute_members, file_line, id_member, id_of, if_short, is_plain, member_line, member_lines, string_text, value_member};
+ghost use Rattle.fault_lines.specs.Lines.{IsFaultText, attribute_members, file_line, id_member, id_of, if_short, is_plain, member_line, member_lines, place_at_fault, pointer_member, string_text, value_member, where_members};
 
 use crate::member::member_at_fault;
+use crate::place::place;
 use crate::words::{fault_name, hint, whole_hint, whole_words};
 use attributes::{Fault, Text};
 use event_json::{Faulty, ReadFault, read_faulty};
@@ -76,7 +77,7 @@ fn member_line(alloc: Global, file: &str, member: &Faulty) -> Result<String, All
     let index = member.index;
     let id = id_member(alloc, id_of(&member.tree))?;
     let name = fault_name(member.fault);
-    let at = attribute_members(alloc, member.fault, &member.tree)?;
+    let at = where_members(alloc, member.fault, &member.tree)?;
     let hint = hint(member.fault);
     let line = format!(in alloc;
         "{{\"file\":{file},\"index\":{index}{id},\"fault\":\"{name}\"{at},\"hint\":\"{hint}\"}}\n"
@@ -107,6 +108,16 @@ fn id_member(alloc: Global, id: Option<&str>) -> Result<String, AllocError>
     }
 }
 
+/// The members that tell where in an event a fault is.
+fn where_members(alloc: Global, fault: Fault, tree: &Value) -> Result<String, AllocError>
+    ensures { IfOk result (λ text. string_bytes text ≡ where_members fault (view tree.now)) }
+{
+    let mut text = attribute_members(alloc, fault, tree)?;
+    let pointer = pointer_member(alloc, fault, tree)?;
+    text.push_str(pointer.as_str())?;
+    Ok(text)
+}
+
 /// The members `attribute` and `value` of a fault of one member.
 fn attribute_members(alloc: Global, fault: Fault, tree: &Value) -> Result<String, AllocError>
     ensures { IfOk result (λ text. string_bytes text
@@ -120,6 +131,32 @@ fn attribute_members(alloc: Global, fault: Fault, tree: &Value) -> Result<String
             Ok(members)
         }
         None => Ok(String::new(alloc)),
+    }
+}
+
+/// The member `pointer`, where a number of the data is at fault; else nothing.
+fn pointer_member(alloc: Global, fault: Fault, tree: &Value) -> Result<String, AllocError>
+    ensures { IfOk result (λ text. string_bytes text
+        ≡ pointer_member (place_at_fault fault (view tree.now))) }
+{
+    match place_at_fault(alloc, fault, tree)? {
+        Some(at) => {
+            let path = format!(in alloc; "/data{at}")?;
+            let path = string_text(alloc, path.as_str())?;
+            format!(in alloc; ",\"pointer\":{path}")
+        }
+        None => Ok(String::new(alloc)),
+    }
+}
+
+/// Where in the data of an event the fault is, if it is of a number there.
+fn place_at_fault(alloc: Global, fault: Fault, tree: &Value) -> Result<Option<String>, AllocError>
+    ensures { IfOk result (λ found. option_map string_bytes found
+        ≡ place_at_fault fault (view tree.now)) }
+{
+    match (fault, tree.get("data")) {
+        (Fault::DataNumber, Some(data)) => place(alloc, data),
+        _ => Ok(None),
     }
 }
 
