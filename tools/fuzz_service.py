@@ -16,6 +16,7 @@ import socket
 import sys
 import tempfile
 import time
+from typing import Any, Union
 
 sys.dont_write_bytecode = True
 TOP = os.path.dirname(os.path.dirname(os.path.realpath(__file__)))
@@ -28,7 +29,7 @@ KINDS = ("application/json", "text/plain", "image/png", 'a/b; charset="', "appli
 PATHS = ("/events", "/delta", "/arrivals", "/kinds", "/summary", "/check", "/", "/status", "/metrics", "/backup")
 
 
-def mutated(dice, text):
+def mutated(dice: random.Random, text: bytes) -> bytes:
     """A text with some bytes other, more or fewer."""
     out = bytearray(text)
     for _ in range(dice.randrange(1, 6)):
@@ -46,11 +47,11 @@ def mutated(dice, text):
     return bytes(out)
 
 
-def header_text(dice):
+def header_text(dice: random.Random) -> str:
     return bytes(dice.choice([*range(32, 127), *range(128, 256)]) for _ in range(dice.randrange(40))).decode("latin1")
 
 
-def one(site, dice):
+def one(site: Any, dice: random.Random) -> Any:
     """A request, and the status that it is answered with."""
     kind = dice.randrange(6)
     if kind == 0:
@@ -80,15 +81,15 @@ def one(site, dice):
     return int(said.split()[1]) if said.startswith(b"HTTP/1.1 ") else "closed"
 
 
-def main():
+def main() -> int:
     words = argparse.ArgumentParser(description=__doc__, formatter_class=argparse.RawDescriptionHelpFormatter)
     words.add_argument("--program", default=f"{TOP}/out/service/jumbetaid")
     words.add_argument("--seconds", type=int, default=20)
     words.add_argument("--seed", type=int, default=1)
     given = words.parse_args()
-    dice, counts = random.Random(given.seed), {}
+    dice, counts = random.Random(given.seed), dict[Union[int, str], int]()
     with tempfile.TemporaryDirectory() as folder, contextlib.ExitStack() as end:
-        tries = Tries(folder, os.path.abspath(given.program))
+        tries: Any = Tries(folder, os.path.abspath(given.program))
         end.callback(tries.end)
         site = tries.site("fuzz").start()
         until = time.monotonic() + given.seconds

@@ -18,6 +18,7 @@ import shutil
 import subprocess
 import sys
 import tempfile
+from typing import Any, Optional
 
 sys.dont_write_bytecode = True
 TOP = os.path.dirname(os.path.dirname(os.path.realpath(__file__)))
@@ -80,21 +81,21 @@ PACKAGED = (
 
 
 class Tries:
-    def __init__(self):
+    def __init__(self) -> None:
         self.right = self.all = 0
 
-    def judge(self, what, is_right, why=""):
+    def judge(self, what: str, is_right: object, why: object = "") -> bool:
         self.right, self.all = self.right + bool(is_right), self.all + 1
         if not is_right:
             print(f"wrong: {what}: {str(why)[-1000:]}", flush=True)
         return bool(is_right)
 
-    def passes(self, what, words, **how):
+    def passes(self, what: str, words: list[str], **how: Any) -> bool:
         ran = subprocess.run(words, stdin=subprocess.DEVNULL, stdout=subprocess.PIPE, stderr=subprocess.STDOUT, **how)
         return self.judge(what, ran.returncode == 0, ran.stdout.decode(errors="replace"))
 
 
-def empty_root(folder, program):
+def empty_root(folder: str, program: str) -> Optional[list[str]]:
     """Puts the program into a root folder with what it is linked with and nothing else; the words that run it there, or
     none where the machine lets no root folder be changed."""
     said = subprocess.run(["ldd", program], capture_output=True, text=True).stdout
@@ -109,20 +110,20 @@ def empty_root(folder, program):
     return None
 
 
-def try_guide(tries, program, folder):
+def try_guide(tries: Tries, program: str, folder: str) -> None:
     """The first part of the guide, whose commands are the program's alone."""
     words = empty_root(f"{folder}/root", program)
     if words is None:
         print("skipped: a root folder with nothing else, since the machine lets none be made: run beside what is here", flush=True)
         os.makedirs(f"{folder}/beside")
     for command, want in steps("docs/GUIDE.md", PART)[0]:
+        assert command is not None
         given = shlex.split(command)
         run = [*words, "/bin/site", *given[1:]] if words else [program, *given[1:]]
-        how = {} if words else {"cwd": f"{folder}/beside"}
+        how: dict[str, Any] = {"env": {"PATH": "/usr/sbin:/usr/bin:/sbin:/bin"}} if words else {"env": {}, "cwd": f"{folder}/beside"}
         # Without an environment: by its whole path, since there is none to look it up in.
         ran = subprocess.run(
-            [shutil.which(run[0]), *run[1:]],
-            env={"PATH": "/usr/sbin:/usr/bin:/sbin:/bin"} if words else {},
+            [shutil.which(run[0]) or run[0], *run[1:]],
             stdin=subprocess.DEVNULL,
             stdout=subprocess.PIPE,
             stderr=subprocess.STDOUT,
@@ -132,7 +133,7 @@ def try_guide(tries, program, folder):
         tries.judge(command, ran.stdout == want, f"{ran.stdout!r}, not {want!r}")
 
 
-def try_pages(tries, unpacked):
+def try_pages(tries: Tries, unpacked: str) -> None:
     """Each link of a page leads to what is in the archive, and none speaks of what is in the repository alone."""
     for at, _, files in os.walk(unpacked):
         for it in sorted(files):
@@ -145,7 +146,7 @@ def try_pages(tries, unpacked):
             tries.judge(f"words of {it}", not STRAY.search(text), STRAY.findall(text))
 
 
-def try_python(tries, unpacked, folder):
+def try_python(tries: Tries, unpacked: str, folder: str) -> None:
     """The wheel of the archive, in a fresh environment and without a network."""
     wheels = glob.glob(f"{unpacked}/library/jumbetai-{version()}-py3-none-*.whl")
     if not tries.judge("one wheel", len(wheels) == 1, wheels):
@@ -159,7 +160,7 @@ def try_python(tries, unpacked, folder):
         tries.passes("the wheel", [f"{folder}/fresh/bin/python", "-I", "-c", "import jumbetai; jumbetai.Site()"], cwd=folder, env=alone)
 
 
-def built(given, where, tries):
+def built(given: argparse.Namespace, where: str) -> list[str]:
     """The words of tools/release.sh for a service; none where no package can be made."""
     if not shutil.which("dpkg-deb") or not (given.service or service.has_crates() and shutil.which("cargo")):
         print("skipped: the Debian package, since dpkg-deb or the crates of the service aren't there", flush=True)
@@ -170,7 +171,7 @@ def built(given, where, tries):
     return ["--service", given.service]
 
 
-def try_package(tries, folder, given):
+def try_package(tries: Tries, folder: str, given: argparse.Namespace) -> None:
     """The two packages, and what one has. tools/try_package.py installs it, by hand."""
     files = sorted(glob.glob(f"{folder}/*/jumbetai_{version()}-1_amd64.deb"))
     made = [open(it, "rb").read() for it in files]
@@ -185,8 +186,8 @@ def try_package(tries, folder, given):
         tries.judge(f"its {it} runs", said[0] == said[1] != b"", said)
     with open(f"{folder}/package/usr/bin/site", "rb") as one, open(given.program, "rb") as other:
         tries.judge("its program is the one that was seen", one.read() == other.read())
-    with open(f"{folder}/package/usr/bin/jumbetaid", "rb") as file:
-        paths = re.findall(rb"/(?:work|home|root)/[\w./-]+", file.read())
+    with open(f"{folder}/package/usr/bin/jumbetaid", "rb") as service_file:
+        paths = re.findall(rb"/(?:work|home|root)/[\w./-]+", service_file.read())
     tries.judge("its service has no path of this machine", not paths, paths[:3])
     alone = {
         "PATH": "/usr/bin:/bin",
@@ -201,19 +202,20 @@ def try_package(tries, folder, given):
     if shutil.which("man"):
         for page in ("man1/site.1.gz", "man8/jumbetaid.8.gz"):
             words = ["man", "--warnings", "-E", "UTF-8", "-l", "-Tutf8", "-Z", f"{folder}/package/usr/share/man/{page}"]
-            said = subprocess.run(words, capture_output=True, text=True, env={"PATH": "/usr/bin:/bin", "LC_ALL": "C.UTF-8"})
-            tries.judge(page, said.returncode == 0 and not said.stderr and len(said.stdout) > 2000, said.stderr)
+            ran = subprocess.run(words, capture_output=True, text=True, env={"PATH": "/usr/bin:/bin", "LC_ALL": "C.UTF-8"})
+            tries.judge(page, ran.returncode == 0 and not ran.stderr and len(ran.stdout) > 2000, ran.stderr)
     else:
         print("skipped: the manual pages, since man isn't there", flush=True)
 
 
-def main():
+def main() -> int:
     words = argparse.ArgumentParser(description=__doc__, formatter_class=argparse.RawDescriptionHelpFormatter)
     words.add_argument("--program", default=f"{TOP}/crates/site_cli/out/site_cli")
     words.add_argument("--library")
     words.add_argument("--service")
     given = words.parse_args()
-    if not library.compiler():
+    compiler = library.compiler()
+    if not compiler:
         print("skipped: all, since no C compiler is here\n0 of 0 tries of the archive were right")
         return 0
     tries = Tries()
@@ -222,7 +224,7 @@ def main():
         if not given.library:
             library.make(where, library.proved_part())
         name = f"jumbetai-{version()}-x86_64-linux"
-        more = built(given, where, tries)
+        more = built(given, where)
         for it in ("first", "second"):
             tries.passes(
                 f"the {it} archive",
@@ -248,12 +250,12 @@ def main():
             env={"PATH": "/usr/bin:/bin"},
         )
         try_guide(tries, f"{unpacked}/bin/site", folder)
-        words = [library.compiler(), "examples/c/ask.c", "-Ilibrary", "-Llibrary", "-ljumbetai", "-o", "ask"]
-        if tries.passes("the example in C", words, cwd=unpacked):
+        compiling = [compiler, "examples/c/ask.c", "-Ilibrary", "-Llibrary", "-ljumbetai", "-o", "ask"]
+        if tries.passes("the example in C", compiling, cwd=unpacked):
             said = [subprocess.run([it, "kinds", "examples/batch.json"], cwd=unpacked, capture_output=True).stdout for it in ("./ask", "bin/site")]
             tries.judge("the example in C answers as the program", said[0] == said[1] != b"", said)
-        words = [library.compiler(), "examples/c/orders.c", "-Ilibrary", "-Llibrary", "-ljumbetai", "-o", "orders"]
-        if tries.passes("the example in C of orders", words, cwd=unpacked):
+        compiling = [compiler, "examples/c/orders.c", "-Ilibrary", "-Llibrary", "-ljumbetai", "-o", "orders"]
+        if tries.passes("the example in C of orders", compiling, cwd=unpacked):
             time = "2024-02-29T10:00:00Z"
             orders = (["./orders", "place", "7", time, "ours.db"], ["bin/site", "order", "--db", "theirs.db", "--at", time, "place", "7"])
             said = [subprocess.run(it, cwd=unpacked, capture_output=True).stdout for it in orders]

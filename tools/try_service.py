@@ -43,7 +43,7 @@ QUESTIONS = ("cover", "gaps", "shown", "latest", "kinds", "days", "conflicts")
 HEAD = b"POST /events HTTP/1.1\r\nHost: localhost\r\nContent-Type: application/cloudevents+json\r\n"
 
 
-def event(number, source="/a", **more):
+def event(number: int, source: str = "/a", **more: Any) -> dict[str, Any]:
     return {"specversion": "1.0", "id": str(number), "source": source, "type": "t", "sequence": f"{number:020d}", **more}
 
 

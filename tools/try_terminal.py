@@ -18,7 +18,7 @@ HERE = os.path.dirname(os.path.dirname(os.path.realpath(__file__)))
 AWAY = b"\r\x1b[K"
 
 
-def event(source, number):
+def event(source: str, number: int) -> dict[str, str]:
     """An event of the source and the number."""
     return {
         "id": f"{source}-{number}",
@@ -29,7 +29,7 @@ def event(source, number):
     }
 
 
-def all_of(ours):
+def all_of(ours: int) -> bytes:
     """What a terminal is given until its other end is closed."""
     seen = b""
     while True:
@@ -44,11 +44,11 @@ def all_of(ours):
     return seen
 
 
-def ran(program, words, on_terminal):
+def ran(program: str, words: list[str], on_terminal: bool) -> tuple[int, bytes, bytes]:
     """The status, standard output, and what standard error was given."""
     if not on_terminal:
-        run = subprocess.run([program, *words], stdin=subprocess.DEVNULL, capture_output=True, timeout=60)
-        return run.returncode, run.stdout, run.stderr
+        done = subprocess.run([program, *words], stdin=subprocess.DEVNULL, capture_output=True, timeout=60)
+        return done.returncode, done.stdout, done.stderr
     ours, theirs = pty.openpty()
     with tempfile.TemporaryFile() as out:
         run = subprocess.Popen([program, *words], stdin=subprocess.DEVNULL, stdout=out, stderr=theirs)
@@ -59,7 +59,7 @@ def ran(program, words, on_terminal):
         return status, out.read(), seen
 
 
-def ran_on_one_terminal(program, words):
+def ran_on_one_terminal(program: str, words: list[str]) -> tuple[int, bytes]:
     """The status, and what the terminal was given where both streams go there."""
     ours, theirs = pty.openpty()
     run = subprocess.Popen([program, *words], stdin=subprocess.DEVNULL, stdout=theirs, stderr=theirs)
@@ -68,7 +68,7 @@ def ran_on_one_terminal(program, words):
     return run.wait(timeout=60), seen
 
 
-def before(now, old):
+def before(now: str, old: str) -> None:
     """Makes a file of before, whose inbox has no blocks, of the inbox of a file of now."""
     with contextlib.closing(sqlite3.connect(old)) as base:
         base.execute("ATTACH ? AS now", (now,))
@@ -80,7 +80,7 @@ def before(now, old):
         base.commit()
 
 
-def main():
+def main() -> None:
     program = sys.argv[1] if len(sys.argv) > 1 else os.path.join(HERE, "crates/site_cli/out/site_cli")
     program = os.path.realpath(program)
     try:
@@ -91,7 +91,7 @@ def main():
         return
     right, tried = 0, 0
 
-    def is_so(what, holds, seen):
+    def is_so(what: str, holds: object, seen: object) -> None:
         nonlocal right, tried
         tried += 1
         right += bool(holds)
