@@ -171,8 +171,10 @@ class Net:
 def held(region):
     """How many KiB of memory and how many descriptors a region has; `ip netns exec` became the service."""
     with open(f"/proc/{region.ran.pid}/status", encoding="ascii") as status:
-        resident = int(re.search(r"VmRSS:\s+(\d+)", status.read())[1])
-    return resident, len(os.listdir(f"/proc/{region.ran.pid}/fd"))
+        found = re.search(r"VmRSS:\s+(\d+)", status.read())
+    if not found:
+        raise ProcessLookupError
+    return int(found[1]), len(os.listdir(f"/proc/{region.ran.pid}/fd"))
 
 
 def slope(rows):
