@@ -39,10 +39,10 @@ COMMIT;
 ROLLBACK;
 \\endif
 """
-# The lines of contrib/postgresql/README.md for who has the program alone; psql's and site's processes are killed by their names.
+# The lines of contrib/postgresql/README.md for who has the program alone. Where bash is killed the others go on: they are waited for.
 FOLLOW = """set -o pipefail
 {psql} -qAtc 'SELECT jumbetai.number(100000)' postgres >/dev/null &&
-    {psql} -qAtc 'SELECT event FROM jumbetai.outbox ORDER BY source, number' postgres | {site} follow --db {db} >/dev/null
+    {psql} -qAtc 'SELECT event FROM jumbetai.outbox ORDER BY source, number' postgres | {site} follow --wait 60 --db {db} >/dev/null
 """
 TROUBLE = ("service", "service", "service ends", "database", "database", "both", "writers", "none")
 
@@ -133,7 +133,7 @@ class Outbox:
         self.tries.judge("no conflict", self.site.get("/conflicts").body == b"")
         if os.path.exists(self.tries.other):
             self.tries.judge("the other site is fed", self.follow(is_killed=False) == 0)
-            ran = subprocess.run([self.tries.other, "summary", "--db", self.other], capture_output=True, check=False, timeout=60)
+            ran = subprocess.run([self.tries.other, "summary", "--wait", "60", "--db", self.other], capture_output=True, check=False, timeout=60)
             self.tries.judge("both sites hold the same", ran.stdout.strip() == self.site.get("/summary").body.strip(), ran.stderr)
         print(f"{sum(map(len, want.values()))} events of {len(want)} sources were committed; {self.did}", flush=True)
 
