@@ -1,3 +1,4 @@
 mod KeepLemmas
 mod StandLemmas
+mod ForeignLemmas
 pub mod EachLemmas

@@ -66,6 +66,11 @@ pub record MayNumber (base : ℕ) (L : List EventValue) (was : Option Counts) (o
       → Answers base events L answers
   pub takes : MayTake answers old trees
 
+-- no numberer with this base leaves these rows
+abbrev pub NoneLeaves : ℕ → List EventValue → Type 0
+NoneLeaves base rows = (events : List EventValue) → AreBare events → IsEachOnce events
+    → HaveNumbers (number (from base) events) events rows → ⊥
+
 -- an opening is refused for this fault: as that of the table is; or the table was opened, and isn't
 -- a numberer's, or memory ran out while it was counted. Then it has the rows that it had
 abbrev pub RejectsNumbers : State → State → NumbererFault → Type 0

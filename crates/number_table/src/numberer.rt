@@ -6,10 +6,12 @@ ghost use Rattle.sqlite.specs.Held.{state};
 ghost use Rattle.sqlite.specs.State.{HasCleanDisk, Survives};
 ghost use Rattle.attributes.specs.Event.{EventValue};
 ghost use Rattle.inbox_table.specs.Opening.{MayOpen, Opens};
+ghost use Rattle.inbox_table.specs.Rows.{IsAnyInbox};
 ghost use Rattle.numbers.specs.Numbered.{AreBare};
 ghost use Rattle.numbers.specs.Refusal.{refusal_from};
 ghost use Rattle.numbers.specs.declared.fault.NumberFault.{NumberFault};
 ghost use Rattle.number_table.specs.Fault.{of_numbers, of_table};
+ghost use Rattle.number_table.specs.declared.fault.NumbererFault.TheVariants.{Foreign};
 
 use crate::fault::NumbererFault;
 use crate::lists::number_lists;
@@ -39,14 +41,16 @@ pub struct NotOpened<S: Alter> {
 }
 
 impl<S: Alter + Drop> Numberer<S> {
-    ghost use Rattle.number_table.specs.Calls.{LeavesNumbers, MayNumber, NumberEffect, RejectsNumbers, Stands};
+    ghost use Rattle.number_table.specs.Calls.{LeavesNumbers, MayNumber, NoneLeaves, NumberEffect, RejectsNumbers, Stands};
     ghost use Rattle.number_table.specs.Each.{AreNumberedEach, MayNumberEach, NumberEachEffect};
 
     /// Opens the numberer of a database, with the base that it was made with, or makes one where
-    /// there is no table. Each row is read. Time and memory in proportion to the rows.
+    /// there is no table. Each row is read. Time and memory in proportion to the rows: all of them
+    /// at first, and a text and its number of each once it is counted.
     ///
     /// Refused as [`Table::open_and_load`] is; `Foreign` too where a row isn't that of an event with
-    /// its source's next number, or a text has two. The connection comes back.
+    /// its source's next number, or a text has two: never of a table that a numberer with this base
+    /// leaves. The connection comes back.
     pub fn open(alloc: Global, conn: Connection<S>, base: u64) -> Result<Numberer<S>, NotOpened<S>>
         ensures opens { IfOk result (λ n. HasCleanDisk (state S.Store n.table.conn)
             → (events rows : List EventValue)
@@ -55,6 +59,9 @@ impl<S: Alter + Drop> Numberer<S> {
         ensures base { IfOk result (λ n. n.base ≡ base) }
         ensures rejects { IfErr result (λ n.
             RejectsNumbers (state S.Store conn) (state S.Store n.conn) n.fault) }
+        ensures foreign { IfErr result (λ n. n.fault ≡ Foreign → HasCleanDisk (state S.Store n.conn)
+            → (rows : List EventValue) → IsAnyInbox (state S.Store conn).now rows
+            → NoneLeaves base rows) }
         ensures crash { IfOk result (λ n. Survives (state S.Store conn)
             (state S.Store n.table.conn) (MayOpen (state S.Store conn).now)) }
         ensures crash_refused { IfErr result (λ n. Survives (state S.Store conn)
@@ -65,7 +72,7 @@ impl<S: Alter + Drop> Numberer<S> {
             Err(refused) => return Err(not_made(refused)),
         };
         let Loaded { table, events } = loaded;
-        match count_all(alloc, base, &events) {
+        match count_all(alloc, base, events) {
             Ok(Some(counted)) => Ok(Numberer {
                 table,
                 counted: Some(counted),

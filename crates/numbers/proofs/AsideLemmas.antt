@@ -44,7 +44,7 @@ float_at Less l d ms rest h g = both_false (has_float d) (members_have_float res
 float_at Equal l d ms rest h g = right_false (has_float d) (members_have_float ms) h
 float_at Greater l d ms rest h g = both_false (has_float d) (members_have_float rest) (left_false (has_float d) (members_have_float ms) h) g
 
-float_without : (k : List ℕ) (ms : Members) → members_have_float ms ≡ false → members_have_float (without k ms) ≡ false
+pub float_without : (k : List ℕ) (ms : Members) → members_have_float ms ≡ false → members_have_float (without k ms) ≡ false
 float_without k no_members h = refl
 float_without k (member l d ms) h = float_at (slice_cmp nat_cmp k l) l d ms (without k ms) h (float_without k ms (right_false (has_float d) (members_have_float ms) h))
 

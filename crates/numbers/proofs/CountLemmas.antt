@@ -1,12 +1,11 @@
 -- Counts of a list that grows.
-use Rattle.std.proofs.Common.{◌≡◌, ℕ, suc, ◌+◌, ◌≤◌, ◌<◌, List, [], ◌∷◌, ◌++◌, length, take, slice_get, Bool, true, false, cond, ◌||◌, bytes_eq, if◌then◌else◌, Option, Some, None, unwrap_or, refl, sym, ap, ap₂, subst, ◌∙◌, arith, true≢false, is_eq}
+use Rattle.std.proofs.Common.{◌≡◌, ℕ, suc, ◌+◌, ◌<◌, List, [], ◌∷◌, ◌++◌, length, take, slice_get, Bool, true, false, cond, ◌||◌, bytes_eq, if◌then◌else◌, Some, None, unwrap_or, refl, sym, ap, ap₂, subst, ◌∙◌, arith, true≢false, is_eq}
 use Rattle.std.specs.declared.cmp.Ordering.{Ordering}
 use Rattle.std.specs.declared.cmp.Ordering.TheVariants.{Less, Equal, Greater}
 use Rattle.std.specs.Ordering.{ordering_then}
 use Rattle.std.specs.List.{AllByRecursion}
 use Rattle.std.proofs.lemmas.Map.Lookups.{exact_bytes}
 use Rattle.std.proofs.lemmas.Map.Text.{is_eq-slice_cmp}
-use Rattle.attributes.specs.Bytes.{byte_cmp}
 use Rattle.attributes.specs.Event.{EventValue, source_of, text}
 use Rattle.attributes.specs.Fault.{IsEvent}
 use Rattle.attributes.specs.Members.{value_at, with_value}
@@ -22,7 +21,7 @@ use Rattle.numbers.specs.Numbered.{AreBare, HasNumber, HaveNumbers, IsBare}
 use Rattle.numbers.specs.Numberer.{IsEachOnce, is_of_source, number, of_source, taken, up_to}
 use Rattle.numbers.proofs.BatchLemmas.{all_more}
 use Rattle.numbers.proofs.ListLemmas.{all_map, all_there, has-append, itself, stays_once}
-use Rattle.numbers.proofs.NumberLemmas.{number_stays, source_is}
+use Rattle.numbers.proofs.NumberLemmas.{number_stays}
 use Rattle.numbers.proofs.NumberedLemmas.{at_name, elsewhere}
 
 bytes_same : (a b : List ℕ) → bytes_eq a b ≡ true → a ≡ b
@@ -225,27 +224,38 @@ bare_more : (A : List EventValue) (e : EventValue) → AreBare A → IsBare e �
 bare_more [] e a is = (is, tt)
 bare_more (x ∷ A) e a is = (a.0, bare_more A e a.1 is)
 
-pub row_step : (base : List ℕ → ℕ) (rows : List EventValue) (i n : ℕ) (e x : EventValue) (c k : Counts) → slice_get rows i ≡ Some x → IsCounted base (take i rows) c → IsEvent x → IsBare e → HasNumber n e x
+row_step : (base : List ℕ → ℕ) (rows : List EventValue) (n : ℕ) (e x : EventValue) (c k : Counts) → IsCounted base rows c → IsEvent x → IsBare e → HasNumber n e x
     → ((b : List ℕ → ℕ) (A : List EventValue) → IsCount b A c → (taken A (e ∷ []) ≡ A ++ e ∷ []) × (n ≡ number b (taken A (e ∷ [])) e) × IsCount b (taken A (e ∷ [])) k)
-    → IsCounted base (take (i + 1) rows) k
-row_step base rows i n e x c k at was event is one step =
+    → IsCounted base (rows ++ x ∷ []) k
+row_step base rows n e x c k was event is one step =
     let A = was.events in
     let T = taken A (e ∷ []) in
     let it = step base A was.counts in
     let grown : T ≡ A ++ e ∷ [] = it.0 in
     let stays : AllByRecursion (λ a. number base A a ≡ number base T a) A = all_map (λ a. has key_cmp A a ≡ true) (λ a. number base A a ≡ number base T a) (λ a h. sym (number_stays base A (e ∷ []) a h)) A each_in in
-    let had = have_more (number base T) A (take i rows) e x (have_same (number base A) (number base T) A (take i rows) stays was.numbers) (subst (λ m. HasNumber m e x) it.1 one) in
+    let had = have_more (number base T) A rows e x (have_same (number base A) (number base T) A rows stays was.numbers) (subst (λ m. HasNumber m e x) it.1 one) in
     record {
       events = T;
       bare = subst AreBare (sym grown) (bare_more A e was.bare is);
       once = stays_once key_cmp_total A (e ∷ []) was.once;
-      numbers = subst (λ Q. HaveNumbers (number base T) Q (take (i + 1) rows)) (sym grown) (subst (HaveNumbers (number base T) (A ++ e ∷ [])) (sym (take_next rows i x at)) had);
-      whole = subst (AllByRecursion IsEvent) (sym (take_next rows i x at)) (all_more (take i rows) x was.whole event);
+      numbers = subst (λ Q. HaveNumbers (number base T) Q (rows ++ x ∷ [])) (sym grown) had;
+      whole = all_more rows x was.whole event;
       counts = it.2;
     }
   where
     each_in : AllByRecursion (λ a. has key_cmp was.events a ≡ true) was.events
     each_in = subst (λ B. AllByRecursion (λ a. has key_cmp B a ≡ true) was.events) was.once (all_there key_cmp_total [] was.events)
+
+-- the row that is taken from the front stands behind those before
+pub next_row : (base : List ℕ → ℕ) (done rest rows all : List EventValue) (n : ℕ) (e x : EventValue) (c k : Counts) → rows ≡ x ∷ rest → done ++ rows ≡ all → IsCounted base done c → IsEvent x → IsBare e → HasNumber n e x
+    → ((b : List ℕ → ℕ) (A : List EventValue) → IsCount b A c → (taken A (e ∷ []) ≡ A ++ e ∷ []) × (n ≡ number b (taken A (e ∷ [])) e) × IsCount b (taken A (e ∷ [])) k)
+    → (so_far : List EventValue) × (so_far ++ rest ≡ all) × IsCounted base so_far k
+next_row base done rest rows all n e x c k is h was event bare one step =
+    (done ++ x ∷ [], shift done ∙ ap (λ l. done ++ l) (sym is) ∙ h, row_step base done n e x c k was event bare one step)
+  where
+    shift : (d : List EventValue) → (d ++ x ∷ []) ++ rest ≡ d ++ x ∷ rest
+    shift [] = refl
+    shift (y ∷ d) = ap (λ l. y ∷ l) (shift d)
 
 -- further events leave the numbers that were given
 pub rows_stay : (base : List ℕ → ℕ) (A L D : List EventValue) → IsEachOnce A → HaveNumbers (number base A) A D → HaveNumbers (number base (taken A L)) A D

@@ -9,3 +9,5 @@ pub mod BatchLemmas
 pub mod TextLemmas
 pub mod CountLemmas
 mod AsideLemmas
+mod BareLemmas
+mod UncountedLemmas

@@ -41,7 +41,7 @@ is_source s e h = ap (λ t. bytes_eq t s) h ∙ sym (is_eq-slice_cmp s s) ∙ ap
 
 -- ---- what grows behind an event leaves its number
 
-up_to_stays : (A B : List EventValue) (e : EventValue) → has key_cmp A e ≡ true → up_to e (A ++ B) ≡ up_to e A
+pub up_to_stays : (A B : List EventValue) (e : EventValue) → has key_cmp A e ≡ true → up_to e (A ++ B) ≡ up_to e A
 up_to_stays [] B e h = absurd (true≢false (sym h))
 up_to_stays (x ∷ xs) B e h = by (is_eq (key_cmp e x)) h (up_to_stays xs B e)
   where

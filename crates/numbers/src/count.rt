@@ -1,8 +1,10 @@
 //! Events with numbers, counted from the first on.
 
-ghost use Rattle.std.specs.Prelude.{◌≡◌, ◌++◌, [], ◌∷◌, ℕ, List, IfOk, IfSome, IsTrue, Some};
+ghost use Rattle.std.specs.Prelude.{◌≡◌, ◌≢◌, ◌⊎◌, ◌++◌, [], ◌∷◌, ℕ, List, true, IfNone, IfOk, IfSome, IsFalse, IsTrue, Some};
 ghost use Rattle.attributes.specs.Event.{EventValue};
 ghost use Rattle.attributes.specs.Fault.{IsEvent};
+ghost use Rattle.inbox.specs.KeyOrder.{key_cmp};
+ghost use Rattle.inbox.specs.Ordered.{has};
 ghost use Rattle.numbers.specs.Counts.{IsCount, IsCounted};
 ghost use Rattle.numbers.specs.Numbered.{AreBare, HasNumber, HaveNumbers, IsBare};
 ghost use Rattle.numbers.specs.Numberer.{IsEachOnce, number, taken};
@@ -14,18 +16,23 @@ use std::alloc::{AllocError, Global};
 
 /// Counts the event, where its text has no number yet and this is its source's next one.
 fn count(counted: &mut Counted, event: &Event, own: Sequence) -> Result<bool, AllocError>
-    ensures { IfOk result (λ is_next. IsTrue is_next → (base : List ℕ → ℕ) (A : List EventValue)
-        → IsCount base A counted.old → (taken A (event.now ∷ []) ≡ A ++ event.now ∷ [])
+    ensures next { IfOk result (λ is_next. IsTrue is_next → (base : List ℕ → ℕ)
+        (A : List EventValue) → IsCount base A counted.old
+        → (taken A (event.now ∷ []) ≡ A ++ event.now ∷ [])
         × (own ≡ number base (taken A (event.now ∷ [])) event.now)
         × IsCount base (taken A (event.now ∷ [])) counted.new) }
+    ensures refused { IfOk result (λ is_next. IsFalse is_next → (base : List ℕ → ℕ)
+        (A : List EventValue) → IsCount base A counted.old → (has key_cmp A event.now ≡ true)
+        ⊎ (own ≢ number base (taken A (event.now ∷ [])) event.now)) }
 {
+    let own = own.number();
     if let Some(_number) = counted.number_of(event.text()) {
         return Ok(false);
     }
     let Some(next) = counted.next_of(event.source()) else {
         return Ok(false);
     };
-    if own.number() != next.number() {
+    if own != next.number() {
         return Ok(false);
     }
     counted.add(event.text(), event.source(), next)?;
@@ -39,6 +46,10 @@ fn count_row(alloc: Global, counted: &mut Counted, row: &Sequenced) -> Result<bo
         × HasNumber n e row.now × ((base : List ℕ → ℕ) (A : List EventValue)
         → IsCount base A counted.old → (taken A (e ∷ []) ≡ A ++ e ∷ [])
         × (n ≡ number base (taken A (e ∷ [])) e) × IsCount base (taken A (e ∷ [])) counted.new)) }
+    ensures refused { IfOk result (λ is_next. IsFalse is_next → (e : EventValue) (n : ℕ) → IsBare e
+        → HasNumber n e row.now → (base : List ℕ → ℕ) (A : List EventValue)
+        → IsCount base A counted.old
+        → (has key_cmp A e ≡ true) ⊎ (n ≢ number base (taken A (e ∷ [])) e)) }
 {
     let found = bare(alloc, row)?;
     let Some(event) = found else {
@@ -48,14 +59,17 @@ fn count_row(alloc: Global, counted: &mut Counted, row: &Sequenced) -> Result<bo
 }
 
 /// What is counted of these events, where they are what a numberer with this base leaves: each an
-/// event with its source's next number, and none of them twice. Time and memory in proportion to
-/// them.
-pub fn count_all(alloc: Global, base: u64, rows: &Batch) -> Result<Option<Counted>, AllocError>
-    ensures { IfOk result (λ o. IfSome o (IsCounted (λ _. base) rows.now)) }
+/// event with its source's next number, and none of them twice; none only where no numberer leaves
+/// them. Each goes as soon as it is counted. Time and memory in proportion to them.
+pub fn count_all(alloc: Global, base: u64, rows: Batch) -> Result<Option<Counted>, AllocError>
+    ensures counted { IfOk result (λ o. IfSome o (IsCounted (λ _. base) rows)) }
+    ensures none { IfOk result (λ o. IfNone o ((events : List EventValue) → AreBare events
+        → IsEachOnce events → HaveNumbers (number (λ _. base) events) events rows → ⊥)) }
 {
+    let mut rows = rows;
     let mut counted = Counted::empty(alloc, base);
-    for i in 0..rows.len() {
-        if !count_row(alloc, &mut counted, rows.at(i))? {
+    'rows: while let Some(row) = rows.take_front() {
+        if !count_row(alloc, &mut counted, &row)? {
             return Ok(None);
         }
     }

@@ -6,6 +6,8 @@ ghost use Rattle.serde_json.specs.View.{members_view, view};
 ghost use Rattle.attributes.specs.Event.{EventValue, members_of, text};
 ghost use Rattle.attributes.specs.Fault.{IsEvent};
 ghost use Rattle.attributes.specs.Sequence.{number_of, sequence_of};
+ghost use Rattle.serde_json.specs.Written.{compact_text};
+ghost use Rattle.numbers.specs.Aside.{without};
 ghost use Rattle.numbers.specs.Numbered.{HasNumber, IsBare, with_sequence};
 
 use crate::batch::refusal_at;
@@ -69,7 +71,8 @@ fn numbered_text(alloc: Global, event: &Event, number: Sequence) -> Result<Strin
 
 /// The one event of a list.
 pub(crate) fn single(events: Events) -> Option<Event>
-    ensures { IfSome result (λ e. events ≡ e ∷ []) }
+    ensures some { IfSome result (λ e. events ≡ e ∷ []) }
+    ensures none { IfNone result ((e : EventValue) → events ≢ e ∷ []) }
 {
     let mut events = events.into_vec();
     if events.len() == 1 {
@@ -103,20 +106,26 @@ pub fn numbered(alloc: Global, event: &Event, number: Sequence) -> Result<Sequen
 
 /// The text of the event without its number.
 fn bare_text(alloc: Global, event: &Event) -> Result<String, AllocError>
-    ensures { IsEvent event.now }
+    ensures text { IfOk result (λ s.
+        string_bytes s ≡ compact_text (object (without (codes "sequence") (members_of event.now)))) }
+    ensures event { IsEvent event.now }
 {
     let mut members = members_of(alloc, event)?;
     drop(members.remove("sequence"));
     Value::Object(members).to_string(alloc)
 }
 
-/// The event that `numbered` gives this one's number to, where there is one. Time and memory in
-/// proportion to its text.
+/// The event that `numbered` gives this one's number to; none only where there is none. Time and
+/// memory in proportion to its text.
 pub fn bare(alloc: Global, event: &Sequenced) -> Result<Option<Event>, AllocError>
     ensures bare { IfOk result (λ o. IfSome o (λ e. IsBare e
         × ((n : ℕ) → number_of event.now ≡ Some n → HasNumber n e event.now))) }
+    ensures none { IfOk result (λ o. IfNone o (
+        (e : EventValue) (n : ℕ) → IsBare e → HasNumber n e event.now → ⊥)) }
     ensures event { IsEvent event.now }
 {
+    readings_are_one();
+    texts_read_back();
     let text = bare_text(alloc, event.event())?;
     let events = match read_events(alloc, text.as_bytes()) {
         Ok(events) => events,
