@@ -1,0 +1,10 @@
+mod PartLemmas
+mod RowLemmas
+mod SumLemmas
+mod MergeLemmas
+mod TallyLemmas
+mod LatestLemmas
+mod JoinLemmas
+mod DigestLemmas
+mod TakeLemmas
+mod DivisionLemmas

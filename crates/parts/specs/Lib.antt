@@ -1,0 +1,3 @@
+pub mod Part
+pub mod Merge
+pub mod Law
