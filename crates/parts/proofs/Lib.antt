@@ -8,3 +8,5 @@ mod JoinLemmas
 mod DigestLemmas
 mod TakeLemmas
 mod DivisionLemmas
+mod CoverLemmas
+mod WholeLemmas

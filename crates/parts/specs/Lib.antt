@@ -1,3 +1,4 @@
 pub mod Part
 pub mod Merge
 pub mod Law
+pub mod Combined

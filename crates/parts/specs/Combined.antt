@@ -1,0 +1,74 @@
+-- What parts answer, and what is told of the whole by it.
+use Rattle.std.specs.Prelude.{◌≡◌, ◌≢◌, ◌<◌, ℕ, List, Some, true, length, map, slice_get, string_bytes}
+use Rattle.std.specs.List.{AllByRecursion, list_any}
+use Rattle.attributes.specs.Event.{EventValue}
+use Rattle.coverage.specs.Summary.{IsSummary, Sources, holds_at, version_of}
+use Rattle.views.specs.Line.{cover_line}
+use Rattle.views.specs.Question.{IsAnswer}
+use Rattle.views.specs.declared.query.Query.{Query}
+use Rattle.parts.specs.Part.{FallsBelow, part}
+use Rattle.parts.specs.declared.fault.CombineFault.{CombineFault}
+use Rattle.parts.specs.declared.fault.CombineFault.TheVariants.{OutOfMemory, NotACover, Overlap}
+
+-- the texts answer the question over the parts of E, the text at place i over part i
+pub record AreAnswers (query : Query) (p : List ℕ → ℕ) (E : List EventValue)
+    (texts : List (List ℕ)) : Type 0 where
+  pub below : FallsBelow p (length texts)
+  pub each : (i : ℕ) (text : List ℕ) → slice_get texts i ≡ Some text
+      → IsAnswer query (part p i E) text
+
+-- a summary of version 1
+abbrev pub IsFirst : Sources → Type 0
+IsFirst s = IsSummary s × (version_of s ≡ 1)
+
+-- the texts are the answers to `cover` that say what the summaries do
+pub record AreCovers (texts : List (List ℕ)) (summaries : List Sources) : Type 0 where
+  pub first : AllByRecursion IsFirst summaries
+  pub written : map cover_line summaries ≡ texts
+
+-- the summary has a number of the source
+abbrev pub HasSource : Sources → List ℕ → Type 0
+HasSource s source = (n : ℕ) × (holds_at s source n ≡ true)
+
+-- no source has numbers in both
+abbrev pub ShareNone : Sources → Sources → Type 0
+ShareNone s t = (source : List ℕ) → HasSource s source → HasSource t source → ⊥
+
+-- the summary at a place has a number of the source
+abbrev pub HasAt : List Sources → ℕ → List ℕ → Type 0
+HasAt summaries i source =
+    (s : Sources) × (slice_get summaries i ≡ Some s) × HasSource s source
+
+-- no source has numbers in two summaries
+abbrev pub AreApart : List Sources → Type 0
+AreApart summaries =
+    (i j : ℕ) (source : List ℕ) → i < j → HasAt summaries i source → HasAt summaries j source → ⊥
+
+-- the texts are covers in which no source stands twice
+abbrev pub AreApartCovers : List (List ℕ) → Type 0
+AreApartCovers texts = (summaries : List Sources) × AreCovers texts summaries × AreApart summaries
+
+-- the text isn't the answer to `cover` over any set
+abbrev pub IsNoCover : List ℕ → Type 0
+IsNoCover text = (s : Sources) → IsFirst s → text ≢ cover_line s
+
+-- what is true of the covers of parts that are refused with the fault
+abbrev pub Refuses : List (List ℕ) → CombineFault → Type 0
+Refuses texts OutOfMemory = Unit {0}
+Refuses texts (NotACover i) = (text : List ℕ) × (slice_get texts i ≡ Some text) × IsNoCover text
+Refuses texts (Overlap name i j) =
+    (summaries : List Sources) × AreCovers texts summaries × (i < j)
+    × HasAt summaries i (string_bytes name) × HasAt summaries j (string_bytes name)
+
+-- what is true of summaries that are refused with the fault
+abbrev pub RefusesRead : List Sources → CombineFault → Type 0
+RefusesRead summaries OutOfMemory = Unit {0}
+RefusesRead summaries (NotACover i) = ⊥
+RefusesRead summaries (Overlap name i j) =
+    (i < j) × HasAt summaries i (string_bytes name) × HasAt summaries j (string_bytes name)
+
+-- the summary holds what one of the summaries does
+abbrev pub IsUnited : List Sources → Sources → Type 0
+IsUnited summaries s =
+    (source : List ℕ) (n : ℕ) → holds_at s source n
+    ≡ list_any (λ t. holds_at t source n) summaries
