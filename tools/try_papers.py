@@ -45,9 +45,8 @@ LIMITS = {
 }
 OF_CRATES = (60, 1000)
 OTHERS = (None, 600)
-# All of these together, the page of the service among them with its 1,100, those of the numberer with 600, and of parts with
-# 590; what
-# stands beside code that people copy (NOT_COUNTED) has limits of its own alone.
+# All of these together, the page of the service among them with its 1,100, those of the numberer with 600, and of parts
+# with 590; what stands beside code that people copy (NOT_COUNTED) has limits of its own alone.
 ALL_WORDS = 48_570
 NOT_COUNTED = ("bindings/", "contrib/", "examples/", "tools/")
 PAGES_WITH_DATES = ("CHANGELOG.md", "docs/PERFORMANCE.md")
