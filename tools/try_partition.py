@@ -1,12 +1,13 @@
 #!/usr/bin/env python3
 """Tries regions of jumbetaid that lose one another: each in a network namespace of its own, as root.
 
-    tools/try_partition.py [--program FILE] [--regions N] [--seconds N] [--seed N] [--rate N]
+    tools/try_partition.py [--program FILE] [--regions N] [--seconds N] [--seed N] [--rate N] [--events N]
 
 By default it is 3 regions for 60 seconds, with 270 events a second each. Writers give events to each region, and note
 what was acknowledged, while regions are cut off, cut off one way, slowed down, made to lose packets, stopped and killed.
 Behind it all regions have to come to the same summary, which has each event that was acknowledged, and none that nobody
-gave. Some sources are written by two regions, so that there are conflicts. Each second memory and descriptors of each
+gave. Some sources are written by two regions, so that there are conflicts. With --events a source has at most so many,
+which are then given again, so that the regions stop growing. Each second memory and descriptors of each
 region are looked at, and how they grow is told: by the events, in the last half beside the first one, and what is left of
 both at rest. It wants `ip`, `tc`, curl and namespaces, and the built service: what isn't there is told, and nothing is
 tried. The last line is 'N of M tries of regions that part were right'.
@@ -51,11 +52,12 @@ def run(*words, check=True, **how):
     return subprocess.run(words, check=check, capture_output=True, timeout=30, **how)
 
 
-def write(address, source, batch, rate, region, file):
-    """Gives events of a source at a rate, each batch until it is acknowledged, and notes those; until SIGTERM."""
+def write(address, source, batch, rate, most, region, file):
+    """Gives events of a source at a rate, each batch until it is acknowledged, and notes those; until SIGTERM. Behind the
+    most that a source has it begins with the first ones again."""
     is_over = []
     signal.signal(signal.SIGTERM, lambda *_: is_over.append(True))
-    connection, number, due = None, 0, time.monotonic()
+    connection, number, due, is_first = None, 0, time.monotonic(), True
     with open(file, "w", encoding="utf-8") as out:
         while not is_over:
             events = [
@@ -74,9 +76,12 @@ def write(address, source, batch, rate, region, file):
             if answer.status == 400:
                 sys.exit(f"a writer: {said!r}")
             if answer.status == 200:
-                out.writelines(f"{source} {it['id']} {region}\n" for it in events)
-                out.flush()
+                if is_first:
+                    out.writelines(f"{source} {it['id']} {region}\n" for it in events)
+                    out.flush()
                 number, due = number + batch, max(due + batch / rate, time.monotonic() - 1)
+                if number >= most:
+                    number, is_first = 0, False
             time.sleep(max(0.0, due - time.monotonic()))
 
 
@@ -266,6 +271,7 @@ def main():
     words.add_argument("--seconds", type=float, default=60)
     words.add_argument("--seed", type=int, default=1)
     words.add_argument("--rate", type=int, default=270, help="events a second in each region")
+    words.add_argument("--events", type=int, default=1 << 40, help="how many events a source has at most")
     given = words.parse_args()
     why = lacks(given.program)
     if why:
@@ -283,7 +289,8 @@ def main():
             share = given.rate / 270
             for source, batch, rate in ((f"/{it.name}/single", 1, 60 * share), (f"/{it.name}/batch", 10, 200 * share), ("/shared", 1, 10)):
                 file = f"{folder}/acked.{len(writers)}"
-                words = [sys.executable, os.path.realpath(__file__), "--write", it.address, source, str(batch), str(rate), it.name, file]
+                words = [sys.executable, os.path.realpath(__file__), "--write", it.address, source, str(batch), str(rate), str(given.events)]
+                words += [it.name, file]
                 writers.append((it.started(*words), file))
         watch = Watch(net.regions)
         watch.start()
@@ -337,7 +344,7 @@ def main():
 
 if __name__ == "__main__":
     if sys.argv[1:2] == ["--write"]:
-        place, source_given, batch_given, rate_given, region_given, file_given = sys.argv[2:]
-        write(place, source_given, int(batch_given), float(rate_given), region_given, file_given)
+        place, source_given, batch_given, rate_given, most_given, region_given, file_given = sys.argv[2:]
+        write(place, source_given, int(batch_given), float(rate_given), int(most_given), region_given, file_given)
         sys.exit(0)
     sys.exit(main())
