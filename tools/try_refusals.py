@@ -5,8 +5,8 @@
 
 Each run has to end with the answer of the run that meets no refusal, or with status 1, `site: out of memory` and
 nothing on standard output (`run` with `site: no thread` too, where a thread's start was refused; `relay` of one page
-with `site: route failed`, since its route goes into memory and fails for want of that alone; `follow` with a front of
-its acknowledgements on standard output, and `delta` and `scrub` of all pages with those before the refusal, which has
+with `site: route failed`, since its route goes into memory and fails for want of that alone; `follow` and `number` with a
+front of their lines on standard output, and `delta` and `scrub` of all pages with those before the refusal, which has
 to come behind each but the last). A command that writes is given once more after each refused run, with memory: it
 then has to answer as it does the first time, or as it does when it was done already, and its database to hold what it
 holds after the run that meets no refusal. So nothing that was refused was half done, and nothing that was done is
@@ -53,8 +53,9 @@ FILES = {
     "faulty.json": [E1, {**E2, "sequence": "2"}, 3],
     "paged.json": [event(f"a{number}", number, "t", "x") for number in range(1, 102)],
 }
-# Lines of an event or a batch each.
+# Lines of an event or a batch each; and such of events that carry no number.
 LINES = [[E1], E2, [E2, E3]]
+BARE = [[{name: text for name, text in it.items() if name != "sequence"} for it in each] for each in ([E1], [E2], [E2, E3])]
 # How a command's database is made, and how what it holds is told.
 HELD = ["scrub", "--db", "s.db", "--from", "0"]
 ROWS = ["relay", "--db", "o.db", "--after", "0"]
@@ -93,6 +94,9 @@ ROWS_OF_ALL = [
     Row(["take", "--db", "s.db", "more.json"], THREE, HELD, b"read 2 new 0 repeated 2\n"),
     Row(["follow", "--db", "n.db", "lines"], [], ["scrub", "--db", "n.db"], ACKNOWLEDGED),
     Row(["follow", "--db", "s.db", "lines"], THREE, HELD, ACKNOWLEDGED),
+    Row(["number", "--db", "n.db", "bare"], [], ["scrub", "--db", "n.db"]),
+    Row(["number", "--db", "n.db", "bare"], [["number", "--db", "n.db", "bare"]], ["scrub", "--db", "n.db"]),
+    Row(["number", "--db", "n.db", "--aside", "first", "lines"], [], ["scrub", "--db", "n.db"]),
     Row(["summary", "--db", "s.db"], THREE),
     Row(["delta", "--db", "s.db", "asked.summary"], THREE),
     Row(["delta", "--db", "s.db", "--all", "asked.summary"], THREE),
@@ -137,8 +141,9 @@ class Trial:
         for name, events in FILES.items():
             with open(f"{self.start}/{name}", "w", encoding="utf-8") as it:
                 json.dump(events, it, separators=(",", ":"))
-        with open(f"{self.start}/lines", "w", encoding="utf-8") as it:
-            it.writelines(json.dumps(line, separators=(",", ":")) + "\n" for line in LINES)
+        for name, lines in (("lines", LINES), ("bare", BARE)):
+            with open(f"{self.start}/{name}", "w", encoding="utf-8") as it:
+                it.writelines(json.dumps(line, separators=(",", ":")) + "\n" for line in lines)
         with open(f"{self.start}/asked.summary", "w", encoding="utf-8") as it:
             it.write('{"sources":{"/orders":[[2,2]]},"version":1}')
         with open(f"{self.start}/nothing.summary", "w", encoding="utf-8") as it:
@@ -196,7 +201,7 @@ class Trial:
                 self.refused += 1
             is_front = self.whole[1].startswith(said[1]) and said[1][-1:] in (b"", b"\n")
             count = said[1].count(b"\n")
-            if is_front and (self.row.words[0] == "follow" or count < (self.row.pages or 0)):
+            if is_front and (self.row.words[0] in ("follow", "number") or count < (self.row.pages or 0)):
                 # What was acknowledged, or the pages before the refusal, is written, in whole lines.
                 with self.lock:
                     self.behind.add(count)
