@@ -369,7 +369,8 @@ mod tests {
         let want = json!({"index": 2, "fault": "F", "attribute": "a/b~c", "pointer": "#/2/a~1b~0c", "detail": "h"});
         assert_eq!(batched, want);
         assert_eq!(entry_of(Mode::Structured, line)["pointer"], "#/a~1b~0c");
-        let line = json!({"file": "-", "index": 1, "fault": "DataNumber", "attribute": "data", "pointer": "/data/a~1b/0"});
+        let line =
+            json!({"file": "-", "index": 1, "fault": "DataNumber", "attribute": "data", "pointer": "/data/a~1b/0"});
         assert_eq!(entry_of(Mode::Batched, line)["pointer"], "#/1/data/a~1b/0");
         assert_eq!(entry_of(Mode::Batched, json!({"fault": "not JSON"}))["pointer"], "#");
     }
