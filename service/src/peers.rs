@@ -52,3 +52,32 @@ impl Peers {
 pub fn now() -> f64 {
     SystemTime::now().duration_since(UNIX_EPOCH).map_or(0.0, |it| it.as_secs_f64())
 }
+
+#[cfg(test)]
+mod tests {
+    use super::*;
+
+    #[test]
+    fn peers_are_told_by_name_until_they_are_forgotten() {
+        let peers = Peers::default();
+        peers.note("south", |it| it.state = "up");
+        peers.note("south", |it| it.pulled += 2);
+        peers.note("north", |it| it.cover = Some("{}".into()));
+        let all = peers.all();
+        assert_eq!(all.keys().collect::<Vec<_>>(), ["north", "south"]);
+        assert_eq!((all["south"].state, all["south"].pulled, all["north"].state), ("up", 2, ""));
+        peers.forget("south");
+        assert_eq!(peers.all().len(), 1);
+    }
+
+    #[cfg(feature = "postgres")]
+    #[test]
+    fn a_peer_that_told_nothing_holds_up_what_all_have() {
+        let peers = Peers::default();
+        assert_eq!(peers.covers(), Some(Vec::new()));
+        peers.note("north", |it| it.cover = Some("{}".into()));
+        assert_eq!(peers.covers(), Some(vec!["{}".into()]));
+        peers.note("south", |_| ());
+        assert_eq!(peers.covers(), None);
+    }
+}

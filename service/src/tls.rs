@@ -61,3 +61,24 @@ fn items(path: &Path) -> Result<Vec<Item>, String> {
     let told = |why: std::io::Error| format!("{}: {why}", path.display());
     rustls_pemfile::read_all(&mut BufReader::new(File::open(path).map_err(told)?)).map_err(told)
 }
+
+#[cfg(test)]
+mod tests {
+    use super::*;
+
+    #[test]
+    fn files_that_are_no_certificates_say_so() {
+        let folder = std::env::temp_dir().join(format!("jumbetaid-tls-{}", std::process::id()));
+        std::fs::create_dir_all(&folder).unwrap();
+        let (none, empty) = (folder.join("none.pem"), folder.join("empty.pem"));
+        std::fs::write(&empty, "no certificate\n").unwrap();
+        let refused = |certificate: &Path, key: &Path| {
+            let tls = Tls { certificate: certificate.into(), key: key.into() };
+            acceptor(&tls).err().unwrap()
+        };
+        assert!(refused(&empty, &none).starts_with(&format!("{}: ", none.display())));
+        assert_eq!(refused(&none, &empty), format!("{}: no key", empty.display()));
+        assert!(connector(HttpConnector::new(), Some(&empty)).err().unwrap().ends_with(": no certificate"));
+        std::fs::remove_dir_all(&folder).unwrap();
+    }
+}
