@@ -82,15 +82,19 @@ fn add_shown<S: Alter>(
     }
 }
 
-/// What these queries answer, line by line.
-fn shown<S: Alter>(alloc: Global, conn: &mut Connection<S>, queries: &[&str]) -> Option<String> {
-    let mut text = String::new(alloc);
+/// Adds what these queries answer, line by line.
+fn add_all_shown<S: Alter>(
+    alloc: Global,
+    conn: &mut Connection<S>,
+    out: &mut String,
+    queries: &[&str],
+) -> bool {
     for query in queries {
-        if !add_shown(alloc, conn, &mut text, query) {
-            return None;
+        if !add_shown(alloc, conn, out, query) {
+            return false;
         }
     }
-    Some(text)
+    true
 }
 
 /// What a database shows of its inboxes and the tables beside them, and of its service.
@@ -102,9 +106,17 @@ struct Contents {
 
 /// What a database shows.
 fn shown_all<S: Alter>(alloc: Global, conn: &mut Connection<S>) -> Option<Contents> {
-    let inboxes = shown(alloc, conn, &INBOXES)?;
-    let service = shown(alloc, conn, &SERVICE)?;
-    Some(Contents { inboxes, service })
+    let mut shown = Contents {
+        inboxes: String::new(alloc),
+        service: String::new(alloc),
+    };
+    if add_all_shown(alloc, conn, &mut shown.inboxes, &INBOXES)
+        && add_all_shown(alloc, conn, &mut shown.service, &SERVICE)
+    {
+        Some(shown)
+    } else {
+        None
+    }
 }
 
 /// Tells that a statement was refused.
@@ -134,25 +146,38 @@ fn put<S: Alter>(conn: &mut Connection<S>, known: &Known, text: &str, out: &mut 
     }
 }
 
+/// Runs the statements of names, up to one that is refused.
+pub fn run_all<S: Alter>(
+    conn: &mut Connection<S>,
+    known: &Known,
+    names: &[&str],
+    out: &mut String,
+) -> bool {
+    for name in names {
+        if run(conn, known, name, out) != End::Done {
+            return false;
+        }
+    }
+    true
+}
+
 /// `run STATEMENT`, `put EVENT STATEMENT`, or `count QUERY`: how many rows it answers.
-fn of_text<S: Alter + Drop>(
-    conn: Connection<S>,
+fn of_text<S: Alter>(
+    conn: &mut Connection<S>,
     known: &Known,
     word: &str,
     text: &str,
     out: &mut String,
-) -> Tried<S> {
-    let mut conn = conn;
-    let end = match word {
-        "run" => run(&mut conn, known, text, out),
-        "put" => put(&mut conn, known, text, out),
-        "count" => match count(&mut conn, text) {
+) -> End {
+    match word {
+        "run" => run(conn, known, text, out),
+        "put" => put(conn, known, text, out),
+        "count" => match count(conn, text) {
             Some(rows) => done(write!(out, "{rows}\n").is_ok()),
             None => End::Untold,
         },
         _ => End::Untold,
-    };
-    Tried { conn, end }
+    }
 }
 
 /// The word that a text begins with, and what is behind it.
@@ -163,48 +188,62 @@ pub fn parted(text: &str) -> (&str, &str) {
     }
 }
 
-/// `create|adopt|open inbox|service ..`
-fn begun<S: Alter + Drop>(
-    alloc: Global,
-    conn: Connection<S>,
-    known: &Known,
-    word: &str,
-    text: &str,
-    out: &mut String,
-) -> Tried<S> {
-    let (kind, text) = parted(text);
-    match (word, kind) {
-        ("create", "inbox") => inboxes::create(alloc, conn, out),
-        ("adopt", "inbox") => inboxes::adopt(alloc, conn, out),
-        ("open", "inbox") => inboxes::open(alloc, conn, known, out),
-        ("create", "service") => services::begin(alloc, conn, false, text, out),
-        ("adopt", "service") => services::adopt(alloc, conn, out),
-        ("open", "service") => services::begin(alloc, conn, true, text, out),
-        _ => Tried {
-            conn,
-            end: End::Untold,
-        },
+/// What a call is made of.
+#[derive(Clone, Copy)]
+enum Of {
+    Inbox,
+    /// An inbox that is opened and read.
+    Opened,
+    Service,
+    Keeper,
+    Connection,
+}
+
+/// What `create|adopt|open inbox|service ..` is made of.
+fn of_kind(word: &str, text: &str) -> Of {
+    match parted(text).0 {
+        "inbox" => {
+            if word == "open" {
+                Of::Opened
+            } else {
+                Of::Inbox
+            }
+        }
+        "service" => Of::Service,
+        _ => Of::Connection,
+    }
+}
+
+/// What the call of a word is made of.
+fn of_word(word: &str, text: &str) -> Of {
+    match word {
+        "create" | "adopt" | "open" => of_kind(word, text),
+        "keep" | "load" | "block" | "each" | "follow" => Of::Inbox,
+        "orders" | "fill" => Of::Service,
+        "take" | "step" | "turns" => Of::Keeper,
+        _ => Of::Connection,
     }
 }
 
 /// Makes a call over a database.
-pub fn act<R: AllocGlobal + Wait, S: Alter + Drop>(
+fn act<R: AllocGlobal + Wait, S: Alter + Drop>(
     rt: &R,
     conn: Connection<S>,
     known: &Known,
     text: &str,
     said: &mut Said,
 ) -> Tried<S> {
-    let alloc = rt.alloc();
     let (word, text) = parted(text);
-    match word {
-        "create" | "adopt" | "open" => begun(alloc, conn, known, word, text, &mut said.text),
-        "keep" | "load" | "block" | "each" | "follow" => {
-            inboxes::of_table(alloc, conn, known, word, text, said)
+    match of_word(word, text) {
+        Of::Inbox => inboxes::of_table(rt.alloc(), conn, known, word, text, said),
+        Of::Opened => inboxes::look(rt.alloc(), conn, known, true, &mut said.text),
+        Of::Service => services::of_service(rt.alloc(), conn, known, word, text, said),
+        Of::Keeper => keepers::keep(rt, conn, known, word, text, &mut said.text),
+        Of::Connection => {
+            let mut conn = conn;
+            let end = of_text(&mut conn, known, word, text, &mut said.text);
+            Tried { conn, end }
         }
-        "take" | "step" | "turns" => { keepers::keep(rt, conn, known, word, text, &mut said.text) }
-        "orders" | "fill" => services::of_service(alloc, conn, known, word, text, said),
-        _ => of_text(conn, known, word, text, &mut said.text),
     }
 }
 
@@ -231,16 +270,17 @@ pub fn act_all<R: AllocGlobal + Wait, S: Alter + Drop>(
     text: &str,
     said: &mut Said,
 ) -> Tried<S> {
-    let mut conn = conn;
-    let mut end = End::Done;
+    let mut tried = Tried {
+        conn,
+        end: End::Done,
+    };
     for call in text.split('|') {
-        if end == End::Done {
-            let tried = act_twice(rt, conn, known, call.trim(), said);
-            conn = tried.conn;
-            end = tried.end;
+        tried = act_twice(rt, tried.conn, known, call.trim(), said);
+        if tried.end != End::Done {
+            break;
         }
     }
-    Tried { conn, end }
+    tried
 }
 
 /// Whether what is there is as before, in words.
@@ -281,6 +321,29 @@ fn tell_left<S: Alter>(
     }
 }
 
+/// Adds what a call with that end left of a database, and the end of it; once more where memory was
+/// refused.
+fn told_left<S: Alter>(
+    alloc: Global,
+    conn: &mut Connection<S>,
+    before: &Contents,
+    end: End,
+    said: &mut Said,
+) -> End {
+    if end == End::Untold {
+        let out = &mut said.left;
+        let _ = tell_left(alloc, conn, before, out) || tell_left(alloc, conn, before, out);
+        return End::Untold;
+    }
+    let out = &mut said.text;
+    let is_left = tell_left(alloc, conn, before, out) || tell_left(alloc, conn, before, out);
+    if is_left && line(out, "") {
+        end
+    } else {
+        End::Untold
+    }
+}
+
 /// `compare CALL`: makes a call, and tells what it left of the database.
 pub fn act_compared<R: AllocGlobal + Wait, S: Alter + Drop>(
     rt: &R,
@@ -289,33 +352,14 @@ pub fn act_compared<R: AllocGlobal + Wait, S: Alter + Drop>(
     text: &str,
     said: &mut Said,
 ) -> Tried<S> {
-    let alloc = rt.alloc();
     let mut conn = conn;
-    let Some(before) = shown_all(alloc, &mut conn) else {
-        return Tried {
-            conn,
-            end: End::Untold,
-        };
+    let Some(before) = shown_all(rt.alloc(), &mut conn) else {
+        let end = End::Untold;
+        return Tried { conn, end };
     };
-    let Tried { conn, end } = act(rt, conn, known, text, said);
-    let mut conn = conn;
-    let out = if end == End::Untold {
-        &mut said.left
-    } else {
-        &mut said.text
-    };
-    // Once more where memory was refused.
-    let is_left = tell_left(alloc, &mut conn, &before, out)
-        || tell_left(alloc, &mut conn, &before, out);
-    let is_told = is_left && (end == End::Untold || line(&mut said.text, ""));
-    if is_told {
-        Tried { conn, end }
-    } else {
-        Tried {
-            conn,
-            end: End::Untold,
-        }
-    }
+    let Tried { mut conn, end } = act(rt, conn, known, text, said);
+    let end = told_left(rt.alloc(), &mut conn, &before, end, said);
+    Tried { conn, end }
 }
 
 /// How many tables have the name of an inbox of version 1, and how many that of one of version 2.

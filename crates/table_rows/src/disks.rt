@@ -179,26 +179,29 @@ pub fn over<R: AllocGlobal + Wait>(
         && line(&mut said.text, end)
 }
 
-/// What a stop may have left of a file, each once: what was written, what was synced, and a mixture
-/// of both.
-pub fn left_of(alloc: Global, file: Fuse<Memory>) -> Option<Vec<Vec<u8>>> {
-    let mut file = file;
-    let written = copy(alloc, file.inner().bytes())?;
+/// Adds what a stop may have left of a file, each once: what was written, what was synced, and a
+/// mixture of both. Answers whether it did.
+pub fn add_left(alloc: Global, outcomes: &mut Vec<Vec<u8>>, file: &mut Fuse<Memory>) -> bool {
+    let Some(written) = copy(alloc, file.inner().bytes()) else {
+        return false;
+    };
     file.crash();
-    let synced = copy(alloc, file.inner().bytes())?;
-    outcomes_of(alloc, written, synced)
+    let synced = file.inner().bytes();
+    let is_one = written.as_slice() == synced;
+    (is_one || add_mixed(alloc, outcomes, &written, synced)) && outcomes.push(written).is_ok()
 }
 
-/// What was written, what was synced, and a mixture, each once.
-fn outcomes_of(alloc: Global, written: Vec<u8>, synced: Vec<u8>) -> Option<Vec<Vec<u8>>> {
-    let mut outcomes = Vec::new(alloc);
-    if written != synced {
-        let mixture = mixture(alloc, &written, &synced)?;
-        outcomes.push(mixture).ok()?;
-        outcomes.push(synced).ok()?;
+/// Adds a mixture of what was written and what was synced, and the latter.
+fn add_mixed(alloc: Global, outcomes: &mut Vec<Vec<u8>>, written: &[u8], synced: &[u8]) -> bool {
+    add(outcomes, mixture(alloc, written, synced)) && add(outcomes, copy(alloc, synced))
+}
+
+/// Adds bytes, and answers whether there are some.
+fn add(outcomes: &mut Vec<Vec<u8>>, bytes: Option<Vec<u8>>) -> bool {
+    match bytes {
+        Some(bytes) => outcomes.push(bytes).is_ok(),
+        None => false,
     }
-    outcomes.push(written).ok()?;
-    Some(outcomes)
 }
 
 /// A copy of bytes.

@@ -33,6 +33,11 @@ pub fn faults(out: &mut String) -> bool {
     true
 }
 
+/// Tells how many rows there were where memory was refused.
+fn tell_refused(rows: u64, left: &mut String) -> bool {
+    write!(left, "{rows} rows").is_ok()
+}
+
 /// Keeps events; once more where memory was refused, with what was there then.
 fn keep_all<S: Alter>(
     table: &mut Table<S>,
@@ -41,8 +46,7 @@ fn keep_all<S: Alter>(
 ) -> Result<u64, TableFault> {
     match table.keep(batch) {
         Err(TableFault::OutOfMemory) => {
-            let rows = table.rows();
-            if write!(said.left, "{rows} rows").is_err() {
+            if !tell_refused(table.rows(), &mut said.left) {
                 return Err(TableFault::OutOfMemory);
             }
             table.keep(batch)
@@ -140,14 +144,18 @@ fn block<S: Alter>(known: &Known, table: &mut Table<S>, text: &str, out: &mut St
     }
 }
 
+/// Adds the list of the events of names, and answers whether it did.
+fn add_list(alloc: Global, known: &Known, lists: &mut List<Batch>, names: &str) -> bool {
+    match known.batch(alloc, names) {
+        Some(batch) => lists.push(batch).is_ok(),
+        None => false,
+    }
+}
+
 /// Adds the lists of the events of names, and answers whether it did.
 fn add_lists(alloc: Global, known: &Known, lists: &mut List<Batch>, text: &str) -> bool {
     for names in text.split(';') {
-        let is_added = match known.batch(alloc, names) {
-            Some(batch) => lists.push(batch).is_ok(),
-            None => false,
-        };
-        if !is_added {
+        if !add_list(alloc, known, lists, names) {
             return false;
         }
     }
@@ -188,7 +196,38 @@ fn keep_each<S: Alter>(
     }
 }
 
-/// A call of the table that a database has.
+/// A call of a table that was made or adopted.
+fn call<S: Alter>(
+    alloc: Global,
+    known: &Known,
+    table: &mut Table<S>,
+    word: &str,
+    text: &str,
+    said: &mut Said,
+) -> End {
+    match word {
+        "keep" => keep(alloc, known, table, text, said),
+        "block" => block(known, table, text, &mut said.text),
+        "each" => keep_each(alloc, known, table, text, &mut said.text),
+        "follow" => lines::followed(alloc, known, table, text, &mut said.text),
+        "load" => load(known, table, &mut said.text),
+        _ => {
+            let (end, rows) = (if word == "create" { "d" } else { "ed" }, table.rows());
+            done(write!(said.text, "{word}{end}, rows {rows}\n").is_ok())
+        }
+    }
+}
+
+/// The table that a call is of: a new one, or the one that a database has.
+fn made<S: Alter>(alloc: Global, conn: Connection<S>, word: &str) -> Result<Table<S>, NotMade<S>> {
+    match word {
+        "create" => Table::create(alloc, conn),
+        _ => Table::adopt(alloc, conn),
+    }
+}
+
+/// A call of the table that a database has; `create inbox` and `adopt inbox` tell how many rows it
+/// has.
 pub fn of_table<S: Alter + Drop>(
     alloc: Global,
     conn: Connection<S>,
@@ -197,15 +236,9 @@ pub fn of_table<S: Alter + Drop>(
     text: &str,
     said: &mut Said,
 ) -> Tried<S> {
-    match Table::adopt(alloc, conn) {
+    match made(alloc, conn, word) {
         Ok(mut table) => {
-            let end = match word {
-                "keep" => keep(alloc, known, &mut table, text, said),
-                "block" => block(known, &mut table, text, &mut said.text),
-                "each" => keep_each(alloc, known, &mut table, text, &mut said.text),
-                "follow" => lines::followed(alloc, known, &mut table, text, &mut said.text),
-                _ => load(known, &mut table, &mut said.text),
-            };
+            let end = call(alloc, known, &mut table, word, text, said);
             let conn = table.into_connection();
             Tried { conn, end }
         }
@@ -216,75 +249,55 @@ pub fn of_table<S: Alter + Drop>(
     }
 }
 
-/// What is left where a table was to be made or to be adopted; it is told by a word and its rows.
-fn made<S: Alter + Drop>(
-    made: Result<Table<S>, NotMade<S>>,
-    word: &str,
-    out: &mut String,
-) -> Tried<S> {
-    match made {
-        Ok(table) => {
-            let rows = table.rows();
-            let end = done(write!(out, "{word}, rows {rows}\n").is_ok());
-            let conn = table.into_connection();
-            Tried { conn, end }
-        }
-        Err(NotMade { conn, fault }) => {
-            let end = faulty(out, fault);
-            Tried { conn, end }
-        }
+/// Adds the events that a table was taken with: as what `open inbox` answers, or as what it holds.
+fn tell_loaded(known: &Known, rows: u64, events: &Batch, is_opened: bool, out: &mut String) -> End {
+    if is_opened {
+        return done(write!(out, "rows {rows}: ").is_ok() && known.tell_line(out, events));
     }
+    done(out.push_str("inbox ").is_ok() && known.tell(out, events))
 }
 
-/// `create inbox`
-pub fn create<S: Alter + Drop>(alloc: Global, conn: Connection<S>, out: &mut String) -> Tried<S> {
-    made(Table::create(alloc, conn), "created", out)
+/// Adds why no table was taken: as what `open inbox` answers, or as what a database holds.
+fn tell_not_made(fault: TableFault, is_opened: bool, out: &mut String) -> End {
+    if is_opened {
+        return faulty(out, fault);
+    }
+    done(match fault {
+        TableFault::Foreign => out.push_str("no inbox").is_ok(),
+        _ => write!(out, "inbox refused: {fault}").is_ok(),
+    })
 }
 
-/// `adopt inbox`: how many rows it has.
-pub fn adopt<S: Alter + Drop>(alloc: Global, conn: Connection<S>, out: &mut String) -> Tried<S> {
-    made(Table::adopt(alloc, conn), "adopted", out)
-}
-
-/// `open inbox`: how many rows it has, and its events.
-pub fn open<S: Alter + Drop>(
+/// The table of a database with its events: one that is opened, or that stays of its version.
+fn loaded<S: Alter>(
     alloc: Global,
     conn: Connection<S>,
-    known: &Known,
-    out: &mut String,
-) -> Tried<S> {
-    match Table::open_and_load(alloc, conn, &Unwatched) {
-        Ok(Loaded { table, events }) => {
-            let rows = table.rows();
-            let end = done(write!(out, "rows {rows}: ").is_ok() && known.tell_line(out, &events));
-            let conn = table.into_connection();
-            Tried { conn, end }
-        }
-        Err(NotMade { conn, fault }) => {
-            let end = faulty(out, fault);
-            Tried { conn, end }
-        }
+    is_opened: bool,
+) -> Result<Loaded<S>, NotMade<S>> {
+    if is_opened {
+        Table::open_and_load(alloc, conn, &Unwatched)
+    } else {
+        Table::adopt_and_load(alloc, conn)
     }
 }
 
-/// Adds the events of the inbox that a database has, of whatever version.
+/// `open inbox`: how many rows it has, and its events. Or, where none is opened, the events of the
+/// inbox that a database has, of whatever version.
 pub fn look<S: Alter + Drop>(
     alloc: Global,
     conn: Connection<S>,
     known: &Known,
+    is_opened: bool,
     out: &mut String,
 ) -> Tried<S> {
-    match Table::adopt_and_load(alloc, conn) {
+    match loaded(alloc, conn, is_opened) {
         Ok(Loaded { table, events }) => {
-            let end = done(out.push_str("inbox ").is_ok() && known.tell(out, &events));
+            let end = tell_loaded(known, table.rows(), &events, is_opened, out);
             let conn = table.into_connection();
             Tried { conn, end }
         }
         Err(NotMade { conn, fault }) => {
-            let end = done(match fault {
-                TableFault::Foreign => out.push_str("no inbox").is_ok(),
-                _ => write!(out, "inbox refused: {fault}").is_ok(),
-            });
+            let end = tell_not_made(fault, is_opened, out);
             Tried { conn, end }
         }
     }

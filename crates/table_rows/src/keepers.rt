@@ -175,23 +175,42 @@ fn turn<R: Wait, S: Alter + Drop>(flusher: &mut Flusher<'_, R, S>, out: &mut Str
     )
 }
 
-/// The site takes an event, and the flusher has a turn.
+/// The site takes the events of two names, and the flusher has a turn behind each and another one.
 fn take_and_turn<R: AllocGlobal + Wait, S: Alter + Drop>(
     rt: &R,
     known: &Known,
     shared: &SharedSite,
     pass: &mut Pass,
     flusher: &mut Flusher<'_, R, S>,
-    names: (&str, &str),
+    names: &str,
     out: &mut String,
 ) -> bool
     requires { pass.old.table ≡ shared.now }
 {
-    take(rt, known, shared, pass, names.0, out)
-        && turn(flusher, out)
-        && take(rt, known, shared, pass, names.1, out)
-        && turn(flusher, out)
-        && turn(flusher, out)
+    match names.split_once(' ') {
+        Some((first, second)) => {
+            take(rt, known, shared, pass, first, out)
+                && turn(flusher, out)
+                && take(rt, known, shared, pass, second, out)
+                && turn(flusher, out)
+                && turn(flusher, out)
+        }
+        None => false,
+    }
+}
+
+/// The connection of a keeper.
+fn left<S: Alter + Drop>(keeper: Keeper<S>, end: End) -> Tried<S> {
+    let conn = keeper.into_table().into_connection();
+    Tried { conn, end }
+}
+
+/// Tells what came of a flusher.
+fn tell_flushed<S: Alter + Drop>(keeper: &Keeper<S>, is_faultless: bool, out: &mut String) -> End {
+    done(
+        add_acknowledged(keeper, out)
+            && line(out, if is_faultless { "no fault" } else { "a fault" }),
+    )
 }
 
 /// A flusher's keeper, and what came of it.
@@ -201,13 +220,12 @@ fn flushed<S: Alter + Drop>(flushed: Flushed<S>, is_told: bool, out: &mut String
         pass: _,
         fault,
     } = flushed;
-    let is_faultless = fault.is_none();
-    let is_told = is_told
-        && add_acknowledged(&keeper, out)
-        && line(out, if is_faultless { "no fault" } else { "a fault" });
-    let end = done(is_told);
-    let conn = keeper.into_table().into_connection();
-    Tried { conn, end }
+    let end = if is_told {
+        tell_flushed(&keeper, fault.is_none(), out)
+    } else {
+        End::Untold
+    };
+    left(keeper, end)
 }
 
 /// The flusher of a keeper has turns while the site takes two events.
@@ -221,18 +239,11 @@ fn turns<R: AllocGlobal + Wait, S: Alter + Drop>(
 ) -> Tried<S>
     requires { KeepsUp (state S.Store keeper.conn) keeper.rows site }
 {
-    let end = End::Untold;
-    let Some(names) = names.split_once(' ') else {
-        let conn = keeper.into_table().into_connection();
-        return Tried { conn, end };
-    };
     let Ok(Begun { shared, mut pass }) = SharedSite::begin(rt.alloc(), site) else {
-        let conn = keeper.into_table().into_connection();
-        return Tried { conn, end };
+        return left(keeper, End::Untold);
     };
     let Ok(own) = shared.split(&mut pass) else {
-        let conn = keeper.into_table().into_connection();
-        return Tried { conn, end };
+        return left(keeper, End::Untold);
     };
     let mut flusher = Flusher::of(rt, &shared, keeper, own);
     let is_told = take_and_turn(rt, known, &shared, &mut pass, &mut flusher, names, out);
@@ -256,8 +267,7 @@ fn kept<R: AllocGlobal + Wait, S: Alter + Drop>(
     }
     let mut keeper = keeper;
     let end = begun(rt, known, &mut keeper, site, word == "step", names, out);
-    let conn = keeper.into_table().into_connection();
-    Tried { conn, end }
+    left(keeper, end)
 }
 
 /// `take|step|turns EVENT [EVENT]`: adopts the inbox and begins a keeper of it. Its site takes the

@@ -63,19 +63,32 @@ impl Known {
         }
     }
 
+    /// Adds the event of a name to a batch, and answers whether it did.
+    fn add(&self, batch: &mut Batch, name: &str) -> bool {
+        match self.events.get(name) {
+            Some(event) => events::add(batch, event),
+            None => false,
+        }
+    }
+
+    /// Adds the events of names to a batch, and answers whether it did.
+    fn fill(&self, batch: &mut Batch, names: &str) -> bool {
+        for name in names.split_whitespace() {
+            if !self.add(batch, name) {
+                return false;
+            }
+        }
+        true
+    }
+
     /// The events of names.
     pub fn batch(&self, alloc: Global, names: &str) -> Option<Batch> {
         let mut batch = Batch::empty(alloc);
-        for name in names.split_whitespace() {
-            let is_added = match self.events.get(name) {
-                Some(event) => events::add(&mut batch, event),
-                None => false,
-            };
-            if !is_added {
-                return None;
-            }
+        if self.fill(&mut batch, names) {
+            Some(batch)
+        } else {
+            None
         }
-        Some(batch)
     }
 
     /// The name of the event with a text, or that text where none has it.

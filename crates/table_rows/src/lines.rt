@@ -118,6 +118,27 @@ fn unescaped(alloc: Global, text: &str) -> Option<String> {
     text.as_str().replace(alloc, "\\r", "\r").ok()
 }
 
+/// Adds a line of an input, a long one by its length.
+fn add_line(out: &mut String, bytes: &[u8]) -> bool {
+    let len = bytes.len();
+    if len > 100 {
+        write!(out, "a line of {len} bytes\n").is_ok()
+    } else {
+        add_bytes(out, bytes)
+    }
+}
+
+/// Adds what came next in an input, and answers whether it is told, and whether the input goes on.
+fn tell_next(next: &Result<Next, LineFault>, out: &mut String) -> (bool, bool) {
+    match next {
+        Ok(Next::Line(bytes)) => (add_line(out, bytes.as_bytes()), true),
+        Ok(Next::TooLong) => (line(out, "too long"), true),
+        Ok(Next::End) => (line(out, "end"), false),
+        Err(LineFault::OutOfMemory) => (false, false),
+        Err(fault) => (write!(out, "{fault}\n").is_ok(), false),
+    }
+}
+
 /// Adds what comes next in an input; `None` for want of memory. It answers whether the input goes
 /// on.
 fn add_next<R: Read>(
@@ -126,49 +147,34 @@ fn add_next<R: Read>(
     pending: &mut Pending,
     out: &mut String,
 ) -> Option<bool> {
-    match next_line(alloc, input, pending) {
-        Ok(Next::Line(bytes)) => {
-            let len = bytes.as_bytes().len();
-            let is_told = if len > 100 {
-                write!(out, "a line of {len} bytes\n").is_ok()
-            } else {
-                add_bytes(out, bytes.as_bytes())
-            };
-            if is_told { Some(true) } else { None }
-        }
-        Ok(Next::TooLong) => {
-            if line(out, "too long") {
-                Some(true)
-            } else {
-                None
-            }
-        }
-        Ok(Next::End) => { if line(out, "end") { Some(false) } else { None } }
-        Err(LineFault::OutOfMemory) => None,
-        Err(fault) => {
-            if write!(out, "{fault}\n").is_ok() {
-                Some(false)
-            } else {
-                None
-            }
-        }
-    }
+    let (is_told, goes_on) = tell_next(&next_line(alloc, input, pending), out);
+    if is_told { Some(goes_on) } else { None }
 }
 
 /// More lines than any input of rows has.
 const ENOUGH: u64 = 100;
 
-/// Adds the lines of an input up to its end, and what comes behind that.
-fn add_lines<R: Read>(alloc: Global, input: &mut R, out: &mut String) -> bool {
-    let mut pending = Pending::empty(alloc);
+/// Adds the lines of an input up to its end, and what comes behind that, from what was read of it.
+fn add_rest<R: Read>(
+    alloc: Global,
+    input: &mut R,
+    pending: &mut Pending,
+    out: &mut String,
+) -> bool {
     for _ in 0..ENOUGH {
-        match add_next(alloc, input, &mut pending, out) {
+        match add_next(alloc, input, pending, out) {
             Some(true) => {}
-            Some(false) => return add_next(alloc, input, &mut pending, out).is_some(),
+            Some(false) => return add_next(alloc, input, pending, out).is_some(),
             None => return false,
         }
     }
     false
+}
+
+/// Adds the lines of an input up to its end, and what comes behind that.
+fn add_lines<R: Read>(alloc: Global, input: &mut R, out: &mut String) -> bool {
+    let mut pending = Pending::empty(alloc);
+    add_rest(alloc, input, &mut pending, out)
 }
 
 /// `lines BYTES TEXT`: the lines of a text of which so many bytes come a read. In it `\n` and `\r`
@@ -225,35 +231,44 @@ fn add_turn<R: Read>(alloc: Global, input: &mut R, out: &mut String) -> bool {
     }
 }
 
+/// How many bytes come a read: so many lines as long as a text, and so many bytes more.
+fn step_of(body: &str, lines: usize, more: usize) -> usize {
+    body.len()
+        .saturating_add(1)
+        .saturating_mul(lines)
+        .saturating_add(more)
+}
+
+/// Adds how many lines the first turn has, of an input of so many lines, of which so many bytes come
+/// a read.
+fn add_turn_of(alloc: Global, body: &str, count: u64, step: usize, out: &mut String) -> bool {
+    let mut text = String::new(alloc);
+    if !repeat(&mut text, body, count) {
+        return false;
+    }
+    let bytes = text.as_str().as_bytes();
+    add_turn(alloc, &mut Trickle { bytes, step }, out)
+}
+
 /// `turn EVENT COUNT LINES BYTES`: of an input of so many lines, each of that event, of which so
 /// many lines and bytes come a read, how many lines the first turn has.
 pub fn turn(alloc: Global, known: &Known, words: &[&str], out: &mut String) -> bool {
     let [name, count, lines, more] = words else {
         return false;
     };
-    let (Some(body), Ok(count), Ok(lines), Ok(more)) = (
-        known.text(name),
+    let Some(body) = known.text(name) else {
+        return false;
+    };
+    match (
         count.parse::<u64>(),
         lines.parse::<usize>(),
         more.parse::<usize>(),
-    ) else {
-        return false;
-    };
-    let mut text = String::new(alloc);
-    let step = body
-        .len()
-        .saturating_add(1)
-        .saturating_mul(lines)
-        .saturating_add(more);
-    repeat(&mut text, body, count)
-        && add_turn(
-            alloc,
-            &mut Trickle {
-                bytes: text.as_str().as_bytes(),
-                step,
-            },
-            out,
-        )
+    ) {
+        (Ok(count), Ok(lines), Ok(more)) => {
+            add_turn_of(alloc, body, count, step_of(body, lines, more), out)
+        }
+        _ => false,
+    }
 }
 
 /// Adds what a follower wrote, and how it ended.

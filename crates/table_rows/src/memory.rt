@@ -1,6 +1,6 @@
 //! Databases in memory.
 
-use crate::acts::{End, Tried, act_all, act_compared, run};
+use crate::acts::{End, Tried, act_all, act_compared, run_all};
 use crate::known::Known;
 use crate::relays::{FailsOnce, stepped};
 use relay::Relay;
@@ -14,21 +14,6 @@ use std::sync::Wait;
 #[derive(Drop)]
 pub struct Base {
     conn: Option<Connection<MemStore>>,
-}
-
-/// Runs the statements of names.
-fn run_all(
-    conn: &mut Connection<MemStore>,
-    known: &Known,
-    names: &[&str],
-    out: &mut String,
-) -> bool {
-    for name in names {
-        if run(conn, known, name, out) != End::Done {
-            return false;
-        }
-    }
-    true
 }
 
 /// `memory NAME [STATEMENT..]`: a new database, on which these statements run.

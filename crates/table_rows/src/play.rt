@@ -39,6 +39,32 @@ impl<'a, R: AllocGlobal> Values<'a, R> {
     }
 }
 
+/// What a word does to a database over files.
+fn act_of(word: &str) -> Act {
+    match word {
+        "leave" => Act::Leave,
+        _ => Act::Call,
+    }
+}
+
+/// Calls over the files of a name, as a word says.
+fn over_files<R: AllocGlobal + Wait>(
+    rt: &R,
+    values: &mut Values<'_, R>,
+    word: &str,
+    name: &str,
+    calls: &str,
+    said: &mut Said,
+) -> bool {
+    let Some(image) = values.images.get_mut(name) else {
+        return false;
+    };
+    match word {
+        "stop" => stops::stops(rt, image, &values.known, calls, said),
+        _ => disks::over(rt, image, &values.known, act_of(word), calls, said),
+    }
+}
+
 /// Calls over files: `stop FILES CALL..`, `leave FILES CALL..`, or `FILES CALL..`.
 fn of_files<R: AllocGlobal + Wait>(
     rt: &R,
@@ -47,19 +73,12 @@ fn of_files<R: AllocGlobal + Wait>(
     text: &str,
     said: &mut Said,
 ) -> bool {
-    let (name, calls, act) = match word {
+    match word {
         "stop" | "leave" => {
             let (name, calls) = parted(text);
-            (name, calls, Act::Leave)
+            over_files(rt, values, word, name, calls, said)
         }
-        _ => (word, text, Act::Call),
-    };
-    match values.images.get_mut(name) {
-        Some(image) => match word {
-            "stop" => stops::stops(rt, image, &values.known, calls, said),
-            _ => disks::over(rt, image, &values.known, act, calls, said),
-        },
-        None => false,
+        _ => over_files(rt, values, word, word, text, said),
     }
 }
 

@@ -1,6 +1,6 @@
 //! Calls of services, whatever the store of their database is.
 
-use crate::acts::{End, Tried, done, refused};
+use crate::acts::{End, Tried, done, parted, refused};
 use crate::known::Known;
 use attributes::{Batch, Moment, Sequenced, Text};
 use outbox::{NotMade, OutboxFault, Service};
@@ -134,6 +134,25 @@ fn one<S: Alter>(
     }
 }
 
+/// Gives commands and asks for rows, one after another, at a time.
+fn all_of<S: Alter>(
+    known: &Known,
+    service: &mut Service<S>,
+    text: &str,
+    at: &Moment,
+    said: &mut Said,
+) -> End {
+    let mut all = End::Done;
+    for call in text.split(';') {
+        match one(known, service, call.trim(), at, said) {
+            End::Done => {}
+            End::Refused => all = End::Refused,
+            End::Untold => return End::Untold,
+        }
+    }
+    all
+}
+
 /// `orders CALL [; CALL]..`: gives commands and asks for rows, one after another; it is done where
 /// none is refused.
 fn orders<S: Alter>(
@@ -143,64 +162,30 @@ fn orders<S: Alter>(
     text: &str,
     said: &mut Said,
 ) -> End {
-    let Ok(at) = Moment::of_text(alloc, TIME) else {
-        return End::Untold;
-    };
-    let mut all = End::Done;
-    for call in text.split(';') {
-        match one(known, service, call.trim(), &at, said) {
-            End::Done => {}
-            End::Refused => all = End::Refused,
-            End::Untold => return End::Untold,
+    match Moment::of_text(alloc, TIME) {
+        Ok(at) => all_of(known, service, text, &at, said),
+        Err(_) => End::Untold,
+    }
+}
+
+/// Places the orders from 1 to a number, and answers whether it did.
+fn place_all<S: Alter>(service: &mut Service<S>, count: u64, at: &Moment) -> bool {
+    for order in 1..=count {
+        if command(service, "place", order, at).is_err() {
+            return false;
         }
     }
-    all
+    true
 }
 
 /// `fill ORDERS`: places the orders from 1 to that number, and tells how many rows there are then.
 fn fill<S: Alter>(alloc: Global, service: &mut Service<S>, text: &str, out: &mut String) -> End {
-    let (Ok(count), Ok(at)) = (text.parse::<u64>(), Moment::of_text(alloc, TIME)) else {
-        return End::Untold;
+    let is_filled = match (text.parse::<u64>(), Moment::of_text(alloc, TIME)) {
+        (Ok(count), Ok(at)) => place_all(service, count, &at),
+        _ => false,
     };
-    for order in 1..=count {
-        if command(service, "place", order, &at).is_err() {
-            return End::Untold;
-        }
-    }
     let rows = service.rows();
-    done(write!(out, "rows {rows}\n").is_ok())
-}
-
-/// A call of the service that a database has.
-pub fn of_service<S: Alter + Drop>(
-    alloc: Global,
-    conn: Connection<S>,
-    known: &Known,
-    word: &str,
-    text: &str,
-    said: &mut Said,
-) -> Tried<S> {
-    match Service::adopt(alloc, conn) {
-        Ok(mut service) => {
-            let end = match word {
-                "orders" => orders(alloc, known, &mut service, text, said),
-                _ => fill(alloc, &mut service, text, &mut said.text),
-            };
-            let conn = service.into_connection();
-            Tried { conn, end }
-        }
-        Err(NotMade { conn, fault }) => {
-            let end = faulty(&mut said.text, fault);
-            Tried { conn, end }
-        }
-    }
-}
-
-/// The source and base of words.
-fn source_and_base(alloc: Global, text: &str) -> Option<(Text, u64)> {
-    let (source, base) = text.split_once(' ')?;
-    let base = base.parse::<u64>().ok()?;
-    Some((Text::of(alloc, source).ok()?, base))
+    done(is_filled && write!(out, "rows {rows}\n").is_ok())
 }
 
 /// Adds the source and base of a service, and how many rows it has.
@@ -210,69 +195,105 @@ fn tell<S: Alter>(service: &Service<S>, out: &mut String) -> bool {
         && write!(out, ", base {base}, rows {rows}\n").is_ok()
 }
 
-/// What is left where a service was to be made, opened or adopted.
-fn made<S: Alter + Drop>(made: Result<Service<S>, NotMade<S>>, out: &mut String) -> Tried<S> {
-    match made {
-        Ok(service) => {
-            let end = done(tell(&service, out));
-            let conn = service.into_connection();
-            Tried { conn, end }
-        }
-        Err(NotMade { conn, fault }) => {
-            let end = faulty(out, fault);
-            Tried { conn, end }
-        }
+/// Adds the rows that a service holds.
+fn tell_rows<S: Alter>(known: &Known, service: &mut Service<S>, out: &mut String) -> bool {
+    match service.rows_after(0, 100) {
+        Ok(rows) => out.push_str("service ").is_ok() && known.tell(out, &rows),
+        Err(fault) => write!(out, "rows refused: {fault}").is_ok(),
     }
 }
 
-/// `create|open service SOURCE BASE`: its source and base, and how many rows it has.
-pub fn begin<S: Alter + Drop>(
+/// A call of a service that was made, opened or adopted.
+fn call<S: Alter>(
+    alloc: Global,
+    known: &Known,
+    service: &mut Service<S>,
+    word: &str,
+    text: &str,
+    said: &mut Said,
+) -> End {
+    match word {
+        "orders" => orders(alloc, known, service, text, said),
+        "fill" => fill(alloc, service, text, &mut said.text),
+        "look" => done(tell_rows(known, service, &mut said.text)),
+        _ => done(tell(service, &mut said.text)),
+    }
+}
+
+/// Adds why there is no service.
+fn tell_not_made(word: &str, fault: OutboxFault, out: &mut String) -> End {
+    if word != "look" {
+        return faulty(out, fault);
+    }
+    done(match fault {
+        OutboxFault::Foreign => out.push_str("no service").is_ok(),
+        _ => write!(out, "service refused: {fault}").is_ok(),
+    })
+}
+
+/// The source and base of words `service SOURCE BASE`.
+fn source_and_base(alloc: Global, text: &str) -> Option<(Text, u64)> {
+    let (source, base) = parted(text).1.split_once(' ')?;
+    let base = base.parse::<u64>().ok()?;
+    Some((Text::of(alloc, source).ok()?, base))
+}
+
+/// A service of this source and base, made or opened. One that can't have them is told as want of
+/// memory is, by no answer.
+fn founded<S: Alter + Drop>(
     alloc: Global,
     conn: Connection<S>,
-    is_opened: bool,
-    text: &str,
-    out: &mut String,
-) -> Tried<S> {
-    let end = End::Untold;
-    let Some((source, base)) = source_and_base(alloc, text) else {
-        return Tried { conn, end };
-    };
+    word: &str,
+    source: &Text,
+    base: u64,
+) -> Result<Service<S>, NotMade<S>> {
     if !source.is_source() || source.as_str().len() > 1024 || base > MAX {
-        return Tried { conn, end };
+        let fault = OutboxFault::OutOfMemory;
+        return Err(NotMade { conn, fault });
     }
-    if is_opened {
-        made(Service::open(alloc, conn, &source, base), out)
-    } else {
-        made(Service::create(alloc, conn, &source, base), out)
+    match word {
+        "open" => Service::open(alloc, conn, source, base),
+        _ => Service::create(alloc, conn, source, base),
     }
 }
 
-/// `adopt service`: its source and base, and how many rows it has.
-pub fn adopt<S: Alter + Drop>(alloc: Global, conn: Connection<S>, out: &mut String) -> Tried<S> {
-    made(Service::adopt(alloc, conn), out)
+/// The service that a call is of: one that is made or opened, or the one that a database has.
+fn made<S: Alter + Drop>(
+    alloc: Global,
+    conn: Connection<S>,
+    word: &str,
+    text: &str,
+) -> Result<Service<S>, NotMade<S>> {
+    match word {
+        "create" | "open" => match source_and_base(alloc, text) {
+            Some((source, base)) => founded(alloc, conn, word, &source, base),
+            None => {
+                let fault = OutboxFault::OutOfMemory;
+                Err(NotMade { conn, fault })
+            }
+        },
+        _ => Service::adopt(alloc, conn),
+    }
 }
 
-/// Adds the rows of the service that a database has.
-pub fn look<S: Alter + Drop>(
+/// A call of the service that a database has; `create|open service SOURCE BASE` and `adopt service`
+/// tell its source and base, and how many rows it has, and `look` what it holds.
+pub fn of_service<S: Alter + Drop>(
     alloc: Global,
     conn: Connection<S>,
     known: &Known,
-    out: &mut String,
+    word: &str,
+    text: &str,
+    said: &mut Said,
 ) -> Tried<S> {
-    match Service::adopt(alloc, conn) {
+    match made(alloc, conn, word, text) {
         Ok(mut service) => {
-            let end = done(match service.rows_after(0, 100) {
-                Ok(rows) => out.push_str("service ").is_ok() && known.tell(out, &rows),
-                Err(fault) => write!(out, "rows refused: {fault}").is_ok(),
-            });
+            let end = call(alloc, known, &mut service, word, text, said);
             let conn = service.into_connection();
             Tried { conn, end }
         }
         Err(NotMade { conn, fault }) => {
-            let end = done(match fault {
-                OutboxFault::Foreign => out.push_str("no service").is_ok(),
-                _ => write!(out, "service refused: {fault}").is_ok(),
-            });
+            let end = tell_not_made(word, fault, &mut said.text);
             Tried { conn, end }
         }
     }

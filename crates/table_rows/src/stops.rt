@@ -5,36 +5,16 @@
 //! or what was synced last, or a mixture of both.
 
 use crate::acts::{End, Tried, act_all, done, versions};
-use crate::disks::{Act, Image, Run, files_of, left_of, ran};
+use crate::disks::{Act, Image, Run, add_left, files_of, ran};
 use crate::known::Known;
 use crate::{inboxes, services};
 use rows::said::{Said, line};
-use sqlite::{Alter, Connection, Files};
+use sqlite::{Alter, Connection};
 use std::alloc::Global;
 use std::sync::Wait;
 
 /// More calls than any run makes of one file.
 const ENOUGH: u64 = 1000;
-
-/// Adds the rows of the service and the events of the inbox that a database has.
-fn held<S: Alter + Drop>(
-    alloc: Global,
-    conn: Connection<S>,
-    known: &Known,
-    out: &mut String,
-) -> Tried<S> {
-    let Tried {
-        conn,
-        end: of_service,
-    } = services::look(alloc, conn, known, out);
-    let is_parted = out.push_str(", ").is_ok();
-    let Tried {
-        conn,
-        end: of_inbox,
-    } = inboxes::look(alloc, conn, known, out);
-    let end = done(of_service == End::Done && is_parted && of_inbox == End::Done);
-    Tried { conn, end }
-}
 
 /// Adds how many inboxes of each version a database has.
 fn add_versions<S: Alter>(conn: &mut Connection<S>, out: &mut String) -> bool {
@@ -50,12 +30,14 @@ fn tell_held<S: Alter + Drop>(
     alloc: Global,
     conn: Connection<S>,
     known: &Known,
-    out: &mut String,
+    said: &mut Said,
 ) -> Tried<S> {
     let mut conn = conn;
-    let is_begun = add_versions(&mut conn, out);
-    let Tried { conn, end } = held(alloc, conn, known, out);
-    let end = done(is_begun && end == End::Done && line(out, ""));
+    let is_begun = add_versions(&mut conn, &mut said.text);
+    let Tried { conn, end } = services::of_service(alloc, conn, known, "look", "", said);
+    let is_parted = is_begun & (end == End::Done) & said.text.push_str(", ").is_ok();
+    let Tried { conn, end } = inboxes::look(alloc, conn, known, false, &mut said.text);
+    let end = done(is_parted & (end == End::Done) & line(&mut said.text, ""));
     Tried { conn, end }
 }
 
@@ -76,7 +58,7 @@ fn again<R: AllocGlobal + Wait, S: Alter + Drop>(
             end: End::Untold,
         };
     }
-    tell_held(alloc, conn, known, &mut said.text)
+    tell_held(alloc, conn, known, said)
 }
 
 /// Tells what a database has that a stop left. Where the calls hadn't answered they are made again.
@@ -96,7 +78,7 @@ pub fn look_over<R: AllocGlobal + Wait, S: Alter + Drop>(
             end: End::Untold,
         };
     }
-    let Tried { conn, end } = tell_held(alloc, conn, known, &mut said.text);
+    let Tried { conn, end } = tell_held(alloc, conn, known, said);
     if is_done || end != End::Done {
         return Tried { conn, end };
     }
@@ -113,6 +95,14 @@ fn are_all(outcomes: &[Vec<u8>], bytes: &[u8]) -> bool {
     true
 }
 
+/// Adds what was told of files, unless it was told before.
+fn tell_once(end: &Said, said: &mut Said) -> bool {
+    if end.text.is_empty() {
+        return line(&mut said.text, "not opened");
+    }
+    said.text.as_str().contains(end.text.as_str()) || said.text.push_str(end.text.as_str()).is_ok()
+}
+
 /// Adds what there is in files with these bytes, unless it was told.
 fn tell_left<R: AllocGlobal + Wait>(
     rt: &R,
@@ -124,21 +114,24 @@ fn tell_left<R: AllocGlobal + Wait>(
     said: &mut Said,
 ) -> bool {
     let alloc = rt.alloc();
-    let Some(files) = files_of(alloc, log, db, (u64::MAX, u64::MAX)) else {
-        return false;
-    };
     let Ok(mut end) = Said::empty(alloc) else {
         return false;
     };
-    let Some(run) = ran(rt, files, known, Act::Look(is_done), text, &mut end) else {
-        return false;
-    };
-    if end.text.is_empty() {
-        return line(&mut said.text, "not opened");
+    match files_of(alloc, log, db, (u64::MAX, u64::MAX)) {
+        Some(files) => {
+            is_told(ran(rt, files, known, Act::Look(is_done), text, &mut end))
+                && tell_once(&end, said)
+        }
+        None => false,
     }
-    run.end != End::Untold
-        && (said.text.as_str().contains(end.text.as_str())
-            || said.text.push_str(end.text.as_str()).is_ok())
+}
+
+/// Whether a run was told.
+fn is_told(run: Option<Run>) -> bool {
+    match run {
+        Some(run) => run.end != End::Untold,
+        None => false,
+    }
 }
 
 /// Adds what there is in the files, whatever a stop left of each.
@@ -161,33 +154,26 @@ fn tell_all<R: AllocGlobal + Wait>(
     true
 }
 
-/// Adds what a stop left of the files. Those that a run left as it found them were looked at before,
-/// unless it was the first.
+/// Adds what a stop left of the files, whatever that is of each. Those that a run left as it found
+/// them were looked at before, unless it was the first.
 fn tell_stop<R: AllocGlobal + Wait>(
     rt: &R,
     image: &Image,
     known: &Known,
-    run: Run,
+    run: &mut Run,
     text: &str,
     is_first: bool,
     said: &mut Said,
 ) -> bool {
     let alloc = rt.alloc();
-    let Run {
-        files: Files { log, db },
-        end,
-        is_through: _,
-    } = run;
-    let is_done = end == End::Done;
-    let Some(logs) = left_of(alloc, log) else {
-        return false;
-    };
-    let Some(dbs) = left_of(alloc, db) else {
-        return false;
-    };
+    let (mut logs, mut dbs) = (Vec::new(alloc), Vec::new(alloc));
+    let is_done = run.end == End::Done;
+    let is_read = run.end != End::Untold
+        && add_left(alloc, &mut logs, &mut run.files.log)
+        && add_left(alloc, &mut dbs, &mut run.files.db);
     let is_unchanged = are_all(&logs, &image.log) && are_all(&dbs, &image.db);
     let is_known = is_unchanged && !is_done && !is_first;
-    end != End::Untold && (is_known || tell_all(rt, known, &logs, &dbs, text, is_done, said))
+    is_read && (is_known || tell_all(rt, known, &logs, &dbs, text, is_done, said))
 }
 
 /// A run whose file fails after so many calls: whether it met no stop, and what it left is told.
@@ -200,21 +186,31 @@ fn stop<R: AllocGlobal + Wait>(
     is_first: bool,
     said: &mut Said,
 ) -> Option<bool> {
-    let alloc = rt.alloc();
-    let Some(files) = files_of(alloc, image.log.as_slice(), image.db.as_slice(), of) else {
+    let Some(mut run) = run_to(rt, image, known, of, text) else {
         return None;
     };
+    if tell_stop(rt, image, known, &mut run, text, is_first, said) {
+        Some(run.is_through)
+    } else {
+        None
+    }
+}
+
+/// A run whose file fails after so many calls, and what it answers goes untold.
+fn run_to<R: AllocGlobal + Wait>(
+    rt: &R,
+    image: &Image,
+    known: &Known,
+    of: (u64, u64),
+    text: &str,
+) -> Option<Run> {
+    let alloc = rt.alloc();
     let Ok(mut own) = Said::empty(alloc) else {
         return None;
     };
-    let Some(run) = ran(rt, files, known, Act::Call, text, &mut own) else {
-        return None;
-    };
-    let is_through = run.is_through;
-    if tell_stop(rt, image, known, run, text, is_first, said) {
-        Some(is_through)
-    } else {
-        None
+    match files_of(alloc, image.log.as_slice(), image.db.as_slice(), of) {
+        Some(files) => ran(rt, files, known, Act::Call, text, &mut own),
+        None => None,
     }
 }
 
