@@ -1,5 +1,5 @@
 #!/usr/bin/env python3
-"""Durable events a second that jumbetaid takes over HTTP, beside PostgreSQL and Redis by as many clients.
+"""Durable events a second that jumbetaid takes over HTTP, beside PostgreSQL, Redis and RabbitMQ by as many clients.
 
     tools/load_service.py [--program FILE] [--rounds N] [--seconds N] [--shapes LIST]
     tools/load_service.py [--program FILE] --sync N
@@ -8,15 +8,17 @@
 
 A shape is CONNECTIONSxBATCH, by default 1x1,16x1,64x1,256x1,16x100. By turns each gets events of 350 bytes for so many
 seconds, 3 rounds of 3: the service by wrk, each event answered once it is synced; PostgreSQL by pgbench, prepared, with
-synchronous_commit, into a table with the keys of a site's; Redis by redis-benchmark, a batch as commands in one write,
-into a stream with appendfsync always, which has no keys and tells no repeat. Told are the middle of the rounds, with the least and the most
-rate, and the median and the 99th percentile of the time to an answer. --sync tells how long two services take to come to
-one view, where one has N events and where each has N others; --ask how long GET /kinds takes while a service over N events
-takes 1,000 a second, how long it took to start, and its memory; --backup how long a backup of N events takes while 1,000 a
-second come, what it does to their answers, and how long it takes a site whose disk is lost to be restored from it and to
-catch up from its peer: status 1 where an event that was acknowledged isn't there then. It wants wrk and, for the comparison,
-initdb and pgbench, redis-server and redis-benchmark (on Debian wrk, postgresql-15, redis-server, redis-tools); as root
-PostgreSQL runs as the user postgres. No part of a gate.
+synchronous_commit, into a table with the keys of a site's; Redis by redis-benchmark, a batch as commands in one write, into
+a stream with appendfsync always, and RabbitMQ by tools/load_rabbitmq.c, confirmed, into a quorum queue of one node, which
+both have no keys and tell no repeat. RabbitMQ runs during its own turns alone, since an idle node disturbs the others. Told
+are the middle of the rounds, with the least and the most rate, and the median and the 99th percentile of the time to an
+answer. --sync tells how long two services take to come to one view, where one has N events and where each has N others;
+--ask how long GET /kinds takes while a service over N events takes 1,000 a second, how long it took to start, and its
+memory; --backup how long a backup of N events takes while 1,000 a second come, what it does to their answers, and how long
+it takes a site whose disk is lost to be restored from it and to catch up from its peer: status 1 where an event that was
+acknowledged isn't there then. It wants wrk and, for the comparison, initdb and pgbench, redis-server and redis-benchmark,
+rabbitmq-server and librabbitmq (on Debian wrk, postgresql-15, redis-server, redis-tools, rabbitmq-server, librabbitmq-dev);
+as root PostgreSQL runs as the user postgres. No part of a gate.
 """
 import argparse
 import contextlib
@@ -180,6 +182,50 @@ class Redis:
         subprocess.run(["redis-cli", "-s", self.socket, "flushall"], capture_output=True, check=True)
         count = 100 * shape[0] * shape[1]
         return self.asked(shape, max(count, int(self.asked(shape, count)[0] * seconds)))
+
+
+class RabbitMQ:
+    """A node of its own in a folder, which runs while it is loaded."""
+
+    SERVER, PORTS = "/usr/lib/rabbitmq/bin/rabbitmq-server", (25672, 25673, 25674)
+
+    def __init__(self, folder):
+        self.folder, self.client = f"{folder}/rabbitmq", f"{folder}/rabbitmq/load"
+        node, others, names = self.PORTS
+        mine = {"MNESIA_BASE": "data", "LOG_BASE": "log", "ENABLED_PLUGINS_FILE": "plugins", "CONFIG_FILE": "none", "CONF_ENV_FILE": "env"}
+        self.environment = {**os.environ, **{f"RABBITMQ_{name}": f"{self.folder}/{it}" for name, it in mine.items()}}
+        self.environment.update({"HOME": self.folder, "RABBITMQ_NODENAME": "load@localhost", "ERL_EPMD_PORT": str(names)})
+        self.environment.update({"RABBITMQ_NODE_PORT": str(node), "RABBITMQ_DIST_PORT": str(others), "RABBITMQ_NODE_IP_ADDRESS": "127.0.0.1"})
+
+    def is_there(self):
+        if not os.path.exists(self.SERVER):
+            return False
+        os.mkdir(self.folder)
+        words = ["gcc", "-O2", "-o", self.client, f"{TOP}/tools/load_rabbitmq.c", "-lrabbitmq", "-lpthread"]
+        return subprocess.run(words, check=False, stderr=subprocess.DEVNULL).returncode == 0
+
+    def start(self):
+        with open(f"{self.folder}/said", "wb") as said:
+            ran = subprocess.Popen([self.SERVER], env=self.environment, cwd=self.folder, stdout=said, stderr=said)
+        until = time.monotonic() + 60
+        while time.monotonic() < until and ran.poll() is None:
+            time.sleep(0.1)
+            with open(f"{self.folder}/said", encoding="utf-8") as said:
+                if "completed with" in said.read():
+                    return ran
+        sys.exit(f"RabbitMQ didn't start: see {self.folder}/said")
+
+    def load(self, shape, seconds):
+        ran = self.start()
+        try:
+            words = [self.client, str(self.PORTS[0]), *map(str, shape), str(seconds)]
+            said = subprocess.run(words, capture_output=True, text=True, check=True, timeout=seconds + 60)
+        finally:
+            ran.terminate()
+            ran.wait(60)
+            subprocess.run(["epmd", "-kill"], env=self.environment, check=False, capture_output=True)
+        rate, middle, late = map(float, said.stdout.split())
+        return rate, middle, late
 
 
 def fill(site, source, count):
@@ -365,6 +411,9 @@ def main():
             redis.start()
             end.callback(redis.stop)
             systems["Redis"] = lambda shape: redis.load(shape, given.seconds)
+        rabbitmq = RabbitMQ(folder)
+        if rabbitmq.is_there():
+            systems["RabbitMQ"] = lambda shape: rabbitmq.load(shape, given.seconds)
         for turn in range(given.rounds):
             for shape in shapes:
                 for name in list(systems)[:: 1 if turn % 2 else -1]:
