@@ -1,8 +1,8 @@
 #!/usr/bin/env python3
 """Measures the built program beside plain Rust programs, and prints tables in Markdown.
 
-usage: tools/measure.py PLAIN [PLAIN_TABLES] [--program FILE] [--rounds N] [--threads N] [--folder FOLDER]
-           [--groups GROUP..]
+usage: tools/measure.py PLAIN [PLAIN_TABLES] [--program FILE] [--hold FILE] [--rounds N] [--threads N]
+           [--folder FOLDER] [--groups GROUP..]
 
 PLAIN is the program of tools/baseline, PLAIN_TABLES that of tools/baseline_tables. The programs run in turn, the same
 words over the same files, N rounds (3 by default). A table gives of each the least and the middle of processor time
@@ -12,7 +12,8 @@ byte for byte, or the exit status is 1. The batches are made in FOLDER, or in on
 
 The groups: questions (no data), data, conflicts (times and conflicts), nested (data 40 deep), escapes (texts with
 escaped marks), files (several files), tables (take and run), streams (follow, pages and questions over a database),
-million. All but the last by default.
+held (a site held open over 120,000 events, by examples/rust/hold.rs as cargo builds it, which --hold names), million
+(with --hold also a site held open over them). All but the last two by default.
 
 Ours reads large files with as many threads as there are processors. With --threads N it has N of them; the plain
 programs have one.
@@ -21,6 +22,8 @@ import argparse
 import hashlib
 import json
 import os
+import re
+import shutil
 import subprocess
 import sys
 import tempfile
@@ -40,9 +43,20 @@ BATCHES: dict[str, list[str]] = {
     **{f"part{i}": ["--data", "200", "--events", "7500", "--seed", str(i)] for i in range(1, 9)},
     **{f"many{i}": ["--data", "200", "--events", "25000", "--seed", str(i)] for i in range(1, 41)},
 }
-GROUPS = ("questions", "data", "conflicts", "nested", "escapes", "files", "tables", "streams", "million")
+GROUPS = ("questions", "data", "conflicts", "nested", "escapes", "files", "tables", "streams", "held", "million")
 # How many lines a waiting producer sends.
 WAITING = 1_000
+
+
+def held_lines(source: str) -> str:
+    """Lines of new events of a source for examples/rust/hold.rs: a hundred, ten of a hundred each, ten of 64, and 640."""
+    counts = [1] * 100 + [100] * 10 + [64] * 10 + [1] * 640
+    lines, number = [], 0
+    for count in counts:
+        events = [f'{{"specversion":"1.0","id":"{it}","source":"{source}","type":"t","sequence":"{it:020d}"}}' for it in range(number + 1, number + count + 1)]
+        lines.append(events[0] if count == 1 else f"[{','.join(events)}]")
+        number += count
+    return "\n".join(lines) + "\n"
 
 
 class Measured:
@@ -223,8 +237,47 @@ class Bench:
         print(f"\n{events} events of {text / 1e6:.0f} MB of canonical text; kept of them are {kept / 1e6:.0f} MB: ", end="")
         print(f"{kept / text:.2f} times the text, or the text and {(kept - text) / events:.0f} bytes an event")
 
+        if self.given.hold:
+            database = f"{self.folder}/million.db"
+            subprocess.run([self.given.program, "take", "--db", database, *paths], stdout=subprocess.DEVNULL, check=True)
+            print(f"\na site held open over them, the least of the middles of {self.given.rounds} rounds, by the clock:\n")
+            for name, micros in self.held_open([self.given.hold, database], database).items():
+                print(f"{name}: {micros:,} us")
+
+    def held_open(self, words: list[str], database: str) -> dict[str, int]:
+        """What a program that holds a database open printed, of each line the least of the rounds, each over a copy of it."""
+        lines, none, copy = f"{self.folder}/held", f"{self.folder}/none", f"{self.folder}/copy.db"
+        with open(lines, "w", encoding="ascii") as file:
+            file.write(held_lines("/held"))
+        with open(none, "w", encoding="ascii") as file:
+            file.write('{"sources":{},"version":1}\n')
+        found: dict[str, int] = {}
+        for _ in range(self.given.rounds):
+            shutil.copyfile(database, copy)
+            said = subprocess.run([*words[:-1], copy, lines, none], stdout=subprocess.PIPE, text=True, check=True).stdout
+            for name, micros in re.findall(r"^(.*): (\d+) us$", said, re.M):
+                found[name] = min(int(micros), found.get(name, int(micros)))
+        for end in ("", "-wal", "-shm", "-journal"):
+            if os.path.exists(copy + end):
+                os.remove(copy + end)
+        return found
+
+    def held(self) -> None:
+        """A site that a process holds open, beside a plain program over rusqlite and a map."""
+        if not self.given.hold or not self.given.plain_tables:
+            print("held: wants --hold and PLAIN_TABLES", file=sys.stderr)
+            return
+        batch, ours, plain = self.batch("plain"), f"{self.folder}/held.db", f"{self.folder}/held-plain.db"
+        subprocess.run([self.given.program, "take", "--db", ours, batch], stdout=subprocess.DEVNULL, check=True)
+        subprocess.run([self.given.plain_tables, "take", plain, batch], stdout=subprocess.DEVNULL, check=True)
+        both = [self.held_open([self.given.hold, ours], ours), self.held_open([self.given.plain_tables, "hold", plain], plain)]
+        print("\n| a site held open over 120,000 events | the library | rusqlite and a map | ratio |\n|---|---|---|---|")
+        for name, micros in both[0].items():
+            other = both[1].get(name)
+            print(f"| {name} | {micros:,} us | {f'{other:,} us' if other else ''} | {f'{micros / other:.2f}' if other else ''} |")
+
     def run(self, group: str) -> None:
-        if group in ("files", "tables", "streams", "million"):
+        if group in ("files", "tables", "streams", "held", "million"):
             getattr(self, group)()
         else:
             self.questions("plain" if group == "questions" else group)
@@ -235,14 +288,17 @@ def main() -> int:
     words.add_argument("plain")
     words.add_argument("plain_tables", nargs="?")
     words.add_argument("--program", default=f"{TOP}/crates/site_cli/out/site_cli")
+    words.add_argument("--hold")
     words.add_argument("--rounds", type=int, default=3)
     words.add_argument("--threads", type=int, default=0)
     words.add_argument("--folder")
-    words.add_argument("--groups", nargs="*", choices=GROUPS, default=GROUPS[:-1])
+    words.add_argument("--groups", nargs="*", choices=GROUPS, default=GROUPS[:-2])
     given = words.parse_args()
     given.program, given.plain = os.path.realpath(given.program), os.path.realpath(given.plain)
     if given.plain_tables:
         given.plain_tables = os.path.realpath(given.plain_tables)
+    if given.hold:
+        given.hold = os.path.realpath(given.hold)
     with tempfile.TemporaryDirectory() as own:
         bench = Bench(given, os.path.realpath(given.folder or own))
         for it in given.groups:

@@ -26,6 +26,7 @@ TOP = os.path.dirname(os.path.dirname(os.path.realpath(__file__)))
 sys.path.insert(0, f"{TOP}/tools")
 import library  # noqa: E402
 import version  # noqa: E402
+from measure import held_lines  # noqa: E402
 
 QUESTIONS = ("cover", "shown", "conflicts", "latest", "kinds", "days", "gaps")
 STRICT = ["-std=c11", "-Wall", "-Wextra", "-Wconversion", "-Werror", "-pedantic", "-O1", "-g"]
@@ -342,19 +343,16 @@ def try_placing(tries, orders):
 
 
 def try_hold(tries):
-    """The example in Rust, which takes 1,100 events into a file, told by the program where it is there."""
-    events = [f'{{"specversion":"1.0","id":"{it}","source":"/a","type":"t","sequence":"{it:020d}"}}' for it in range(1, 1101)]
+    """The example in Rust, which takes 2,380 events into a file, told by the program where it is there."""
     with open(f"{tries.folder}/lines", "w", encoding="ascii") as out:
-        out.write("\n".join(events[:100]) + "\n")
-        for first in range(100, 1100, 100):
-            out.write(f"[{','.join(events[first:first + 100])}]\n")
+        out.write(held_lines("/a"))
     with open(f"{tries.folder}/none.summary", "w", encoding="ascii") as out:
         out.write('{"sources":{},"version":1}\n')
-    said = re.compile(rb"(?:[a-z, ]+: \d+ us\n){7}\Z")
+    said = re.compile(rb"(?:[a-z0-9, ]+: \d+ us\n){13}\Z")
     tries.passes("Rust: examples/hold.rs", ["cargo/debug/examples/hold", "hold.db", "lines", "none.summary"], said)
     if tries.program:
         status, out = tries.run([tries.program, "kinds", "--db", "hold.db"])
-        tries.judge("Rust: what examples/hold.rs leaves", (status, out) == (0, b'["t",1100]\n'), out)
+        tries.judge("Rust: what examples/hold.rs leaves", (status, out) == (0, b'["t",2380]\n'), out)
 
 
 def try_rust(tries, batch, orders):

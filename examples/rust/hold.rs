@@ -1,8 +1,8 @@
 //! `hold DB LINES SUMMARY` opens a site over a database file and times what a service does with it.
 //!
-//! LINES has a hundred lines with one new event each, then ten with a hundred each; SUMMARY is that
-//! of a peer. The lines that are printed are those of `hold` of tools/baseline_tables, and two more
-//! for views that are kept.
+//! LINES has a hundred lines with one new event each, ten with a hundred each, ten with 64 each, and
+//! 640 with one each; SUMMARY is that of a peer. What is printed but the last six lines is what `hold`
+//! of tools/baseline_tables prints too.
 
 use jumbetai::{Question, Site};
 use std::error::Error;
@@ -47,11 +47,35 @@ fn main() -> Done {
     println!("open: {} us", start.elapsed().as_micros());
     middle("take one", 100, |i| take(&mut site, &lines[i]))?;
     middle("take a hundred", 10, |i| take(&mut site, &lines[100 + i]))?;
+    middle("take 64 at once", 10, |i| take(&mut site, &lines[110 + i]))?;
     middle("delta page", 10, |_| {
         Ok(site.delta_page(&summary, 0).map(drop)?)
     })?;
+    middle("delta page of 2,000", 10, |_| {
+        Ok(site.delta_part(&summary, 0, 2000, 0).map(drop)?)
+    })?;
+    middle("arrivals page", 10, |i| {
+        Ok(site.arrivals(100 * i as u64).map(drop)?)
+    })?;
     let kinds = |site: &mut Site| Ok(site.ask(Question::Kinds).map(drop)?);
     middle("kinds", 10, |_| kinds(&mut site))?;
+    middle("take each of 64", 10, |i| {
+        let bodies: Vec<&[u8]> = lines[120 + 64 * i..][..64]
+            .iter()
+            .map(|line| &line[..])
+            .collect();
+        match site
+            .take_each(&bodies)?
+            .iter()
+            .all(|it| it.is_ok_and(|it| it.fresh == 1))
+        {
+            true => Ok(()),
+            false => Err("not new".into()),
+        }
+    })?;
+    site.name()?;
+    middle("cover, nothing new", 10, |_| Ok(site.cover().map(drop)?))?;
+    middle("name, nothing new", 10, |_| Ok(site.name().map(drop)?))?;
     middle("keep views", 1, |_| Ok(site.keep_views()?))?;
     middle("kinds, views kept", 10, |_| kinds(&mut site))
 }

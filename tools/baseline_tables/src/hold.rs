@@ -54,8 +54,15 @@ impl Held {
         Ok(String::new())
     }
 
+    /// A page of events in the order in which they came.
+    fn arrivals(&self, after: u64) -> Done {
+        let mut rows = self.base.prepare_cached("SELECT body FROM inbox WHERE place > ?2 ORDER BY place LIMIT ?1")?;
+        let texts = rows.query_map(params![PAGE as i64, after as i64], |row| row.get(0))?;
+        Ok(batch(&texts.collect::<Result<Vec<String>, _>>()?))
+    }
+
     /// The first page of what a peer lacks, by the text of its summary.
-    fn delta(&self, summary: &[u8]) -> Done {
+    fn delta(&self, summary: &[u8], most: u64) -> Done {
         let summary: Value = serde_json::from_slice(summary)?;
         let sources: BTreeMap<&str, Vec<(u64, u64)>> = summary["sources"]
             .as_object()
@@ -73,7 +80,7 @@ impl Held {
             let behind = spans.partition_point(|span| span.0 <= number);
             behind > 0 && number <= spans[behind - 1].1
         };
-        let lacking = self.set.values().filter(|event| !holds(event)).take(PAGE as usize);
+        let lacking = self.set.values().filter(|event| !holds(event)).take(most as usize);
         Ok(batch(&lacking.map(|event| event.text.clone()).collect::<Vec<_>>()))
     }
 
@@ -108,7 +115,7 @@ fn middle(name: &str, times: usize, mut work: impl FnMut(usize) -> Done) -> Done
 }
 
 /// Opens a database and times what a service does with it. The file has lines: a hundred with one new event each,
-/// then ten with a hundred each.
+/// then ten with a hundred each and ten with 64.
 pub fn hold(path: &str, file: &str, summary: &str) -> Done {
     let lines = BufReader::new(std::fs::File::open(file)?).split(b'\n').collect::<Result<Vec<_>, _>>()?;
     let summary = std::fs::read(summary)?;
@@ -117,7 +124,10 @@ pub fn hold(path: &str, file: &str, summary: &str) -> Done {
     let mut told = format!("open: {} us\n", start.elapsed().as_micros());
     told += &middle("take one", 100, |i| held.take(&lines[i]))?;
     told += &middle("take a hundred", 10, |i| held.take(&lines[100 + i]))?;
-    told += &middle("delta page", 10, |_| held.delta(&summary))?;
+    told += &middle("take 64 at once", 10, |i| held.take(&lines[110 + i]))?;
+    told += &middle("delta page", 10, |_| held.delta(&summary, PAGE))?;
+    told += &middle("delta page of 2,000", 10, |_| held.delta(&summary, 2000))?;
+    told += &middle("arrivals page", 10, |i| held.arrivals(100 * i as u64))?;
     told += &middle("kinds", 10, |_| held.kinds())?;
     Ok(told)
 }
