@@ -355,6 +355,9 @@ tr '\n' ' ' <words >got.out
 commands='cover gaps shown latest kinds days conflicts check take follow summary delta scrub arrivals run service order relay number'
 is 'the commands of help' 2 "$commands help " ''
 for word in $commands; do "$program" "$word" --help | options "$word"; done >>named
+# Each command over a database says which variable limits its cache.
+for word in $commands; do "$program" "$word" --help | grep -q -- '--db <DB>.*SITE_CACHE_MIB' && echo "$word"; done | tr '\n' ' ' >got.out
+is 'the variable of the cache' 2 "$commands " ''
 LC_ALL=C sort words named -o named
 grep '^delta' named | tr '\n' ' ' >got.out
 is 'the options of delta' 2 'delta delta --all delta --db delta --from delta --help delta --wait delta -h ' ''

@@ -62,7 +62,7 @@ pub fn read_db<'a>(alloc: Global) -> Arg<'a>
     Arg::new(alloc, "db")
         .long("db")
         .value_name("DB")
-        .help("The database file")
+        .help("The database file, cached up to 256 MiB or SITE_CACHE_MIB")
         .required(true)
 }
 
@@ -72,7 +72,7 @@ pub fn question_db<'a>(alloc: Global) -> Arg<'a>
     ensures local { result.global ≡ false }
 {
     Arg::new(alloc, "db").long("db").value_name("DB").help(
-        "A database file, whose events are asked with those of the files",
+        "A database file, cached up to 256 MiB or SITE_CACHE_MIB, whose events are asked with those of the files",
     )
 }
 
@@ -81,10 +81,9 @@ pub fn checked_db<'a>(alloc: Global) -> Arg<'a>
     ensures rule { rule_of result ≡ option_rule (codes "db") }
     ensures local { result.global ≡ false }
 {
-    Arg::new(alloc, "db")
-        .long("db")
-        .value_name("DB")
-        .help("A database file, to be told what it is")
+    Arg::new(alloc, "db").long("db").value_name("DB").help(
+        "A database file, cached up to 256 MiB or SITE_CACHE_MIB, to be told what it is",
+    )
 }
 
 /// `FILE..`, whose events all have numbers, and which a check of a database may have none of.
@@ -119,7 +118,7 @@ pub fn db<'a>(alloc: Global) -> Arg<'a>
     Arg::new(alloc, "db")
         .long("db")
         .value_name("DB")
-        .help("The database file, made where there is none")
+        .help("The database file, made where there is none, cached up to 256 MiB or SITE_CACHE_MIB")
         .required(true)
 }
 
@@ -131,7 +130,9 @@ pub fn paged_db<'a>(alloc: Global) -> Arg<'a>
     Arg::new(alloc, "db")
         .long("db")
         .value_name("DB")
-        .help("The database file; for one page it is made where there is none")
+        .help(
+            "The database file, cached up to 256 MiB or SITE_CACHE_MIB; for one page it is made where there is none",
+        )
         .required(true)
 }
 
