@@ -7,6 +7,7 @@ import os
 import shutil
 import sys
 import tempfile
+from importlib.machinery import SourceFileLoader
 from typing import Iterator
 
 sys.dont_write_bytecode = True
@@ -16,10 +17,12 @@ import subprocess  # noqa: E402
 
 from test_try_edits import Copy, kept_files  # noqa: E402
 
+lanes = SourceFileLoader("gate", f"{TOP}/gate").load_module().lanes
 # In the place of `rt`: `rt ci` leaves libraries, as old as those that it keeps, and the program, and says what a run says.
 RT = """#!/bin/sh
 [ "$1" = doc ] && { echo FOLDER/kit/START-HERE.md; exit; }
 [ "$1" = ci ] || exit 2
+echo "$RT_JOBS" >FOLDER/lanes
 for it in low small; do
     rm -rf crates/$it/out
     mkdir -p crates/$it/out/rlib/$it.rlib
@@ -106,6 +109,16 @@ def rows(folder: str) -> Iterator[tuple[bool, str]]:
         times = it.read()
     yield all(f"tools/{it}: " in times for it in [*FIRST, *SCRIPTS, "try_edits.py"]), f"the times: {times}"
     yield not os.path.exists(f"{copy.top}/crates/small/out/built"), "a library was built that `rt ci` had left"
+    given, wide, narrow = os.environ.pop("RT_JOBS", None), lanes(4, 22_000_000_000), lanes(4, 21_900_000_000)
+    os.environ["RT_JOBS"] = "3"
+    yield (wide, narrow, lanes(2, 11_000_000_000)) == (["env", "RT_JOBS=4"], [], []), f"lanes by memory: {wide} {narrow}"
+    copy.gate()
+    with open(f"{copy.folder}/lanes", encoding="ascii") as it:
+        told_lanes = it.read()
+    yield told_lanes == "3\n", f"lanes that were given: {told_lanes}"
+    os.environ.pop("RT_JOBS")
+    if given is not None:
+        os.environ["RT_JOBS"] = given
     status, said, _ = copy.gate()
     yield (status, said[-1]) == (0, f"{counts} passed, 0 failed"), f"a second run: {said[-8:]}"
     yield "edits: 3 kept, 0 tried anew" in said, f"what a second run took: {said[-6:]}"
