@@ -26,10 +26,13 @@ import sys
 import tempfile
 import threading
 import time
+from typing import Any, Callable, Optional
 
 sys.dont_write_bytecode = True
 TOP = os.path.dirname(os.path.dirname(os.path.realpath(__file__)))
 PORT = 8087
+# The process of a region, its events, its memory in KiB, and its descriptors.
+Row = tuple[int, int, int, int]
 QUESTIONS = ("cover", "gaps", "shown", "latest", "kinds", "days", "conflicts")
 SETTINGS = """name = "{name}"
 db = "{folder}/{name}.db"
@@ -48,16 +51,17 @@ LOSSY = ("500kbit", "4k", "3ms")
 NOTHING = ("8kbit", "50", "1ms")
 
 
-def run(*words, check=True, **how):
+def run(*words: str, check: bool = True, **how: Any) -> subprocess.CompletedProcess[bytes]:
     return subprocess.run(words, check=check, capture_output=True, timeout=30, **how)
 
 
-def write(address, source, batch, rate, most, region, file):
+def write(address: str, source: str, batch: int, rate: float, most: int, region: str, file: str) -> None:
     """Gives events of a source at a rate, each batch until it is acknowledged, and notes those; until SIGTERM. Behind the
     most that a source has it begins with the first ones again."""
-    is_over = []
+    is_over: list[int] = []
     signal.signal(signal.SIGTERM, lambda *_: is_over.append(True))
-    connection, number, due, is_first = None, 0, time.monotonic(), True
+    connection: Optional[http.client.HTTPConnection] = None
+    number, due, is_first = 0, time.monotonic(), True
     with open(file, "w", encoding="utf-8") as out:
         while not is_over:
             events = [
@@ -86,40 +90,41 @@ def write(address, source, batch, rate, most, region, file):
 
 
 class Region:
-    def __init__(self, net, place):
+    def __init__(self, net: "Net", place: int) -> None:
         self.net, self.place, self.name = net, place, f"r{place}"
         self.space, self.address = f"{net.name}r{place}", f"10.77.0.{place + 1}"
-        self.ran = None
+        self.ran: Any = None
 
-    def inside(self, *words, **how):
+    def inside(self, *words: str, **how: Any) -> subprocess.CompletedProcess[bytes]:
         return run("ip", "netns", "exec", self.space, *words, **how)
 
-    def started(self, *words, **how):
+    def started(self, *words: str, **how: Any) -> subprocess.Popen[bytes]:
         ran = subprocess.Popen(["ip", "netns", "exec", self.space, *words], stdin=subprocess.DEVNULL, **how)
         self.net.running.append(ran)
         return ran
 
-    def start(self):
+    def start(self) -> None:
         with open(f"{self.net.folder}/{self.name}.log", "ab") as log:
             self.ran = self.started(self.net.program, "--config", f"{self.net.folder}/{self.name}.toml", stdout=log, stderr=log)
-        self.net.until(lambda: self.get("/readyz", 1) is not None, 20, f"{self.name} is ready")
+        self.net.until(lambda: self.get("/readyz", 1) is not None, self.net.patience, f"{self.name} is ready")
 
-    def get(self, path, seconds=10, body=None):
+    def get(self, path: str, seconds: int = 10, body: Optional[str] = None) -> Optional[bytes]:
         words = ["curl", "-sf", "--max-time", str(seconds), f"http://{self.address}:{PORT}{path}"]
         ran = self.inside(*words, *(["--data-binary", body] if body else []), check=False)
-        return ran.stdout if ran.returncode == 0 else None
+        return bytes(ran.stdout) if ran.returncode == 0 else None
 
-    def sends(self, rate=None, burst=None, latency=None):
+    def sends(self, rate: str = "", burst: str = "", latency: str = "") -> None:
         """What leaves the region: as fast as it comes, or as such a queue lets it."""
         queue = ("tbf", "rate", rate, "burst", burst, "latency", latency) if rate else ("pfifo", "limit", "1000")
         self.inside("tc", "qdisc", "replace", "dev", "eth0", "root", *queue)
 
-    def link(self, state):
+    def link(self, state: str) -> None:
         run("ip", "netns", "exec", self.net.switch, "ip", "link", "set", f"p{self.place}", state)
 
-    def events(self):
+    def events(self) -> set[tuple[str, ...]]:
         """All that it has, as source, id and region."""
-        found, start = set(), 0
+        found: set[tuple[str, ...]] = set()
+        start = 0
         while page := self.get(f"/delta?from={start}", 30, '{"sources":{},"version":1}'):
             got = [event for line in page.splitlines() for event in json.loads(line)]
             found |= {(it["source"], it["id"], it["subject"]) for it in got}
@@ -130,16 +135,18 @@ class Region:
 class Net:
     """Regions around a switch, which go away in the end."""
 
-    def __init__(self, folder, program, regions):
-        self.folder, self.program, self.running = folder, program, []
+    def __init__(self, folder: str, program: str, regions: int, patience: int) -> None:
+        self.folder, self.program, self.patience = folder, program, patience
+        self.running: list[subprocess.Popen[bytes]] = []
         self.name = f"jmb{os.getpid() % 10000}"
-        self.switch, self.spaces = f"{self.name}sw", []
+        self.switch = f"{self.name}sw"
+        self.spaces: list[str] = []
         self.regions = [Region(self, it) for it in range(regions)]
 
-    def make(self):
-        for it in (self.switch, *(it.space for it in self.regions)):
-            run("ip", "netns", "add", it)
-            self.spaces.append(it)
+    def make(self) -> None:
+        for space in (self.switch, *(it.space for it in self.regions)):
+            run("ip", "netns", "add", space)
+            self.spaces.append(space)
         run("ip", "netns", "exec", self.switch, "ip", "link", "add", "br0", "type", "bridge")
         run("ip", "netns", "exec", self.switch, "ip", "link", "set", "br0", "up")
         for it in self.regions:
@@ -154,16 +161,16 @@ class Net:
                     if peer is not it:
                         out.write(f'[[peers]]\nname = "{peer.name}"\nurl = "http://{peer.address}:{PORT}"\n')
 
-    def end(self):
+    def end(self) -> None:
         for it in self.running:
             if it.poll() is None:
                 it.kill()
             it.wait()
-        for it in self.spaces:
-            run("ip", "netns", "del", it, check=False)
+        for space in self.spaces:
+            run("ip", "netns", "del", space, check=False)
 
     @staticmethod
-    def until(ready, seconds, what):
+    def until(ready: Callable[[], bool], seconds: int, what: str) -> bool:
         end = time.monotonic() + seconds
         while not ready():
             if time.monotonic() > end:
@@ -173,7 +180,7 @@ class Net:
         return True
 
 
-def held(region):
+def held(region: Region) -> tuple[int, int]:
     """How many KiB of memory and how many descriptors a region has; `ip netns exec` became the service."""
     with open(f"/proc/{region.ran.pid}/status", encoding="ascii") as status:
         found = re.search(r"VmRSS:\s+(\d+)", status.read())
@@ -182,7 +189,7 @@ def held(region):
     return int(found[1]), len(os.listdir(f"/proc/{region.ran.pid}/fd"))
 
 
-def slope(rows):
+def slope(rows: list[Row]) -> float:
     """The bytes of memory that go with an event more, by least squares within each start."""
     above = below = 0.0
     for pid in {it[0] for it in rows}:
@@ -196,11 +203,12 @@ def slope(rows):
 class Watch(threading.Thread):
     """Looks each second how much memory and how many descriptors each region has, and how many events."""
 
-    def __init__(self, regions):
+    def __init__(self, regions: list[Region]) -> None:
         super().__init__(daemon=True)
-        self.regions, self.is_over, self.rows = regions, threading.Event(), {it.name: [] for it in regions}
+        self.regions, self.is_over = regions, threading.Event()
+        self.rows: dict[str, list[Row]] = {it.name: [] for it in regions}
 
-    def run(self):
+    def run(self) -> None:
         while not self.is_over.wait(1):
             for it in self.regions:
                 with contextlib.suppress(OSError, ValueError, AttributeError, subprocess.SubprocessError):
@@ -208,7 +216,7 @@ class Watch(threading.Thread):
                     if events is not None:
                         self.rows[it.name].append((pid, events, *held(it)))
 
-    def tell(self):
+    def tell(self) -> bool:
         """Says how it went; false where a region's descriptors or its memory for an event grew."""
         is_right = True
         for name, rows in self.rows.items():
@@ -225,7 +233,7 @@ class Watch(threading.Thread):
         return is_right
 
 
-def trouble(region, dice):
+def trouble(region: Region, dice: random.Random) -> str:
     """Something that happens to a region, for some seconds; answers what."""
     what = dice.choice(["cut", "cut one way", "kill", "hang", "slow", "loss", "rest"])
     seconds = dice.uniform(1, 4)
@@ -251,7 +259,7 @@ def trouble(region, dice):
     return what
 
 
-def lacks(program):
+def lacks(program: str) -> Optional[str]:
     """What isn't there that is wanted, or None."""
     if os.geteuid() or not all(map(shutil.which, ("ip", "tc", "curl"))):
         return "it wants root, ip, tc and curl"
@@ -264,7 +272,7 @@ def lacks(program):
     return None
 
 
-def main():
+def main() -> int:
     words = argparse.ArgumentParser(description=__doc__, formatter_class=argparse.RawDescriptionHelpFormatter)
     words.add_argument("--program", default=f"{TOP}/out/service/jumbetaid")
     words.add_argument("--regions", type=int, default=3)
@@ -277,21 +285,24 @@ def main():
     if why:
         print(f"skipped: regions that part, since {why}\n0 of 0 tries of regions that part were right")
         return 0
-    dice, did, answers = random.Random(given.seed), {}, []
+    dice = random.Random(given.seed)
+    did: dict[str, int] = {}
+    answers: list[bool] = []
     with tempfile.TemporaryDirectory() as folder, contextlib.ExitStack() as end:
-        net = Net(folder, os.path.abspath(given.program), given.regions)
+        # A start reads each event anew.
+        net = Net(folder, os.path.abspath(given.program), given.regions, 20 if given.events > 1 << 30 else 90)
         end.callback(net.end)
         net.make()
         for it in net.regions:
             it.start()
-        writers = []
+        writers: list[tuple[subprocess.Popen[bytes], str]] = []
         for it in net.regions:
             share = given.rate / 270
             for source, batch, rate in ((f"/{it.name}/single", 1, 60 * share), (f"/{it.name}/batch", 10, 200 * share), ("/shared", 1, 10)):
                 file = f"{folder}/acked.{len(writers)}"
-                words = [sys.executable, os.path.realpath(__file__), "--write", it.address, source, str(batch), str(rate), str(given.events)]
-                words += [it.name, file]
-                writers.append((it.started(*words), file))
+                told = [sys.executable, os.path.realpath(__file__), "--write", it.address, source, str(batch), str(rate), str(given.events)]
+                told += [it.name, file]
+                writers.append((it.started(*told), file))
         watch = Watch(net.regions)
         watch.start()
         until = time.monotonic() + given.seconds
@@ -307,12 +318,13 @@ def main():
         answers.append(watch.tell())
         began = time.monotonic()
 
-        def same():
+        def same() -> bool:
             texts = {it.get("/summary") for it in net.regions}
             return len(texts) == 1 and None not in texts
 
         answers.append(net.until(same, 60, "all summaries are the same"))
-        took, acked = time.monotonic() - began, set()
+        took = time.monotonic() - began
+        acked: set[tuple[str, ...]] = set()
         for _, file in writers:
             with open(file, encoding="utf-8") as lines:
                 acked |= {tuple(it.split()) for it in lines}
