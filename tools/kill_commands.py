@@ -13,6 +13,7 @@ the first time, or as what was done already. After some rounds a new file is beg
 those before it brought. With --seconds no round begins after that time.
 """
 import argparse
+import contextlib
 import glob
 import json
 import os
@@ -23,8 +24,11 @@ import sys
 import tempfile
 import threading
 import time
+from typing import IO, Any
 
 TOP = os.path.dirname(os.path.dirname(os.path.realpath(__file__)))
+# How much each round left, and whether the numbers are as they have to be.
+Held = tuple[dict[int, int], bool]
 AT = "2024-02-29T10:00:00Z"
 FEW = 50
 
@@ -36,17 +40,32 @@ class Kind:
     whole = 1
     rounds = 1_000
 
-    def prepare(self, number):
-        pass
+    def words(self, number: int) -> list[str]:
+        raise NotImplementedError
 
-    def feed(self, number, to):
+    def prepare(self, number: int) -> None:
+        """Writes what the command reads from files."""
+
+    def is_answer(self, number: int, status: int, out: bytes, err: bytes) -> bool:
+        """Whether a command that was given for the first time answers so."""
+        raise NotImplementedError
+
+    def was_done(self, number: int, status: int, out: bytes, err: bytes) -> bool:
+        """Whether one answers so that was done already."""
+        raise NotImplementedError
+
+    def held(self, base: sqlite3.Connection) -> Held:
+        """What each round left, and whether the numbers are as they have to be."""
+        raise NotImplementedError
+
+    def feed(self, number: int, to: IO[bytes]) -> None:
         """Writes what the command reads from its standard input, a pipe."""
 
-    def lost(self, number, out, base):
+    def lost(self, number: int, out: bytes, base: sqlite3.Connection) -> list[Any]:
         """What stands acknowledged on standard output by the part and isn't in the database."""
         return []
 
-    def is_part(self, count):
+    def is_part(self, count: int) -> bool:
         """Whether a round may have left so much."""
         return count == self.whole
 
@@ -54,20 +73,19 @@ class Kind:
 class Place(Kind):
     """Orders that are placed, one a round."""
 
-    def words(self, number):
+    def words(self, number: int) -> list[str]:
         return ["order", "--db", "k.db", "--at", AT, "place", str(number)]
 
-    def is_answer(self, number, status, out, err):
+    def is_answer(self, number: int, status: int, out: bytes, err: bytes) -> bool:
         return status == 0 and out.endswith(b"}\n") and f'"subject":"{number}"'.encode() in out
 
-    def was_done(self, number, status, out, err):
+    def was_done(self, number: int, status: int, out: bytes, err: bytes) -> bool:
         return (status, out, err) == (1, b"", f"site: order {number}: OrderExists\n".encode())
 
-    def held(self, base):
-        """What each round left: how many rows; and whether the numbers are as they have to be."""
+    def held(self, base: sqlite3.Connection) -> Held:
         rows = base.execute("SELECT number, order_number FROM outbox ORDER BY number").fetchall()
         states = base.execute("SELECT count(*) FROM orders").fetchone()[0]
-        held = {}
+        held: dict[int, int] = {}
         for _, order in rows:
             held[order] = held.get(order, 0) + 1
         return held, [it[0] for it in rows] == list(range(1, len(rows) + 1)) and states == len(rows)
@@ -79,27 +97,28 @@ class Take(Kind):
     whole = FEW
     rounds = 200
 
-    def words(self, number):
+    def words(self, number: int) -> list[str]:
         return ["take", "--db", "k.db", "f.json"]
 
-    def prepare(self, number):
+    def prepare(self, number: int) -> None:
         low = FEW * (number - 1) + 1
         with open("f.json", "w", encoding="utf-8") as it:
             json.dump([self.event(n) for n in range(low, low + FEW)], it, separators=(",", ":"))
 
     @staticmethod
-    def event(number):
+    def event(number: int) -> dict[str, str]:
         return {"id": f"e{number:07}", "sequence": f"{number:020}", "source": "/s", "specversion": "1.0", "type": "t"}
 
-    def is_answer(self, number, status, out, err):
+    def is_answer(self, number: int, status: int, out: bytes, err: bytes) -> bool:
         return (status, out) == (0, f"read {FEW} new {FEW} repeated 0\n".encode())
 
-    def was_done(self, number, status, out, err):
+    def was_done(self, number: int, status: int, out: bytes, err: bytes) -> bool:
         return (status, out) == (0, f"read {FEW} new 0 repeated {FEW}\n".encode())
 
-    def held(self, base):
+    def held(self, base: sqlite3.Connection) -> Held:
         rows = base.execute("SELECT place, number, block FROM inbox2 ORDER BY place").fetchall()
-        held, every = {}, list(range(1, len(rows) + 1))
+        held: dict[int, int] = {}
+        every = list(range(1, len(rows) + 1))
         for _, number, _ in rows:
             held[(number - 1) // self.whole + 1] = held.get((number - 1) // self.whole + 1, 0) + 1
         are_once = len({it[1] for it in rows}) == len(rows)
@@ -112,19 +131,19 @@ class Follow(Take):
     whole = 2_500
     rounds = 10
 
-    def __init__(self, draw):
+    def __init__(self, draw: random.Random) -> None:
         self.draw = draw
 
-    def words(self, number):
+    def words(self, number: int) -> list[str]:
         return ["follow", "--db", "k.db"]
 
-    def prepare(self, number):
+    def prepare(self, number: int) -> None:
         self.low = self.whole * (number - 1) + 1
         lines = [json.dumps(self.event(n), separators=(",", ":")) + "\n" for n in range(self.low, self.low + self.whole)]
         step = self.draw.choice([1, 7, 100, self.whole])
         self.pieces = ["".join(lines[at : at + step]).encode() for at in range(0, self.whole, step)]
 
-    def feed(self, number, to):
+    def feed(self, number: int, to: IO[bytes]) -> None:
         try:
             for piece in self.pieces:
                 to.write(piece)
@@ -133,25 +152,25 @@ class Follow(Take):
         except OSError:
             pass
 
-    def answers(self, out):
+    def answers(self, out: bytes) -> list[tuple[int, int, int]]:
         """The acknowledgements that stand whole: of each line how many events were new."""
         return [(it["line"], it["new"] + it["repeated"], it["new"]) for it in map(json.loads, out.split(b"\n")[:-1])]
 
-    def are_all(self, out, new):
+    def are_all(self, out: bytes, new: int) -> bool:
         return self.answers(out) == [(line, 1, new) for line in range(1, self.whole + 1)]
 
-    def is_answer(self, number, status, out, err):
+    def is_answer(self, number: int, status: int, out: bytes, err: bytes) -> bool:
         return status == 0 and self.are_all(out, 1)
 
-    def was_done(self, number, status, out, err):
+    def was_done(self, number: int, status: int, out: bytes, err: bytes) -> bool:
         told = self.answers(out)
         return status == 0 and [it[:2] for it in told] == [(line, 1) for line in range(1, self.whole + 1)]
 
-    def lost(self, number, out, base):
+    def lost(self, number: int, out: bytes, base: sqlite3.Connection) -> list[Any]:
         held = {it[0] for it in base.execute("SELECT number FROM inbox2 WHERE number >= ?", (self.low,))}
         return [line for line, _, _ in self.answers(out) if self.low + line - 1 not in held]
 
-    def is_part(self, count):
+    def is_part(self, count: int) -> bool:
         return count <= self.whole
 
 
@@ -160,46 +179,48 @@ class Run(Take):
 
     whole = 2 * FEW
 
-    def words(self, number):
+    def words(self, number: int) -> list[str]:
         return ["run", "--db", "k.db", "a.json", "b.json"]
 
-    def prepare(self, number):
+    def prepare(self, number: int) -> None:
         low = self.whole * (number - 1) + 1
         for name, first in (("a.json", low), ("b.json", low + FEW)):
             with open(name, "w", encoding="utf-8") as it:
                 json.dump([self.event(n) for n in range(first, first + FEW)], it, separators=(",", ":"))
 
-    def is_answer(self, number, status, out, err):
+    def is_answer(self, number: int, status: int, out: bytes, err: bytes) -> bool:
         # What is held is all of the file's rounds.
         held = self.whole * ((number - 1) % self.rounds + 1)
         front = f"read {self.whole} refused 0 held {held}\n".encode()
         return status == 0 and out.startswith(front) and out.endswith(b"}\n")
 
-    def was_done(self, number, status, out, err):
+    def was_done(self, number: int, status: int, out: bytes, err: bytes) -> bool:
         return False
 
-    def is_part(self, count):
+    def is_part(self, count: int) -> bool:
         return count <= self.whole
 
 
-def given(program, kind, number, **more):
+def feed(kind: Kind, number: int, to: IO[bytes]) -> None:
+    kind.feed(number, to)
+    with contextlib.suppress(OSError):
+        to.close()
+
+
+def given(program: str, kind: Kind, number: int, **more: Any) -> tuple[subprocess.Popen[bytes], threading.Thread]:
     """The command of a round, begun, with what it reads written by a thread."""
     ran = subprocess.Popen([program, *kind.words(number)], stdin=subprocess.PIPE, **more)
-    feeder = threading.Thread(target=lambda: (kind.feed(number, ran.stdin), closed(ran.stdin)))
+    assert ran.stdin
+    feeder = threading.Thread(target=feed, args=(kind, number, ran.stdin))
     feeder.start()
     return ran, feeder
 
 
-def closed(stream):
-    try:
-        stream.close()
-    except OSError:
-        pass
-
-
-def tried(program, kind, rounds, draw, until):
+def tried(program: str, kind: Kind, rounds: int, draw: random.Random, until: float) -> tuple[int, int, list[str]]:
     """How many rounds were killed, how many ended before, and what was wrong."""
-    usual, killed, ended, wrong, acknowledged = 0.02, 0, 0, [], []
+    usual, killed, ended = 0.02, 0, 0
+    wrong: list[str] = []
+    acknowledged: list[int] = []
     for number in range(1, rounds + 1):
         if time.monotonic() > until:
             break
@@ -220,8 +241,8 @@ def tried(program, kind, rounds, draw, until):
                 ran.wait()
                 killed += 1
             feeder.join()
-        with open("out", "rb") as out, open("err", "rb") as err:
-            said = out.read(), err.read()
+        with open("out", "rb") as out_file, open("err", "rb") as err_file:
+            said = out_file.read(), err_file.read()
         # An answer that stands whole on standard output was given, whatever became of the process.
         is_told = kind.is_answer(number, 0, *said)
         if os.path.exists("k.db"):
@@ -243,33 +264,34 @@ def tried(program, kind, rounds, draw, until):
         if not is_told:
             began = time.monotonic()
             again, feeder = given(program, kind, number, stdout=subprocess.PIPE, stderr=subprocess.PIPE)
-            said = again.stdout.read(), again.stderr.read()
-            said = (again.wait(), *said)
+            assert again.stdout and again.stderr
+            answer = again.stdout.read(), again.stderr.read()
+            status = again.wait()
             feeder.join()
             # Else rounds that take longer than was thought would all be killed at their beginning.
             usual = 0.9 * usual + 0.1 * (time.monotonic() - began)
-            if not kind.is_answer(number, *said) and not kind.was_done(number, *said):
-                wrong.append(f"round {number}, given again: {said}")
+            if not kind.is_answer(number, status, *answer) and not kind.was_done(number, status, *answer):
+                wrong.append(f"round {number}, given again: {status} {answer}")
         acknowledged.append(number)
     return killed, ended, wrong
 
 
-def main():
+def main() -> int:
     words = argparse.ArgumentParser(description=__doc__, formatter_class=argparse.RawDescriptionHelpFormatter)
     words.add_argument("--rounds", type=int, default=100)
     words.add_argument("--program", default=f"{TOP}/crates/site_cli/out/site_cli")
     words.add_argument("--seed", type=int, default=1)
     words.add_argument("--seconds", type=float, default=float("inf"), help="of each command")
     words.add_argument("kinds", nargs="*", choices=["take", "order", "run", "follow", []])
-    words = words.parse_args()
-    program, failed = os.path.abspath(words.program), 0
-    for name in words.kinds or ["take", "order", "run", "follow"]:
-        draw = random.Random(words.seed)
-        kind = {"take": Take, "order": Place, "run": Run, "follow": lambda: Follow(draw)}[name]()
+    asked = words.parse_args()
+    program, failed = os.path.abspath(asked.program), 0
+    for name in asked.kinds or ["take", "order", "run", "follow"]:
+        draw = random.Random(asked.seed)
+        kind = {"take": Take, "order": Place, "run": Run}[name]() if name != "follow" else Follow(draw)
         with tempfile.TemporaryDirectory() as room:
             os.chdir(room)
-            until = time.monotonic() + words.seconds
-            killed, ended, wrong = tried(program, kind, words.rounds, draw, until)
+            until = time.monotonic() + asked.seconds
+            killed, ended, wrong = tried(program, kind, asked.rounds, draw, until)
             os.chdir("/")
         print(f"{name}: {killed + ended} rounds: {killed} killed, {ended} ended before; {len(wrong)} wrong", flush=True)
         for line in wrong[:10]:

@@ -24,6 +24,7 @@ import socket
 import subprocess
 import sys
 import time
+from typing import Optional
 
 sys.dont_write_bytecode = True
 TOP = os.path.dirname(os.path.dirname(os.path.realpath(__file__)))
@@ -37,53 +38,54 @@ REGIONS = ("north", "south")
 AT = "2024-02-29T10:00:00Z"
 
 
-def found(name):
+def found(name: str) -> Optional[str]:
     return shutil.which(name) or shutil.which(name, path="/usr/sbin:/usr/local/sbin")
 
 
-def of_guide():
+def of_guide() -> tuple[dict[str, str], dict[str, str], list[str]]:
     """The guide's lines that publish and that subscribe, of the north and of the south, and those that mend."""
     every = [line for heading, _, lines in blocks(GUIDE) if heading == "Over a broker" for line in lines]
     publish = [line for line in every if line.startswith("site relay")]
     subscribe = [line for line in every if line.startswith("mosquitto_sub")]
-    mend = [command for command, _ in steps(GUIDE, "Over ssh")[0] if "site summary" in command]
+    mend = [command for command, _ in steps(GUIDE, "Over ssh")[0] if command and "site summary" in command]
     if (len(publish), len(subscribe), len(mend)) != (2, 2, 3):
         sys.exit(f"{GUIDE} has not the lines that are to be tried: {publish}, {subscribe}, {mend}")
     return dict(zip(REGIONS, publish)), dict(zip(REGIONS, subscribe)), mend
 
 
 class Trial:
-    def __init__(self, folder, environment):
+    def __init__(self, folder: str, environment: dict[str, str]) -> None:
         self.folder, self.environment, self.passed, self.failed = folder, environment, 0, 0
         with socket.socket() as it:
             it.bind(("127.0.0.1", 0))
             self.port = it.getsockname()[1]
-        with open(f"{folder}/broker.conf", "w", encoding="ascii") as it:
-            it.write(
+        with open(f"{folder}/broker.conf", "w", encoding="ascii") as settings:
+            settings.write(
                 f"listener {self.port} 127.0.0.1\nallow_anonymous true\npersistence true\npersistence_location {folder}/\n"
                 # Else a broker that root starts goes over to a user of its own, who can't write here.
                 f"user {pwd.getpwuid(os.getuid()).pw_name}\nautosave_interval 1\nmax_queued_messages 0\n"
             )
         self.publishes, self.subscribes, self.mends = of_guide()
-        self.broker, self.followers = None, {}
+        self.broker: Optional[subprocess.Popen[bytes]] = None
+        self.followers: dict[str, subprocess.Popen[bytes]] = {}
 
-    def judge(self, is_right, what):
+    def judge(self, is_right: bool, what: str) -> None:
         self.passed, self.failed = self.passed + is_right, self.failed + (not is_right)
         if not is_right:
             print(f"wrong: {what}")
 
-    def shell(self, command):
+    def shell(self, command: str) -> str:
         words = ["bash", "-o", "pipefail", "-c", self.here(command)]
         ran = subprocess.run(words, cwd=self.folder, env=self.environment, capture_output=True, text=True, timeout=120)
         self.judge(ran.returncode == 0, f"{command}: status {ran.returncode}: {ran.stdout[:300]}{ran.stderr[:300]}")
         return ran.stdout
 
-    def here(self, command):
+    def here(self, command: str) -> str:
         return command.replace("-h broker", f"-h 127.0.0.1 -p {self.port}")
 
-    def start_broker(self):
+    def start_broker(self) -> None:
         with open(f"{self.folder}/broker.log", "a", encoding="utf-8") as log:
-            self.broker = subprocess.Popen([found("mosquitto"), "-c", f"{self.folder}/broker.conf"], stdout=log, stderr=log)
+            self.broker = subprocess.Popen([found("mosquitto") or "", "-c", f"{self.folder}/broker.conf"], stdout=log, stderr=log)
         for _ in range(100):
             with socket.socket() as it:
                 if it.connect_ex(("127.0.0.1", self.port)) == 0:
@@ -91,11 +93,12 @@ class Trial:
             time.sleep(0.05)
         raise RuntimeError("the broker didn't start")
 
-    def end_broker(self, how):
+    def end_broker(self, how: int) -> None:
+        assert self.broker
         self.broker.send_signal(how)
         self.broker.wait(timeout=30)
 
-    def subscribe(self, *sites, more=""):
+    def subscribe(self, *sites: str, more: str = "") -> None:
         """Follows both topics into the databases of sites, each by a process group of its own."""
         for site in sites:
             words = ["bash", "-o", "pipefail", "-c", self.here(self.subscribes[site]).replace("mosquitto_sub", f"mosquitto_sub{more}")]
@@ -103,7 +106,7 @@ class Trial:
                 self.followers[site] = subprocess.Popen(words, cwd=self.folder, env=self.environment, stderr=err, start_new_session=True)
         time.sleep(1)
 
-    def end(self, site, how=None, *names):
+    def end(self, site: str, how: int = signal.SIGTERM, *names: str) -> None:
         """Sends a signal to those of a subscription's processes that have one of the names, and waits for its end."""
         follower = self.followers.pop(site)
         for it in filter(str.isdigit, os.listdir("/proc")):
@@ -121,7 +124,7 @@ class Trial:
         acknowledged = self.acknowledged(site)
         self.judge(acknowledged <= self.held(site), f"the {site} acknowledged {acknowledged} events and holds {self.held(site)}")
 
-    def acknowledged(self, site):
+    def acknowledged(self, site: str) -> int:
         """How many events a site acknowledged as new; of a `follow` that is killed the last line may be cut."""
         count = 0
         with open(f"{self.folder}/{site}.told", encoding="utf-8") as told:
@@ -133,28 +136,28 @@ class Trial:
                     count += answer.get("new", 0)
         return count
 
-    def publish(self, service, after=0):
+    def publish(self, service: str, after: int = 0) -> None:
         self.shell(self.publishes[service].replace("--after 0", f"--after {after}"))
 
-    def place(self, service, first, last):
+    def place(self, service: str, first: int, last: int) -> None:
         for number in range(first, last + 1):
             words = ["site", "order", "--db", f"{service}-orders.db", "--source", f"/{service}", "--at", AT, "place", str(number)]
             ran = subprocess.run(words, cwd=self.folder, env=self.environment, capture_output=True, check=False)
             if ran.returncode:
                 self.judge(False, f"{' '.join(words)}: {ran.stderr!r}")
 
-    def held(self, site):
+    def held(self, site: str) -> int:
         """How many events a site has, of both services."""
         words = ["site", "kinds", "--db", f"{site}.db"]
         ran = subprocess.run(words, cwd=self.folder, env=self.environment, capture_output=True, text=True, check=False)
         return sum(int(it.rsplit(",", 1)[1].rstrip("]\n")) for it in ran.stdout.splitlines())
 
-    def are_alike(self):
+    def are_alike(self) -> None:
         for question in QUESTIONS:
             self.shell(f"cmp <(site {question} --db north.db) <(site {question} --db south.db)")
 
 
-def main():
+def main() -> int:
     words = argparse.ArgumentParser(description=__doc__, formatter_class=argparse.RawDescriptionHelpFormatter)
     words.add_argument("--program", default=f"{TOP}/crates/site_cli/out/site_cli")
     words.add_argument("--orders", type=int, default=150)

@@ -16,7 +16,6 @@ Tests of libraries that hold whichever allocation is refused run so too, where t
 are tried by tools/try_rows.py. The last line is 'N passed, M failed', of the refused allocations.
 """
 import argparse
-import collections
 import contextlib
 import itertools
 import json
@@ -27,17 +26,20 @@ import subprocess
 import sys
 import tempfile
 import threading
+from typing import Any, Callable, Iterator, NamedTuple, Optional, Sequence, Union
 
 from refuse_allocations import Refuser
 
 TOP = os.path.dirname(os.path.dirname(os.path.realpath(__file__)))
-REFUSED = (1, b"", b"site: out of memory\n")
+# A status, and what was written to both streams.
+Said = tuple[int, bytes, bytes]
+REFUSED: Said = (1, b"", b"site: out of memory\n")
 # What a command may say beside it, for want of memory too.
 OTHER_WORDS = {"run": (1, b"", b"site: no thread\n"), "relay": (1, b"", b"site: route failed\n")}
 AT = "2024-02-29T10:00:00Z"
 
 
-def event(name, number, kind, subject, **more):
+def event(name: str, number: int, kind: str, subject: str, **more: Any) -> dict[str, Any]:
     members = {"id": name, "sequence": f"{number:020d}", "source": "/orders", "specversion": "1.0", "subject": subject}
     return {**members, "type": kind, **more}
 
@@ -67,7 +69,7 @@ PAGED = [["take", "--db", "s.db", "paged.json"]]
 PAGED_ROWS = [["order", "--db", "o.db", "--at", AT, "place", str(number)] for number in range(1, 102)]
 
 
-def foreign(room):
+def foreign(room: str) -> None:
     """Makes a database whose inbox isn't one that these commands leave."""
     with contextlib.closing(sqlite3.connect(f"{room}/f.db")) as base:
         base.execute("CREATE TABLE inbox (place INTEGER PRIMARY KEY, body TEXT)")
@@ -75,10 +77,20 @@ def foreign(room):
 
 # What is said of lines that are there.
 ACKNOWLEDGED = b"".join(b'{"line":%d,"new":0,"repeated":%d}\n' % it for it in ((1, 1), (2, 1), (3, 2)))
+
+
 # A command: its words, the commands before it, how what its database then holds is told where it writes, what it
 # answers where it was done already, if that is another answer, how many pages it writes as each is made, and how many
 # of its first and of its last allocations are refused, if not all: others open the same database.
-Row = collections.namedtuple("Row", "words before told again pages ends", defaults=([], None, None, None, None))
+class Row(NamedTuple):
+    words: list[str]
+    before: Sequence[Union[list[str], Callable[[str], None]]] = ()
+    told: Optional[list[str]] = None
+    again: Optional[bytes] = None
+    pages: Optional[int] = None
+    ends: Optional[tuple[int, int]] = None
+
+
 ROWS_OF_ALL = [
     *[Row([it, "asked.json"]) for it in ("cover", "gaps", "shown", "latest", "kinds", "days", "conflicts")],
     Row(["check", "asked.json"]),
@@ -134,14 +146,18 @@ TESTS = {
 class Trial:
     """One command, its allocations refused in turn by several workers."""
 
-    def __init__(self, program, row, refuser):
+    def __init__(self, program: str, row: Row, refuser: Refuser) -> None:
         self.program, self.row, self.refuser = program, row, refuser
-        self.lock, self.end, self.met, self.refused, self.wrong, self.behind = threading.Lock(), None, 0, 0, [], set()
+        self.lock, self.met, self.refused = threading.Lock(), 0, 0
+        self.end: Optional[int] = None
+        self.wrong: list[str] = []
+        self.behind: set[int] = set()
         self.start = tempfile.mkdtemp(prefix="refusals-")
         for name, events in FILES.items():
             with open(f"{self.start}/{name}", "w", encoding="utf-8") as it:
                 json.dump(events, it, separators=(",", ":"))
-        for name, lines in (("lines", LINES), ("bare", BARE)):
+        every: list[tuple[str, list[Any]]] = [("lines", LINES), ("bare", BARE)]
+        for name, lines in every:
             with open(f"{self.start}/{name}", "w", encoding="utf-8") as it:
                 it.writelines(json.dumps(line, separators=(",", ":")) + "\n" for line in lines)
         with open(f"{self.start}/asked.summary", "w", encoding="utf-8") as it:
@@ -160,23 +176,23 @@ class Trial:
         last_ones = itertools.count(max(first, self.count() - last if row.ends else 0) + 1)
         self.numbers = itertools.chain(range(1, first + 1), last_ones)
 
-    def ran(self, words, room, **more):
+    def ran(self, words: Sequence[str], room: str, **more: Any) -> subprocess.CompletedProcess[bytes]:
         return subprocess.run([self.program, *words], cwd=room, capture_output=True, stdin=subprocess.DEVNULL, timeout=60, **more)
 
     @staticmethod
-    def said(ran):
+    def said(ran: subprocess.CompletedProcess[bytes]) -> Said:
         return ran.returncode, ran.stdout, ran.stderr
 
-    def room(self):
+    def room(self) -> "tempfile.TemporaryDirectory[str]":
         """A folder of its own, as the command finds it."""
         room = tempfile.TemporaryDirectory(prefix="refusal-")
         shutil.copytree(self.start, room.name, dirs_exist_ok=True)
         return room
 
-    def count(self):
+    def count(self) -> int:
         """How many allocations the command makes."""
 
-        def is_met(at):
+        def is_met(at: int) -> bool:
             with self.room() as room:
                 return self.refuser.ran([self.program, *self.row.words], at, cwd=room)[1]
 
@@ -188,7 +204,7 @@ class Trial:
             below, high = (middle, high) if is_met(middle) else (below, middle)
         return below
 
-    def tried(self, at):
+    def tried(self, at: int) -> Optional[list[str]]:
         """What is wrong with the run whose allocation of this number is refused, if anything; None where it met none."""
         with self.room() as room:
             ran, was_met = self.refuser.ran([self.program, *self.row.words], at, cwd=room)
@@ -216,7 +232,7 @@ class Trial:
             holds = self.said(self.ran(self.row.told, room))
             return [] if holds == self.holds else [f"allocation {at}, given again, then holds: {holds}"]
 
-    def work(self):
+    def work(self) -> None:
         while True:
             with self.lock:
                 at = next(self.numbers)
@@ -230,7 +246,7 @@ class Trial:
                 self.met += 1
                 self.wrong += wrong
 
-    def run(self, jobs):
+    def run(self, jobs: int) -> int:
         workers = [threading.Thread(target=self.work) for _ in range(jobs)]
         for it in workers:
             it.start()
@@ -242,7 +258,7 @@ class Trial:
         return self.met
 
 
-def tests_built():
+def tests_built() -> Iterator[tuple[str, str]]:
     """The built tests of TESTS; whoever gives no gate's folder has none."""
     for crate, tests in TESTS.items():
         program = f"{TOP}/crates/{crate}/out/{crate}_tests"
@@ -255,21 +271,22 @@ def tests_built():
 class TestTrial:
     """One test, its allocations refused in turn."""
 
-    def __init__(self, program, test, refuser):
-        self.words, self.refuser, self.wrong = [program, test], refuser, []
+    def __init__(self, program: str, test: str, refuser: Refuser) -> None:
+        self.words, self.refuser = [program, test], refuser
+        self.wrong: list[str] = []
 
-    def run(self):
+    def run(self) -> int:
         at = 1
         while True:
             ran, was_met = self.refuser.ran(self.words, at, cwd="/")
             if ran.returncode:
-                self.wrong.append(f"allocation {at}: {ran.stdout[-300:]} {ran.stderr[-300:]}")
+                self.wrong.append(f"allocation {at}: {ran.stdout[-300:]!r} {ran.stderr[-300:]!r}")
             if not was_met:
                 return at - 1
             at += 1
 
 
-def main():
+def main() -> int:
     words = argparse.ArgumentParser(description=__doc__, formatter_class=argparse.RawDescriptionHelpFormatter)
     words.add_argument("--program", default=f"{TOP}/crates/site_cli/out/site_cli")
     words.add_argument("--jobs", type=int, default=len(os.sched_getaffinity(0)))
@@ -289,11 +306,11 @@ def main():
         for program, test in tests_built():
             if given.commands and test not in given.commands:
                 continue
-            trial = TestTrial(program, test, refuser)
-            every = trial.run()
-            passed, failed = passed + every - len(trial.wrong), failed + len(trial.wrong)
-            print(f"{test}: {every} allocations, {len(trial.wrong)} wrong", flush=True)
-            for line in trial.wrong[:5]:
+            of_test = TestTrial(program, test, refuser)
+            every = of_test.run()
+            passed, failed = passed + every - len(of_test.wrong), failed + len(of_test.wrong)
+            print(f"{test}: {every} allocations, {len(of_test.wrong)} wrong", flush=True)
+            for line in of_test.wrong[:5]:
                 print(f"wrong: {line}")
     print(f"{passed} passed, {failed} failed")
     return 1 if failed else 0
