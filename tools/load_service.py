@@ -33,12 +33,17 @@ import sys
 import tempfile
 import threading
 import time
+from typing import Callable, Optional
 
 sys.dont_write_bytecode = True
 TOP = os.path.dirname(os.path.dirname(os.path.realpath(__file__)))
 sys.path.insert(0, f"{TOP}/tools")
-from try_service import Tries, event  # noqa: E402
+from try_service import Site, Tries, event  # noqa: E402
 
+# How many connections there are, and how many events a request has.
+Shape = tuple[int, int]
+# Events a second, and the middle and the 99th percentile of the time to an answer in milliseconds.
+Rates = tuple[float, float, float]
 # The events of a thread of wrk, from a source of its own.
 SCRIPT = """
 local threads, number = 0, 0
@@ -73,7 +78,15 @@ FROM generate_series(:n::bigint - BATCH + 1, :n::bigint) AS k ON CONFLICT DO NOT
 """
 
 
-def of_service(tries, folder, shape, seconds):
+def found(pattern: str, text: str) -> "re.Match[str]":
+    """What of a text is as the pattern says; it has to be there."""
+    match = re.search(pattern, text, re.M)
+    if not match:
+        sys.exit(f"nothing is as {pattern}: {text[-1000:]}")
+    return match
+
+
+def of_service(tries: Tries, folder: str, shape: Shape, seconds: int) -> Rates:
     connections, batch = shape
     with open(f"{folder}/load.lua", "w", encoding="ascii") as out:
         out.write(SCRIPT.replace("BATCH", str(batch)))
@@ -81,17 +94,17 @@ def of_service(tries, folder, shape, seconds):
     threads = str(min(2, connections))
     words = ["wrk", "-t", threads, "-c", str(connections), "-d", f"{seconds}s", "--latency", "-s", f"{folder}/load.lua", f"http://127.0.0.1:{site.port}"]
     said = subprocess.run(words, capture_output=True, text=True, check=True, timeout=seconds + 30).stdout
-    count = int(re.search(r"jumbetai_events (\d+)", site.get("/metrics").body.decode())[1])
+    count = int(found(r"jumbetai_events (\d+)", site.get("/metrics").body.decode())[1])
     site.stop(seconds=30)
     shutil.rmtree(site.folder)
     refused = re.search(r"Non-2xx or 3xx responses: (\d+)", said)
     if refused:
         sys.exit(f"the service refused {refused[1]} requests: {said}")
-    took = float(re.search(r"requests in ([\d.]+)s", said)[1])
+    took = float(found(r"requests in ([\d.]+)s", said)[1])
 
-    def milliseconds(percent):
-        value, unit = re.search(rf"^\s+{percent}%\s+([\d.]+)(us|ms|s)$", said, re.M).groups()
-        return float(value) * {"us": 0.001, "ms": 1, "s": 1000}[unit]
+    def milliseconds(percent: int) -> float:
+        value, unit = found(rf"^\s+{percent}%\s+([\d.]+)(us|ms|s)$", said).groups()
+        return float(value) * {"us": 0.001, "ms": 1.0, "s": 1000.0}[unit]
 
     return count / took, milliseconds(50), milliseconds(99)
 
@@ -99,18 +112,18 @@ def of_service(tries, folder, shape, seconds):
 class Postgres:
     """A server of its own in a folder, over a socket there."""
 
-    def __init__(self, folder):
+    def __init__(self, folder: str) -> None:
         self.folder, self.bin = f"{folder}/postgres", (sorted(glob.glob("/usr/lib/postgresql/*/bin")) or [""])[-1]
         self.user = ["setpriv", "--reuid=postgres", "--regid=postgres", "--clear-groups"] if os.geteuid() == 0 else []
 
-    def is_there(self):
+    def is_there(self) -> bool:
         return all(os.path.exists(f"{self.bin}/{it}") for it in ("initdb", "pg_ctl", "pgbench"))
 
-    def run(self, *words):
+    def run(self, *words: str) -> str:
         command = [*self.user, f"{self.bin}/{words[0]}", *words[1:]]
         return subprocess.run(command, cwd=self.folder, capture_output=True, text=True, check=True, timeout=120).stdout
 
-    def start(self):
+    def start(self) -> None:
         os.chmod(os.path.dirname(self.folder), 0o755)
         os.mkdir(self.folder)
         if self.user:
@@ -118,10 +131,10 @@ class Postgres:
         self.run("initdb", "-D", "data", "-A", "trust", "-U", "load")
         self.run("pg_ctl", "-D", "data", "-w", "-l", "log", "-o", f"-k {self.folder} -h '' -c max_connections=300", "start")
 
-    def stop(self):
+    def stop(self) -> None:
         self.run("pg_ctl", "-D", "data", "-m", "immediate", "stop")
 
-    def load(self, shape, seconds):
+    def load(self, shape: Shape, seconds: int) -> Rates:
         connections, batch = shape
         with open(f"{self.folder}/load.sql", "w", encoding="ascii") as out:
             out.write(f"\\set n :n + {batch}\n{INSERT.replace('BATCH', str(batch))}")
@@ -151,14 +164,15 @@ class Redis:
         '"datacontenttype":"application/json","data":{"lines":[{"sku":"0000ab12","count":7}],"note":"%s"}}' % ("x" * 50)
     )
 
-    def __init__(self, folder):
-        self.folder, self.socket, self.ran = f"{folder}/redis", f"{folder}/redis/socket", None
+    def __init__(self, folder: str) -> None:
+        self.folder, self.socket = f"{folder}/redis", f"{folder}/redis/socket"
+        self.ran: Optional[subprocess.Popen[bytes]] = None
 
     @staticmethod
-    def is_there():
+    def is_there() -> bool:
         return all(shutil.which(it) for it in ("redis-server", "redis-benchmark", "redis-cli"))
 
-    def start(self):
+    def start(self) -> None:
         os.mkdir(self.folder)
         words = ["redis-server", "--port", "0", "--unixsocket", self.socket, "--dir", self.folder]
         words += ["--appendonly", "yes", "--appendfsync", "always", "--save", ""]
@@ -167,18 +181,19 @@ class Redis:
         while not os.path.exists(self.socket) and time.monotonic() < until:
             time.sleep(0.05)
 
-    def stop(self):
+    def stop(self) -> None:
+        assert self.ran
         self.ran.terminate()
         self.ran.wait(30)
 
-    def asked(self, shape, count):
+    def asked(self, shape: Shape, count: int) -> Rates:
         connections, batch = shape
         words = ["redis-benchmark", "-s", self.socket, "-c", str(connections), "-P", str(batch), "-n", str(count), "--csv", "-r", "1000000"]
         said = subprocess.run([*words, "XADD", "load", "*", "event", self.EVENT], capture_output=True, text=True, check=True, timeout=120)
         rate, _, _, middle, _, late, _ = said.stdout.splitlines()[-1].replace('"', "").rsplit(",", 7)[1:]
         return float(rate), float(middle), float(late)
 
-    def load(self, shape, seconds):
+    def load(self, shape: Shape, seconds: int) -> Rates:
         subprocess.run(["redis-cli", "-s", self.socket, "flushall"], capture_output=True, check=True)
         count = 100 * shape[0] * shape[1]
         return self.asked(shape, max(count, int(self.asked(shape, count)[0] * seconds)))
@@ -189,7 +204,7 @@ class RabbitMQ:
 
     SERVER, PORTS = "/usr/lib/rabbitmq/bin/rabbitmq-server", (25672, 25673, 25674)
 
-    def __init__(self, folder):
+    def __init__(self, folder: str) -> None:
         self.folder, self.client = f"{folder}/rabbitmq", f"{folder}/rabbitmq/load"
         node, others, names = self.PORTS
         mine = {"MNESIA_BASE": "data", "LOG_BASE": "log", "ENABLED_PLUGINS_FILE": "plugins", "CONFIG_FILE": "none", "CONF_ENV_FILE": "env"}
@@ -197,14 +212,14 @@ class RabbitMQ:
         self.environment.update({"HOME": self.folder, "RABBITMQ_NODENAME": "load@localhost", "ERL_EPMD_PORT": str(names)})
         self.environment.update({"RABBITMQ_NODE_PORT": str(node), "RABBITMQ_DIST_PORT": str(others), "RABBITMQ_NODE_IP_ADDRESS": "127.0.0.1"})
 
-    def is_there(self):
+    def is_there(self) -> bool:
         if not os.path.exists(self.SERVER):
             return False
         os.mkdir(self.folder)
         words = ["gcc", "-O2", "-o", self.client, f"{TOP}/tools/load_rabbitmq.c", "-lrabbitmq", "-lpthread"]
         return subprocess.run(words, check=False, stderr=subprocess.DEVNULL).returncode == 0
 
-    def start(self):
+    def start(self) -> subprocess.Popen[bytes]:
         with open(f"{self.folder}/said", "wb") as said:
             ran = subprocess.Popen([self.SERVER], env=self.environment, cwd=self.folder, stdout=said, stderr=said)
         until = time.monotonic() + 60
@@ -215,7 +230,7 @@ class RabbitMQ:
                     return ran
         sys.exit(f"RabbitMQ didn't start: see {self.folder}/said")
 
-    def load(self, shape, seconds):
+    def load(self, shape: Shape, seconds: int) -> Rates:
         ran = self.start()
         try:
             words = [self.client, str(self.PORTS[0]), *map(str, shape), str(seconds)]
@@ -228,7 +243,7 @@ class RabbitMQ:
         return rate, middle, late
 
 
-def fill(site, source, count):
+def fill(site: Site, source: str, count: int) -> None:
     for at in range(1, count + 1, 1000):
         told = site.give(
             [
@@ -240,7 +255,7 @@ def fill(site, source, count):
             sys.exit(f"the service refused: {told}")
 
 
-def of_sync(tries, count):
+def of_sync(tries: Tries, count: int) -> None:
     """Seconds in which two services come to one view: one way, and mutually."""
     took = []
     for is_mutual in (False, True):
@@ -260,11 +275,12 @@ def of_sync(tries, count):
 class Writer(threading.Thread):
     """Gives a service 1,000 events a second, in batches of ten, and notes which were acknowledged and how long each took."""
 
-    def __init__(self, site):
+    def __init__(self, site: Site) -> None:
         super().__init__(daemon=True)
-        self.site, self.over, self.acknowledged, self.times, self.refused = site, threading.Event(), 0, [], 0
+        self.site, self.over, self.acknowledged, self.refused = site, threading.Event(), 0, 0
+        self.times: list[tuple[float, float]] = []
 
-    def run(self):
+    def run(self) -> None:
         number, due = 0, time.monotonic()
         while not self.over.is_set():
             began = time.monotonic()
@@ -278,24 +294,24 @@ class Writer(threading.Thread):
             due += 0.01
             time.sleep(max(0.0, due - time.monotonic()))
 
-    def end(self):
+    def end(self) -> None:
         self.over.set()
         self.join()
 
-    def told(self, begin, end):
+    def told(self, begin: float, end: float) -> str:
         """How long the answers took that were asked for between two times."""
         times = sorted(took for at, took in self.times if begin <= at < end)
         return f"p50 {times[len(times) // 2]:.1f}, p99 {times[int((len(times) - 1) * 0.99)]:.1f}, at most {times[-1]:.1f} ms of {len(times)}"
 
 
-def resident(site):
+def resident(site: Site) -> list[int]:
     """How many MiB of memory a service has, and how many it had at most."""
     with open(f"/proc/{site.ran.pid}/status", encoding="ascii") as status:
         text = status.read()
-    return [int(re.search(rf"{name}:\s+(\d+)", text)[1]) >> 10 for name in ("VmRSS", "VmHWM")]
+    return [int(found(rf"{name}:\s+(\d+)", text)[1]) >> 10 for name in ("VmRSS", "VmHWM")]
 
 
-def wait_for_one_view(sites):
+def wait_for_one_view(sites: list[Site]) -> float:
     """Waits until services have one set, and answers how long that took."""
     began = time.monotonic()
     while len({it.get("/cover").headers["etag"] for it in sites}) > 1:
@@ -305,7 +321,7 @@ def wait_for_one_view(sites):
     return time.monotonic() - began
 
 
-def of_backup(tries, count):
+def of_backup(tries: Tries, count: int) -> bool:
     """A backup of a service over so many events while more come; then its disk is lost, and it begins with the backup."""
     folder = f"{tries.folder}/backups"
     south = tries.site("south").start()
@@ -347,7 +363,7 @@ def of_backup(tries, count):
     return is_right
 
 
-def of_questions(tries, count):
+def of_questions(tries: Tries, count: int) -> None:
     """Times of GET /kinds while a service over so many events takes 1,000 a second."""
     site = tries.site("asked").start()
     fill(site, "/before", count)
@@ -363,7 +379,7 @@ def of_questions(tries, count):
         times.append((time.monotonic() - began) * 1000)
         time.sleep(0.02)
     writer.end()
-    memory = int(re.search(rb"process_resident_memory_bytes (\d+)", site.get("/metrics").body)[1])
+    memory = int(found(r"process_resident_memory_bytes (\d+)", site.get("/metrics").body.decode())[1])
     has = int(site.get("/kinds").headers["site-events"])
     site.stop(seconds=60)
     times.sort()
@@ -372,7 +388,7 @@ def of_questions(tries, count):
     print(f"{started}; {(has - count) / 20:.0f} events a second beside; GET /kinds p50 {p50:.1f}, p99 {p99:.1f} ms of {len(times)}")
 
 
-def main():
+def main() -> int:
     words = argparse.ArgumentParser(description=__doc__, formatter_class=argparse.RawDescriptionHelpFormatter)
     words.add_argument("--program", default=f"{TOP}/out/service/jumbetaid")
     words.add_argument("--rounds", type=int, default=3)
@@ -395,12 +411,13 @@ def main():
         return 0
     if not shutil.which("wrk"):
         sys.exit("skipped: wrk isn't there")
-    shapes = [tuple(map(int, it.split("x"))) for it in given.shapes.split(",")]
-    got = {}
+    pairs = [it.split("x") for it in given.shapes.split(",")]
+    shapes = [(int(connections), int(batch)) for connections, batch in pairs]
+    got: dict[tuple[Shape, str], list[Rates]] = {}
     with tempfile.TemporaryDirectory() as folder, contextlib.ExitStack() as end:
         tries = Tries(folder, os.path.abspath(given.program))
         end.callback(tries.end)
-        systems = {"jumbetaid": lambda shape: of_service(tries, folder, shape, given.seconds)}
+        systems: dict[str, Callable[[Shape], Rates]] = {"jumbetaid": lambda shape: of_service(tries, folder, shape, given.seconds)}
         postgres = Postgres(folder)
         if postgres.is_there():
             postgres.start()

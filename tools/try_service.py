@@ -27,7 +27,7 @@ import threading
 import time
 import urllib.parse
 from concurrent.futures import ThreadPoolExecutor
-from typing import Any, Optional
+from typing import Any, Callable, Iterable, Optional
 
 sys.dont_write_bytecode = True
 TOP = os.path.dirname(os.path.dirname(os.path.realpath(__file__)))
@@ -50,45 +50,47 @@ def event(number: int, source: str = "/a", **more: Any) -> dict[str, Any]:
 class Told:
     """An answer: its status, its headers by their names in lower case, and its body."""
 
-    def __init__(self, status, headers, body):
+    def __init__(self, status: int, headers: Iterable[tuple[str, str]], body: bytes) -> None:
         self.status, self.body = status, body
         self.headers = {name.lower(): value for name, value in headers}
 
     @property
-    def json(self):
+    def json(self) -> Any:
         return json.loads(self.body)
 
     @property
-    def problem(self):
+    def problem(self) -> Optional[str]:
         """The name of a problem, and its status; none where the answer is no problem."""
         if self.headers.get("content-type") != "application/problem+json":
             return None
-        return self.json["type"].rpartition(":")[2] if self.json["status"] == self.status else None
+        return str(self.json["type"]).rpartition(":")[2] if self.json["status"] == self.status else None
 
-    def __repr__(self):
+    def __repr__(self) -> str:
         return f"{self.status} {self.headers} {self.body[:300]!r}"
 
 
 class Site:
     """A running service, with its folder for the database, the settings and the log."""
 
-    def __init__(self, tries, name, settings="", title=None):
-        self.tries, self.name, self.title, self.prefix = tries, name, title or name, []
+    def __init__(self, tries: "Tries", name: str, settings: str = "", title: Optional[str] = None) -> None:
+        self.tries, self.name, self.title = tries, name, title or name
+        self.prefix: list[str] = []
         self.folder = f"{tries.folder}/{name}"
         os.makedirs(self.folder)
-        self.port, self.ran, self.db = 0, None, f"{self.folder}/site.db"
+        self.port, self.db = 0, f"{self.folder}/site.db"
+        self.ran: Any = None
         self.set(settings)
 
-    def set(self, settings):
+    def set(self, settings: str) -> None:
         """Writes the settings; those of a table stand behind the others."""
         with open(f"{self.folder}/settings.toml", "w", encoding="utf-8") as out:
             out.write(f'name = {json.dumps(self.title)}\ndb = "{self.db}"\nlisten = "127.0.0.1:0"\n{settings}')
 
-    def start(self, seconds=8):
+    def start(self, seconds: float = 8) -> "Site":
         """Starts it, where it was before if it was, and waits until it is ready."""
         begin = os.path.getsize(f"{self.folder}/log") if os.path.exists(f"{self.folder}/log") else 0
         with open(f"{self.folder}/log", "ab") as log:
-            words = [*self.prefix, self.tries.program, "--config", f"{self.folder}/settings.toml"]
+            words = [*self.prefix, str(self.tries.program), "--config", f"{self.folder}/settings.toml"]
             words += [f"--listen=127.0.0.1:{self.port}"] * bool(self.port)
             self.ran = subprocess.Popen(words, stdin=subprocess.DEVNULL, stdout=log, stderr=log)
         self.tries.running.append(self.ran)
@@ -101,38 +103,38 @@ class Site:
             time.sleep(0.01)
         raise OSError(f"{self.name} isn't ready: {self.text_of_log()[-1000:]}")
 
-    def text_of_log(self):
+    def text_of_log(self) -> str:
         with open(f"{self.folder}/log", encoding="utf-8") as log:
             return log.read()
 
-    def log(self, begin=0):
+    def log(self, begin: int = 0) -> list[dict[str, Any]]:
         """The lines of the log that are whole."""
         with open(f"{self.folder}/log", "rb") as log:
             log.seek(begin)
             lines = log.read().split(b"\n")[:-1]
         return [json.loads(it) for it in lines if it.startswith(b"{")]
 
-    def stop(self, how=signal.SIGTERM, seconds=12):
+    def stop(self, how: int = signal.SIGTERM, seconds: float = 12) -> int:
         """Ends it, and answers its status."""
         self.ran.send_signal(how)
-        return self.ran.wait(seconds)
+        return int(self.ran.wait(seconds))
 
-    def ask(self, method, path, body=None, headers=None, seconds=20):
+    def ask(self, method: str, path: str, body: Any = None, headers: Optional[dict[str, str]] = None, seconds: float = 20) -> Told:
         connection = http.client.HTTPConnection("127.0.0.1", self.port, timeout=seconds)
         with contextlib.closing(connection):
             connection.request(method, path, body, headers or {})
             answer = connection.getresponse()
             return Told(answer.status, answer.getheaders(), answer.read())
 
-    def get(self, path, **headers):
+    def get(self, path: str, **headers: str) -> Told:
         return self.ask("GET", path, headers={name.replace("_", "-"): value for name, value in headers.items()})
 
-    def give(self, what, headers=None):
+    def give(self, what: Any, headers: Optional[dict[str, str]] = None) -> Told:
         """Gives an event, or a list of them."""
         body = what if isinstance(what, (str, bytes)) else json.dumps(what)
         return self.ask("POST", "/events", body, headers or (MANY if isinstance(what, list) else ONE))
 
-    def raw(self, *parts, seconds=8):
+    def raw(self, *parts: bytes, seconds: float = 8) -> tuple[bytes, Optional[float]]:
         """What comes back of bytes, until the connection is closed or the time is over, and how long that took."""
         began, said = time.monotonic(), b""
         with socket.create_connection(("127.0.0.1", self.port), timeout=seconds) as it:
@@ -148,10 +150,10 @@ class Site:
                 return said, None
         return said, time.monotonic() - began
 
-    def cover(self):
+    def cover(self) -> Any:
         return self.get("/cover").json["sources"]
 
-    def waits_for(self, ready, seconds=8):
+    def waits_for(self, ready: Callable[[], object], seconds: float = 8) -> bool:
         """Whether something is so within the time."""
         end = time.monotonic() + seconds
         while not ready():
@@ -167,16 +169,16 @@ class Tries:
         self.running: list[Any] = []
         self.what = ""
 
-    def judge(self, what, is_right, why=""):
+    def judge(self, what: str, is_right: object, why: object = "") -> bool:
         self.right, self.all = self.right + bool(is_right), self.all + 1
         if not is_right:
             print(f"wrong: {self.what}: {what}: {str(why)[-1500:]}", flush=True)
-        return is_right
+        return bool(is_right)
 
-    def skip(self, what, why):
+    def skip(self, what: str, why: str) -> None:
         print(f"skipped: {what}, since {why}", flush=True)
 
-    def site(self, name, settings="", title=None):
+    def site(self, name: str, settings: str = "", title: Optional[str] = None) -> Site:
         return Site(self, f"{self.what}-{name}", settings, title)
 
     def end(self) -> None:
