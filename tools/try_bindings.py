@@ -20,6 +20,7 @@ import shutil
 import subprocess
 import sys
 import tempfile
+from typing import Any, Iterable, Iterator, Optional
 
 sys.dont_write_bytecode = True
 TOP = os.path.dirname(os.path.dirname(os.path.realpath(__file__)))
@@ -31,12 +32,12 @@ from measure import held_lines  # noqa: E402
 QUESTIONS = ("cover", "shown", "conflicts", "latest", "kinds", "days", "gaps")
 STRICT = ["-std=c11", "-Wall", "-Wextra", "-Wconversion", "-Werror", "-pedantic", "-O1", "-g"]
 # The tests of some of the C alone, without the proved part, and with what each is linked.
-ALONE = {
+ALONE: dict[str, list[str]] = {
     "bindings/c/test_files.c": ["files.c", "errno.c", "-Wl,--wrap=fcntl,--wrap=fsync,--wrap=syncfs,--wrap=open"],
     "bindings/c/test_parts.c": ["errno.c", "heap.c", "outbox.c", "site.c", "-ffunction-sections", "-Wl,--gc-sections"],
 }
 # The programs in C, and with what else each is linked.
-PROGRAMS = {
+PROGRAMS: dict[str, list[str]] = {
     "bindings/c/test_site.c": [],
     "bindings/c/test_file.c": [],
     "bindings/c/test_outbox.c": [],
@@ -56,50 +57,50 @@ DONE = re.compile(rb"(\d+) passed, 0 failed|([1-9]\d*) requests refused")
 
 
 class Tries:
-    def __init__(self, folder, program):
+    def __init__(self, folder: str, program: Optional[str]) -> None:
         self.folder, self.program, self.right, self.all = folder, program, 0, 0
         self.environment = {**os.environ, "PYTHONDONTWRITEBYTECODE": "1", "JUMBETAI_LIB_DIR": f"{folder}/library"}
 
-    def judge(self, what, is_right, why=""):
+    def judge(self, what: str, is_right: bool, why: object = "") -> bool:
         self.right, self.all = self.right + is_right, self.all + 1
         if not is_right:
             print(f"wrong: {what}: {str(why)[-2000:]}", flush=True)
         return is_right
 
-    def has(self, tool, what):
+    def has(self, tool: str, what: str) -> bool:
         """Whether a tool is there; says what is left out where it isn't."""
         is_there = shutil.which(tool) is not None and self.run([tool, "--version"])[0] == 0
         if not is_there:
             print(f"skipped: {what}, since {tool} isn't there", flush=True)
         return is_there
 
-    def run(self, words, folder=None, **more):
+    def run(self, words: list[str], folder: Optional[str] = None, **more: str) -> tuple[int, bytes]:
         ran = subprocess.run(
             words, cwd=folder or self.folder, env={**self.environment, **more}, stdin=subprocess.DEVNULL, stdout=subprocess.PIPE, stderr=subprocess.STDOUT
         )
         return ran.returncode, ran.stdout
 
-    def passes(self, what, words, said=None, folder=None):
+    def passes(self, what: str, words: list[str], said: "Optional[re.Pattern[bytes]]" = None, folder: Optional[str] = None) -> bool:
         """Whether a command ends with status 0, and says at its end what it has to."""
         status, out = self.run(words, folder)
         is_said = said is None or said.search(out) is not None
         return self.judge(what, status == 0 and is_said, f"status {status}: {out.decode(errors='replace')}")
 
 
-def worked_answers():
+def worked_answers() -> dict[str, str]:
     """The answers of examples/README.md about examples/orders.json, worked out by hand: a block below each question."""
     with open(f"{TOP}/examples/README.md", encoding="utf-8") as file:
         text = file.read()
     return dict(re.findall(r"^## `(\w+)`$.*?^```\n(.*?)^```$", text, re.M | re.S))
 
 
-def is_apart(source):
+def is_apart(source: str) -> bool:
     """Whether a program in C is no test, or one that wants a disk of its own."""
     return source.startswith("examples/") or source.endswith("/test_full.c")
 
 
 @contextlib.contextmanager
-def small_disk(folder):
+def small_disk(folder: str) -> Iterator[Optional[str]]:
     """A folder on a file system of 2 MiB; none where this user can't mount one."""
     os.makedirs(folder)
     words = ["mount", "-t", "tmpfs", "-o", "size=2m", "tmpfs", folder]
@@ -113,18 +114,18 @@ def small_disk(folder):
             subprocess.run(["umount", folder], check=True)
 
 
-def made_batch(tries, name, events):
+def made_batch(tries: Tries, name: str, events: int) -> str:
     with open(f"{tries.folder}/{name}", "wb") as out:
         subprocess.run([f"{TOP}/tools/make_batch.py", "--events", str(events)], stdout=out, check=True)
     return f"{tries.folder}/{name}"
 
 
-def sources(names):
+def sources(names: Iterable[str]) -> list[str]:
     """The files of bindings/c among the words of a command, where they lie."""
     return [f"{TOP}/bindings/c/{it}" if it.endswith(".c") else it for it in names]
 
 
-def try_sources(tries):
+def try_sources(tries: Tries) -> None:
     """Each file in C by the compiler's own analysis, where it has one, and the tests of some of them alone."""
     if tries.has("gcc", "the analysis of gcc"):
         for source in (*(f"bindings/c/{it}" for it in library.PARTS), *ALONE, *PROGRAMS):
@@ -137,7 +138,7 @@ def try_sources(tries):
                 tries.passes(f"{source} under valgrind", [*VALGRIND, f"./{name}"], DONE)
 
 
-def try_sanitizers(tries):
+def try_sanitizers(tries: Tries) -> None:
     """The tests in C once more, with the C of the library compiled by clang to look at each step."""
     with open(f"{tries.folder}/nothing.c", "w", encoding="ascii") as out:
         out.write("int main(void) { return 0; }\n")
@@ -147,7 +148,7 @@ def try_sanitizers(tries):
         print("skipped: C with sanitizers, since clang has no runtime for them here", flush=True)
         return
     whole = ["-Llibrary", "-ljumbetai"]
-    rows = {it: (sources(more), []) for it, more in ALONE.items()}
+    rows: dict[str, tuple[list[str], list[str]]] = {it: (sources(more), []) for it, more in ALONE.items()}
     rows.update({it: (sources(library.PARTS), whole) for it in PROGRAMS if it.startswith("bindings/c/test_") and not is_apart(it)})
     # It gives the library its memory itself.
     rows["bindings/c/try_want.c"] = (sources(it for it in library.PARTS if it != "heap.c"), whole)
@@ -158,7 +159,7 @@ def try_sanitizers(tries):
             tries.passes(f"{source} with sanitizers", [f"./{name}"], DONE)
 
 
-def try_c(tries):
+def try_c(tries: Tries) -> None:
     """The programs in C, each linked as a user links it, and once more under valgrind."""
     for source, more in PROGRAMS.items():
         name = os.path.basename(source).removesuffix(".c")
@@ -183,17 +184,17 @@ def try_c(tries):
         want, got = (tries.run([it, question, batch]) for it in (tries.program, "./ask"))
         tries.judge(f"C: {question}", got == want and got[0] == 0, got[1][:200])
     tries.run([tries.program, "take", "--db", "small.db", batch])
-    with open(f"{tries.folder}/none.json", "w", encoding="ascii") as out:
-        out.write("[]")
-    with open(f"{tries.folder}/nothing", "wb") as out:
-        out.write(tries.run(["./ask", "summary", "none.json"])[1])
+    with open(f"{tries.folder}/none.json", "w", encoding="ascii") as none:
+        none.write("[]")
+    with open(f"{tries.folder}/nothing", "wb") as nothing:
+        nothing.write(tries.run(["./ask", "summary", "none.json"])[1])
     for word, words in (("summary", ["summary"]), ("page", ["scrub", "--all"]), ("delta", ["delta", "--all"])):
         want = tries.run([tries.program, *words, "--db", "small.db", *["nothing"] * (word == "delta")])
         got = tries.run(["./ask", word, batch])
         tries.judge(f"C: {word}", got == want and got[0] == 0, f"{got[1][:200]!r}, not {want[1][:200]!r}")
 
 
-def try_installed(tries):
+def try_installed(tries: Tries) -> None:
     """The library below a prefix, as a package has it: found by pkg-config, linked both ways, of the header's functions."""
     tool, folder = f"{TOP}/tools/library.py", tries.folder
     words = [tool, "--from", "library", "--install", "/opt/jumbetai"]
@@ -219,26 +220,26 @@ def try_installed(tries):
         if tries.judge("flags of pkg-config", (status, out.decode().split()) == (0, flags), out):
             flags = out.decode().split()
     worked = worked_answers()["kinds"]
-    for how, last in (("shared", []), ("static", ["-Wl,-Bdynamic"])):
-        given = ["-Wl,-Bstatic", *flags] if last else flags
-        words = [library.compiler(), f"{TOP}/examples/c/ask.c", *given, *last, "-o", f"ask-{how}"]
+    for how, given in (("shared", flags), ("static", ["-Wl,-Bstatic", *flags, "-Wl,-Bdynamic"])):
+        words = [library.compiler(), f"{TOP}/examples/c/ask.c", *given, "-o", f"ask-{how}"]
         if tries.passes(f"the example in C is linked, {how}", words):
             status, out = tries.run([f"./ask-{how}", "kinds", f"{TOP}/examples/orders.json"], LD_LIBRARY_PATH=f"{folder}/prefix/lib" if how == "shared" else "")
             tries.judge(f"the example in C, {how}", (status, out.decode()) == (0, worked), out)
 
 
-def try_statuses(tries):
+def try_statuses(tries: Tries) -> None:
     """The statuses of the header are those of the crate and of the package, and each has words."""
-    block = re.search(r"enum jumbetai_status \{(.*?)\n\};", library.header(), re.S)[1]
-    statuses = {name: int(number) for name, number in re.findall(r"JUMBETAI_(\w+)\s*=\s*(\d+)", block)}
+    block = re.search(r"enum jumbetai_status \{(.*?)\n\};", library.header(), re.S)
+    assert block
+    statuses = {name: int(number) for name, number in re.findall(r"JUMBETAI_(\w+)\s*=\s*(\d+)", block[1])}
     # By these no call of a binding can be answered.
     apart = ("DONE", "NO_SUCH_QUESTION", "BAD_ARGUMENT", "NOT_OPEN", "NO_SUCH_ACTION")
     known = {(name, number) for name, number in statuses.items() if name not in apart}
 
-    def judge(what, file, row, want):
+    def judge(what: str, file: str, row: str, want: set[tuple[str, int]]) -> None:
         with open(f"{TOP}/bindings/{file}", encoding="utf-8") as text:
-            found = re.findall(row, text.read(), re.M)
-        found = {tuple(sorted(it, key=str.isdigit)) for it in found}
+            rows = re.findall(row, text.read(), re.M)
+        found = {tuple(sorted(it, key=str.isdigit)) for it in rows}
         tries.judge(f"the statuses of {what}", found == {(name, str(number)) for name, number in want}, found)
 
     camel = {("".join(part.capitalize() for part in name.split("_")), number) for name, number in known}
@@ -255,20 +256,20 @@ def try_statuses(tries):
 CALLED = {"NOT_OPEN": "NOT_OPEN", "NO_BODY": "BAD_ARGUMENT", "NO_TIME": "BAD_TIME", "NO_ORDER_NUMBER": "BAD_ORDER", "NO_SOURCE": "BAD_SOURCE"}
 
 
-def try_proved_statuses(tries, statuses):
+def try_proved_statuses(tries: Tries, statuses: dict[str, int]) -> None:
     """The numbers of the proved code, and those of its definitions, are those of the header, by their names."""
 
-    def read(file):
+    def read(file: str) -> str:
         with open(f"{TOP}/crates/{file}", encoding="utf-8") as text:
             return text.read()
 
-    def header_name(name):
+    def header_name(name: str) -> str:
         return CALLED.get(name) or re.sub(r"(?<=[a-z])(?=[A-Z])", "_", name).upper()
 
-    def judge(what, rows, most=None):
+    def judge(what: str, rows: list[Any], most: int = 1) -> None:
         found = {header_name(name): int(number) for name, number in rows}
         want = {name: statuses.get(name) for name in found}
-        tries.judge(f"the statuses of {what}", len(rows) >= (most or 1) and found == want, found)
+        tries.judge(f"the statuses of {what}", len(rows) >= most and found == want, found)
 
     constants = [
         it
@@ -281,14 +282,15 @@ def try_proved_statuses(tries, statuses):
     judge("the code's numbers", re.findall(r"NumbererFault::(\w+).* => (\d+),", read("site_c/src/number_calls.rt")), 3)
     summary = [(f"Summary{name}", number) for name, number in re.findall(r"SummaryFault::(\w+) => (\d+),", read("site_c/src/calls.rt"))]
     judge("the code's summaries", summary, 4)
-    for what, file, word, names in (
+    definitions: list[tuple[str, str, str, dict[str, str]]] = [
         ("opening", "site_c/specs/Files", "open_status opening", {}),
         ("table", "site_c/specs/Files", "table_status table", {}),
         ("outbox", "site_c/specs/Outboxes", "outbox_status outbox", {}),
         ("numbers", "site_c/specs/Numbers", "number_status fault", {}),
         ("summaries", "site_c/specs/Calls", "summary_status summary", {"OutOfMemory": "OutOfMemory"}),
         ("reports", "file_reports/specs/Numbers", "fault_number fault", {"Read": "NoEvents", "Event": "NoNumber"}),
-    ):
+    ]
+    for what, file, word, names in definitions:
         function, variants = word.split()
         rows = re.findall(rf"^{function} \(?{variants}\.(\w+).* = (\d+)$", read(f"{file}.antt"), re.M)
         prefix = "Summary" if what == "summaries" else ""
@@ -297,7 +299,7 @@ def try_proved_statuses(tries, statuses):
     judge("the code's reports", [({"Read": "NoEvents", "Event": "NoNumber"}.get(name, name), number) for name, number in reports], 3)
 
 
-def try_orders(tries):
+def try_orders(tries: Tries) -> None:
     """The example in C that writes orders and hands their rows on, beside the program where it is there."""
     done = ("place 7 10", "place 8 11", "ship 7 12", "cancel 8 13", "ship 8 14", "place 0 15", "place 9 25")
     event = '{{"id":"{0:020d}","sequence":"{0:020d}","source":"/orders","specversion":"1.0","subject":"{1}","time":"{2}","type":"order.{3}"}}\n'
@@ -320,13 +322,13 @@ def try_orders(tries):
         said = [tries.run([tries.program, *it, "--db", db]) for it in (["relay", "--after", "0"], ["service"]) for db in ("orders.db", "theirs.db")]
         tries.judge("C: the rows of the program", said[0] == said[1] and said[0][0] == 0, said[0][1])
         tries.judge("C: the service of the program", said[2] == said[3] == (0, b'{"base":0,"orders":2,"rows":4,"source":"/orders"}\n'), said[2][1])
-        with open(f"{tries.folder}/rows.json", "wb") as out:
-            out.write(said[0][1])
+        with open(f"{tries.folder}/rows.json", "wb") as rows:
+            rows.write(said[0][1])
         kinds = [tries.run([tries.program, "cover", *it]) for it in (["--db", "took.db"], ["rows.json"])]
         tries.judge("C: the site has each row", kinds[0] == kinds[1] and kinds[0][0] == 0, kinds[0][1])
 
 
-def try_placing(tries, orders):
+def try_placing(tries: Tries, orders: int) -> None:
     """The example in Rust, which places and ships so many orders and hands their rows to a site."""
     said = re.compile(rb"(?:[a-z ]+: \d+ us\n){6}\Z")
     status, out = tries.run(["cargo/debug/examples/orders", "placed.db", "handed.db", str(orders)])
@@ -342,12 +344,12 @@ def try_placing(tries, orders):
         tries.judge("Rust: the site that examples/orders.rs leaves", (status, out.decode()) == (0, line), out)
 
 
-def try_hold(tries):
+def try_hold(tries: Tries) -> None:
     """The example in Rust, which takes 2,380 events into a file, told by the program where it is there."""
-    with open(f"{tries.folder}/lines", "w", encoding="ascii") as out:
-        out.write(held_lines("/a"))
-    with open(f"{tries.folder}/none.summary", "w", encoding="ascii") as out:
-        out.write('{"sources":{},"version":1}\n')
+    with open(f"{tries.folder}/lines", "w", encoding="ascii") as lines:
+        lines.write(held_lines("/a"))
+    with open(f"{tries.folder}/none.summary", "w", encoding="ascii") as summary:
+        summary.write('{"sources":{},"version":1}\n')
     said = re.compile(rb"(?:[a-z0-9, ]+: \d+ us\n){13}\Z")
     tries.passes("Rust: examples/hold.rs", ["cargo/debug/examples/hold", "hold.db", "lines", "none.summary"], said)
     if tries.program:
@@ -355,7 +357,7 @@ def try_hold(tries):
         tries.judge("Rust: what examples/hold.rs leaves", (status, out) == (0, b'["t",2380]\n'), out)
 
 
-def try_rust(tries, batch, orders):
+def try_rust(tries: Tries, batch: str, orders: int) -> None:
     if not tries.has("cargo", "Rust"):
         return
     manifest = ["--offline", "--quiet", "--manifest-path", f"{TOP}/bindings/rust/Cargo.toml", "--workspace"]
@@ -374,7 +376,7 @@ def try_rust(tries, batch, orders):
 
 
 @contextlib.contextmanager
-def full_disk(tries):
+def full_disk(tries: Tries) -> Iterator[None]:
     """Bodies of several callers on a disk that is full in the middle of their transaction, from C; from Rust and Python their own tests do so."""
     with small_disk(f"{tries.folder}/full") as full:
         if full:
@@ -384,13 +386,13 @@ def full_disk(tries):
     tries.environment.pop("JUMBETAI_FULL", None)
 
 
-def try_kills(tries):
+def try_kills(tries: Tries) -> None:
     """Eight callers whose process is killed: nothing that was answered is missing, and nothing is there twice."""
     words = [f"{TOP}/tools/kill_library.py", "--rounds", "20", "--library", "shared/libjumbetai.so"]
     tries.passes("Python: eight callers that are killed", words, re.compile(rb"^20 of 20 rounds were right$", re.M))
 
 
-def try_wheel(tries):
+def try_wheel(tries: Tries) -> None:
     """The wheel in a fresh environment of Python that has nothing else, and no network."""
     folder, alone = tries.folder, {"PATH": "/usr/bin:/bin", "PIP_NO_INDEX": "1", "PYTHONPATH": "", "JUMBETAI_LIB": ""}
     made = []
@@ -420,7 +422,7 @@ def try_wheel(tries):
         )
 
 
-def try_python(tries, batch):
+def try_python(tries: Tries, batch: str) -> None:
     where = f"{tries.folder}/shared/libjumbetai.so"
     words = [sys.executable, "-m", "unittest", "-v", "test_jumbetai"]
     status, out = tries.run(words, f"{TOP}/bindings/python", JUMBETAI_LIB=where, JUMBETAI_BATCH=batch)
@@ -429,7 +431,7 @@ def try_python(tries, batch):
     try_wheel(tries)
 
 
-def main():
+def main() -> int:
     words = argparse.ArgumentParser(description=__doc__, formatter_class=argparse.RawDescriptionHelpFormatter)
     words.add_argument("--anew", action="store_true", help="build the library, though it is kept")
     words.add_argument("--program", default=f"{TOP}/crates/site_cli/out/site_cli")
