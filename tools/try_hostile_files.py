@@ -33,8 +33,18 @@ import subprocess
 import sys
 import tempfile
 import time
+from typing import Any, Callable, Iterable, Iterator, Optional
 
 HERE = os.path.dirname(os.path.dirname(os.path.realpath(__file__)))
+# What is done to the bytes of a file: its name and more; and the files beside it, by their endings.
+Damage = tuple[Any, ...]
+Beside = dict[str, bytes]
+# The kind of a damage, where it strikes, what it does, and the files beside.
+Case = tuple[str, str, Damage, Beside]
+# How many files of a name came to what.
+Counts = dict[str, "collections.Counter[str]"]
+# A status, or that it hangs, and what was written to both streams.
+Answer = tuple[Any, bytes, bytes]
 AT = "2024-02-29T10:00:00Z"
 PATIENCE = 20
 # The words that a refusal may name.
@@ -78,7 +88,7 @@ COLUMNS = {
 }
 
 
-def event(number, more=""):
+def event(number: int, more: str = "") -> dict[str, str]:
     return {
         "id": f"a{number}",
         "sequence": f"{number:020}",
@@ -89,7 +99,7 @@ def event(number, more=""):
     }
 
 
-def read(name):
+def read(name: str) -> Optional[bytes]:
     try:
         with open(name, "rb") as file:
             return file.read()
@@ -97,7 +107,13 @@ def read(name):
         return None
 
 
-def write(name, data):
+def there(name: str) -> bytes:
+    data = read(name)
+    assert data is not None
+    return data
+
+
+def write(name: str, data: bytes) -> None:
     with open(name, "wb") as file:
         file.write(data)
 
@@ -106,11 +122,11 @@ class TooLong(Exception):
     pass
 
 
-def rung(*_):
+def rung(*_: object) -> None:
     raise TooLong
 
 
-def run(program, words):
+def run(program: str, words: list[str]) -> Answer:
     """The status and both streams of a run in this folder; a status below 0 is a signal."""
     to = os.O_WRONLY | os.O_CREAT | os.O_TRUNC
     streams = [
@@ -128,14 +144,14 @@ def run(program, words):
         return "hangs", b"", b""
     finally:
         signal.setitimer(signal.ITIMER_REAL, 0)
-    return os.waitstatus_to_exitcode(status), read("out"), read("err")
+    return os.waitstatus_to_exitcode(status), read("out") or b"", read("err") or b""
 
 
-def is_refusal(status, out, err):
+def is_refusal(status: object, out: bytes, err: bytes) -> bool:
     return status == 1 and out == b"" and err in REFUSALS
 
 
-def made(program, folder, count, first=1, more=lambda number: ""):
+def made(program: str, folder: str, count: int, first: int = 1, more: Callable[[int], str] = lambda number: "") -> bytes:
     """Puts so many events and orders into a file, by the program; its bytes."""
     name = f"{folder}/x.db"
     with open(f"{folder}/e.json", "w", encoding="utf-8") as file:
@@ -143,13 +159,13 @@ def made(program, folder, count, first=1, more=lambda number: ""):
     commands = [["take", "--db", name, f"{folder}/e.json"]]
     for order in range(first, count + 1):
         commands += [["order", "--db", name, "--at", AT, it, str(order)] for it in ("place", "ship")]
-    how = {"stdin": subprocess.DEVNULL, "capture_output": True, "timeout": PATIENCE}
+    how: dict[str, Any] = {"stdin": subprocess.DEVNULL, "capture_output": True, "timeout": PATIENCE}
     for words in commands:
         subprocess.run([program, *words], check=True, **how)
-    return read(name)
+    return there(name)
 
 
-def in_small_pages(data, folder):
+def in_small_pages(data: bytes, folder: str) -> bytes:
     """The same database in pages of 512 bytes, as SQLite writes it."""
     name = f"{folder}/x.db"
     write(name, data)
@@ -159,10 +175,10 @@ def in_small_pages(data, folder):
     base.execute("VACUUM")
     base.execute("PRAGMA journal_mode = wal")
     base.close()
-    return read(name)
+    return there(name)
 
 
-def with_free_pages(data, folder):
+def with_free_pages(data: bytes, folder: str) -> bytes:
     """The same database with pages that a table left free."""
     name = f"{folder}/x.db"
     write(name, data)
@@ -171,10 +187,10 @@ def with_free_pages(data, folder):
     base.execute("INSERT INTO spare VALUES (zeroblob(2000))")
     base.execute("DROP TABLE spare")
     base.close()
-    return read(name)
+    return there(name)
 
 
-def states(program, folder):
+def states(program: str, folder: str) -> dict[str, tuple[bytes, bytes, bytes]]:
     """Each file that is damaged, by its name: its bytes, and those of states before and after it."""
     found = {}
     several = []
@@ -195,12 +211,12 @@ def states(program, folder):
 # Where a byte stands.
 
 
-def page_size(data):
+def page_size(data: bytes) -> int:
     size = int.from_bytes(data[16:18], "big")
     return 65536 if size == 1 else size
 
 
-def whole(data, at):
+def whole(data: bytes, at: int) -> tuple[int, int]:
     """A whole number of one to nine bytes at a place, and the place behind it."""
     value = 0
     for i in range(9):
@@ -213,7 +229,7 @@ def whole(data, at):
     raise AssertionError
 
 
-def width(serial):
+def width(serial: int) -> int:
     """How many bytes a value of this serial type takes."""
     return (serial - 12) // 2 if serial >= 12 else (0, 1, 2, 3, 4, 6, 8, 8, 0, 0)[serial]
 
@@ -221,7 +237,7 @@ def width(serial):
 class Places:
     """What each byte of a sound file is for."""
 
-    def __init__(self, data):
+    def __init__(self, data: bytes) -> None:
         self.data, self.size = data, page_size(data)
         self.names = ["unused"] * len(data)
         self.pages = ["free page"] * (len(data) // self.size)
@@ -238,13 +254,13 @@ class Places:
         for at in range(100):
             self.names[at] = "header: " + HEADER[max(it for it in HEADER if it <= at)]
 
-    def mark(self, start, end, name):
+    def mark(self, start: int, end: int, name: str) -> None:
         self.names[start:end] = [name] * (end - start)
 
-    def number(self, at, count):
+    def number(self, at: int, count: int) -> int:
         return int.from_bytes(self.data[at : at + count], "big")
 
-    def tree(self, name, page):
+    def tree(self, name: str, page: int) -> None:
         base = (page - 1) * self.size
         at = base + (100 if page == 1 else 0)
         kind, cells = self.data[at], self.number(at + 3, 2)
@@ -276,7 +292,7 @@ class Places:
         for child in children:
             self.tree(name, child)
 
-    def payload(self, name, at, length, is_table):
+    def payload(self, name: str, at: int, length: int, is_table: bool) -> list[int]:
         """The places of the bytes of a record, which may run over several pages."""
         usable = self.size - self.data[20]
         most = usable - 35 if is_table else (usable - 12) * 64 // 255 - 23
@@ -297,7 +313,7 @@ class Places:
             self.mark(link, link + 4, f"{name}: link to the next page")
         return places
 
-    def record(self, name, places):
+    def record(self, name: str, places: list[int]) -> None:
         text = bytes(self.data[it] for it in places)
         end, at = whole(text, 0)
         serials = []
@@ -315,7 +331,7 @@ class Places:
 # The damage. A case is its kind, where it strikes, what it does to the bytes, and the files beside.
 
 
-def flips(places, count, masks):
+def flips(places: Places, count: int, masks: int) -> list[tuple[int, int]]:
     """The bytes that are flipped, each with its mask: all of them, or some."""
     every = range(len(places.names))
     used = [it for it in every if places.names[it] not in ("unused", "free page")]
@@ -327,9 +343,9 @@ def flips(places, count, masks):
     return chosen + [(it, random.choice(MASKS)) for it in idle]
 
 
-def page_cases(places, names, some):
+def page_cases(names: list[str], some: int) -> Iterator[tuple[str, str, list[Optional[int]]]]:
     count = len(names)
-    whole_file = list(range(count))
+    whole_file: list[Optional[int]] = list(range(count))
     for i, name in enumerate(names):
         yield "page dropped", name, whole_file[:i] + whole_file[i + 1 :]
         yield "page repeated", name, whole_file[: i + 1] + whole_file[i:]
@@ -347,11 +363,11 @@ def page_cases(places, names, some):
             yield "page over another", f"{names[b]} over {names[a]}", other
 
 
-def cases(data, older, newer, count, masks):
+def cases(data: bytes, older: bytes, newer: bytes, count: int, masks: int) -> Iterator[Case]:
     places = Places(data)
     for place, mask in flips(places, count, masks):
         yield "flip", places.names[place], ("flip", place, mask), {}
-    for kind, where, pages in page_cases(places, places.pages, count):
+    for kind, where, pages in page_cases(places.pages, count):
         yield kind, where, ("pages", pages), {}
     for end in range(512, len(data), 512):
         yield "cut", "", ("cut", end), {}
@@ -362,9 +378,9 @@ def cases(data, older, newer, count, masks):
         yield "files beside", name, ("cut", len(data)), beside
 
 
-def left_over(data, older, newer):
+def left_over(data: bytes, older: bytes, newer: bytes) -> list[tuple[str, Beside]]:
     """Logs and journals of other states, as SQLite of Python leaves them where it is killed."""
-    found = []
+    found: list[tuple[str, Beside]] = []
     for name, start in (("of before", older), ("of after", newer), ("of this state", data)):
         for mode in ("wal", "delete"):
             with tempfile.TemporaryDirectory() as folder:
@@ -381,7 +397,7 @@ def left_over(data, older, newer):
                     base.execute("CREATE TABLE spill (a)")
                     many = ", ".join(f"({it})" for it in range(8))
                     base.execute(f"INSERT INTO spill SELECT randomblob(3000) FROM (VALUES {many})")
-                kept = {it[4:]: read(f"{folder}/{it}") for it in os.listdir(folder) if it != "x.db"}
+                kept = {it[4:]: there(f"{folder}/{it}") for it in os.listdir(folder) if it != "x.db"}
                 found.append((f"{mode} {name}", kept))
                 for ending, text in kept.items():
                     found.append((f"{mode} {name}, {ending[1:]} alone", {ending: text}))
@@ -399,7 +415,7 @@ def left_over(data, older, newer):
     return found
 
 
-def damaged(data, damage):
+def damaged(data: bytes, damage: Damage) -> bytes:
     what, *how = damage
     if what == "flip":
         flipped = bytearray(data)
@@ -409,17 +425,18 @@ def damaged(data, damage):
         size = page_size(data)
         pages = {it: data[it * size : (it + 1) * size] for it in how[0] if it is not None}
         return b"".join(pages.get(it, bytes(size)) for it in how[0])
-    return data[: how[0]] if what == "cut" else data + how[0]
+    return data[: int(how[0])] if what == "cut" else data + bytes(how[0])
 
 
 # What SQLite says of a file.
 
 
-def of_sqlite(name):
+def of_sqlite(name: str) -> tuple[bool, str, list[Any]]:
     """Whether SQLite finds a file sound, what it says, and what our questions answer of the rows that it reads."""
     base = sqlite3.connect(name, isolation_level=None)
     base.text_factory = bytes
-    said, rows = b"", [None, None]
+    said = b""
+    rows: list[Any] = [None, None]
     try:
         said = base.execute("PRAGMA integrity_check").fetchone()[0]
         for i, ask in enumerate((events_of, rows_of)):
@@ -434,12 +451,12 @@ def of_sqlite(name):
     return said == b"ok", said.decode(errors="replace"), rows
 
 
-def events_of(base):
+def events_of(base: sqlite3.Connection) -> Any:
     rows = base.execute("SELECT source, id, body FROM inbox2 NOT INDEXED").fetchall()
     return [json.loads(body) for _, _, body in sorted(rows)]
 
 
-def rows_of(base):
+def rows_of(base: sqlite3.Connection) -> Any:
     ((source,),) = base.execute("SELECT source FROM service").fetchall()
     asked = "SELECT number, kind, order_number, at FROM outbox ORDER BY number"
     return [
@@ -462,12 +479,15 @@ def rows_of(base):
 class Told:
     """What was seen of one file. `wrong` is empty where all is as it may be."""
 
-    def __init__(self, kind, where, place=None):
+    def __init__(self, kind: str, where: str, place: Optional[Damage] = None) -> None:
         self.kind, self.where, self.place = kind, where, place
-        self.sound, self.said, self.wrong = False, "", []
-        self.verdicts, self.printed, self.columns = [], [], []
+        self.sound, self.said = False, ""
+        self.wrong: list[str] = []
+        self.verdicts: list[str] = []
+        self.printed: list[Answer] = []
+        self.columns: list[str] = []
 
-    def verdict(self):
+    def verdict(self) -> str:
         """One word for both questions; other rows count, whatever the second question says."""
         worst = ("other rows", "refused", "another state")
         return next((it for it in worst if it in self.verdicts), "same")
@@ -476,24 +496,26 @@ class Told:
 class Trial:
     """What each process has at hand; it works in a folder of its own."""
 
-    def __init__(self, program, until, more):
+    def __init__(self, program: str, until: float, more: bytes) -> None:
         self.program, self.until, self.more = program, until, more
-        self.files, self.right, self.every = {}, {}, []
+        self.files: dict[str, bytes] = {}
+        self.right: dict[str, list[bytes]] = {}
+        self.every: list[tuple[str, Case]] = []
 
-    def ask(self, data, words):
+    def ask(self, data: bytes, words: list[str]) -> Answer:
         for it in os.listdir("."):
             os.remove(it)
         write("x.db", data)
         return run(self.program, words)
 
-    def lay(self, data, beside):
+    def lay(self, data: bytes, beside: Beside) -> None:
         for it in os.listdir("."):
             os.remove(it)
         write("x.db", data)
         for ending, text in beside.items():
             write(f"x.db{ending}", text)
 
-    def tried(self, file, case):
+    def tried(self, file: str, case: Case) -> Told:
         kind, where, damage, beside = case
         told = Told(kind, where, damage[1:] if damage[0] == "flip" else None)
         data = damaged(self.files[file], damage)
@@ -509,7 +531,7 @@ class Trial:
             self.take(told, self.right[file][0], data, beside)
         return told
 
-    def judge(self, told, words, right, seen, data, beside):
+    def judge(self, told: Told, words: list[str], right: bytes, seen: Any, data: bytes, beside: Beside) -> None:
         status, out, err = run(self.program, words)
         told.printed.append((status, out, err))
         if read("x.db") != data and data and not beside:
@@ -519,13 +541,13 @@ class Trial:
         elif status == 0 and err == b"":
             self.compare(told, right, seen, out, data, beside)
         else:
-            told.wrong.append(f"{words[0]}: {status} {out[:80]} {err[:80]}")
+            told.wrong.append(f"{words[0]}: {status} {out[:80]!r} {err[:80]!r}")
 
-    def compare(self, told, right, seen, out, data, beside):
+    def compare(self, told: Told, right: bytes, seen: Any, out: bytes, data: bytes, beside: Beside) -> None:
         try:
             rows = json.loads(out)
         except ValueError:
-            told.wrong.append(f"no JSON: {out[:80]}")
+            told.wrong.append(f"no JSON: {out[:80]!r}")
             return
         if out == right:
             told.verdicts.append("same")
@@ -535,9 +557,9 @@ class Trial:
             told.verdicts.append("other rows")
             told.columns.append(difference(json.loads(right), rows))
         if told.sound and seen is not None and rows != seen:
-            told.wrong.append(f"other rows than SQLite reads: {out[:200]}")
+            told.wrong.append(f"other rows than SQLite reads: {out[:200]!r}")
 
-    def take(self, told, before, data, beside):
+    def take(self, told: Told, before: bytes, data: bytes, beside: Beside) -> None:
         """Takes an event more, and reads all: a take that is done isn't lost, whatever the file was."""
         write("more.json", self.more)
         status, out, err = run(self.program, ["take", "--db", "x.db", "more.json"])
@@ -546,18 +568,18 @@ class Trial:
                 told.wrong.append("a refused take changed the file")
             return
         if status != 0 or err:
-            told.wrong.append(f"take: {status} {out[:80]} {err[:80]}")
+            told.wrong.append(f"take: {status} {out[:80]!r} {err[:80]!r}")
             return
         status, out, err = run(self.program, QUESTIONS[0])
         if status != 0 or b'"id":"more"' not in out:
-            told.wrong.append(f"a take was done and is lost: {status} {out[:80]} {err[:80]}")
+            told.wrong.append(f"a take was done and is lost: {status} {out[:80]!r} {err[:80]!r}")
         elif not out.startswith(before[:-2]) and "same" in told.verdicts[:1]:
-            told.wrong.append(f"a take changed other rows: {out[:200]}")
+            told.wrong.append(f"a take changed other rows: {out[:200]!r}")
         if told.sound and not of_sqlite("x.db")[0]:
             told.wrong.append("a take into a file that SQLite found sound left one that it doesn't")
 
 
-def difference(right, rows):
+def difference(right: list[Any], rows: list[Any]) -> str:
     """What of the rows isn't right."""
     if len(right) != len(rows):
         return f"{len(rows)} rows in place of {len(right)}"
@@ -565,15 +587,16 @@ def difference(right, rows):
     return " ".join(sorted({key for a, b in pairs for key in {**a, **b} if a.get(key) != b.get(key)}))
 
 
-TRIAL = None
+TRIAL: Optional[Trial] = None
 
 
-def begin(folder):
+def begin(folder: str) -> None:
     signal.signal(signal.SIGALRM, rung)
     os.chdir(tempfile.mkdtemp(dir=folder))
 
 
-def one(number):
+def one(number: int) -> tuple[str, Optional[Told]]:
+    assert TRIAL
     file, case = TRIAL.every[number]
     if time.monotonic() > TRIAL.until:
         return file, None
@@ -583,16 +606,16 @@ def one(number):
 # What is printed.
 
 
-def row(cells):
+def row(cells: Iterable[object]) -> str:
     return "| " + " | ".join(str(it) for it in cells) + " |"
 
 
-def tables(all_told):
+def tables(all_told: list[Told]) -> None:
     """The counts by kind, beside what SQLite says, and by where a byte was flipped or what lies beside."""
     columns = ("same", "another state", "other rows", "refused")
-    kinds = collections.defaultdict(collections.Counter)
-    places = collections.defaultdict(lambda: collections.defaultdict(collections.Counter))
-    beside = collections.defaultdict(collections.Counter)
+    kinds: Counts = collections.defaultdict(collections.Counter)
+    places: dict[str, Counts] = collections.defaultdict(lambda: collections.defaultdict(collections.Counter))
+    beside: Counts = collections.defaultdict(collections.Counter)
     for it in all_told:
         kinds[it.kind][it.verdict()] += 1
         beside["ok" if it.sound else "not ok"][it.verdict()] += 1
@@ -605,7 +628,7 @@ def tables(all_told):
             print(row((name, count.total(), *(count[it] for it in columns))))
 
 
-def told_of(file, all_told):
+def told_of(file: str, all_told: list[Told]) -> None:
     for it in all_told:
         if it.wrong:
             print(f"wrong: {file}: {it.kind} {it.where} {it.place or ''}: {it.wrong}"[:600])
@@ -622,7 +645,7 @@ def told_of(file, all_told):
         print(f"unsound by SQLite, and the same answers: {count}: {what}")
 
 
-def main():
+def main() -> int:
     global TRIAL
     words = argparse.ArgumentParser(description=__doc__, formatter_class=argparse.RawDescriptionHelpFormatter)
     words.add_argument("program", nargs="?", default=os.path.join(HERE, "crates/site_cli/out/site_cli"))
@@ -650,7 +673,8 @@ def main():
             TRIAL.files[name], TRIAL.right[name] = data, [it[1] for it in given]
             struck = cases(data, older, newer, asked.flips, asked.masks)
             TRIAL.every += [(name, it) for it in struck if it[0] == "flip" or not asked.flips_alone]
-        began, found = time.monotonic(), {name: [] for name in TRIAL.files}
+        began = time.monotonic()
+        found: dict[str, list[Told]] = {name: [] for name in TRIAL.files}
         with multiprocessing.get_context("fork").Pool(asked.jobs, begin, (folder,)) as pool:
             for name, told in pool.imap_unordered(one, range(len(TRIAL.every)), 16):
                 if told:
