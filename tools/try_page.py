@@ -23,11 +23,12 @@ import subprocess
 import sys
 import tempfile
 import time
+from typing import Any, Iterator, Optional, Sequence
 
 sys.dont_write_bytecode = True
 TOP = os.path.dirname(os.path.dirname(os.path.realpath(__file__)))
 sys.path.insert(0, f"{TOP}/tools")
-from try_service import Tries, event, serving  # noqa: E402
+from try_service import Site, Tries, event, serving  # noqa: E402
 
 LARGEST = 2**63 - 1
 MARKUP = '<img src=x onerror="window.pwned=1"><script>window.pwned=1</script><b>&amp;"\'${1}'
@@ -41,11 +42,11 @@ FLAGS = (
 class Browser:
     """A browser, and what it says of its pages."""
 
-    def __init__(self, folder):
+    def __init__(self, folder: str) -> None:
         ends = [fcntl.fcntl(it, fcntl.F_DUPFD_CLOEXEC, 20) for it in (*os.pipe(), *os.pipe())]
         theirs, self.to, self.said, ours = ends
 
-        def at_three_and_four():
+        def at_three_and_four() -> None:
             os.dup2(theirs, 3)
             os.dup2(ours, 4)
 
@@ -57,9 +58,10 @@ class Browser:
             )
         os.close(theirs)
         os.close(ours)
-        self.number, self.rest, self.events = 0, b"", []
+        self.number, self.rest = 0, b""
+        self.events: list[dict[str, Any]] = []
 
-    def message(self, end):
+    def message(self, end: float) -> Any:
         while b"\0" not in self.rest:
             if not select.select([self.said], [], [], max(0.0, end - time.monotonic()))[0]:
                 raise TimeoutError("the browser says nothing")
@@ -70,7 +72,7 @@ class Browser:
         text, _, self.rest = self.rest.partition(b"\0")
         return json.loads(text)
 
-    def call(self, method, session=None, seconds=15, **given):
+    def call(self, method: str, session: Optional[str] = None, seconds: float = 15, **given: Any) -> Any:
         self.number += 1
         asked = {"id": self.number, "method": method, "params": given, **({"sessionId": session} if session else {})}
         os.write(self.to, json.dumps(asked).encode() + b"\0")
@@ -84,10 +86,10 @@ class Browser:
             if "method" in told:
                 self.events.append(told)
 
-    def page(self, url, width=1280, height=900, scheme="light"):
+    def page(self, url: str, width: int = 1280, height: int = 900, scheme: str = "light") -> "Page":
         return Page(self, url, width, height, scheme)
 
-    def end(self):
+    def end(self) -> None:
         with contextlib.suppress(OSError, TimeoutError):
             self.call("Browser.close", seconds=3)
         with contextlib.suppress(subprocess.TimeoutExpired):
@@ -100,7 +102,7 @@ class Browser:
 class Page:
     """A page of a browser, at an address."""
 
-    def __init__(self, browser, url, width, height, scheme):
+    def __init__(self, browser: Browser, url: str, width: int, height: int, scheme: str) -> None:
         self.browser, self.url = browser, url
         self.context = browser.call("Target.createBrowserContext")["browserContextId"]
         target = browser.call("Target.createTarget", url="about:blank", browserContextId=self.context)["targetId"]
@@ -111,20 +113,20 @@ class Page:
         self.call("Emulation.setEmulatedMedia", features=[{"name": "prefers-color-scheme", "value": scheme}])
         self.call("Page.navigate", url=url)
 
-    def call(self, method, **given):
+    def call(self, method: str, **given: Any) -> Any:
         return self.browser.call(method, self.session, **given)
 
-    def size(self, width, height=900):
+    def size(self, width: int, height: int = 900) -> None:
         self.call("Emulation.setDeviceMetricsOverride", width=width, height=height, deviceScaleFactor=1, mobile=False)
 
-    def ask(self, code):
+    def ask(self, code: str) -> Any:
         """The value of an expression in the page, or what it throws."""
         told = self.call("Runtime.evaluate", expression=code, returnByValue=True, awaitPromise=True, allowUnsafeEvalBlockedByCSP=False)
         if "exceptionDetails" in told:
             return f"threw {told['exceptionDetails'].get('exception', {}).get('description', '')}"
         return told["result"].get("value")
 
-    def waits(self, code, seconds=8):
+    def waits(self, code: str, seconds: float = 8) -> bool:
         end = time.monotonic() + seconds
         while not (is_so := self.ask(code)) or str(is_so).startswith("threw"):
             if time.monotonic() > end:
@@ -132,27 +134,27 @@ class Page:
             time.sleep(0.05)
         return True
 
-    def sees(self, code, seconds=8):
+    def sees(self, code: str, seconds: float = 8) -> bool:
         """Whether something comes to be so, where the page asks again and again."""
         return self.waits(f"look().then(() => {code})", seconds)
 
-    def is_shown(self):
+    def is_shown(self) -> bool:
         return self.waits("document.body && document.body.dataset.state === 'shown'")
 
-    def text(self, where="body"):
+    def text(self, where: str = "body") -> Any:
         """What a reader sees of an element."""
         return self.ask(f"document.querySelector({json.dumps(where)}).innerText")
 
-    def cells(self, table):
+    def cells(self, table: str) -> Any:
         """The texts of a table's cells, a list a row."""
         return self.ask(f"[...document.querySelectorAll('#{table} tbody tr')].map(row => [...row.cells].map(it => it.textContent))")
 
-    def key(self, key, code=None, text=None):
+    def key(self, key: str, code: Optional[str] = None, text: Optional[str] = None) -> None:
         for kind in ("keyDown", "keyUp"):
             more = {"text": text} if text and kind == "keyDown" else {}
             self.call("Input.dispatchKeyEvent", type=kind, key=key, code=code or key, windowsVirtualKeyCode={"Tab": 9, "Enter": 13}.get(key, 0), **more)
 
-    def overflow(self):
+    def overflow(self) -> Any:
         """By how many pixels the page is wider than its window, and which elements are."""
         return self.ask(
             """(() => { const room = innerWidth, needed = document.documentElement.scrollWidth;
@@ -160,7 +162,7 @@ class Page:
             return needed > room || wide.length ? [needed, ...wide.map(it => it.tagName + '#' + it.id).slice(0, 5)] : []; })()"""
         )
 
-    def picture(self, file, most):
+    def picture(self, file: str, most: int) -> None:
         """Keeps what the page looks like in a file, so many pixels of its height at most."""
         height = min(most, self.ask("document.documentElement.scrollHeight"))
         clip = {"x": 0, "y": 0, "width": self.ask("innerWidth"), "height": height, "scale": 1}
@@ -168,7 +170,7 @@ class Page:
         with open(file, "wb") as out:
             out.write(base64.b64decode(told["data"]))
 
-    def faults(self):
+    def faults(self) -> list[str]:
         """What the page threw, was refused by its policy, or asked elsewhere."""
         told = []
         for it in self.browser.events:
@@ -182,12 +184,12 @@ class Page:
                     told.append(given["request"]["url"])
         return told
 
-    def close(self):
+    def close(self) -> None:
         self.browser.call("Target.disposeBrowserContext", browserContextId=self.context)
 
 
 @contextlib.contextmanager
-def shown(tries, browser, site, width=1280, scheme="light"):
+def shown(tries: Tries, browser: Browser, site: Site, width: int = 1280, scheme: str = "light") -> Iterator[Page]:
     """The page of a site, which has to come up, to keep its policy and to need no more width than there is."""
     page = browser.page(f"http://127.0.0.1:{site.port}/", width, scheme=scheme)
     tries.judge("the page comes up", page.is_shown(), page.text())
@@ -199,7 +201,7 @@ def shown(tries, browser, site, width=1280, scheme="light"):
     page.close()
 
 
-def case_empty(tries, browser, pictures):
+def case_empty(tries: Tries, browser: Browser, pictures: Optional[str]) -> None:
     """A site without events and without peers."""
     with serving(tries, name="empty") as site, shown(tries, browser, site) as page:
         said = page.text()
@@ -208,7 +210,7 @@ def case_empty(tries, browser, pictures):
         tries.judge("no rows", page.cells("sources") == page.cells("peers") == page.cells("kinds") == [])
 
 
-def business(count):
+def business(count: int) -> list[dict[str, Any]]:
     """Events of a business with so many sources, with gaps, days and conflicts."""
     dice, kinds = random.Random(count), ("order.placed", "order.shipped", "payment.received", "stock.counted", "order.cancelled")
     all_of = []
@@ -226,12 +228,12 @@ def business(count):
     return all_of
 
 
-def texts_of(conflict):
+def texts_of(conflict: Any) -> list[str]:
     """The canonical texts of a conflict's events."""
     return [json.dumps(it, ensure_ascii=False, separators=(",", ":"), sort_keys=True) for it in conflict["events"]]
 
 
-def case_business(tries, browser, pictures):
+def case_business(tries: Tries, browser: Browser, pictures: Optional[str]) -> None:
     """Twenty sources, a peer that is up and one that is down: each figure is what the answers say."""
     with serving(tries, "[sync]\nevery_ms = 50\n", name="us-east") as south:
         all_of = business(20)
@@ -258,7 +260,7 @@ def case_business(tries, browser, pictures):
                     tries.judge(f"the figures of {source}", rows.get(source) == [str(here), str(has[-1][1] - here), str(has[-1][1])], rows.get(source))
                 first = page.cells("sources")[0]
                 tries.judge("what lacks most stands first", first[3] == max((it[1] for it in rows.values()), key=int), first)
-                kinds = sorted((json.loads(it) for it in site.get("/kinds").body.splitlines()), key=lambda it: -it[1])
+                kinds = sorted((json.loads(it) for it in site.get("/kinds").body.splitlines()), key=lambda it: -int(it[1]))
                 tries.judge(
                     "types", [[it[0], it[2].replace(",", "")] for it in page.cells("kinds")] == [[it[0], str(it[1])] for it in kinds], page.cells("kinds")
                 )
@@ -308,7 +310,7 @@ def case_business(tries, browser, pictures):
                 tries.judge("and it comes back", page.sees("document.body.dataset.state === 'shown'"), page.text("header"))
 
 
-def case_many(tries, browser, pictures):
+def case_many(tries: Tries, browser: Browser, pictures: Optional[str]) -> None:
     """2,000 sources: a part of them at a time, and each can be found."""
     with serving(tries, name="many") as site:
         site.give([event(number, f"/source/{it:04d}") for it in range(2000) for number in ((1, 3) if it % 500 == 7 else (1, 2))])
@@ -333,7 +335,7 @@ def case_many(tries, browser, pictures):
             tries.judge("what is new comes by itself", page.waits("document.querySelector('#sources td.n').textContent === '3'"), page.cells("sources"))
 
 
-def case_large(tries, browser, pictures):
+def case_large(tries: Tries, browser: Browser, pictures: Optional[str]) -> None:
     """Numbers up to 2^63-1, to the last digit."""
     with serving(tries, name="large") as site:
         site.give([event(LARGEST, "/last"), event(1, "/both"), event(LARGEST, "/both"), event(9007199254740993, "/odd")])
@@ -356,7 +358,8 @@ def case_large(tries, browser, pictures):
             both = dict(bars)["/both"]
             tries.judge("an event at either end is seen", both == ["lacksM1 0h398v14h-398z", "partM0 0h1v14h-1zM399 0h1v14h-1z"], both)
             # A bar against a plain count of each column's numbers.
-            dice, rows = random.Random(5), []
+            dice = random.Random(5)
+            columns: list[Any] = []
             for _ in range(300):
                 top, at, has = dice.choice((1, 2, 7, 399, 400, 401, 1000, 4321)), 1, []
                 while at <= top:
@@ -370,18 +373,18 @@ def case_large(tries, browser, pictures):
                 for number in range(1, top + 1):
                     room[(number - 1) * wide // top] += 1
                     here[(number - 1) * wide // top] += any(first <= number <= last for first, last in has)
-                rows.append((has, top, ["lacks" if not it else "has" if it == of else "part" for it, of in zip(here, room)]))
+                columns.append((has, top, ["lacks" if not it else "has" if it == of else "part" for it, of in zip(here, room)]))
             code = """(all => all.map(([has, top]) => { const bar = barOf(has.map(it => it.map(BigInt)), BigInt(top)), told = [];
                 for (const path of bar.querySelectorAll('path'))
                     for (const [, from, length] of path.getAttribute('d').matchAll(/M(\\d+) 0h(\\d+)/g))
                         for (let at = 0; at < length; at++) told[Number(from) + at] = path.getAttribute('class');
                 return told; }))"""
-            told = page.ask(f"{code}({json.dumps([it[:2] for it in rows])})")
-            wrong = [(it[:2], said, it[2]) for it, said in zip(rows, told) if said != it[2]] if isinstance(told, list) else [told]
+            told = page.ask(f"{code}({json.dumps([it[:2] for it in columns])})")
+            wrong = [(it[:2], said, it[2]) for it, said in zip(columns, told) if said != it[2]] if isinstance(told, list) else [told]
             tries.judge("bars are what their numbers are", not wrong, wrong[:1])
 
 
-def case_long(tries, browser, pictures):
+def case_long(tries: Tries, browser: Browser, pictures: Optional[str]) -> None:
     """Names of a thousand characters, and a text of 200 KB."""
     with serving(tries, name="long") as site:
         for letter in "ab":
@@ -405,7 +408,7 @@ def case_long(tries, browser, pictures):
             )
 
 
-def case_markup(tries, browser, pictures):
+def case_markup(tries: Tries, browser: Browser, pictures: Optional[str]) -> None:
     """Markup in every text that may have it: it is shown as it stands, and nothing of it is done."""
     name = json.dumps(MARKUP)
     settings = f'[[peers]]\nname = {name}\nurl = "http://127.0.0.1:1"\n'
@@ -455,14 +458,13 @@ def case_markup(tries, browser, pictures):
                 ("a request elsewhere", "fetch('http://127.0.0.1:1/').catch(() => undefined)"),
             ):
                 tries.judge(f"refused: {what}", page.ask(code) is None, page.ask(code))
-            told = page.faults()
-            tries.judge(
-                "the policy told of each", len(told) >= 3 and all("Policy" in it or "Trusted" in it or "policy" in it or "Refused" in it for it in told), told
-            )
+            faults = page.faults()
+            is_told = all(any(word in it for word in ("Policy", "Trusted", "policy", "Refused")) for it in faults)
+            tries.judge("the policy told of each", len(faults) >= 3 and is_told, faults)
             browser.events.clear()
 
 
-def case_tokens(tries, browser, pictures):
+def case_tokens(tries: Tries, browser: Browser, pictures: Optional[str]) -> None:
     """A site with tokens: the page asks for one by the keyboard alone, and keeps it for its tab."""
     tokens = "".join(f'[[tokens]]\nname = "{it}"\nroles = ["{it}"]\nsha256 = "{hashlib.sha256(it.encode()).hexdigest()}"\n' for it in ("read", "write"))
     with serving(tries, tokens, name="tokens") as site:
@@ -496,7 +498,7 @@ def case_tokens(tries, browser, pictures):
 CASES = {name.removeprefix("case_"): it for name, it in list(globals().items()) if name.startswith("case_")}
 
 
-def try_all(tries, names=(), pictures=None):
+def try_all(tries: Tries, names: Sequence[str] = (), pictures: Optional[str] = None) -> bool:
     """Runs cases in one browser, each with its time; false where there is no browser."""
     if not shutil.which("chromium"):
         tries.skip("the page in a browser", "chromium isn't there")
@@ -514,7 +516,7 @@ def try_all(tries, names=(), pictures=None):
     return True
 
 
-def main():
+def main() -> int:
     words = argparse.ArgumentParser(description=__doc__, formatter_class=argparse.RawDescriptionHelpFormatter)
     words.add_argument("--program", default=f"{TOP}/out/service/jumbetaid")
     words.add_argument("--pictures", metavar="FOLDER")

@@ -27,7 +27,7 @@ import threading
 import time
 import urllib.parse
 from concurrent.futures import ThreadPoolExecutor
-from typing import Any, Callable, Iterable, Optional
+from typing import Any, Callable, Iterable, Iterator, Optional
 
 sys.dont_write_bytecode = True
 TOP = os.path.dirname(os.path.dirname(os.path.realpath(__file__)))
@@ -1505,7 +1505,7 @@ def try_tls(tries):
 
 
 @contextlib.contextmanager
-def serving(tries, settings="", name="site", prefix=(), title=None):
+def serving(tries: Tries, settings: str = "", name: str = "site", prefix: Iterable[str] = (), title: Optional[str] = None) -> Iterator[Site]:
     """A service that runs, and ends well behind the block unless it was ended there."""
     site = tries.site(f"{name}{len(tries.running)}", settings, title)
     site.prefix = list(prefix)
