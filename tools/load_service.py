@@ -123,6 +123,11 @@ class Postgres:
         command = [*self.user, f"{self.bin}/{words[0]}", *words[1:]]
         return subprocess.run(command, cwd=self.folder, capture_output=True, text=True, check=True, timeout=120).stdout
 
+    def sql(self, text: str, *more: str) -> str:
+        """What a statement answers."""
+        words = ["psql", "-h", self.folder, "-U", "load", "-v", "ON_ERROR_STOP=1", "-qAt", *more, "-c", text, "postgres"]
+        return self.run(*words).strip()
+
     def start(self) -> None:
         os.chmod(os.path.dirname(self.folder), 0o755)
         os.mkdir(self.folder)

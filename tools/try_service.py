@@ -153,6 +153,11 @@ class Site:
     def cover(self) -> Any:
         return self.get("/cover").json["sources"]
 
+    def measured(self, name: str) -> float:
+        """A figure of /metrics, by its name with its labels."""
+        line = re.search(rf"^{re.escape(name)} (\S+)$", self.get("/metrics").body.decode(), re.M)
+        return float(line[1]) if line else float("nan")
+
     def waits_for(self, ready: Callable[[], object], seconds: float = 8) -> bool:
         """Whether something is so within the time."""
         end = time.monotonic() + seconds
@@ -188,7 +193,7 @@ class Tries:
             it.wait()
 
 
-def try_modes(tries):
+def try_modes(tries: Tries) -> None:
     """Events in the three content modes, each kept once, and what they come to."""
     with serving(tries) as site:
         told = site.give(event(1))
@@ -216,8 +221,8 @@ def try_modes(tries):
         ):
             headers = {**binary, "ce-id": str(number), "ce-sequence": f"{number:020d}", "Content-Type": kind}
             told = site.give(body, headers)
-            shown = site.get("/shown").body.decode()
-            tries.judge(f"data of {kind}", told.status == 200 and member in shown, (told, shown[-500:]))
+            text = site.get("/shown").body.decode()
+            tries.judge(f"data of {kind}", told.status == 200 and member in text, (told, text[-500:]))
         lines = site.get("/shown").body
         for it in ({**binary, "Content-Type": "application/json"}, {**binary, "ce-datacontenttype": "a/b"}):
             told = site.give(b"{", it)
@@ -230,7 +235,7 @@ def try_modes(tries):
         tries.judge("what may be sent", told.status == 200 and "cloudevents-batch" in told.headers["accept-post"], told)
 
 
-def try_faults(tries):
+def try_faults(tries: Tries) -> None:
     """What is refused, and in which words."""
     with serving(tries) as site:
         site.give(event(1))
@@ -259,8 +264,8 @@ def try_faults(tries):
         ):
             told = site.give(body if isinstance(body, str) else json.dumps(body), headers)
             tries.judge(what, told.problem == name and ("accept-post" in told.headers) == (name == "media-type"), told)
-        for body, want in ((event(9), {"events": 1, "faults": 0}), ([event(9), event(10)], {"events": 2, "faults": 0})):
-            told = site.ask("POST", "/check", json.dumps(body), MANY if isinstance(body, list) else ONE)
+        for given, want in ((event(9), {"events": 1, "faults": 0}), ([event(9), event(10)], {"events": 2, "faults": 0})):
+            told = site.ask("POST", "/check", json.dumps(given), MANY if isinstance(given, list) else ONE)
             tries.judge("check", (told.status, told.json) == (200, want), told)
         told = site.ask("POST", "/check", json.dumps([{}]), MANY)
         tries.judge("check of a fault", told.problem == "events-at-fault" and told.json["errors"][0]["pointer"].startswith("#/0"), told)
@@ -277,12 +282,12 @@ def try_faults(tries):
             tries.judge(f"{method} {path}", told.status == status and told.headers.get("allow") == allow and told.problem, told)
         for path in ("/kinds?min=x", "/arrivals?after=-1"):
             tries.judge(path, site.get(path).status == 400)
-        for body in (b"{", b"\xff", b'{"sources":{},"version":9}', b'{"sources":{"b":[[1,1]],"a":[[1,1]]},"version":1}'):
-            told = site.ask("POST", "/delta", body)
+        for summary in (b"{", b"\xff", b'{"sources":{},"version":9}', b'{"sources":{"b":[[1,1]],"a":[[1,1]]},"version":1}'):
+            told = site.ask("POST", "/delta", summary)
             tries.judge("no summary", told.problem == "summary", told)
 
 
-def try_questions(tries):
+def try_questions(tries: Tries) -> None:
     """Answers, one tag for all of them, and waits for a change."""
     with serving(tries) as site:
         site.give([event(it, time="2024-02-29T10:00:00Z") for it in (1, 2, 4)] + [event(2, id="x", data=1)])
@@ -340,13 +345,13 @@ def try_questions(tries):
     tries.judge("it ends well behind it", site.stop() == 0)
 
 
-def try_get(tries):
+def try_get(tries: Tries) -> None:
     """The events of a source and an id."""
     with serving(tries) as site:
         strange = {"source": "/a b/%C3%A9?x=1&y#z", "id": "1+2 \u00e9\U0001f600"}
         site.give([event(1, data="b"), {**event(1, data="a"), "id": "1"}, event(2), {**event(3), **strange}])
 
-        def get(source, id, **headers):
+        def get(source: str, id: str, **headers: str) -> Told:
             return site.get(f"/get?{urllib.parse.urlencode({'source': source, 'id': id})}", **headers)
 
         told = get("/a", "2")
@@ -374,7 +379,7 @@ def try_get(tries):
         tries.judge("what was given is read", get("/new", "7").status == 200)
 
 
-def try_arrivals(tries):
+def try_arrivals(tries: Tries) -> None:
     """The feed of what comes, in the order in which it came, over a restart."""
     with serving(tries) as site:
         site.give([event(3, "/z"), event(1, "/b"), event(9, "/a"), event(1, "/b")])
@@ -395,9 +400,9 @@ def try_arrivals(tries):
         tries.judge("a wait for the next", told.status == 200 and told.headers["site-next"] == "4", told)
         with socket.create_connection(("127.0.0.1", site.port), timeout=5) as it, it.makefile("rb") as said:
             it.sendall(b"GET /arrivals HTTP/1.1\r\nHost: localhost\r\nAccept: text/event-stream\r\nLast-Event-ID: 3\r\n\r\n")
-            seen = []
+            seen: list[bytes] = []
 
-            def until(mark):
+            def until(mark: bytes) -> None:
                 while not any(mark in it for it in seen):
                     seen.append(said.readline())
 
@@ -421,7 +426,7 @@ def try_arrivals(tries):
         tries.judge("at most 2,000", told.headers["site-next"] == "2005" and told.body.count(b"\n") == 2000, told.headers)
 
 
-def try_tokens(tries):
+def try_tokens(tries: Tries) -> None:
     """Who may what."""
     roles = ("write", "read", "peer", "backup")
     rows = "".join(f'[[tokens]]\nname = "{it}"\nroles = ["{it}"]\nsha256 = "{hashlib.sha256(f"tok-{it}".encode()).hexdigest()}"\n' for it in roles)
@@ -463,26 +468,28 @@ def try_tokens(tries):
             (f"http://127.0.0.1:{site.port}", 200),
             (f"http://localhost:{site.port}", 403),
         ):
-            host = {"Host": f"127.0.0.1:{site.port}", "Origin": origin}
-            told = [site.ask("GET", "/kinds", headers=host), site.ask("POST", "/events", "[]", {**MANY, **host})]
-            tries.judge(f"without tokens, by a page of {origin}", [it.status for it in told] == [status] * 2, told)
-    ran = subprocess.run([tries.program, "--db", "x.db", "--listen", "0.0.0.0:0"], cwd=tries.folder, capture_output=True, text=True, timeout=5, check=False)
+            names = {"Host": f"127.0.0.1:{site.port}", "Origin": origin}
+            both = [site.ask("GET", "/kinds", headers=names), site.ask("POST", "/events", "[]", {**MANY, **names})]
+            tries.judge(f"without tokens, by a page of {origin}", [it.status for it in both] == [status] * 2, both)
+    ran = subprocess.run(
+        [str(tries.program), "--db", "x.db", "--listen", "0.0.0.0:0"], cwd=tries.folder, capture_output=True, text=True, timeout=5, check=False
+    )
     tries.judge("beyond loopback without tokens", ran.returncode == 1 and "tokens" in ran.stderr and not os.path.exists(f"{tries.folder}/x.db"), ran)
 
 
-def try_sources(tries):
+def try_sources(tries: Tries) -> None:
     """Tokens that may write events of some sources alone, and what whoever may write can do."""
 
-    def row(name, sources):
+    def row(name: str, sources: str) -> str:
         return f'[[tokens]]\nname = "{name}"\nroles = ["write", "read"]\n{sources}sha256 = "{hashlib.sha256(name.encode()).hexdigest()}"\n'
 
     with serving(tries, row("tills", 'sources = ["/till/*", "/office"]\n') + row("all", "")) as site:
 
-        def give(what, token="tills", headers=None):
+        def give(what: Any, token: str = "tills", headers: Optional[dict[str, str]] = None) -> Told:
             body = what if isinstance(what, (str, bytes)) else json.dumps(what)
             return site.ask("POST", "/events", body, {**(headers or (MANY if isinstance(what, list) else ONE)), "Authorization": f"Bearer {token}"})
 
-        def shown():
+        def shown() -> bytes:
             return site.ask("GET", "/shown", headers={"Authorization": "Bearer all"}).body
 
         tries.judge("events of its sources", give([event(1, "/till/1"), event(1, "/till/2/x"), event(1, "/office")]).json["new"] == 3)
@@ -522,11 +529,11 @@ def try_sources(tries):
         file = f"{tries.folder}/sources.toml"
         with open(file, "w", encoding="utf-8") as out:
             out.write(f'db = "{tries.folder}/none.db"\n{row("x", f"sources = {sources}" + chr(10))}')
-        ran = subprocess.run([tries.program, "--config", file, "--check"], capture_output=True, text=True, timeout=5, check=False)
+        ran = subprocess.run([str(tries.program), "--config", file, "--check"], capture_output=True, text=True, timeout=5, check=False)
         tries.judge(f"settings: {what}", ran.returncode == 1 and why in ran.stderr, ran)
 
 
-def try_backup(tries):
+def try_backup(tries: Tries) -> None:
     """A backup while events come, and a site that is restored from it."""
     quick = "[sync]\nevery_ms = 50\n"
     with serving(tries, quick, name="south") as south:
@@ -536,7 +543,7 @@ def try_backup(tries):
             north.give([event(it, "/first", data="x" * 100) for it in range(1, 2001)])
             over, given = threading.Event(), []
 
-            def client(number):
+            def client(number: int) -> Any:
                 sent = 0
                 while not over.is_set():
                     sent += 1
@@ -562,15 +569,15 @@ def try_backup(tries):
             )
             tries.judge("nothing else is left", os.listdir(folder) == [os.path.basename(made["file"])], os.listdir(folder))
             with ThreadPoolExecutor(4) as pool:
-                told = list(pool.map(lambda _: north.ask("POST", "/backup"), range(4)))
-            tries.judge("one at a time", {it.status for it in told} <= {200, 409} and any(it.status == 200 for it in told), told)
-            last = next(it for it in told if it.status == 200).json
+                four = list(pool.map(lambda _: north.ask("POST", "/backup"), range(4)))
+            tries.judge("one at a time", {it.status for it in four} <= {200, 409} and any(it.status == 200 for it in four), four)
+            last = next(it for it in four if it.status == 200).json
             tag = north.get("/kinds").headers["etag"].strip('"')
             tries.judge("of a set that stays there is one", (last["events"], last["name"]) == (has, tag) and len(os.listdir(folder)) == 2, last)
             text = north.get("/metrics").body
             tries.judge("it is counted", b'jumbetai_backups_total{result="done"}' in text and b"jumbetai_backup_last_success_timestamp_seconds 1" in text, text)
             north_order = b"".join(north.get(f"/arrivals?after={it}").body for it in range(0, made["events"], 2000))
-            ran = subprocess.run([tries.program, "--db", made["file"], "--check"], capture_output=True, text=True, timeout=8, check=False)
+            ran = subprocess.run([str(tries.program), "--db", made["file"], "--check"], capture_output=True, text=True, timeout=8, check=False)
             tries.judge("--check of it", ran.returncode == 0 and f"{made['events']} events" in ran.stdout, ran)
             # The south catches up; then the north loses its disk, and begins with the backup.
             south.set(f'{quick}[[peers]]\nname = "north"\nurl = "http://127.0.0.1:{north.port}"\n')
@@ -597,8 +604,8 @@ def try_backup(tries):
             # What a crash broke off is taken away by the next one, and a folder that can't be written leaves nothing.
             north.stop()
             north.set(settings)
-            for it in (".partial-site.db", ".partial-site.db-wal"):
-                with open(f"{folder}/{it}", "wb") as out:
+            for partial in (".partial-site.db", ".partial-site.db-wal"):
+                with open(f"{folder}/{partial}", "wb") as out:
                     out.write(b"half a copy")
             north.start()
             north.give(event(1, "/last"))
@@ -611,7 +618,7 @@ def try_backup(tries):
             tries.judge("no folder is set", site.ask("POST", "/backup").problem == "no-backups")
 
 
-def try_webhooks(tries):
+def try_webhooks(tries: Tries) -> None:
     """The handshake of webhooks."""
     with serving(tries, 'webhook_origins = ["events.example.com"]\nwebhook_rate = 600\n') as site:
         for asked, rate in (("120", "120"), ("9999", "600"), (None, "600")):
@@ -623,7 +630,7 @@ def try_webhooks(tries):
         tries.judge("another origin", told.status == 403 and "webhook-allowed-origin" not in told.headers, told)
 
 
-def try_limits(tries):
+def try_limits(tries: Tries) -> None:
     """Clients that are slow, large, or mean something else than they say."""
     limits = "[limits]\nidle_seconds = 2\nbody_seconds = 2\nbody_bytes = 100000\n"
     with serving(tries, limits) as site:
@@ -631,9 +638,9 @@ def try_limits(tries):
         said, took = site.raw(HEAD)
         tries.judge("a slow head", took is not None and took < 4 and not said, (said, took))
         said, took = site.raw(HEAD + b"Content-Length: 100\r\n\r\n{")
-        tries.judge("a slow body", said.startswith(b"HTTP/1.1 408") and took < 5, (said, took))
+        tries.judge("a slow body", said.startswith(b"HTTP/1.1 408") and took is not None and took < 5, (said, took))
         said, took = site.raw(HEAD + b"Content-Length: 100001\r\n\r\n")
-        tries.judge("a body that is too long", said.startswith(b"HTTP/1.1 413") and took < 2, (said, took))
+        tries.judge("a body that is too long", said.startswith(b"HTTP/1.1 413") and took is not None and took < 2, (said, took))
         said, took = site.raw(HEAD + b"Content-Length: 5000000\r\n\r\n", b"x" * 5_000_000)
         tries.judge("its answer is read by who sends it all", said.startswith(b"HTTP/1.1 413") and took is not None, (said, took))
         said, took = site.raw(HEAD + b"Transfer-Encoding: chunked\r\n\r\n", *[b"4000\r\n" + b"x" * 0x4000 + b"\r\n"] * 8)
@@ -679,10 +686,11 @@ def try_limits(tries):
         tries.judge("nobody else waited", site.give(event(2)).status == 200)
     with serving(tries, "[limits]\nbody_bytes = 33554432\n") as site:
         said, took = site.raw(HEAD + b"Content-Length: 33554433\r\n\r\n")
-        tries.judge("a body of 33,554,433 bytes", said.startswith(b"HTTP/1.1 413") and b"33554432" in said and took < 2, said)
+        is_soon = took is not None and took < 2
+        tries.judge("a body of 33,554,433 bytes", said.startswith(b"HTTP/1.1 413") and b"33554432" in said and is_soon, (said, took))
 
 
-def try_readers(tries):
+def try_readers(tries: Tries) -> None:
     """A client that doesn't read its answers is cut, and holds up nobody."""
     with serving(tries, "[limits]\nidle_seconds = 2\n") as site:
         for part in range(4):
@@ -696,7 +704,7 @@ def try_readers(tries):
             tries.judge("it is cut", gone, site.get("/metrics").body[-300:])
 
 
-def try_crowds(tries):
+def try_crowds(tries: Tries) -> None:
     """A thousand idle connections, and more than there are places."""
     soft, hard = resource.getrlimit(resource.RLIMIT_NOFILE)
     resource.setrlimit(resource.RLIMIT_NOFILE, (min(hard, 4096), hard))
@@ -706,7 +714,7 @@ def try_crowds(tries):
     resource.setrlimit(resource.RLIMIT_NOFILE, (soft, hard))
 
 
-def crowd(tries, site):
+def crowd(tries: Tries, site: Site) -> None:
     """Beside a thousand idle connections, and where there is room for no more."""
     with contextlib.ExitStack() as files:
         for _ in range(1000):
@@ -719,12 +727,12 @@ def crowd(tries, site):
         tries.judge("where all places are taken", site.give(event(2)).status == 200 and time.monotonic() - began < 4, time.monotonic() - began)
 
 
-def try_counts(tries):
+def try_counts(tries: Tries) -> None:
     """Many clients at once: each answer is exact, and the transactions are fewer than the bodies."""
     with serving(tries) as site:
         local = threading.local()
 
-        def one(number):
+        def one(number: int) -> Any:
             if not hasattr(local, "connection"):
                 local.connection = http.client.HTTPConnection("127.0.0.1", site.port, timeout=10)
             body = json.dumps([event(number % 50 + 1, "/many"), event(number + 100, "/many")])
@@ -742,15 +750,15 @@ def try_counts(tries):
         sums = [sum(it[name] for it in good) for name in ("events", "new", "repeated")]
         has = sum(last - first + 1 for first, last in site.cover()["/many"])
         tries.judge("counts", sums[0] == 1140 and sums[1] == has and sums[1] + sums[2] == 1140, (sums, has))
-        commits = int(re.search(rb"jumbetai_commits_total (\d+)", site.get("/metrics").body)[1])
+        commits = int(site.measured("jumbetai_commits_total"))
         print(f"{len(told)} bodies of 32 clients: {commits} transactions", flush=True)
 
 
-def try_queue(tries):
+def try_queue(tries: Tries) -> None:
     """A queue that is full is told, and nothing of what was refused is there."""
     with serving(tries, "[limits]\nwaiting_bodies = 1\nwaiting_ms = 1\n") as site:
 
-        def one(number):
+        def one(number: int) -> Any:
             return site.give([event(number * 200 + it, "/q") for it in range(1, 201)])
 
         with ThreadPoolExecutor(24) as pool:
@@ -762,14 +770,14 @@ def try_queue(tries):
         tries.judge("just what was answered 200 is there", has == kept > 0, (has, kept))
 
 
-def try_ends(tries):
+def try_ends(tries: Tries) -> None:
     """SIGTERM in the middle of a take, of waits, and of a body that never ends."""
     with serving(tries, "[limits]\nshutdown_seconds = 3\n") as site:
         body = json.dumps(event(1, "/late")).encode()
         tag = site.get("/kinds").headers["etag"]
         with ThreadPoolExecutor(3) as pool:
 
-            def late():
+            def late() -> tuple[int, bytes]:
                 connection = http.client.HTTPConnection("127.0.0.1", site.port, timeout=9)
                 connection.putrequest("POST", "/events")
                 connection.putheader("Content-Type", ONE["Content-Type"])
@@ -794,12 +802,12 @@ def try_ends(tries):
         tries.judge("what was answered is there", site.cover() == {"/late": [[1, 1]]}, site.cover())
 
 
-def try_kills(tries):
+def try_kills(tries: Tries) -> None:
     """Clients at a service that is killed again and again: what was acknowledged is there, and nothing else."""
     with serving(tries) as site:
         acked, over = {}, threading.Event()
 
-        def client(number):
+        def client(number: int) -> Any:
             sent, connection = 1, None
             while not over.is_set():
                 try:
@@ -834,19 +842,19 @@ def try_kills(tries):
         tries.judge("nothing else is there", all(len(it) == 1 and it[0][0] == 1 and it[0][1] <= acked[int(name[2:])] + 1 for name, it in has.items()), has)
 
 
-def try_peers(tries):
+def try_peers(tries: Tries) -> None:
     """Two sites come to one view, with events of one number too; peers are added and taken away by SIGHUP."""
     quick = "[sync]\nevery_ms = 50\nwait_seconds = 3\n"
     with serving(tries, quick, name="north") as north, serving(tries, quick, name="south") as south:
 
-        def same():
+        def same() -> bool:
             texts = [it.get("/summary") for it in (north, south)]
             return texts[0].body == texts[1].body
 
-        def peer(of, url=None):
+        def peer(of: Site, url: Optional[str] = None) -> str:
             return f'{quick}[[peers]]\nname = "peer"\nurl = "{url or f"http://127.0.0.1:{of.port}"}"\n'
 
-        def seen(of):
+        def seen(of: Site) -> Any:
             return of.get("/status").json["peers"].get("peer", {})
 
         north.give([event(it, "/north") for it in range(1, 2601)])
@@ -885,11 +893,11 @@ def try_peers(tries):
         tries.judge("a peer that refuses is told", south.waits_for(lambda: "401" in (seen(south).get("why") or "")), seen(south))
 
 
-def try_lies(tries):
+def try_lies(tries: Tries) -> None:
     """A peer that claims what it hasn't, sends what can't be taken, or none of HTTP; the others go on."""
-    answers = {}
+    answers: dict[str, Any] = {}
 
-    def lie(connection):
+    def lie(connection: socket.socket) -> None:
         with connection, connection.makefile("rb") as asked:
             while head := asked.readline():
                 length = 0
@@ -899,14 +907,14 @@ def try_lies(tries):
                 asked.read(length)
                 path, _, query = head.split()[1].decode().partition("?")
                 status, headers, body = answers[path](query) if callable(answers[path]) else answers[path]
-                head = f"HTTP/1.1 {status} X\r\nContent-Length: {len(body)}\r\n{headers}\r\n"
+                begin = f"HTTP/1.1 {status} X\r\nContent-Length: {len(body)}\r\n{headers}\r\n"
                 with contextlib.suppress(OSError):
-                    connection.sendall(head.encode() + body)
+                    connection.sendall(begin.encode() + body)
 
     with socket.create_server(("127.0.0.1", 0)) as liar:
         port = liar.getsockname()[1]
 
-        def serve():
+        def serve() -> None:
             with contextlib.suppress(OSError):
                 while True:
                     threading.Thread(target=lie, args=(liar.accept()[0],), daemon=True).start()
@@ -917,15 +925,15 @@ def try_lies(tries):
         quick = "[sync]\nevery_ms = 20\nbackoff_ms = 20\nbackoff_max_ms = 50\n"
         with serving(tries, f'{quick}[[peers]]\nname = "liar"\nurl = "http://127.0.0.1:{port}"\n') as site:
 
-            def why():
+            def why() -> Any:
                 return site.get("/status").json["peers"]["liar"]
 
             tries.judge("numbers that never come", site.waits_for(lambda: why()["lacking"] == 2**63 - 1 and why()["state"] == "up"), why())
             more = b'{"sources":{"/l":[[1,9223372036854775807]],"/m":[[1,9223372036854775807]]},"version":1}\n'
             answers["/cover"] = (200, 'ETag: "w"\r\n', more)
 
-            def lag():
-                return float(re.search(rb'jumbetai_peer_lacking_numbers{peer="liar"} (\S+)', site.get("/metrics").body)[1])
+            def lag() -> Any:
+                return site.measured('jumbetai_peer_lacking_numbers{peer="liar"}')
 
             tries.judge("the lag of such is never below nothing", site.waits_for(lambda: lag() > 2.0**63 + 1), lag())
             for what, path, answer, told in (
@@ -941,7 +949,7 @@ def try_lies(tries):
             # Pages without end, each of which says that there is one more, and answers without end.
             pages = []
 
-            def endless(query):
+            def endless(query: str) -> Any:
                 pages.append(query)
                 return 200, f"Site-Next: {int(query.partition('=')[2]) + 1}\r\n", json.dumps([event(1, "/l")]).encode() + b"\n"
 
@@ -957,7 +965,7 @@ def try_lies(tries):
             tries.judge("the site goes on beside it", site.give(event(2)).status == 200 and site.cover() == {"/a": [[1, 2]], "/l": [[1, 1]]}, site.cover())
 
 
-def try_disk(tries):
+def try_disk(tries: Tries) -> None:
     """A disk that is full, and then isn't."""
     if os.geteuid() or not shutil.which("unshare") or not shutil.which("nsenter"):
         tries.skip("a full disk", "only root may make a small one, by unshare and nsenter")
@@ -987,7 +995,7 @@ def try_disk(tries):
     tries.judge("it ends well", site.stop() == 0)
 
 
-def try_hung_disk(tries):
+def try_hung_disk(tries: Tries) -> None:
     """A disk that hangs: who gives events waits, who asks doesn't; once it goes on, so does all that waited."""
     if os.geteuid() or not all(map(shutil.which, ("unshare", "nsenter", "mkfs.ext4", "fsfreeze"))):
         tries.skip("a disk that hangs", "only root may make one, by mkfs.ext4 and fsfreeze")
@@ -1007,7 +1015,7 @@ def try_hung_disk(tries):
         tries.skip("a disk that hangs", f"none can be mounted: {str(why)[-200:]}")
         return
 
-    def freeze(word):
+    def freeze(word: str) -> Any:
         return subprocess.run(["nsenter", "-t", str(site.ran.pid), "-m", "fsfreeze", word, disk], capture_output=True, text=True, timeout=8, check=False)
 
     site.give(event(1))
@@ -1026,12 +1034,12 @@ def try_hung_disk(tries):
         )
         tries.judge("nothing that isn't kept is told", site.cover() == {"/a": [[1, 1]]}, site.cover())
         tries.judge("it goes on", freeze("-u").returncode == 0)
-        told = [it.result() for it in waits]
-    tries.judge("what waited is kept", {it.status for it in told} == {200} and site.cover() == {"/a": [[1, 4]]}, told)
+        ends = [it.result() for it in waits]
+    tries.judge("what waited is kept", {it.status for it in ends} == {200} and site.cover() == {"/a": [[1, 4]]}, ends)
     tries.judge("it ends well", site.stop() == 0)
 
 
-def try_clock(tries):
+def try_clock(tries: Tries) -> None:
     """A clock that is put back and forth by years: events come, peers come to one view, and waits end in their time."""
     fake = "/usr/lib/x86_64-linux-gnu/faketime/libfaketime.so.1"
     if not os.path.exists(fake):
@@ -1039,7 +1047,7 @@ def try_clock(tries):
         return
     clock = f"{tries.folder}/clock"
 
-    def set_clock(shift):
+    def set_clock(shift: str) -> None:
         with open(f"{clock}.new", "w", encoding="ascii") as out:
             out.write(shift)
         os.replace(f"{clock}.new", clock)
@@ -1064,11 +1072,11 @@ def try_clock(tries):
                 tries.judge(f"/status at {shift}", shown < 30 and status["ready"], status)
 
 
-def try_words(tries):
+def try_words(tries: Tries) -> None:
     """The words of its command line, and a database that is in use or damaged."""
 
-    def ran(*words):
-        return subprocess.run([tries.program, *words], cwd=tries.folder, capture_output=True, text=True, timeout=8, check=False)
+    def ran(*words: str) -> Any:
+        return subprocess.run([str(tries.program), *words], cwd=tries.folder, capture_output=True, text=True, timeout=8, check=False)
 
     told = ran("--version")
     tries.judge("--version", (told.returncode, told.stdout) == (0, f"jumbetaid {library.version()}\n"), told)
@@ -1097,7 +1105,7 @@ def try_words(tries):
     tries.judge("--check says how many events", "1 events" in told.stdout, told)
 
 
-def try_watching(tries):
+def try_watching(tries: Tries) -> None:
     """/metrics, /status, /healthz, /readyz, the page, and logs."""
     with serving(tries) as site:
         site.give([event(1), event(1)])
@@ -1153,10 +1161,10 @@ def try_watching(tries):
             tries.skip("curl", "it isn't there")
 
 
-def try_numbers(tries):
+def try_numbers(tries: Tries) -> None:
     """Events that carry no number: each text of a source whose home is here gets one, for ever."""
 
-    def bare(text, source="/here/a", **more):
+    def bare(text: Any, source: str = "/here/a", **more: Any) -> dict[str, Any]:
         return {"specversion": "1.0", "id": str(text), "source": source, "type": "t", **more}
 
     file = f"{tries.folder}/numbers.db"
@@ -1164,7 +1172,7 @@ def try_numbers(tries):
     settings = f'numbers = "{file}"\n[[number]]\nsources = ["/here/*"]\n[[number]]\nsources = ["/odd"]\ncarry = true\n{there}'
     with serving(tries, settings) as site:
 
-        def sequences(source="/here/a"):
+        def sequences(source: str = "/here/a") -> dict[str, int]:
             lines = [json.loads(it) for it in site.get("/shown").body.splitlines()]
             return {it["id"]: int(it["sequence"]) for it in lines if it["source"] == source}
 
@@ -1199,10 +1207,10 @@ def try_numbers(tries):
         )
         tries.judge("data as it came, with a number", site.give({**event(2, "/odd"), "data": 0.5}).json.get("new") == 1)
         with ThreadPoolExecutor(16) as pool:
-            told = list(pool.map(lambda it: site.give([bare(it, "/here/many"), bare(it + 1, "/here/many")]), range(200)))
+            every = list(pool.map(lambda it: site.give([bare(it, "/here/many"), bare(it + 1, "/here/many")]), range(200)))
         numbers = sequences("/here/many")
         tries.judge(
-            "many at once", all(it.status == 200 for it in told) and sorted(numbers.values()) == list(range(1, 202)) and len(numbers) == 201, len(numbers)
+            "many at once", all(it.status == 200 for it in every) and sorted(numbers.values()) == list(range(1, 202)) and len(numbers) == 201, len(numbers)
         )
         if os.path.exists(tries.other):
             # As behind a stop between the two files, whose event is never given again.
@@ -1216,7 +1224,7 @@ def try_numbers(tries):
         # Killed while it numbers: what is given again has the number that it has.
         over = threading.Event()
 
-        def client(number):
+        def client(number: int) -> Any:
             sent = 0
             while not over.is_set():
                 try:
@@ -1249,15 +1257,16 @@ def try_numbers(tries):
             (given, sent, len(numbers)),
         )
         tries.judge("no conflict", site.get("/conflicts").body == b"")
-    for what, text in (("no file", '[[number]]\nsources = ["/a"]\n'), ("a star within", f'numbers = "{file}"\n[[number]]\nsources = ["*a"]\n')):
+    for lacks, text in (("no file", '[[number]]\nsources = ["/a"]\n'), ("a star within", f'numbers = "{file}"\n[[number]]\nsources = ["*a"]\n')):
         with open(f"{tries.folder}/number.toml", "w", encoding="utf-8") as out:
             out.write(f'db = "{tries.folder}/none.db"\n{text}')
-        ran = subprocess.run([tries.program, "--config", f"{tries.folder}/number.toml", "--check"], capture_output=True, text=True, timeout=5, check=False)
-        tries.judge(f"settings: {what}", ran.returncode == 1 and "number" in ran.stderr, ran)
+        words = [str(tries.program), "--config", f"{tries.folder}/number.toml", "--check"]
+        checked = subprocess.run(words, capture_output=True, text=True, timeout=5, check=False)
+        tries.judge(f"settings: {lacks}", checked.returncode == 1 and "number" in checked.stderr, checked)
 
 
 @contextlib.contextmanager
-def database(tries):
+def database(tries: Tries) -> Iterator[Any]:
     """A PostgreSQL of its own with an outbox; none where there is no PostgreSQL."""
     from load_service import Postgres
 
@@ -1270,9 +1279,6 @@ def database(tries):
         return
     try:
         server.start()
-        server.sql = lambda text, *more: server.run(
-            "psql", "-h", server.folder, "-U", "load", "-v", "ON_ERROR_STOP=1", "-qAt", *more, "-c", text, "postgres"
-        ).strip()
         server.sql("SELECT 1", "-f", f"{TOP}/contrib/postgresql/outbox.sql")
         yield server
     finally:
@@ -1281,16 +1287,16 @@ def database(tries):
         shutil.rmtree(folder)
 
 
-def try_outbox_kills(tries):
+def try_outbox_kills(tries: Tries) -> None:
     """An outbox in PostgreSQL, its writers and its readers, killed at random moments."""
     import kill_outbox
 
     kill_outbox.kill(tries, 20, 1)
 
 
-def try_postgres(tries):
+def try_postgres(tries: Tries) -> None:
     """Events out of PostgreSQL: writers that roll back, wait for one another and are killed; a service that is killed."""
-    asked = [tries.program, "--config", "/dev/stdin", "--check"]
+    asked = [str(tries.program), "--config", "/dev/stdin", "--check"]
     ran = subprocess.run(asked, input=f'db = "{tries.folder}/none"\n[postgres]\nurl = "x"\n', capture_output=True, text=True, check=False)
     if "the feature postgres" in ran.stderr:
         tries.skip("an outbox in PostgreSQL", "the program is built without it")
@@ -1304,7 +1310,7 @@ def try_postgres(tries):
             db.sql(f"""SELECT jumbetai.publish('/shop/"é\\', 'sold', '{data}', 'it''s', '2024-02-29 10:00+02', 'own', '{{"region":"eu"}}')""")
             tries.judge("an event comes", site.waits_for(lambda: site.cover()), site.log()[-3:])
             line = json.loads(site.get("/shown").body)
-            want = {
+            want: dict[str, Any] = {
                 **{"specversion": "1.0", "source": '/shop/"é\\', "type": "sold", "subject": "it's", "id": "own", "region": "eu", "sequence": f"{1:020d}"},
                 **{"time": "2024-02-29T08:00:00.000000Z", "datacontenttype": "application/json", "data": {"b": 1, "a": [12345678901234567, "xé"]}},
             }
@@ -1330,10 +1336,9 @@ def try_postgres(tries):
             lines = db.sql("SELECT event FROM jumbetai.outbox ORDER BY source, number")
             tries.judge("an event is a line", sorted(json.loads(it)["source"] for it in lines.splitlines()) == ["/a", '/shop/"é\\'], lines)
             if os.path.exists(tries.other):
-                ran = subprocess.run(
-                    [tries.other, "follow", "--db", f"{tries.folder}/follow.db"], input=f"{lines}\n".encode(), capture_output=True, timeout=8, check=False
-                )
-                tries.judge("the program takes them", ran.returncode == 0 and ran.stdout.count(b'"new":1') == 2, ran)
+                words = [tries.other, "follow", "--db", f"{tries.folder}/follow.db"]
+                followed = subprocess.run(words, input=f"{lines}\n", capture_output=True, text=True, timeout=8, check=False)
+                tries.judge("the program takes them", followed.returncode == 0 and followed.stdout.count('"new":1') == 2, followed)
             db.sql("SELECT jumbetai.publish('/script', 't'); SELECT jumbetai.number(1)")
             tries.judge("what another one numbered", site.waits_for(lambda: "/script" in site.cover()))
             # Eight writers, of which each third transaction is rolled back; rows that two change keep their order; a
@@ -1354,6 +1359,7 @@ def try_postgres(tries):
                 stdout=subprocess.DEVNULL,
                 text=True,
             )
+            assert long.stdin
             long.stdin.write("BEGIN; SELECT jumbetai.publish('/long', 't');\n")
             long.stdin.flush()
             words = [*db.user, f"{db.bin}/pgbench", "-h", db.folder, "-U", "load", "-n", "-c", "8", "-j", "2", "-t", "30", "-f", "write.sql", "postgres"]
@@ -1368,15 +1374,15 @@ def try_postgres(tries):
             tries.judge("what isn't committed doesn't come", "/long" not in site.cover())
             long.communicate("COMMIT;\n", timeout=5)
             counts = [int(it) for it in db.sql("SELECT count FROM stock ORDER BY name").split()]
-            want = {f"/stock/{it}": [[1, count]] for it, count in enumerate(counts) if count}
+            covers = {f"/stock/{it}": [[1, count]] for it, count in enumerate(counts) if count}
             tries.judge(
                 "each committed event, once",
-                site.waits_for(lambda: {name: it for name, it in site.cover().items() if "stock" in name} == want),
-                (site.cover(), want),
+                site.waits_for(lambda: {name: it for name, it in site.cover().items() if "stock" in name} == covers),
+                (site.cover(), covers),
             )
             tries.judge("what was committed late too", site.waits_for(lambda: site.cover().get("/long") == [[1, 1]]), site.cover())
             lines = [json.loads(it) for it in site.get("/shown").body.splitlines()]
-            order = {name: [it["data"] for it in sorted((it for it in lines if it["source"] == name), key=lambda it: it["sequence"])] for name in want}
+            order = {name: [it["data"] for it in sorted((it for it in lines if it["source"] == name), key=lambda it: str(it["sequence"]))] for name in covers}
             tries.judge("in the order of the rows that they tell of", all(it == list(range(1, len(it) + 1)) for it in order.values()), order)
             tries.judge(
                 "it is told", b'jumbetai_outbox_up{kind="postgresql"} 1' in site.get("/metrics").body and b'from="postgres"' in site.get("/metrics").body
@@ -1404,7 +1410,7 @@ def try_postgres(tries):
             tries.judge("numbers go on behind that", site.waits_for(lambda: site.cover()["/a"] == [[1, 2]]), site.cover())
 
 
-def try_prometheus(tries):
+def try_prometheus(tries: Tries) -> None:
     """A real Prometheus with a token that may read, which loads the alerts."""
     if not shutil.which("prometheus"):
         tries.skip("a real Prometheus", "it isn't there")
@@ -1424,14 +1430,14 @@ def try_prometheus(tries):
             ran = subprocess.Popen(["prometheus", *words], stdout=log, stderr=log)
         tries.running.append(ran)
 
-        def asked(path):
+        def asked(path: str) -> Any:
             connection = http.client.HTTPConnection("127.0.0.1", port, timeout=5)
             with contextlib.closing(connection), contextlib.suppress(OSError, ValueError):
                 connection.request("GET", f"/api/v1/{path}")
                 return json.loads(connection.getresponse().read())["data"]
             return {}
 
-        def value(name):
+        def value(name: str) -> Any:
             found = asked(f"query?query={name}").get("result") or [{"value": [0, None]}]
             return found[0]["value"][1]
 
@@ -1446,24 +1452,24 @@ def try_prometheus(tries):
         ran.wait(5)
 
 
-def try_page(tries):
+def try_page(tries: Tries) -> None:
     """The page in a browser: tools/try_page.py, where there is Chromium."""
     import try_page as pages
 
     pages.try_all(tries, ("empty", "business", "markup", "tokens"))
 
 
-def try_page_sizes(tries):
+def try_page_sizes(tries: Tries) -> None:
     """The page with many sources, large numbers and long names."""
     import try_page as pages
 
     pages.try_all(tries, ("many", "large", "long"))
 
 
-def try_tls(tries):
+def try_tls(tries: Tries) -> None:
     """Two sites over TLS, by an authority of their own and a token."""
     folder = tries.folder
-    asked = [tries.program, "--db", "x", "--peer", "a=https://b", "--check"]
+    asked = [str(tries.program), "--db", "x", "--peer", "a=https://b", "--check"]
     if "the feature tls" in subprocess.run(asked, capture_output=True, text=True, check=False).stderr:
         tries.skip("TLS", "the program is built without it")
         return
@@ -1471,7 +1477,7 @@ def try_tls(tries):
         tries.skip("TLS", "openssl isn't there")
         return
 
-    def run(*words):
+    def run(*words: str) -> Any:
         subprocess.run(["openssl", *words], check=True, capture_output=True, cwd=folder, timeout=20)
 
     curve = ("-newkey", "ec", "-pkeyopt", "ec_paramgen_curve:P-256", "-nodes")
@@ -1488,7 +1494,7 @@ def try_tls(tries):
 
     context = ssl.create_default_context(cafile=f"{folder}/ca.pem")
 
-    def ask(site, method, path, body=None):
+    def ask(site: Site, method: str, path: str, body: Any = None) -> Any:
         connection = http.client.HTTPSConnection("localhost", site.port, timeout=8, context=context)
         with contextlib.closing(connection):
             connection.request(method, path, body, {"Authorization": "Bearer a token", **ONE})
@@ -1520,7 +1526,7 @@ def serving(tries: Tries, settings: str = "", name: str = "site", prefix: Iterab
 TRIES = {name.removeprefix("try_"): it for name, it in list(globals().items()) if name.startswith("try_")}
 
 
-def built(folder, given, tries):
+def built(folder: str, given: argparse.Namespace, tries: Tries) -> Any:
     """Builds the service with its tests in Rust, and answers the program."""
     if given.library is None:
         given.library = f"{folder}/library"
@@ -1534,7 +1540,7 @@ def built(folder, given, tries):
     return program
 
 
-def main():
+def main() -> int:
     words = argparse.ArgumentParser(description=__doc__, formatter_class=argparse.RawDescriptionHelpFormatter)
     words.add_argument("--program")
     words.add_argument("--library")
