@@ -165,29 +165,25 @@ def made(program: str, folder: str, count: int, first: int = 1, more: Callable[[
     return there(name)
 
 
-def in_small_pages(data: bytes, folder: str) -> bytes:
-    """The same database in pages of 512 bytes, as SQLite writes it."""
+def after(data: bytes, folder: str, *statements: str) -> bytes:
+    """A database behind statements that SQLite carries out."""
     name = f"{folder}/x.db"
     write(name, data)
     base = sqlite3.connect(name, isolation_level=None)
-    base.execute("PRAGMA journal_mode = delete")
-    base.execute("PRAGMA page_size = 512")
-    base.execute("VACUUM")
-    base.execute("PRAGMA journal_mode = wal")
+    for statement in statements:
+        base.execute(statement)
     base.close()
     return there(name)
+
+
+def in_small_pages(data: bytes, folder: str) -> bytes:
+    """The same database in pages of 512 bytes, as SQLite writes it."""
+    return after(data, folder, "PRAGMA journal_mode = delete", "PRAGMA page_size = 512", "VACUUM", "PRAGMA journal_mode = wal")
 
 
 def with_free_pages(data: bytes, folder: str) -> bytes:
     """The same database with pages that a table left free."""
-    name = f"{folder}/x.db"
-    write(name, data)
-    base = sqlite3.connect(name, isolation_level=None)
-    base.execute("CREATE TABLE spare (a)")
-    base.execute("INSERT INTO spare VALUES (zeroblob(2000))")
-    base.execute("DROP TABLE spare")
-    base.close()
-    return there(name)
+    return after(data, folder, "CREATE TABLE spare (a)", "INSERT INTO spare VALUES (zeroblob(2000))", "DROP TABLE spare")
 
 
 def states(program: str, folder: str) -> dict[str, tuple[bytes, bytes, bytes]]:

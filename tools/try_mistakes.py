@@ -12,15 +12,17 @@ import contextlib
 import gzip
 import json
 import os
-import pty
 import sqlite3
 import subprocess
 import sys
 import tempfile
 from typing import Union
 
+sys.dont_write_bytecode = True
 TOP = os.path.dirname(os.path.dirname(os.path.realpath(__file__)))
-AWAY = b"\r\x1b[K"
+sys.path.insert(0, f"{TOP}/tools")
+from try_terminal import AWAY, ran  # noqa: E402
+
 BUSY = "another program has the file open: --wait 30 waits for it"
 HELP = "For more information, try '--help'."
 CHECK = "site check FILE says of each event what is wrong"
@@ -286,29 +288,14 @@ def make_files(program: str) -> None:
 
 
 def typed_on_terminal(program: str, words: list[str]) -> tuple[int, str, str]:
-    """The status, standard output, and what a terminal was given as standard error."""
-    ours, theirs = pty.openpty()
-    with tempfile.TemporaryFile() as out:
-        run = subprocess.Popen([program, *words], stdin=subprocess.DEVNULL, stdout=out, stderr=theirs)
-        os.close(theirs)
-        seen = b""
-        while True:
-            try:
-                more = os.read(ours, 65536)
-            except OSError:  # the other end is closed
-                break
-            if not more:
-                break
-            seen += more
-        os.close(ours)
-        status = run.wait(timeout=60)
-        out.seek(0)
-        return status, out.read().decode(), seen.rpartition(AWAY)[2].decode().replace("\r\n", "\n")
+    """The status, standard output, and what a terminal was given as standard error behind the last progress."""
+    status, out, said = ran(program, words, True)
+    return status, out.decode(), said.rpartition(AWAY)[2].decode().replace("\r\n", "\n")
 
 
 def typed(program: str, words: list[str]) -> tuple[int, str, str]:
-    run = subprocess.run([program, *words], stdin=subprocess.DEVNULL, capture_output=True, timeout=60)
-    return run.returncode, run.stdout.decode(), run.stderr.decode()
+    status, out, said = ran(program, words, False)
+    return status, out.decode(), said.decode()
 
 
 class Trial:

@@ -116,11 +116,11 @@ class Trial:
                 return answer, tries
             time.sleep(random.uniform(0.005, 0.05))
 
-    def rows(self, db: str) -> Any:
-        """All rows of the outbox of a file, page after page; what was said where there are none."""
+    def pages(self, *words: str) -> Any:
+        """All events that a command prints page by page, each behind those before it; what was said where there are none."""
         found: list[Any] = []
         while True:
-            status, out, err = self.run("relay", "--db", db, "--after", str(len(found)))
+            status, out, err = self.run(*words, str(len(found)))
             if status:
                 return err
             page = json.loads(out)
@@ -128,17 +128,13 @@ class Trial:
                 return found
             found += page
 
+    def rows(self, db: str) -> Any:
+        """All rows of the outbox of a file."""
+        return self.pages("relay", "--db", db, "--after")
+
     def events(self, db: str) -> Any:
-        """All events of a file, page after page; what was said where there are none."""
-        found: list[Any] = []
-        while True:
-            status, out, err = self.run("scrub", "--db", db, "--from", str(len(found)))
-            if status:
-                return err
-            page = json.loads(out)
-            if not page:
-                return found
-            found += page
+        """All events of a file."""
+        return self.pages("scrub", "--db", db, "--from")
 
 
 def is_store(answer: Answer, db: str) -> bool:

@@ -4,6 +4,7 @@
  * failed'. */
 #define _DEFAULT_SOURCE
 #include "jumbetai.h"
+#include "test.h"
 #include <fcntl.h>
 #include <signal.h>
 #include <stdio.h>
@@ -12,15 +13,6 @@
 #include <sys/stat.h>
 #include <sys/wait.h>
 #include <unistd.h>
-
-static int passed, failed;
-
-static void must(long long has, long long wants, int line, const char *what) {
-    passed += has == wants, failed += has != wants;
-    if (has != wants) printf("wrong: line %d: %s is %lld, not %lld\n", line, what, has, wants);
-}
-
-#define IS(said, wanted) must((long long)(said), (long long)(wanted), __LINE__, #said)
 
 /* One event of source /a with this number. */
 static int write_event(char *to, size_t room, int number) {

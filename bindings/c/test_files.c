@@ -5,6 +5,7 @@
  */
 #define _GNU_SOURCE
 #include "site.h"
+#include "test.h"
 #include <dirent.h>
 #include <errno.h>
 #include <fcntl.h>
@@ -16,15 +17,6 @@
 #include <sys/stat.h>
 #include <sys/wait.h>
 #include <unistd.h>
-
-static int passed, failed;
-
-static void must(long long has, long long wants, int line, const char *what) {
-    passed += has == wants, failed += has != wants;
-    if (has != wants) printf("wrong: line %d: %s is %lld, not %lld\n", line, what, has, wants);
-}
-
-#define IS(said, wanted) must((long long)(said), (long long)(wanted), __LINE__, #said)
 
 /* What comes between two calls of the system: it is done once, and answers the error that the call
  * has then, or 0 where the call is made. */

@@ -3,6 +3,7 @@
  * killed. The last line is 'N passed, M failed'. */
 #define _DEFAULT_SOURCE
 #include "jumbetai.h"
+#include "test.h"
 #include <fcntl.h>
 #include <signal.h>
 #include <stdio.h>
@@ -11,14 +12,6 @@
 #include <sys/wait.h>
 #include <unistd.h>
 
-static int passed, failed;
-
-static void must(long long has, long long wants, int line, const char *what) {
-    passed += has == wants, failed += has != wants;
-    if (has != wants) printf("wrong: line %d: %s is %lld, not %lld\n", line, what, has, wants);
-}
-
-#define IS(said, wanted) must((long long)(said), (long long)(wanted), __LINE__, #said)
 #define NOON "2024-02-29T12:00:00Z"
 #define LARGEST 9223372036854775807u
 

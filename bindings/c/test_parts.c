@@ -3,20 +3,12 @@
  * line is 'N passed, M failed'. */
 #define _DEFAULT_SOURCE
 #include "site.h"
+#include "test.h"
 #include <stdbool.h>
 #include <stdio.h>
 #include <stdlib.h>
 #include <string.h>
 #include <unistd.h>
-
-static int passed, failed;
-
-static void must(long long has, long long wants, int line, const char *what) {
-    passed += has == wants, failed += has != wants;
-    if (has != wants) printf("wrong: line %d: %s is %lld, not %lld\n", line, what, has, wants);
-}
-
-#define IS(said, wanted) must((long long)(said), (long long)(wanted), __LINE__, #said)
 
 struct tried {
     bool ok;

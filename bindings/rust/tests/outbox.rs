@@ -5,9 +5,8 @@
 
 mod common;
 
-use common::{printed, program, Folder};
+use common::{open_if_asked, opened_elsewhere, printed, program, Folder};
 use jumbetai::{Error, OrderCounts, Outbox, Question, Rows, Site};
-use std::path::Path;
 use std::process::Command;
 use std::sync::{Arc, Mutex};
 
@@ -160,38 +159,22 @@ fn a_file_keeps_its_source_and_its_base() {
     assert_eq!(outbox.rows_page(LARGEST).unwrap(), None);
 }
 
-const OPEN: &str = "JUMBETAI_TEST_OPEN_OUTBOX";
-const OPENED: i32 = 100;
-
-/// The status by which another process opens the file: this test, run in it, ends with it and
-/// `OPENED` more.
-fn opened_elsewhere(path: &Path) -> i32 {
-    let out = Command::new(std::env::current_exe().unwrap())
-        .args(["--exact", "a_file_is_busy_while_it_is_open"])
-        .env(OPEN, path)
-        .output()
-        .unwrap();
-    out.status.code().unwrap() - OPENED
-}
-
 #[test]
 fn a_file_is_busy_while_it_is_open() {
-    if let Some(path) = std::env::var_os(OPEN) {
-        let status = Outbox::open(path).err().map_or(0, Error::status);
-        std::process::exit(OPENED + status);
-    }
+    let elsewhere = |file| opened_elsewhere("a_file_is_busy_while_it_is_open", file);
+    open_if_asked(|path| Outbox::open(path).err());
     let folder = Folder::new("busy-orders");
     let file = folder.file("a.db");
     let mut outbox = Outbox::open(&file).unwrap();
     outbox.place(1, NOON).unwrap();
-    assert_eq!(opened_elsewhere(&file), Error::Busy.status());
+    assert_eq!(elsewhere(&file), Error::Busy.status());
     assert_eq!(Outbox::open(&file).err(), Some(Error::Busy));
     assert_eq!(Site::open(&file).err(), Some(Error::Busy));
     outbox.place(2, NOON).unwrap();
     drop(outbox);
-    assert_eq!(opened_elsewhere(&file), 0);
+    assert_eq!(elsewhere(&file), 0);
     let site = Site::open(&file).unwrap();
-    assert_eq!(opened_elsewhere(&file), Error::Busy.status());
+    assert_eq!(elsewhere(&file), Error::Busy.status());
     drop(site);
     assert_eq!(Outbox::open(&file).unwrap().counts(), counts(0, 2, 2));
 }

@@ -5,7 +5,7 @@
 
 mod common;
 
-use common::{printed, program, Folder};
+use common::{open_if_asked, opened_elsewhere, printed, program, Folder};
 use jumbetai::{Error, Lag, Page, Question, Site, Taken, PAGE};
 use std::path::Path;
 use std::process::Command;
@@ -478,35 +478,19 @@ fn a_site_in_memory_and_one_over_a_file_come_together() {
     assert!(said(&mut north) == said(&mut south));
 }
 
-const OPEN: &str = "JUMBETAI_TEST_OPEN";
-const OPENED: i32 = 100;
-
-/// The status by which another process opens the file: this test, run in it, ends with it and
-/// `OPENED` more.
-fn opened_elsewhere(path: &Path) -> i32 {
-    let out = Command::new(std::env::current_exe().unwrap())
-        .args(["--exact", "a_file_is_busy_while_it_is_open"])
-        .env(OPEN, path)
-        .output()
-        .unwrap();
-    out.status.code().unwrap() - OPENED
-}
-
 #[test]
 fn a_file_is_busy_while_it_is_open() {
-    if let Some(path) = std::env::var_os(OPEN) {
-        let status = Site::open(path).err().map_or(0, Error::status);
-        std::process::exit(OPENED + status);
-    }
+    let elsewhere = |file| opened_elsewhere("a_file_is_busy_while_it_is_open", file);
+    open_if_asked(|path| Site::open(path).err());
     let folder = Folder::new("busy");
     let file = folder.file("site.db");
     let mut site = Site::open(&file).unwrap();
     site.take(&batch(1..=3)).unwrap();
-    assert_eq!(opened_elsewhere(&file), Error::Busy.status());
+    assert_eq!(elsewhere(&file), Error::Busy.status());
     assert_eq!(Site::open(&file).err(), Some(Error::Busy));
     assert_eq!(site.take(&batch(3..=4)).unwrap().fresh, 1);
     drop(site);
-    assert_eq!(opened_elsewhere(&file), 0);
+    assert_eq!(elsewhere(&file), 0);
     assert_eq!(Site::open(&file).unwrap().len(), 4);
 }
 
