@@ -89,7 +89,7 @@ def main() -> int:
     given = words.parse_args()
     dice, counts = random.Random(given.seed), dict[Union[int, str], int]()
     with tempfile.TemporaryDirectory() as folder, contextlib.ExitStack() as end:
-        tries: Any = Tries(folder, os.path.abspath(given.program))
+        tries = Tries(folder, os.path.abspath(given.program))
         end.callback(tries.end)
         site = tries.site("fuzz").start()
         until = time.monotonic() + given.seconds
@@ -109,8 +109,7 @@ def main() -> int:
         tries.judge("it opens again with what it had", site.get("/shown").body == shown)
         site.stop()
     print(f"{sum(counts.values())} requests, {len(shown.splitlines())} events kept; answers {counts}")
-    print(f"{tries.right} of {tries.all} tries of mutated requests were right")
-    return 0 if tries.right == tries.all else 1
+    return tries.tell("of mutated requests")
 
 
 if __name__ == "__main__":

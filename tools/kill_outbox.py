@@ -166,8 +166,7 @@ def main() -> int:
             kill(tries, given.rounds, given.seed)
         finally:
             tries.end()
-    print(f"{tries.right} of {tries.all} tries of an outbox were right")
-    return 0 if tries.right == tries.all else 1
+    return tries.tell("of an outbox")
 
 
 if __name__ == "__main__":

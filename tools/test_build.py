@@ -14,6 +14,7 @@ sys.dont_write_bytecode = True
 TOP = os.path.dirname(os.path.dirname(os.path.realpath(__file__)))
 sys.path.insert(0, f"{TOP}/tools")
 from build import Plan  # noqa: E402
+from harness import tell  # noqa: E402
 from test_try_edits import LOW, SMALL, Copy  # noqa: E402
 
 OLD = (946_684_800, 946_684_800)
@@ -140,12 +141,7 @@ def of_processes() -> Iterator[tuple[bool, str]]:
 def main() -> int:
     with tempfile.TemporaryDirectory(prefix="built-") as folder:
         answers = [*of_builds(folder), *of_rt(folder), *of_library(folder), *of_processes()]
-    for is_right, text in answers:
-        if not is_right:
-            print(f"wrong: {text}")
-    right = sum(is_right for is_right, _ in answers)
-    print(f"{right} passed, {len(answers) - right} failed")
-    return 0 if right == len(answers) else 1
+    return tell(answers)
 
 
 if __name__ == "__main__":

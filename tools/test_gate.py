@@ -15,6 +15,7 @@ TOP = os.path.dirname(os.path.dirname(os.path.realpath(__file__)))
 sys.path.insert(0, f"{TOP}/tools")
 import subprocess  # noqa: E402
 
+from harness import tell  # noqa: E402
 from test_try_edits import Copy, kept_files  # noqa: E402
 
 lanes = SourceFileLoader("gate", f"{TOP}/gate").load_module().lanes
@@ -153,12 +154,7 @@ def rows(folder: str) -> Iterator[tuple[bool, str]]:
 def main() -> int:
     with tempfile.TemporaryDirectory(prefix="gate-tried-") as folder:
         answers = [*rows(folder)]
-    for is_right, text in answers:
-        if not is_right:
-            print(f"wrong: {text}")
-    right = sum(is_right for is_right, _ in answers)
-    print(f"{right} passed, {len(answers) - right} failed")
-    return 0 if right == len(answers) else 1
+    return tell(answers)
 
 
 if __name__ == "__main__":

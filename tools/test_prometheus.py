@@ -10,7 +10,11 @@ import shutil
 import subprocess
 import sys
 
+sys.dont_write_bytecode = True
 TOP = os.path.dirname(os.path.dirname(os.path.realpath(__file__)))
+sys.path.insert(0, f"{TOP}/tools")
+from harness import tell  # noqa: E402
+
 FOLDER = f"{TOP}/contrib/prometheus"
 NAME = re.compile(r"\b(?:jumbetai|process)_[a-z_]+\b")
 
@@ -45,12 +49,7 @@ def main() -> int:
             answers.append((ran.returncode == 0, f"promtool {' '.join(words)}: {ran.stdout}{ran.stderr}"))
     else:
         print("promtool isn't here, so the rules' own tests aren't run")
-    for is_right, text in answers:
-        if not is_right:
-            print(f"wrong: {text}")
-    right = sum(is_right for is_right, _ in answers)
-    print(f"{right} passed, {len(answers) - right} failed")
-    return 0 if right == len(answers) else 1
+    return tell(answers)
 
 
 if __name__ == "__main__":

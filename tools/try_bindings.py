@@ -27,6 +27,7 @@ TOP = os.path.dirname(os.path.dirname(os.path.realpath(__file__)))
 sys.path.insert(0, f"{TOP}/tools")
 import library  # noqa: E402
 import version  # noqa: E402
+from harness import Counts  # noqa: E402
 from measure import held_lines  # noqa: E402
 
 QUESTIONS = ("cover", "shown", "conflicts", "latest", "kinds", "days", "gaps")
@@ -56,22 +57,17 @@ MANIFESTS = ("bindings/rust/jumbetai-sys/Cargo.toml", "bindings/python/pyproject
 DONE = re.compile(rb"(\d+) passed, 0 failed|([1-9]\d*) requests refused")
 
 
-class Tries:
+class Tries(Counts):
     def __init__(self, folder: str, program: Optional[str]) -> None:
-        self.folder, self.program, self.right, self.all = folder, program, 0, 0
+        super().__init__()
+        self.folder, self.program = folder, program
         self.environment = {**os.environ, "PYTHONDONTWRITEBYTECODE": "1", "JUMBETAI_LIB_DIR": f"{folder}/library"}
-
-    def judge(self, what: str, is_right: bool, why: object = "") -> bool:
-        self.right, self.all = self.right + is_right, self.all + 1
-        if not is_right:
-            print(f"wrong: {what}: {str(why)[-2000:]}", flush=True)
-        return is_right
 
     def has(self, tool: str, what: str) -> bool:
         """Whether a tool is there; says what is left out where it isn't."""
         is_there = shutil.which(tool) is not None and self.run([tool, "--version"])[0] == 0
         if not is_there:
-            print(f"skipped: {what}, since {tool} isn't there", flush=True)
+            self.skip(what, f"{tool} isn't there")
         return is_there
 
     def run(self, words: list[str], folder: Optional[str] = None, **more: str) -> tuple[int, bytes]:
@@ -406,7 +402,7 @@ def try_wheel(tries: Tries) -> None:
     tries.judge("both wheels are the same bytes", both[0] == both[1])
     status, out = tries.run([sys.executable, "-m", "venv", "fresh"])
     if status:
-        print(f"skipped: the wheel in a fresh environment, since none can be made: {out.decode(errors='replace')[-200:]}", flush=True)
+        tries.skip("the wheel in a fresh environment", f"none can be made: {out.decode(errors='replace')[-200:]}")
         return
     code = "import jumbetai; assert jumbetai.Site().take('[]') == (0, 0); print(jumbetai.__file__, jumbetai.version())"
     source = {**alone, "JUMBETAI_LIB": f"{folder}/shared/libjumbetai.so"}
@@ -448,7 +444,7 @@ def main() -> int:
         if program:
             tries.environment["JUMBETAI_SITE"] = program
         else:
-            print(f"skipped: what is compared with the program, since {given.program} isn't there", flush=True)
+            tries.skip("what is compared with the program", f"{given.program} isn't there")
         others = {file: version.told_in(file, rf'^version = "{version.NUMBER}"$') for file in MANIFESTS}
         for where, told in {**version.told(), **others}.items():
             tries.judge(f"the version in {where}", told == version.version(), told)
@@ -472,8 +468,7 @@ def main() -> int:
             try_rust(tries, batch, given.orders)
             try_python(tries, batch)
         try_kills(tries)
-        print(f"{tries.right} of {tries.all} tries of the library were right")
-        return 0 if tries.right == tries.all else 1
+        return tries.tell("of the library")
 
 
 if __name__ == "__main__":

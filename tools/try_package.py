@@ -26,6 +26,7 @@ sys.dont_write_bytecode = True
 TOP = os.path.dirname(os.path.dirname(os.path.realpath(__file__)))
 sys.path.insert(0, f"{TOP}/tools")
 import debian  # noqa: E402
+from harness import Counts  # noqa: E402
 from kept import file_sum  # noqa: E402
 from run_guide import blocks, of_console, typed  # noqa: E402
 from version import version  # noqa: E402
@@ -36,16 +37,7 @@ MOST = 1 << 30
 EVENT = '{"specversion":"1.0","id":"%d","source":"/till","type":"sold","sequence":"%020d"}'
 
 
-class Tries:
-    def __init__(self) -> None:
-        self.right = self.all = 0
-
-    def judge(self, what: str, is_right: object, why: object = "") -> bool:
-        self.right, self.all = self.right + bool(is_right), self.all + 1
-        if not is_right:
-            print(f"wrong: {what}: {str(why)[-1500:]}", flush=True)
-        return bool(is_right)
-
+class Tries(Counts):
     def passes(self, what: str, words: list[str], **how: Any) -> str:
         ran = subprocess.run(words, stdin=subprocess.DEVNULL, stdout=subprocess.PIPE, stderr=subprocess.STDOUT, text=True, check=False, **how)
         self.judge(what, ran.returncode == 0, f"{ran.returncode}: {ran.stdout}")
@@ -235,8 +227,7 @@ def main() -> int:
         # Devices are copied as devices.
         subprocess.run(["cp", "-a", at, f"{folder}/fresh"], check=True)
         try_life(tries, Root(tries, f"{folder}/fresh"), first, second)
-    print(f"{tries.right} of {tries.all} tries of the package were right")
-    return 0 if tries.right == tries.all else 1
+    return tries.tell("of the package")
 
 
 if __name__ == "__main__":

@@ -528,8 +528,7 @@ def main() -> int:
             try_all(tries, given.cases, given.pictures)
         finally:
             tries.end()
-    print(f"{tries.right} of {tries.all} tries of the page were right")
-    return 0 if tries.right == tries.all else 1
+    return tries.tell("of the page")
 
 
 if __name__ == "__main__":

@@ -26,6 +26,7 @@ sys.path.insert(0, f"{TOP}/tools")
 import library  # noqa: E402
 import service  # noqa: E402
 from archive_pages import LINK, STRAY  # noqa: E402
+from harness import Counts  # noqa: E402
 from run_guide import steps  # noqa: E402
 from version import version  # noqa: E402
 
@@ -80,16 +81,7 @@ PACKAGED = (
 )
 
 
-class Tries:
-    def __init__(self) -> None:
-        self.right = self.all = 0
-
-    def judge(self, what: str, is_right: object, why: object = "") -> bool:
-        self.right, self.all = self.right + bool(is_right), self.all + 1
-        if not is_right:
-            print(f"wrong: {what}: {str(why)[-1000:]}", flush=True)
-        return bool(is_right)
-
+class Tries(Counts):
     def passes(self, what: str, words: list[str], **how: Any) -> bool:
         ran = subprocess.run(words, stdin=subprocess.DEVNULL, stdout=subprocess.PIPE, stderr=subprocess.STDOUT, **how)
         return self.judge(what, ran.returncode == 0, ran.stdout.decode(errors="replace"))
@@ -260,8 +252,7 @@ def main() -> int:
             orders = (["./orders", "place", "7", time, "ours.db"], ["bin/site", "order", "--db", "theirs.db", "--at", time, "place", "7"])
             said = [subprocess.run(it, cwd=unpacked, capture_output=True).stdout for it in orders]
             tries.judge("the example in C of orders says what the program says", said[0] == said[1] != b"", said)
-    print(f"{tries.right} of {tries.all} tries of the archive were right")
-    return 0 if tries.right == tries.all else 1
+    return tries.tell("of the archive")
 
 
 if __name__ == "__main__":

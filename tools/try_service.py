@@ -34,6 +34,7 @@ TOP = os.path.dirname(os.path.dirname(os.path.realpath(__file__)))
 sys.path.insert(0, f"{TOP}/tools")
 import library  # noqa: E402
 import service  # noqa: E402
+from harness import Counts  # noqa: E402
 
 ONE = {"Content-Type": "application/cloudevents+json"}
 MANY = {"Content-Type": "application/cloudevents-batch+json"}
@@ -168,20 +169,11 @@ class Site:
         return True
 
 
-class Tries:
+class Tries(Counts):
     def __init__(self, folder: str, program: Optional[str], site: str = "") -> None:
-        self.folder, self.program, self.other, self.right, self.all = folder, program, site, 0, 0
+        super().__init__()
+        self.folder, self.program, self.other = folder, program, site
         self.running: list[Any] = []
-        self.what = ""
-
-    def judge(self, what: str, is_right: object, why: object = "") -> bool:
-        self.right, self.all = self.right + bool(is_right), self.all + 1
-        if not is_right:
-            print(f"wrong: {self.what}: {what}: {str(why)[-1500:]}", flush=True)
-        return bool(is_right)
-
-    def skip(self, what: str, why: str) -> None:
-        print(f"skipped: {what}, since {why}", flush=True)
 
     def site(self, name: str, settings: str = "", title: Optional[str] = None) -> Site:
         return Site(self, f"{self.what}-{name}", settings, title)
@@ -1565,8 +1557,7 @@ def main() -> int:
             finally:
                 tries.end()
             print(f"{name}: {time.monotonic() - began:.1f} s", flush=True)
-    print(f"{tries.right} of {tries.all} tries of the service were right")
-    return 0 if tries.right == tries.all > 0 else 1
+    return tries.tell("of the service") or int(not tries.all)
 
 
 if __name__ == "__main__":

@@ -1,0 +1,40 @@
+"""What scripts that try something have in common: what they count, and their last line."""
+from typing import Iterable
+
+
+class Counts:
+    """Counts what was tried, and tells at once what was wrong."""
+
+    # What is tried now, for what is told.
+    what = ""
+
+    def __init__(self) -> None:
+        self.right = self.all = 0
+
+    def judge(self, what: str, is_right: object, why: object = "") -> bool:
+        """Whether something is right; says what it is, and why it isn't, where it isn't."""
+        self.right, self.all = self.right + bool(is_right), self.all + 1
+        if not is_right:
+            print(f"wrong: {self.what and f'{self.what}: '}{what}: {str(why)[-2000:]}", flush=True)
+        return bool(is_right)
+
+    @staticmethod
+    def skip(what: str, why: str) -> None:
+        """Says that something isn't tried, since what it wants isn't there."""
+        print(f"skipped: {what}, since {why}", flush=True)
+
+    def tell(self, of: str) -> int:
+        """Prints the last line, 'N of M tries OF were right', and answers the status."""
+        print(f"{self.right} of {self.all} tries {of} were right")
+        return 0 if self.right == self.all else 1
+
+
+def tell(answers: Iterable[tuple[bool, str]]) -> int:
+    """Says what is wrong of answers, each whether it is right and what it is; then 'N passed, M failed'. Answers the status."""
+    every = [*answers]
+    for is_right, text in every:
+        if not is_right:
+            print(f"wrong: {text}")
+    right = sum(is_right for is_right, _ in every)
+    print(f"{right} passed, {len(every) - right} failed")
+    return 0 if right == len(every) else 1
