@@ -105,7 +105,10 @@ def rows(folder: str) -> Iterator[tuple[bool, str]]:
     behind = [order.index(f"begin {it}") > order.index("end try_edits") for it in ALONE]
     yield all(behind), f"scripts alone behind them: {order}"
     turns = [it for it in order if "try_edits" not in it]
-    yield turns == [f"{what} {it}" for it in [*FIRST, *SCRIPTS] for what in ("begin", "end")], f"each script in turn: {order}"
+    for lane in (FIRST, SCRIPTS[:2], SCRIPTS[2:-5], ALONE):
+        own = [it for it in turns if it.split()[1] in lane]
+        yield own == [f"{what} {it}" for it in lane for what in ("begin", "end")], f"each script of a lane in turn: {order}"
+    yield turns[-2 * len(ALONE)] == f"begin {ALONE[0]}", f"nothing beside those that run alone: {order}"
     with open(f"{copy.top}/out/gate/times", encoding="utf-8") as it:
         times = it.read()
     yield all(f"tools/{it}: " in times for it in [*FIRST, *SCRIPTS, "try_edits.py"]), f"the times: {times}"
