@@ -1,8 +1,9 @@
 //! Plays rows of calls on texts of events, sets of numbers, summaries, inboxes, the digests of blocks,
-//! and questions about an inbox.
+//! questions about an inbox, and parts.
 #![tactic(auto)]
 
 mod digests;
+mod divisions;
 mod inboxes;
 mod numbers;
 mod play;

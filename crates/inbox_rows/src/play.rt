@@ -1,6 +1,6 @@
 //! What has a name, and the calls by their words.
 
-use crate::{digests, inboxes, numbers, summaries, texts};
+use crate::{digests, divisions, inboxes, numbers, summaries, texts};
 use attributes::Sequenced;
 use block_digests::Blocks;
 use coverage::{Intervals, Summary};
@@ -117,6 +117,9 @@ fn call(alloc: Global, values: &mut Values, word: &str, words: &[&str], said: &m
         ("ask", _) => inboxes::ask(alloc, &values.inboxes, words, &mut said.text),
         ("day", _) => inboxes::day(alloc, &values.inboxes, words, &mut said.text),
         ("conflict", _) => inboxes::conflict(alloc, words, &mut said.text),
+        ("part", _) => divisions::part(words, &mut said.text),
+        ("split", _) => divisions::split(alloc, &values.events, words, &mut said.text),
+        ("combine", _) => divisions::combine(alloc, words, &mut said.text),
         ("all", _) | ("best", _) | ("size", _) | ("came", _) | ("rivals", _) => {
             inboxes::tell(&values.inboxes, word, words, &mut said.text)
         }
