@@ -300,23 +300,6 @@ wc -l <got.out >>last.out
 mv last.out got.out
 is 'a stream of a million lines' 0 "{\"line\":1000051,\"new\":3,\"repeated\":0}${lf}1000051$lf" ''
 rm long.lines
-# Pages that don't fit into a small cache are read again, and take no memory.
-python3 -c 'print("[%s]" % ",".join("{\"data\":\"%s\",\"id\":\"c%d\",\"sequence\":\"%020d\",\"source\":\"/many\",\"specversion\":\"1.0\",\"type\":\"t\"}" % ("x" * 2000, it, it) for it in range(1, 10001)))' >wide.json
-run take --db wide.db wide.json
-cat >cached.py <<'END'
-import os, subprocess, sys
-peaks = []
-for mib in ("1", "256"):
-    words = [sys.argv[1], "check", "--db", "wide.db"]
-    ran = subprocess.Popen(words, env={**os.environ, "SITE_CACHE_MIB": mib}, stdout=subprocess.DEVNULL)
-    _, status, used = os.wait4(ran.pid, 0)
-    peaks.append(used.ru_maxrss if status == 0 else -1)
-print("less" if 0 < peaks[0] < peaks[1] - 15000 else peaks)
-END
-python3 cached.py "$program" >got.out 2>got.err
-status=$?
-is 'a small cache wants less memory' 0 "less$lf" ''
-
 # Orders and their events.
 order() { run order --db o.db --at 2024-02-29T10:00:00Z "$@"; }
 row() {
@@ -594,21 +577,21 @@ is 'a service beside an inbox that was of before' 0 "$(row 1 1 placed)$lf" ''
 run take --db old.db three.json
 is 'and events beside both' 0 "read 3 new 2 repeated 1$lf" ''
 # A file of before with more rows than one step copies.
-python3 -c 'print("[%s]" % ",".join("{\"id\":\"c%d\",\"sequence\":\"%020d\",\"source\":\"/many\",\"specversion\":\"1.0\",\"type\":\"t\"}" % (it, it) for it in range(1, 2501)))' >many.json
-run take --db many.db many.json
-run scrub --db many.db --all
-cp got.out many.pages
-before many.db old.db
-run take --db old.db many.json two.json
+python3 -c 'print("[%s]" % ",".join("{\"id\":\"c%d\",\"sequence\":\"%020d\",\"source\":\"/many\",\"specversion\":\"1.0\",\"type\":\"t\"}" % (it, it) for it in range(1, 2501)))' >much.json
+run take --db much.db much.json
+run scrub --db much.db --all
+cp got.out much.pages
+before much.db old.db
+run take --db old.db much.json two.json
 is 'taking into a file of before of 2,500 rows' 0 "read 2502 new 2 repeated 2500$lf" ''
 ask old.db 'SELECT count(*), min(place), max(place), sum(number), sum(block) FROM inbox2 WHERE source = "/many"'
 is 'its rows have their places, and their blocks' 0 "2500|1|2500|3126250|1930$lf" ''
-before many.db old.db
+before much.db old.db
 run take --db old.db three.json
-before many.db old.db
+before much.db old.db
 run scrub --db old.db
 run scrub --db old.db --all
-cmp -s got.out many.pages && : >got.out
+cmp -s got.out much.pages && : >got.out
 is 'the events of a file of before of 2,500 rows' 0 '' ''
 # Where a table stood before the inbox and was dropped, the schema has a hole until VACUUM.
 cat >hole.py <<'END'

@@ -356,7 +356,7 @@ commands='cover gaps shown latest kinds days conflicts check take follow summary
 is 'the commands of help' 2 "$commands help " ''
 for word in $commands; do "$program" "$word" --help | options "$word"; done >>named
 # Each command over a database says which variable limits its cache.
-for word in $commands; do "$program" "$word" --help | grep -q -- '--db <DB>.*SITE_CACHE_MIB' && echo "$word"; done | tr '\n' ' ' >got.out
+for word in $commands; do "$program" "$word" --help | grep -q -- '--db <[A-Z]*>.*SITE_CACHE_MIB' && echo "$word"; done | tr '\n' ' ' >got.out
 is 'the variable of the cache' 2 "$commands " ''
 LC_ALL=C sort words named -o named
 grep '^delta' named | tr '\n' ' ' >got.out

@@ -261,7 +261,7 @@ pub fn numbers_db<'a>(alloc: Global) -> Arg<'a>
         .long("db")
         .value_name("NUMBERS")
         .help(
-            "The file of the numbers that were given, made where there is none; a source has one such file",
+            "The file of the numbers that were given, made where there is none, cached up to 256 MiB or SITE_CACHE_MIB; a source has one such file",
         )
         .required(true)
 }
