@@ -1,4 +1,5 @@
 mod HeldLemmas
+mod MadeLemmas
 mod StreamLemmas
 mod PageLemmas
 mod ServedLemmas

@@ -2,3 +2,5 @@
 pub mod Left
 pub mod Told
 pub mod Served
+pub mod Made
+pub mod Tokens

@@ -1,17 +1,18 @@
 //! Pages of the events that a database holds.
-ghost use Rattle.std.specs.Prelude.{◌≡◌, [], false, IfOk, IsOk, IsTrue, OnOk};
+ghost use Rattle.std.specs.Prelude.{◌≡◌, [], drop, false, IfOk, IsOk};
 ghost use Rattle.sqlite.specs.Held.{state};
-ghost use Rattle.sqlite.specs.State.{HasCleanDisk, Survives};
+ghost use Rattle.sqlite.specs.State.{HasCleanDisk};
 ghost use Rattle.inbox.specs.KeyOrder.{key_cmp};
 ghost use Rattle.inbox.specs.Ordered.{append_new};
 ghost use Rattle.inbox.specs.Sets.{set_of};
 ghost use Rattle.site.specs.Delta.{delta};
 ghost use Rattle.site.specs.Page.{max_page, page};
 ghost use Rattle.database_layout.specs.Layout.{has_inbox};
-ghost use Rattle.outbox.specs.Call.{IsSettled, Leaves};
+ghost use Rattle.outbox.specs.Call.{Leaves};
 ghost use Rattle.database_commands.specs.Effect.{LookEffect, PageEffect};
-ghost use Rattle.database_commands.specs.Held.{HasArrived, HasDelta, HasEvents, KeepsEvents, KeepsRows, MayHold, SaysArrivals, SaysDelta, SaysPage, SaysSummary, SaysSummaryOf, ShowsArrivals, ShowsArrived, ShowsDelta, ShowsEvents, ShowsLacking, ShowsPage, ShowsSet, ShowsSummary};
+ghost use Rattle.database_commands.specs.Held.{HasArrived, HasDelta, HasEvents, SaysArrivals, SaysDelta, SaysPage, SaysSummary, SaysSummaryOf, ShowsArrivals, ShowsArrived, ShowsDelta, ShowsEvents, ShowsLacking, ShowsPage, ShowsSet, ShowsSummary};
 ghost use Rattle.database_commands.specs.Print.{batch_line};
+ghost use Rattle.database_commands.specs.steps.Made.{ContentsEffect, IsMadeOf};
 
 use crate::command::CommandEnd;
 use crate::fault::{CommandFault, of_table};
@@ -28,20 +29,7 @@ use std::alloc::{AllocError, Global};
 
 /// What a database holds; the table is made where there is none.
 fn own_contents<S: Alter + Drop>(alloc: Global, conn: Connection<S>) -> CommandEnd<S, Batch>
-    ensures events { HasCleanDisk (state S.Store result.conn) → IfOk result.outcome
-        (ShowsEvents (state S.Store conn).now) }
-    ensures list { HasCleanDisk (state S.Store result.conn)
-        → IsTrue (state S.Store result.conn).is_open
-        → KeepsEvents (state S.Store conn).now (state S.Store result.conn).now }
-    ensures beside { HasCleanDisk (state S.Store result.conn)
-        → IsTrue (state S.Store result.conn).is_open
-        → KeepsRows (state S.Store conn).now (state S.Store result.conn).now }
-    ensures stays_open { HasCleanDisk (state S.Store result.conn)
-        → OnOk result.outcome (IsTrue (state S.Store result.conn).is_open) }
-    ensures settled { HasCleanDisk (state S.Store result.conn)
-        → OnOk result.outcome (IsSettled (state S.Store result.conn)) }
-    ensures crash { Survives (state S.Store conn) (state S.Store result.conn)
-        (MayHold (state S.Store conn).now) }
+    ensures { ContentsEffect result.outcome (state S.Store conn) (state S.Store result.conn) }
 {
     match loaded(alloc, conn) {
         Ok(loaded) => {
@@ -105,16 +93,8 @@ pub fn summary<S: Alter + Drop>(alloc: Global, conn: Connection<S>) -> CommandEn
         conn,
         outcome: events,
     } = held(alloc, conn);
-    match events {
-        Ok(events) => {
-            let outcome = summary_line(alloc, events);
-            CommandEnd { conn, outcome }
-        }
-        Err(fault) => CommandEnd {
-            conn,
-            outcome: Err(fault),
-        },
-    }
+    let outcome = summary_line(alloc, events);
+    CommandEnd { conn, outcome }
 }
 
 /// The page of the events of a database behind the first so many, at most 100, in the order in which
@@ -133,16 +113,8 @@ pub fn arrivals<S: Alter + Drop>(
         conn,
         outcome: events,
     } = held(alloc, conn);
-    match events {
-        Ok(events) => {
-            let outcome = arrivals_line(alloc, &events, after);
-            CommandEnd { conn, outcome }
-        }
-        Err(fault) => CommandEnd {
-            conn,
-            outcome: Err(fault),
-        },
-    }
+    let outcome = arrivals_line(alloc, events, after);
+    CommandEnd { conn, outcome }
 }
 
 /// The events of a database behind the first so many, in the order in which they came, to be printed
@@ -160,16 +132,8 @@ pub fn arrival_pages<S: Alter + Drop>(
         conn,
         outcome: events,
     } = held(alloc, conn);
-    match events {
-        Ok(events) => CommandEnd {
-            conn,
-            outcome: Ok(EventPages::of_arrivals(alloc, events, after)),
-        },
-        Err(fault) => CommandEnd {
-            conn,
-            outcome: Err(fault),
-        },
-    }
+    let outcome = arrived_pages(alloc, events, after);
+    CommandEnd { conn, outcome }
 }
 
 /// All events of a database in key order, to be printed page after page. Nothing is written, also
@@ -183,16 +147,8 @@ pub fn scrub_pages<S: Alter + Drop>(alloc: Global, conn: Connection<S>) -> Comma
         conn,
         outcome: events,
     } = held(alloc, conn);
-    match events {
-        Ok(events) => {
-            let outcome = all_pages(alloc, events);
-            CommandEnd { conn, outcome }
-        }
-        Err(fault) => CommandEnd {
-            conn,
-            outcome: Err(fault),
-        },
-    }
+    let outcome = all_pages(alloc, events);
+    CommandEnd { conn, outcome }
 }
 
 /// What a summary lacks of all events of a database, in key order, to be printed page after page.
@@ -210,16 +166,8 @@ pub fn delta_pages<S: Alter + Drop>(
         conn,
         outcome: events,
     } = held(alloc, conn);
-    match events {
-        Ok(events) => {
-            let outcome = lacking_pages(alloc, events, summary);
-            CommandEnd { conn, outcome }
-        }
-        Err(fault) => CommandEnd {
-            conn,
-            outcome: Err(fault),
-        },
-    }
+    let outcome = lacking_pages(alloc, events, summary);
+    CommandEnd { conn, outcome }
 }
 
 /// The page of what a summary lacks of all events of a database, at most 100 from a place on. The
@@ -239,16 +187,8 @@ pub fn delta<S: Alter + Drop>(
         conn,
         outcome: events,
     } = own_contents(alloc, conn);
-    match events {
-        Ok(events) => {
-            let outcome = delta_line(alloc, events, summary, from);
-            CommandEnd { conn, outcome }
-        }
-        Err(fault) => CommandEnd {
-            conn,
-            outcome: Err(fault),
-        },
-    }
+    let outcome = delta_line(alloc, events, summary, from);
+    CommandEnd { conn, outcome }
 }
 
 /// The page of all events of a database in key order, at most 100 from a place on. The table is
@@ -263,16 +203,8 @@ pub fn scrub<S: Alter + Drop>(alloc: Global, conn: Connection<S>, from: u64) -> 
         conn,
         outcome: events,
     } = own_contents(alloc, conn);
-    match events {
-        Ok(events) => {
-            let outcome = page_line(alloc, events, from);
-            CommandEnd { conn, outcome }
-        }
-        Err(fault) => CommandEnd {
-            conn,
-            outcome: Err(fault),
-        },
-    }
+    let outcome = page_line(alloc, events, from);
+    CommandEnd { conn, outcome }
 }
 
 /// The site of some events.
@@ -286,63 +218,121 @@ pub(crate) fn site_over(alloc: Global, mut events: Batch) -> Result<Site, AllocE
     }
 }
 
-/// The line of the summary of the events.
-fn summary_line(alloc: Global, events: Batch) -> Result<Text, CommandFault>
-    ensures { IfOk result (SaysSummaryOf (set_of (append_new key_cmp [] events))) }
+/// The site of events that were to be had.
+fn site_of(alloc: Global, events: Result<Batch, CommandFault>) -> Result<Site, CommandFault>
+    ensures { IsMadeOf events (λ es site. site ≡ append_new key_cmp [] es) result }
 {
-    let mut site = site_over(alloc, events)?;
-    let summary = site.summary()?;
-    let mut line = summary.to_text()?.into_string();
+    Ok(site_over(alloc, events?)?)
+}
+
+/// The line of the summary of a site.
+fn summary_of(site: &mut Site) -> Result<Text, AllocError>
+    ensures { IfOk result (SaysSummaryOf (set_of site.old)) }
+{
+    let mut line = site.summary()?.to_text()?.into_string();
     line.push_str("\n")?;
     Ok(Text::from_string(line))
 }
 
-/// The line of a page of the events behind the first so many.
-fn arrivals_line(alloc: Global, events: &Batch, after: u64) -> Result<Text, CommandFault>
+/// The line of the summary of the events.
+fn summary_line(alloc: Global, events: Result<Batch, CommandFault>) -> Result<Text, CommandFault>
+    ensures { IsMadeOf events (λ es. SaysSummaryOf (set_of (append_new key_cmp [] es))) result }
+{
+    let mut site = site_of(alloc, events)?;
+    Ok(summary_of(&mut site)?)
+}
+
+/// The line of a page of events behind the first so many.
+fn arrivals_of(alloc: Global, events: &Batch, after: u64) -> Result<Text, AllocError>
     ensures { IfOk result (λ text. text ≡ batch_line (page events.now after max_page)) }
 {
     let page = page_behind(alloc, events, after)?;
-    Ok(batch_line(alloc, &page)?)
+    batch_line(alloc, &page)
+}
+
+/// The line of a page of the events behind the first so many.
+fn arrivals_line(
+    alloc: Global,
+    events: Result<Batch, CommandFault>,
+    after: u64,
+) -> Result<Text, CommandFault>
+    ensures { IsMadeOf events (λ es text. text ≡ batch_line (page es after max_page)) result }
+{
+    let events = events?;
+    Ok(arrivals_of(alloc, &events, after)?)
+}
+
+/// All of the events behind the first so many.
+fn arrived_pages(
+    alloc: Global,
+    events: Result<Batch, CommandFault>,
+    after: u64,
+) -> Result<EventPages, CommandFault>
+    ensures { IsMadeOf events (λ es pages. pages ≡ drop after es) result }
+{
+    Ok(EventPages::of_arrivals(alloc, events?, after))
 }
 
 /// All of the events.
-fn all_pages(alloc: Global, events: Batch) -> Result<EventPages, CommandFault>
-    ensures { IfOk result (λ pages. pages ≡ set_of (append_new key_cmp [] events)) }
+fn all_pages(alloc: Global, events: Result<Batch, CommandFault>) -> Result<EventPages, CommandFault>
+    ensures { IsMadeOf events (λ es pages. pages ≡ set_of (append_new key_cmp [] es)) result }
 {
-    let site = site_over(alloc, events)?;
-    Ok(EventPages::of_all(alloc, site))
+    Ok(EventPages::of_all(alloc, site_of(alloc, events)?))
 }
 
 /// What a summary lacks of the events.
-fn lacking_pages(alloc: Global, events: Batch, summary: Summary) -> Result<EventPages, CommandFault>
-    ensures { IfOk result (λ pages.
-        pages ≡ delta (set_of (append_new key_cmp [] events)) summary) }
+fn lacking_pages(
+    alloc: Global,
+    events: Result<Batch, CommandFault>,
+    summary: Summary,
+) -> Result<EventPages, CommandFault>
+    ensures { IsMadeOf events (λ es pages.
+        pages ≡ delta (set_of (append_new key_cmp [] es)) summary) result }
 {
-    let site = site_over(alloc, events)?;
+    let site = site_of(alloc, events)?;
     Ok(EventPages::of_delta(alloc, site, summary)?)
+}
+
+/// The line of a page of what a summary lacks of a site.
+fn delta_of(alloc: Global, site: &Site, summary: &Summary, from: u64) -> Result<Text, AllocError>
+    ensures { IfOk result (λ text.
+        text ≡ batch_line (page (delta (set_of site.now) summary.now) from max_page)) }
+{
+    let page = site.delta_page(summary, from, MAX_PAGE)?;
+    batch_line(alloc, &page)
 }
 
 /// The line of a page of what a summary lacks of the events.
 fn delta_line(
     alloc: Global,
-    events: Batch,
+    events: Result<Batch, CommandFault>,
     summary: &Summary,
     from: u64,
 ) -> Result<Text, CommandFault>
-    ensures { IfOk result (λ text. text ≡ batch_line
-        (page (delta (set_of (append_new key_cmp [] events)) summary.now) from max_page)) }
+    ensures { IsMadeOf events (λ es text. text ≡ batch_line
+        (page (delta (set_of (append_new key_cmp [] es)) summary.now) from max_page)) result }
 {
-    let site = site_over(alloc, events)?;
-    let page = site.delta_page(summary, from, MAX_PAGE)?;
-    Ok(batch_line(alloc, &page)?)
+    let site = site_of(alloc, events)?;
+    Ok(delta_of(alloc, &site, summary, from)?)
+}
+
+/// The line of a page of a site.
+fn page_of(alloc: Global, site: &Site, from: u64) -> Result<Text, AllocError>
+    ensures { IfOk result (λ text. text ≡ batch_line (page (set_of site.now) from max_page)) }
+{
+    let page = site.page(from, MAX_PAGE)?;
+    batch_line(alloc, &page)
 }
 
 /// The line of a page of the events.
-fn page_line(alloc: Global, events: Batch, from: u64) -> Result<Text, CommandFault>
-    ensures { IfOk result (λ text.
-        text ≡ batch_line (page (set_of (append_new key_cmp [] events)) from max_page)) }
+fn page_line(
+    alloc: Global,
+    events: Result<Batch, CommandFault>,
+    from: u64,
+) -> Result<Text, CommandFault>
+    ensures { IsMadeOf events (λ es text.
+        text ≡ batch_line (page (set_of (append_new key_cmp [] es)) from max_page)) result }
 {
-    let site = site_over(alloc, events)?;
-    let page = site.page(from, MAX_PAGE)?;
-    Ok(batch_line(alloc, &page)?)
+    let site = site_of(alloc, events)?;
+    Ok(page_of(alloc, &site, from)?)
 }

@@ -1,8 +1,9 @@
 //! The printed texts, and the file of a summary.
-ghost use Rattle.std.specs.Prelude.{◌≡◌, IfOk, string_bytes};
+ghost use Rattle.std.specs.Prelude.{◌≡◌, IfOk, OnOk, string_bytes};
 ghost use Rattle.serde_json.specs.Written.{compact_text};
 ghost use Rattle.database_commands.specs.Print.{WithoutLineEnd, batch_line, counts_line, database_data, database_line, event_line, service_data, service_line};
 ghost use Rattle.database_commands.specs.Trouble.{trouble_data};
+ghost use Rattle.database_commands.specs.steps.Tokens.{Adds, number_member, service_tokens, text_member, trouble_tokens};
 
 use attributes::{Batch, Sequenced, Text};
 use event_json::write_sequenced;
@@ -37,6 +38,43 @@ pub fn event_line(alloc: Global, event: &Sequenced) -> Result<Text, AllocError>
     Ok(Text::from_string(line))
 }
 
+/// Writes a member with a number.
+fn write_number(out: &mut Writer, name: &str, number: u64) -> Result<(), AllocError>
+    ensures { OnOk result (Adds out.old out.new (number_member name.now number)) }
+{
+    out.key(name)?;
+    out.u64(number)?;
+    Ok(())
+}
+
+/// Writes a member with a text.
+fn write_text(out: &mut Writer, name: &str, text: &str) -> Result<(), AllocError>
+    ensures { OnOk result (Adds out.old out.new (text_member name.now text.now)) }
+{
+    out.key(name)?;
+    out.string(text)?;
+    Ok(())
+}
+
+/// Writes a service as JSON.
+fn write_service(
+    out: &mut Writer,
+    source: &str,
+    base: u64,
+    orders: u64,
+    rows: u64,
+) -> Result<(), AllocError>
+    ensures { OnOk result (Adds out.old out.new (service_tokens source.now base orders rows)) }
+{
+    out.begin_object()?;
+    write_number(out, "base", base)?;
+    write_number(out, "orders", orders)?;
+    write_number(out, "rows", rows)?;
+    write_text(out, "source", source)?;
+    out.end_object()?;
+    Ok(())
+}
+
 /// A service as JSON.
 fn service_text(
     alloc: Global,
@@ -49,16 +87,7 @@ fn service_text(
         ≡ compact_text (service_data source.now base orders rows)) }
 {
     let mut out = Writer::new(Vec::new(alloc));
-    out.begin_object()?;
-    out.key("base")?;
-    out.u64(base)?;
-    out.key("orders")?;
-    out.u64(orders)?;
-    out.key("rows")?;
-    out.u64(rows)?;
-    out.key("source")?;
-    out.string(source)?;
-    out.end_object()?;
+    write_service(&mut out, source, base, orders, rows)?;
     let text = String::from_utf8(out.into_inner()).unwrap();
     Ok(text)
 }
@@ -121,6 +150,18 @@ pub fn database_line(
     Ok(Text::from_string(line))
 }
 
+/// Writes as JSON why nothing is told of a database.
+fn write_trouble(out: &mut Writer, name: &str, fault: &str, hint: &str) -> Result<(), AllocError>
+    ensures { OnOk result (Adds out.old out.new (trouble_tokens name.now fault.now hint.now)) }
+{
+    out.begin_object()?;
+    write_text(out, "db", name)?;
+    write_text(out, "fault", fault)?;
+    write_text(out, "hint", hint)?;
+    out.end_object()?;
+    Ok(())
+}
+
 /// Why nothing is told of a database, as JSON.
 pub fn trouble_text(
     alloc: Global,
@@ -132,14 +173,7 @@ pub fn trouble_text(
         ≡ compact_text (trouble_data name.now fault.now hint.now)) }
 {
     let mut out = Writer::new(Vec::new(alloc));
-    out.begin_object()?;
-    out.key("db")?;
-    out.string(name)?;
-    out.key("fault")?;
-    out.string(fault)?;
-    out.key("hint")?;
-    out.string(hint)?;
-    out.end_object()?;
+    write_trouble(&mut out, name, fault, hint)?;
     let text = String::from_utf8(out.into_inner()).unwrap();
     Ok(text)
 }

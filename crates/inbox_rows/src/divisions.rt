@@ -1,4 +1,6 @@
 //! Calls of parts: which part a source falls to, events in parts, and covers of parts put together.
+ghost use Rattle.std.specs.Prelude.{IfSome};
+ghost use Rattle.parts.specs.Part.{IsCount};
 
 use attributes::{Batch, Sequenced, Text};
 use parts::{CombineFault, combine_covers, is_count, part_of};
@@ -8,7 +10,9 @@ use rows::shelf::Shelf;
 use std::alloc::{AllocError, Global};
 
 /// A count of parts, where a region may have so many.
-fn count_of(word: &str) -> Option<u64> {
+fn count_of(word: &str) -> Option<u64>
+    ensures { IfSome result IsCount }
+{
     match word.parse::<u64>() {
         Ok(count) if is_count(count) => Some(count),
         _ => None,
