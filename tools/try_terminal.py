@@ -13,9 +13,12 @@ import sqlite3
 import subprocess
 import sys
 import tempfile
+import threading
 
 HERE = os.path.dirname(os.path.dirname(os.path.realpath(__file__)))
 AWAY = b"\r\x1b[K"
+# What no program writes to a terminal.
+MARK = b"\x00\x01\x02"
 
 
 def event(source: str, number: int) -> dict[str, str]:
@@ -29,19 +32,27 @@ def event(source: str, number: int) -> dict[str, str]:
     }
 
 
-def all_of(ours: int) -> bytes:
-    """What a terminal is given until its other end is closed."""
-    seen = b""
-    while True:
+def all_of(run: "subprocess.Popen[bytes]", ours: int, theirs: int) -> bytes:
+    """What a terminal is given until a process has ended. The other end is held open, and a mark is written behind what came:
+    of a terminal whose last holder closes it, what was written last may be lost."""
+
+    def mark() -> None:
         try:
-            more = os.read(ours, 65536)
-        except OSError:  # the other end is closed
-            break
-        if not more:
-            break
-        seen += more
+            run.wait(timeout=60)
+        except subprocess.TimeoutExpired:
+            run.kill()
+            run.wait()
+        os.write(theirs, MARK)
+
+    ender = threading.Thread(target=mark)
+    ender.start()
+    seen = b""
+    while not seen.endswith(MARK):
+        seen += os.read(ours, 65536)
+    ender.join()
     os.close(ours)
-    return seen
+    os.close(theirs)
+    return seen.removesuffix(MARK)
 
 
 def ran(program: str, words: list[str], on_terminal: bool) -> tuple[int, bytes, bytes]:
@@ -52,20 +63,17 @@ def ran(program: str, words: list[str], on_terminal: bool) -> tuple[int, bytes, 
     ours, theirs = pty.openpty()
     with tempfile.TemporaryFile() as out:
         run = subprocess.Popen([program, *words], stdin=subprocess.DEVNULL, stdout=out, stderr=theirs)
-        os.close(theirs)
-        seen = all_of(ours)
-        status = run.wait(timeout=60)
+        seen = all_of(run, ours, theirs)
         out.seek(0)
-        return status, out.read(), seen
+        return run.returncode, out.read(), seen
 
 
 def ran_on_one_terminal(program: str, words: list[str]) -> tuple[int, bytes]:
     """The status, and what the terminal was given where both streams go there."""
     ours, theirs = pty.openpty()
     run = subprocess.Popen([program, *words], stdin=subprocess.DEVNULL, stdout=theirs, stderr=theirs)
-    os.close(theirs)
-    seen = all_of(ours)
-    return run.wait(timeout=60), seen
+    seen = all_of(run, ours, theirs)
+    return run.returncode, seen
 
 
 def before(now: str, old: str) -> None:

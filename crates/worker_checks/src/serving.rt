@@ -1,6 +1,6 @@
 //! Workers side by side over one shared site.
 
-ghost use Rattle.std.specs.Prelude.{◌≡◌, ◌+◌, length, IfSome};
+ghost use Rattle.std.specs.Prelude.{◌≡◌, ◌+◌, ◌≤◌, length, IfSome};
 
 use crate::event::{is_text, json_batch};
 use crate::worker::{fill, report};
@@ -12,6 +12,7 @@ use std::alloc::Global;
 use std::sync::Wait;
 use std::sync::atomic::{AtomicU64, Ordering};
 use std::thread;
+use std::thread::Threads;
 use views::{Query, print};
 
 /// How often a gate looks before it is shut. Whoever looks lets others run.
@@ -99,6 +100,32 @@ impl Meeting {
         }
     }
 
+    /// Notes that a worker asks for a call, and answers whether it is its next one.
+    fn is_asked(&self, worker: u64, call: u64) -> bool {
+        match self.of(worker) {
+            Some(calls) => calls.ask(call),
+            None => false,
+        }
+    }
+
+    /// Notes that a worker made a call, and answers whether it is the one that it asked for.
+    fn is_made(&self, worker: u64, call: u64) -> bool {
+        match self.of(worker) {
+            Some(calls) => calls.make(call),
+            None => false,
+        }
+    }
+
+    /// Whether those whom a call of a worker waits for have come.
+    fn is_met(&self, worker: u64, call: u64) -> bool {
+        match worker {
+            0 => call != 1 || comes_to(&self.second.asked, 1),
+            1 => call != 1 || comes_to(&self.first.asked, 1),
+            3 => comes_to(&self.turns, 3),
+            _ => true,
+        }
+    }
+
     /// Counts what isn't so.
     fn expect(&self, is_so: bool) {
         if !is_so {
@@ -126,18 +153,16 @@ impl Gate for Meeting {
     ghost heard = { λ _ _ _. ⊤ };
 
     fn before(&self, worker: u64, call: u64) -> Result<(), GateShut> {
-        self.expect(self.of(worker).is_some_and(|calls| calls.ask(call)));
-        let is_met = match worker {
-            0 => call != 1 || comes_to(&self.second.asked, 1),
-            1 => call != 1 || comes_to(&self.first.asked, 1),
-            3 => comes_to(&self.turns, 3),
-            _ => true,
-        };
-        if is_met { Ok(()) } else { Err(GateShut) }
+        self.expect(self.is_asked(worker, call));
+        if self.is_met(worker, call) {
+            Ok(())
+        } else {
+            Err(GateShut)
+        }
     }
 
     fn after(&self, worker: u64, call: u64) {
-        self.expect(self.of(worker).is_some_and(|calls| calls.make(call)));
+        self.expect(self.is_made(worker, call));
     }
 }
 
@@ -245,47 +270,117 @@ fn covers<R: Wait>(rt: &R, alloc: Global, shared: &SharedSite, pass: &mut Pass, 
     matches!(shared.query(rt, pass, Query::Cover), Ok(it) if is_text(print(alloc, &it), lines))
 }
 
-#[test]
-fn workers_run_at_the_same_time(rt: HostRuntime) {
-    let alloc = rt.alloc();
-    let Begun { shared, mut pass } = begun(alloc).expect(&rt, "no memory");
-    let gate = Meeting::nobody();
+/// Whether workers do their jobs at the same time, while an aside has turns.
+fn serves<R: Threads + Wait + Sync>(
+    rt: &R,
+    alloc: Global,
+    shared: &SharedSite,
+    pass: &mut Pass,
+    gate: &Meeting,
+    jobs: Jobs,
+) -> bool
+    requires own { pass.old.table ≡ shared.now }
+    requires few { length jobs.feeds + length jobs.peers + length jobs.asks ≤ 16 }
+    ensures { pass.new.table ≡ pass.old.table }
+{
     let mut aside = Turning {
         count: 0,
         turns: &gate.turns,
     };
+    match serve(rt, alloc, shared, pass, jobs, gate, &mut aside) {
+        Ok(served) => is_done(&served) && aside.count >= 3,
+        Err(_) => false,
+    }
+}
+
+/// Two feeds, a peer and a question, if they are all there.
+fn four_jobs(alloc: Global) -> Option<Jobs>
+    ensures { IfSome result (λ jobs.
+        length jobs.feeds + length jobs.peers + length jobs.asks ≤ 16) }
+{
     let mut jobs = nothing(alloc);
-    assert!(rt; add_jobs(alloc, &mut jobs));
-    assert!(rt; jobs.feeds.len() == 2 && jobs.peers.len() == 1 && jobs.asks.len() == 1);
-    let served = serve(&rt, alloc, &shared, &mut pass, jobs, &gate, &mut aside).expect(
-        &rt,
-        "no thread",
-    );
-    assert!(rt; is_done(&served));
-    // The peer is asked for its summary and for two pages, of which the first is handed over.
-    assert!(rt; gate.has_calls(1, 2, 4, 1));
-    assert!(rt; aside.count >= 3);
-    assert!(rt; shared.turns(&mut pass) == 6);
+    if add_jobs(alloc, &mut jobs)
+        && jobs.feeds.len() == 2
+        && jobs.peers.len() == 1
+        && jobs.asks.len() == 1
+    {
+        Some(jobs)
+    } else {
+        None
+    }
+}
+
+/// Whether a gate was asked for all calls, and the site has what they brought.
+fn is_all_there<R: Wait>(
+    rt: &R,
+    alloc: Global,
+    shared: &SharedSite,
+    pass: &mut Pass,
+    gate: &Meeting,
+) -> bool
+    requires { pass.old.table ≡ shared.now }
+    ensures { pass.new.table ≡ pass.old.table }
+{
     let lines = "{\"sources\":{\"/orders\":[[1,203]]},\"version\":1}\n";
-    assert!(rt; covers(&rt, alloc, &shared, &mut pass, lines));
-    assert!(rt; shared.close(&rt, pass).arrived() == 203);
+    // The peer is asked for its summary and for two pages, of which the first is handed over.
+    gate.has_calls(1, 2, 4, 1) && shared.turns(pass) == 6 && covers(rt, alloc, shared, pass, lines)
+}
+
+/// Whether workers do two feeds, a peer and a question at the same time.
+fn serves_four<R: Threads + Wait + Sync>(
+    rt: &R,
+    alloc: Global,
+    shared: &SharedSite,
+    pass: &mut Pass,
+    gate: &Meeting,
+) -> bool
+    requires { pass.old.table ≡ shared.now }
+    ensures { pass.new.table ≡ pass.old.table }
+{
+    match four_jobs(alloc) {
+        Some(jobs) => serves(rt, alloc, shared, pass, gate, jobs),
+        None => false,
+    }
+}
+
+/// Whether workers over a shared site without events run at the same time.
+fn workers_meet<R: Threads + Wait + Sync>(rt: &R, alloc: Global) -> Option<bool> {
+    let Begun { shared, mut pass } = begun(alloc)?;
+    let gate = Meeting::nobody();
+    let are_done = serves_four(rt, alloc, &shared, &mut pass, &gate);
+    let is_there = is_all_there(rt, alloc, &shared, &mut pass, &gate);
+    Some(are_done & is_there & (shared.close(rt, pass).arrived() == 203))
 }
 
 #[test]
-fn no_jobs_are_done_at_once(rt: HostRuntime) {
-    let alloc = rt.alloc();
-    let Begun { shared, mut pass } = begun(alloc).expect(&rt, "no memory");
-    let served = serve(
-        &rt,
+fn workers_run_at_the_same_time(rt: HostRuntime) {
+    assert!(rt; workers_meet(&rt, rt.alloc()) == Some(true));
+}
+
+/// Whether no jobs over a shared site without events are done at once.
+fn is_done_at_once<R: Threads + Wait + Sync>(rt: &R, alloc: Global) -> Option<bool> {
+    let Begun { shared, mut pass } = begun(alloc)?;
+    match serve(
+        rt,
         alloc,
         &shared,
         &mut pass,
         nothing(alloc),
         &Wide,
         &mut Idle,
-    )
-    .expect(&rt, "no memory");
-    assert!(rt; served.reports.is_empty() && served.asked.is_empty());
+    ) {
+        Ok(served) => Some(served.reports.is_empty() && served.asked.is_empty()),
+        Err(_) => None,
+    }
+}
+
+#[test]
+fn no_jobs_are_done_at_once(rt: HostRuntime) {
+    assert!(rt; is_done_at_once(&rt, rt.alloc()) == Some(true));
+}
+
+#[test]
+fn the_faults_of_serve_have_numbers(rt: HostRuntime) {
     assert!(rt; ServeFault::OutOfMemory.number() == 1);
     assert!(rt; ServeFault::NoThread.number() == 2);
 }

@@ -8,7 +8,6 @@ use coverage::Summary;
 use site::{Desk, DeskFault, Site};
 use site_lock::{Begun, Caller, Pass, SharedSite};
 use std::alloc::Global;
-use std::process::Abort;
 use std::sync::Wait;
 use views::{Query, print};
 
@@ -76,23 +75,23 @@ pub fn take<R: Wait>(
     Some(shared.take(rt, pass, &mut batch).ok()?.fresh)
 }
 
-/// Takes an event by the first pass, and shows it by the second once they met.
-fn take_and_meet<R: Wait + Abort>(
+/// Whether the first pass takes an event, which the second shows once they met.
+fn learns_by_meeting<R: Wait>(
     rt: &R,
     alloc: Global,
     shared: &SharedSite,
     first: &mut Pass,
     second: &mut Pass,
-)
+) -> bool
     requires { (first.old.table ≡ shared.now) × (second.old.table ≡ shared.now) }
     ensures { first.new.table ≡ first.old.table }
 {
-    assert!(rt; take(rt, alloc, shared, first, &[("a1", 1)]) == Some(1));
     let cover = "{\"sources\":{\"/orders\":[[1,1]]},\"version\":1}\n";
-    assert!(rt; answers(rt, alloc, shared, first, Query::Cover, cover));
-    assert!(rt; shared.meet(second, first).is_ok());
-    assert!(rt; answers(rt, alloc, shared, second, Query::Shown, A1));
-    assert!(rt; shared.turns(second) == 3);
+    take(rt, alloc, shared, first, &[("a1", 1)]) == Some(1)
+        && answers(rt, alloc, shared, first, Query::Cover, cover)
+        && shared.meet(second, first).is_ok()
+        && answers(rt, alloc, shared, second, Query::Shown, A1)
+        && shared.turns(second) == 3
 }
 
 /// Whether a site has one event, the first.
@@ -101,15 +100,22 @@ fn has_first(site: &Site) -> bool {
     site.arrived() == 1 && is_text(site.lines(Query::Cover), wanted)
 }
 
-#[test]
-fn a_pass_learns_by_meeting(rt: HostRuntime) {
+/// Whether two passes of a site without events learn by meeting.
+fn passes_learn<R: Wait>(rt: &R, alloc: Global) -> Option<bool> {
     let Begun {
         shared,
         pass: mut first,
-    } = begun(rt.alloc()).expect(&rt, "no memory");
-    let mut second = shared.split(&mut first).expect(&rt, "no memory");
-    take_and_meet(&rt, rt.alloc(), &shared, &mut first, &mut second);
-    assert!(rt; has_first(&shared.close(&rt, first)));
+    } = begun(alloc)?;
+    let Ok(mut second) = shared.split(&mut first) else {
+        return None;
+    };
+    let is_learned = learns_by_meeting(rt, alloc, &shared, &mut first, &mut second);
+    Some(is_learned & has_first(&shared.close(rt, first)))
+}
+
+#[test]
+fn a_pass_learns_by_meeting(rt: HostRuntime) {
+    assert!(rt; passes_learn(&rt, rt.alloc()) == Some(true));
 }
 
 /// Adds the number 2 of the source `/orders`, and answers whether it did.
@@ -164,18 +170,32 @@ fn takes_and_tells<D: Desk>(alloc: Global, desk: &mut D) -> bool {
         && are_kinds(alloc, desk, "[\"t.a\",3]\n")
 }
 
-#[test]
-fn a_caller_is_a_desk(rt: HostRuntime) {
-    let alloc = rt.alloc();
+/// Whether a pass that saw the events that a desk took shows those that came behind the first, and
+/// each call had one turn.
+fn has_turns<R: Wait>(rt: &R, shared: &SharedSite, pass: &mut Pass) -> bool
+    requires { pass.old.table ≡ shared.now }
+    ensures { pass.new.table ≡ pass.old.table }
+{
+    is_of(shared.fresh(rt, pass, 1, 10), &["a1", "a3"]) && shared.turns(pass) == 7
+}
+
+/// Whether a caller of a shared site without events is a desk.
+fn caller_is_a_desk<R: Wait>(rt: &R, alloc: Global) -> Option<bool> {
     let Begun {
         shared,
         pass: mut first,
-    } = begun(alloc).expect(&rt, "no memory");
-    let second = shared.split(&mut first).expect(&rt, "no memory");
-    let mut caller = Caller::of(&rt, &shared, second);
-    assert!(rt; takes_and_tells(alloc, &mut caller));
+    } = begun(alloc)?;
+    let Ok(second) = shared.split(&mut first) else {
+        return None;
+    };
+    let mut caller = Caller::of(rt, &shared, second);
+    let is_told = takes_and_tells(alloc, &mut caller);
     drop(caller.into_pass());
-    assert!(rt; is_of(shared.fresh(&rt, &mut first, 1, 10), &["a1", "a3"]));
-    assert!(rt; shared.turns(&mut first) == 7);
-    assert!(rt; shared.close(&rt, first).arrived() == 3);
+    let is_seen = has_turns(rt, &shared, &mut first);
+    Some(is_told & is_seen & (shared.close(rt, first).arrived() == 3))
+}
+
+#[test]
+fn a_caller_is_a_desk(rt: HostRuntime) {
+    assert!(rt; caller_is_a_desk(&rt, rt.alloc()) == Some(true));
 }

@@ -7,7 +7,6 @@ use event_json::ReadFault;
 use feeds::{Answers, Report, WorkerEnd, ask, feed, pull, pull_from};
 use site::{Gate, GateShut, Site, Wide};
 use std::alloc::Global;
-use std::process::Abort;
 use views::{Query, print};
 
 /// It lets so many calls of worker 7 through.
@@ -76,36 +75,43 @@ pub fn report(fresh: u64, repeated: u64, refused: u64, ended: WorkerEnd) -> Repo
     }
 }
 
+/// Whether a feed ends where its gate shuts, and what it brought stays.
+fn ends_at_its_gate(alloc: Global, site: &mut Site) -> bool {
+    fed(alloc, site, &First(1), 7, 1, 150) == Some(report(100, 0, 0, WorkerEnd::GateShut))
+        && site.arrived() == 100
+        && fed(alloc, site, &First(9), 8, 1, 150) == Some(report(0, 0, 0, WorkerEnd::GateShut))
+        && fed(alloc, site, &First(2), 7, 1, 150) == Some(report(50, 100, 0, WorkerEnd::Done))
+}
+
 #[test]
 fn a_shut_gate_ends_a_feed(rt: HostRuntime) {
-    let alloc = rt.alloc();
+    let is_so = {
+        let mut site = Site::empty(rt.alloc());
+        ends_at_its_gate(rt.alloc(), &mut site)
+    };
+    assert!(rt; is_so);
+}
+
+/// Whether a feed of these bytes ends so, and leaves a site without events with so many.
+fn feeds_bytes(alloc: Global, text: &str, wanted: Report, arrived: u64) -> bool {
     let mut site = Site::empty(alloc);
-    let first = fed(alloc, &mut site, &First(1), 7, 1, 150);
-    assert!(rt; first == Some(report(100, 0, 0, WorkerEnd::GateShut)));
-    assert!(rt; site.arrived() == 100);
-    let other = fed(alloc, &mut site, &First(9), 8, 1, 150);
-    assert!(rt; other == Some(report(0, 0, 0, WorkerEnd::GateShut)));
-    let again = fed(alloc, &mut site, &First(2), 7, 1, 150);
-    assert!(rt; again == Some(report(50, 100, 0, WorkerEnd::Done)));
+    let told = fed_bytes(alloc, &mut site, &Wide, 0, text.as_bytes());
+    told == wanted && site.arrived() == arrived
 }
 
 #[test]
 fn an_event_without_a_number_is_refused(rt: HostRuntime) {
-    let mut site = Site::empty(rt.alloc());
     let text = "[{\"specversion\":\"1.0\",\"id\":\"x\",\"source\":\"/orders\",\"type\":\"t.a\"},
         {\"specversion\":\"1.0\",\"id\":\"e1\",\"source\":\"/orders\",\"type\":\"t.a\",
         \"sequence\":\"00000000000000000001\"}]";
-    let done = fed_bytes(rt.alloc(), &mut site, &Wide, 0, text.as_bytes());
-    assert!(rt; done == report(1, 0, 1, WorkerEnd::Done) && done.read == 2);
-    assert!(rt; site.arrived() == 1);
+    let wanted = report(1, 0, 1, WorkerEnd::Done);
+    assert!(rt; wanted.read == 2 && feeds_bytes(rt.alloc(), text, wanted, 1));
 }
 
 #[test]
 fn an_input_that_spells_no_events_is_named(rt: HostRuntime) {
-    let mut site = Site::empty(rt.alloc());
-    let bad = fed_bytes(rt.alloc(), &mut site, &Wide, 0, "[1".as_bytes());
-    assert!(rt; bad == report(0, 0, 0, WorkerEnd::BadInput(ReadFault::NotJson)));
-    assert!(rt; site.arrived() == 0);
+    let wanted = report(0, 0, 0, WorkerEnd::BadInput(ReadFault::NotJson));
+    assert!(rt; feeds_bytes(rt.alloc(), "[1", wanted, 0));
 }
 
 /// A pull by worker 7, of which so many calls are let through.
@@ -118,35 +124,42 @@ fn pulled_from(from: &mut Site, to: &mut Site) -> Report {
     pull_from(from, to, &Wide, 0)
 }
 
-/// Pulls 250 events.
-fn pull_all(rt: &impl Abort, alloc: Global, from: &mut Site, to: &mut Site) {
-    assert!(rt; fill(alloc, from, 1, 250));
-    assert!(rt; pulled(from, to, 8) == report(250, 0, 0, WorkerEnd::Done));
-    assert!(rt; to.arrived() == 250);
+/// Whether a pull brings all 250 events.
+fn pulls_all(alloc: Global, from: &mut Site, to: &mut Site) -> bool {
+    fill(alloc, from, 1, 250)
+        && pulled(from, to, 8) == report(250, 0, 0, WorkerEnd::Done)
+        && to.arrived() == 250
+}
+
+/// Whether a pull of 150 events goes on past a gate that shut after three calls.
+fn pulls_again(alloc: Global, from: &mut Site, to: &mut Site) -> bool {
+    fill(alloc, from, 1, 150)
+        && pulled(from, to, 3) == report(100, 0, 0, WorkerEnd::GateShut)
+        // All 150 stand in one block, which goes whole.
+        && pulled_from(from, to) == report(50, 100, 0, WorkerEnd::Done)
+        && pulled(from, to, 2) == report(0, 0, 0, WorkerEnd::Done)
+        && to.arrived() == 150
+}
+
+/// Whether two sites without events pull so: all at once, or past a gate that shuts.
+fn sites_pull(alloc: Global, is_shut: bool) -> bool {
+    let mut from = Site::empty(alloc);
+    let mut to = Site::empty(alloc);
+    if is_shut {
+        pulls_again(alloc, &mut from, &mut to)
+    } else {
+        pulls_all(alloc, &mut from, &mut to)
+    }
 }
 
 #[test]
 fn a_pull_brings_what_is_lacking(rt: HostRuntime) {
-    let mut from = Site::empty(rt.alloc());
-    let mut to = Site::empty(rt.alloc());
-    pull_all(&rt, rt.alloc(), &mut from, &mut to);
-}
-
-/// Pulls 150 events past a gate that shuts after three calls.
-fn pull_again(rt: &impl Abort, alloc: Global, from: &mut Site, to: &mut Site) {
-    assert!(rt; fill(alloc, from, 1, 150));
-    assert!(rt; pulled(from, to, 3) == report(100, 0, 0, WorkerEnd::GateShut));
-    // All 150 stand in one block, which goes whole.
-    assert!(rt; pulled_from(from, to) == report(50, 100, 0, WorkerEnd::Done));
-    assert!(rt; pulled(from, to, 2) == report(0, 0, 0, WorkerEnd::Done));
-    assert!(rt; to.arrived() == 150);
+    assert!(rt; sites_pull(rt.alloc(), false));
 }
 
 #[test]
 fn a_pull_goes_on_after_a_shut_gate(rt: HostRuntime) {
-    let mut from = Site::empty(rt.alloc());
-    let mut to = Site::empty(rt.alloc());
-    pull_again(&rt, rt.alloc(), &mut from, &mut to);
+    assert!(rt; sites_pull(rt.alloc(), true));
 }
 
 /// Whether answers have these lines, in their order.
@@ -176,22 +189,20 @@ fn asks<G: Gate>(
     asked.ended == ended && are_lines(alloc, &asked.answers, wanted)
 }
 
-#[test]
-fn questions_are_answered_in_their_order(rt: HostRuntime) {
-    let alloc = rt.alloc();
+/// Whether a worker's questions are answered in their order, up to a gate that shuts.
+fn answers_in_order(alloc: Global, site: &mut Site) -> bool {
     let kinds = "[\"t.a\",2]\n";
     let cover = "{\"sources\":{\"/orders\":[[1,2]]},\"version\":1}\n";
-    let mut site = Site::empty(alloc);
-    assert!(rt; fill(alloc, &mut site, 1, 2));
-    assert!(rt; asks(alloc, &mut site, &Wide, 0, WorkerEnd::Done, &[kinds, cover]));
-    assert!(rt;
-        asks(
-            alloc,
-            &mut site,
-            &First(1),
-            7,
-            WorkerEnd::GateShut,
-            &[kinds]
-        )
-    );
+    fill(alloc, site, 1, 2)
+        && asks(alloc, site, &Wide, 0, WorkerEnd::Done, &[kinds, cover])
+        && asks(alloc, site, &First(1), 7, WorkerEnd::GateShut, &[kinds])
+}
+
+#[test]
+fn questions_are_answered_in_their_order(rt: HostRuntime) {
+    let is_so = {
+        let mut site = Site::empty(rt.alloc());
+        answers_in_order(rt.alloc(), &mut site)
+    };
+    assert!(rt; is_so);
 }
