@@ -70,6 +70,19 @@ Took bytes held kept reply = TookBytes bytes held.site kept.site reply
 
 -- ---- texts answered
 
+-- the text is the one that was made, which has so many events as a page
+abbrev pub IsKept : List ℕ → ℕ → List ℕ → Reply → Type 0
+IsKept made listed text reply = (reply.status ≡ 0) × (text ≡ made) × (reply.listed ≡ listed)
+
+-- the text is that of before, and this is the status
+abbrev pub IsLeft : ℕ → List ℕ → List ℕ → Reply → Type 0
+IsLeft status was text reply = (reply.status ≡ status) × (text ≡ was) × (reply.listed ≡ 0)
+
+-- the reply tells of no events that were taken, how many there are, and how many bytes the text has
+abbrev pub TellsText : List EventValue → List ℕ → Reply → Type 0
+TellsText events text reply = (reply.fresh ≡ 0) × (reply.repeated ≡ 0)
+    × (reply.events ≡ length events) × (reply.length ≡ length text)
+
 -- the events stay, and none is said to have been taken
 abbrev pub TakesNone : Held → Held → Reply → Type 0
 TakesNone held kept reply = (kept.site ≡ held.site) × (reply.fresh ≡ 0) × (reply.repeated ≡ 0)
@@ -78,11 +91,6 @@ TakesNone held kept reply = (kept.site ≡ held.site) × (reply.fresh ≡ 0) × 
 abbrev pub KeepsText : List ℕ → ℕ → Held → Held → Reply → Type 0
 KeepsText text listed held kept reply = (reply.status ≡ 0) × (kept.text ≡ text)
     × (reply.listed ≡ listed) × TakesNone held kept reply × TellsRoom kept reply
-
--- the text of before stays, and this is the status
-abbrev pub LeavesText : ℕ → Held → Held → Reply → Type 0
-LeavesText status held kept reply = (reply.status ≡ status) × (kept.text ≡ held.text)
-    × (reply.listed ≡ 0) × TakesNone held kept reply × TellsRoom kept reply
 
 -- a call answers with a text that has so many events as a page, or tells by its status why there
 -- is none; then the text of before stays. The events stay.

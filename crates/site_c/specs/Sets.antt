@@ -74,11 +74,15 @@ Copied held kept copy = (kept ≡ held) × (copy.text ≡ [])
 abbrev pub IsNameOf : List EventValue → List ℕ → Type 0
 IsNameOf E bytes = (s : Sources) × Digests E s × (bytes ≡ sha256 (summary_text s))
 
--- the name of the site's set is told, or memory ran out; site and text stay
+-- the name of the set E is told, or memory ran out
+abbrev pub TellsName : List EventValue → Name → Name → Type 0
+TellsName E was name = ((name.status ≡ 0) × IsNameOf E name.bytes)
+    ⊎ (IsWant name.status × (name.bytes ≡ was.bytes))
+
+-- so is that of the site's set; site and text stay
 abbrev pub Named : Held → Held → Name → Name → Type 0
 Named held kept was name = (kept.site ≡ held.site) × (kept.text ≡ held.text)
-    × (((name.status ≡ 0) × IsNameOf (set_of held.site) name.bytes)
-    ⊎ (IsWant name.status × (name.bytes ≡ was.bytes)))
+    × TellsName (set_of held.site) was name
 
 -- ---- how far a peer is apart
 
@@ -97,11 +101,15 @@ abbrev pub IsLag : List ℕ → List EventValue → Lag → Type 0
 IsLag bytes E lag = (peer : Sources) × IsPeer bytes peer
     × ((own : Sources) × Digests E own × IsApart own peer lag)
 
--- it is told how far they are apart, or why it isn't; site and text stay
+-- it is told how far they are apart, or why it isn't
+abbrev pub TellsLag : List ℕ → List EventValue → Lag → Type 0
+TellsLag bytes E lag = IsLag bytes E lag
+    ⊎ (IsRefusedPeer bytes lag.status × (lag.lacking ≡ 0) × (lag.ahead ≡ 0) × (lag.blocks ≡ 0))
+
+-- so it is told of the site's set; site and text stay
 abbrev pub Compared : List ℕ → Held → Held → Lag → Type 0
 Compared bytes held kept lag = (kept.site ≡ held.site) × (kept.text ≡ held.text)
-    × (IsLag bytes (set_of held.site) lag
-    ⊎ (IsRefusedPeer bytes lag.status × (lag.lacking ≡ 0) × (lag.ahead ≡ 0) × (lag.blocks ≡ 0)))
+    × TellsLag bytes (set_of held.site) lag
 
 -- ---- parts of what a peer lacks
 

@@ -4,7 +4,7 @@ ghost use Rattle.std.specs.Prelude.{◌≡◌, ◌≢◌, [], ◌∷◌, codes, 
 ghost use Rattle.fault_lines.specs.Lines.{IsFaultText};
 ghost use Rattle.file_reports.specs.Reports.{IsRefusal, SpellAll};
 ghost use Rattle.inbox.specs.Sets.{set_of};
-ghost use Rattle.site_c.specs.Calls.{AnswersAt, Asked, Checked, HasRead, IsDoneOrWant, IsPageLine, IsPeer, IsRefusedPeer, IsSummaryLine, IsUnanswered, KeepsText, Lacked, LacksAt, LeavesText, Paged, Summed, Took, TookBatch, TookNone, Viewed, WithoutLineEnd, batch_line, piece_of, question_number, summary_status};
+ghost use Rattle.site_c.specs.Calls.{AnswersAt, Asked, Checked, HasRead, IsDoneOrWant, IsKept, IsLeft, IsPageLine, IsPeer, IsRefusedPeer, IsSummaryLine, IsUnanswered, Lacked, LacksAt, Paged, Summed, TellsText, Took, TookBatch, TookNone, Viewed, WithoutLineEnd, batch_line, piece_of, question_number, summary_status};
 
 use crate::held::Held;
 use attributes::{Batch, Octets, Text};
@@ -112,9 +112,10 @@ fn settle(site: &mut Site, read: Result<Batch, Refused>, reply: &mut Reply)
 }
 
 /// Keeps the text that was made in place of the last one, or tells why there is none.
-pub(crate) fn keep(held: &mut Held, made: Result<Answered, u32>, reply: &mut Reply)
-    ensures ok { IfOk made (λ m. KeepsText m.text m.listed held.old held.new reply.new) }
-    ensures err { IfErr made (λ status. LeavesText status held.old held.new reply.new) }
+pub(crate) fn keep(site: &Site, text: &mut Text, made: Result<Answered, u32>, reply: &mut Reply)
+    ensures ok { IfOk made (λ m. IsKept m.text m.listed text.new reply.new) }
+    ensures err { IfErr made (λ status. IsLeft status text.old text.new reply.new) }
+    ensures tells { TellsText site.now text.new reply.new }
 {
     reply.fresh = 0;
     reply.repeated = 0;
@@ -123,12 +124,12 @@ pub(crate) fn keep(held: &mut Held, made: Result<Answered, u32>, reply: &mut Rep
         Ok(answered) => {
             reply.status = DONE;
             reply.listed = answered.listed;
-            held.text = answered.text;
+            *text = answered.text;
         }
         Err(status) => reply.status = status,
     }
-    reply.events = held.site.arrived();
-    reply.length = held.text.as_str().len() as u64;
+    reply.events = site.arrived();
+    reply.length = text.as_str().len() as u64;
 }
 
 /// The question of a number, from 1.
@@ -163,11 +164,20 @@ fn answer_at(site: &Site, number: u32) -> Result<Answered, u32>
 }
 
 /// Keeps the text of the answer to a question.
+pub(crate) fn ask(site: &Site, alloc: Global, text: &mut Text, query: u32, reply: &mut Reply)
+    ensures { Asked query (record { site = site.now; text = text.old; alloc = alloc })
+        (record { site = site.now; text = text.new; alloc = alloc }) reply.new }
+{
+    let made = answer_at(site, query);
+    keep(site, text, made, reply);
+}
+
+/// Asks the site that lies in the room, as [`ask`] does.
 pub(crate) fn asked(mut held: Held, query: u32, reply: &mut Reply) -> Held
     ensures { Asked query held result reply.new }
 {
-    let made = answer_at(&held.site, query);
-    keep(&mut held, made, reply);
+    let room = &mut held;
+    ask(&room.site, room.alloc, &mut room.text, query, reply);
     held
 }
 
@@ -193,12 +203,20 @@ fn summary_of(site: &mut Site) -> Result<Answered, u32>
     }
 }
 
-/// Keeps the line of the site's summary.
+/// Keeps the line of a site's summary.
+pub(crate) fn sum_up(site: &mut Site, alloc: Global, text: &mut Text, reply: &mut Reply)
+    ensures { Summed (record { site = site.old; text = text.old; alloc = alloc })
+        (record { site = site.new; text = text.new; alloc = alloc }) reply.new }
+{
+    let made = summary_of(site);
+    keep(site, text, made, reply);
+}
+
+/// Sums up the site that lies in the room, as [`sum_up`] does.
 pub(crate) fn summed(mut held: Held, reply: &mut Reply) -> Held
     ensures { Summed held result reply.new }
 {
-    let made = summary_of(&mut held.site);
-    keep(&mut held, made, reply);
+    sum_up(&mut held.site, held.alloc, &mut held.text, reply);
     held
 }
 
@@ -274,22 +292,53 @@ fn delta_at(alloc: Global, site: &mut Site, peer: &[u8], from: u64) -> Result<An
     page_line(alloc, page)
 }
 
-/// Keeps the page of what a peer lacks, from a place on.
+/// Keeps the page of what a peer lacks of a site, from a place on.
+pub(crate) fn show_lacked(
+    site: &mut Site,
+    alloc: Global,
+    text: &mut Text,
+    peer: &[u8],
+    from: u64,
+    reply: &mut Reply,
+)
+    ensures { Lacked peer.now from (record { site = site.old; text = text.old; alloc = alloc })
+        (record { site = site.new; text = text.new; alloc = alloc }) reply.new }
+{
+    let made = delta_at(alloc, site, peer, from);
+    keep(site, text, made, reply);
+}
+
+/// Shows what a peer lacks of the site that lies in the room, as [`show_lacked`] does.
 pub(crate) fn lacked(mut held: Held, peer: &[u8], from: u64, reply: &mut Reply) -> Held
     ensures { Lacked peer.now from held result reply.new }
 {
-    let made = delta_at(held.alloc, &mut held.site, peer, from);
-    keep(&mut held, made, reply);
+    show_lacked(
+        &mut held.site,
+        held.alloc,
+        &mut held.text,
+        peer,
+        from,
+        reply,
+    );
     held
 }
 
-/// Keeps the page of the site's events in key order, from a place on.
+/// Keeps the page of a site's events in key order, from a place on.
+pub(crate) fn show_page(site: &Site, alloc: Global, text: &mut Text, from: u64, reply: &mut Reply)
+    ensures { Paged from (record { site = site.now; text = text.old; alloc = alloc })
+        (record { site = site.now; text = text.new; alloc = alloc }) reply.new }
+{
+    let page = site.page(from, MAX_PAGE);
+    let made = page_line(alloc, page);
+    keep(site, text, made, reply);
+}
+
+/// Shows a page of the site that lies in the room, as [`show_page`] does.
 pub(crate) fn paged(mut held: Held, from: u64, reply: &mut Reply) -> Held
     ensures { Paged from held result reply.new }
 {
-    let page = held.site.page(from, MAX_PAGE);
-    let made = page_line(held.alloc, page);
-    keep(&mut held, made, reply);
+    let room = &mut held;
+    show_page(&room.site, room.alloc, &mut room.text, from, reply);
     held
 }
 
@@ -308,11 +357,20 @@ fn faults_in(alloc: Global, bytes: &[u8]) -> Result<Answered, u32>
 }
 
 /// Keeps what is wrong with bytes, a line for each event at fault.
+pub(crate) fn check(site: &Site, alloc: Global, text: &mut Text, bytes: &[u8], reply: &mut Reply)
+    ensures { Checked bytes.now (record { site = site.now; text = text.old; alloc = alloc })
+        (record { site = site.now; text = text.new; alloc = alloc }) reply.new }
+{
+    let made = faults_in(alloc, bytes);
+    keep(site, text, made, reply);
+}
+
+/// Checks bytes for the site that lies in the room, as [`check`] does.
 pub(crate) fn checked(mut held: Held, bytes: &[u8], reply: &mut Reply) -> Held
     ensures { Checked bytes.now held result reply.new }
 {
-    let made = faults_in(held.alloc, bytes);
-    keep(&mut held, made, reply);
+    let room = &mut held;
+    check(&room.site, room.alloc, &mut room.text, bytes, reply);
     held
 }
 
@@ -351,16 +409,24 @@ fn keep_views(site: &mut Site, seed: &[u8]) -> u32
     }
 }
 
-/// Has the site keep views, by a seed.
-pub(crate) fn viewed(mut held: Held, seed: &[u8], reply: &mut Reply) -> Held
-    ensures { Viewed held result reply.new }
+/// Has a site keep views, by a seed; the text stays.
+pub(crate) fn view(site: &mut Site, alloc: Global, text: &Text, seed: &[u8], reply: &mut Reply)
+    ensures { Viewed (record { site = site.old; text = text.now; alloc = alloc })
+        (record { site = site.new; text = text.now; alloc = alloc }) reply.new }
 {
-    reply.status = keep_views(&mut held.site, seed);
+    reply.status = keep_views(site, seed);
     reply.fresh = 0;
     reply.repeated = 0;
     reply.listed = 0;
-    reply.events = held.site.arrived();
-    reply.length = held.text.as_str().len() as u64;
+    reply.events = site.arrived();
+    reply.length = text.as_str().len() as u64;
+}
+
+/// Has the site that lies in the room keep views, by a seed.
+pub(crate) fn viewed(mut held: Held, seed: &[u8], reply: &mut Reply) -> Held
+    ensures { Viewed held result reply.new }
+{
+    view(&mut held.site, held.alloc, &held.text, seed, reply);
     held
 }
 

@@ -1,20 +1,24 @@
 //! What each call does to the site over a file that lies in the room.
 
-ghost use Rattle.std.specs.Prelude.{◌≡◌, ◌≢◌, List, IfErr, IfOk, OnErr};
+ghost use Rattle.std.specs.Prelude.{◌≡◌, ◌≢◌, ◌⊎◌, List, [], IfErr, IfOk, MatchOption, OnErr};
 ghost use Rattle.site_c.specs.Files.{Answered, HasReadFile, IsCounted, IsOpenedFile, KeepsBatch, KeepsBytes, KeepsNone, LetsGo, OpenedFile, RefusesFile, RepliesKept, Told, TookFile, open_status, table_status};
 ghost use Rattle.site_c.specs.FileSets.{ComparedFile, CopiedFile, FoundFile, NamedFile, PartLackedFile};
 ghost use Rattle.site_c.specs.Offers.{HasAnswer, IsBehind, KeepsOffers, KeptOffers, Offered, Reads};
 ghost use Rattle.site_c.specs.declared.offers.Head.{Head};
 ghost use Rattle.attributes.specs.Event.{EventValue};
+ghost use Rattle.inbox.specs.Sets.{set_of};
+ghost use Rattle.site_c.specs.Sets.{PartLacked, TellsLag, TellsName};
 
 use crate::calls::{
-    DONE, OUT_OF_MEMORY, Piece, Reply, asked, batch_of, checked, copied, lacked, paged, summed,
-    viewed,
+    DONE, OUT_OF_MEMORY, Piece, Reply, ask, batch_of, check, copied, show_lacked, show_page,
+    sum_up, view,
 };
 use crate::file_held::FileHeld;
 use crate::held::Held;
 use crate::offers::{Offers, body_of};
-use crate::set_calls::{Lag, Name, arrived, compared, found, named, part_lacked, released};
+use crate::set_calls::{
+    Lag, Name, compare, copy_of, find, no_lag, release, show_arrivals, show_part, tell_name,
+};
 use attributes::{Batch, List, Text};
 use durable_site::{
     DurableSite, FileSite, GivenFiles, OpenFault, Owed, TableFault, Unknown, close, open_files,
@@ -199,59 +203,91 @@ fn take_bytes(
 }
 
 /// Takes the events that the bytes spell.
-pub(crate) fn file_taken(held: FileHeld, bytes: &[u8], reply: &mut Reply) -> FileHeld
+pub(crate) fn file_taken(mut held: FileHeld, bytes: &[u8], reply: &mut Reply) -> FileHeld
     ensures { TookFile bytes.now held result reply.new }
 {
-    let FileHeld {
-        durable,
-        text,
-        offers: _,
-        alloc,
-    } = held;
-    let length = text.as_str().len() as u64;
-    match durable {
-        Some(mut durable) => {
-            take_bytes(&mut durable, alloc, bytes, length, reply);
-            FileHeld {
-                durable: Some(durable),
-                text,
-                offers: Offers::none(alloc),
-                alloc,
-            }
-        }
-        None => {
-            tell_nothing(NOT_OPEN, length, reply);
-            FileHeld {
-                durable: None,
-                text,
-                offers: Offers::none(alloc),
-                alloc,
-            }
-        }
-    }
+    held.offers.let_go(held.alloc);
+    let length = held.text.as_str().len() as u64;
+    let Some(durable) = &mut held.durable else {
+        tell_nothing(NOT_OPEN, length, reply);
+        return held;
+    };
+    take_bytes(durable, held.alloc, bytes, length, reply);
+    held
 }
 
 /// Answers what is asked of a site, by a number: 1 to 7 a question, 8 its summary, 9 what a peer
 /// lacks, 10 a page, 11 what is wrong with bytes, 12 that it keep views, 13 a page of arrivals, 14
 /// that it let the text of its last answer go.
-pub(crate) fn answered(held: Held, what: u32, bytes: &[u8], from: u64, reply: &mut Reply) -> Held
-    ensures { Answered what bytes.now from held result reply.new }
+pub(crate) fn answer(
+    site: &mut Site,
+    alloc: Global,
+    text: &mut Text,
+    what: u32,
+    bytes: &[u8],
+    from: u64,
+    reply: &mut Reply,
+)
+    ensures { Answered what bytes.now from
+        (record { site = site.old; text = text.old; alloc = alloc })
+        (record { site = site.new; text = text.new; alloc = alloc }) reply.new }
 {
     match what {
-        8 => summed(held, reply),
-        9 => lacked(held, bytes, from, reply),
-        10 => paged(held, from, reply),
-        11 => checked(held, bytes, reply),
-        12 => viewed(held, bytes, reply),
-        13 => arrived(held, from, reply),
-        14 => released(held, reply),
-        _ => asked(held, what, reply),
+        8 => sum_up(site, alloc, text, reply),
+        9 => show_lacked(site, alloc, text, bytes, from, reply),
+        10 => show_page(site, alloc, text, from, reply),
+        11 => check(site, alloc, text, bytes, reply),
+        12 => view(site, alloc, text, bytes, reply),
+        13 => show_arrivals(site, alloc, text, from, reply),
+        14 => release(site, alloc, text, reply),
+        _ => ask(site, alloc, text, what, reply),
     }
+}
+
+/// Answers what is asked of the site that lies in the room, as [`answer`] does.
+pub(crate) fn answered(
+    mut held: Held,
+    what: u32,
+    bytes: &[u8],
+    from: u64,
+    reply: &mut Reply,
+) -> Held
+    ensures { Answered what bytes.now from held result reply.new }
+{
+    answer(
+        &mut held.site,
+        held.alloc,
+        &mut held.text,
+        what,
+        bytes,
+        from,
+        reply,
+    );
+    held
+}
+
+/// Answers what is asked of a site over files, as [`answer`] does; the table stays.
+fn tell(
+    durable: &mut FileSite<Unknown>,
+    alloc: Global,
+    text: &mut Text,
+    what: u32,
+    bytes: &[u8],
+    from: u64,
+    reply: &mut Reply,
+)
+    ensures table { durable.new.table ≡ durable.old.table }
+    ensures owed { durable.new.owed ≡ durable.old.owed }
+    ensures tells { Answered what bytes.now from
+        (record { site = durable.old.site; text = text.old; alloc = alloc })
+        (record { site = durable.new.site; text = text.new; alloc = alloc }) reply.new }
+{
+    answer(&mut durable.site, alloc, text, what, bytes, from, reply);
 }
 
 /// Answers what is asked, by its number.
 pub(crate) fn told(
-    held: FileHeld,
+    mut held: FileHeld,
     what: u32,
     bytes: &[u8],
     from: u64,
@@ -259,86 +295,54 @@ pub(crate) fn told(
 ) -> FileHeld
     ensures { Told what bytes.now from held result reply.new }
 {
-    let FileHeld {
+    held.offers.let_go(held.alloc);
+    let Some(durable) = &mut held.durable else {
+        tell_nothing(NOT_OPEN, held.text.as_str().len() as u64, reply);
+        return held;
+    };
+    tell(
         durable,
-        text,
-        offers: _,
-        alloc,
-    } = held;
-    match durable {
-        Some(durable) => {
-            let DurableSite {
-                table,
-                site,
-                owed,
-                alloc,
-            } = durable;
-            let asked = Held { site, text, alloc };
-            let Held { site, text, alloc } = answered(asked, what, bytes, from, reply);
-            FileHeld {
-                durable: Some(DurableSite {
-                    table,
-                    site,
-                    owed,
-                    alloc,
-                }),
-                text,
-                offers: Offers::none(alloc),
-                alloc,
-            }
-        }
-        None => {
-            tell_nothing(NOT_OPEN, text.as_str().len() as u64, reply);
-            FileHeld {
-                durable: None,
-                text,
-                offers: Offers::none(alloc),
-                alloc,
-            }
-        }
-    }
+        held.alloc,
+        &mut held.text,
+        what,
+        bytes,
+        from,
+        reply,
+    );
+    held
+}
+
+/// Tells the name of the set of a site over files; the table stays.
+fn tell_file_name(durable: &mut FileSite<Unknown>, name: &mut Name)
+    ensures table { durable.new.table ≡ durable.old.table }
+    ensures owed { durable.new.owed ≡ durable.old.owed }
+    ensures site { durable.new.site ≡ durable.old.site }
+    ensures tells { TellsName (set_of durable.old.site) name.old name.new }
+{
+    tell_name(&mut durable.site, name);
 }
 
 /// Tells the name of the site's set.
-pub(crate) fn file_named(held: FileHeld, name: &mut Name) -> FileHeld
+pub(crate) fn file_named(mut held: FileHeld, name: &mut Name) -> FileHeld
     ensures { NamedFile held result name.old name.new }
 {
-    let FileHeld {
-        durable,
-        text,
-        offers: _,
-        alloc,
-    } = held;
+    held.offers.let_go(held.alloc);
+    let Some(durable) = &mut held.durable else {
+        name.status = NOT_OPEN;
+        return held;
+    };
+    tell_file_name(durable, name);
+    held
+}
+
+/// A copy of the site, where one is open; one without events where memory runs out.
+fn copy_in(durable: &Option<FileSite<Unknown>>, alloc: Global) -> Site
+    ensures { MatchOption durable.now (result ≡ [])
+        (λ d. (result ≡ d.site) ⊎ ((result ≡ []) × (d.site ≢ []))) }
+{
     match durable {
-        Some(durable) => {
-            let DurableSite {
-                table,
-                site,
-                owed,
-                alloc,
-            } = durable;
-            let Held { site, text, alloc } = named(Held { site, text, alloc }, name);
-            FileHeld {
-                durable: Some(DurableSite {
-                    table,
-                    site,
-                    owed,
-                    alloc,
-                }),
-                text,
-                offers: Offers::none(alloc),
-                alloc,
-            }
-        }
-        None => {
-            name.status = NOT_OPEN;
-            FileHeld {
-                durable: None,
-                text,
-                offers: Offers::none(alloc),
-                alloc,
-            }
-        }
+        Some(durable) => copy_of(&durable.site, alloc),
+        None => Site::empty(alloc),
     }
 }
 
@@ -346,71 +350,68 @@ pub(crate) fn file_named(held: FileHeld, name: &mut Name) -> FileHeld
 pub(crate) fn copied_file(held: &mut FileHeld) -> Held
     ensures { CopiedFile held.old held.new result }
 {
-    let text = Text::from_string(String::new(held.alloc));
-    let alloc = held.alloc;
-    if let Some(durable) = &held.durable {
-        if let Ok(site) = durable.site.copy() {
-            return Held { site, text, alloc };
-        }
-    }
     Held {
-        site: Site::empty(alloc),
-        text,
-        alloc,
+        site: copy_in(&held.durable, held.alloc),
+        text: Text::from_string(String::new(held.alloc)),
+        alloc: held.alloc,
     }
 }
 
+/// Tells how far a site over files and the peer of the bytes are apart; the table stays.
+fn compare_file(durable: &mut FileSite<Unknown>, alloc: Global, peer: &[u8], lag: &mut Lag)
+    ensures table { durable.new.table ≡ durable.old.table }
+    ensures owed { durable.new.owed ≡ durable.old.owed }
+    ensures site { durable.new.site ≡ durable.old.site }
+    ensures tells { TellsLag peer.now (set_of durable.old.site) lag.new }
+{
+    compare(&mut durable.site, alloc, peer, lag);
+}
+
 /// Tells how far the site and the peer of the bytes are apart.
-pub(crate) fn file_compared(held: FileHeld, peer: &[u8], lag: &mut Lag) -> FileHeld
+pub(crate) fn file_compared(mut held: FileHeld, peer: &[u8], lag: &mut Lag) -> FileHeld
     ensures { ComparedFile peer.now held result lag.new }
 {
-    let FileHeld {
-        durable,
-        text,
-        offers: _,
+    held.offers.let_go(held.alloc);
+    let Some(durable) = &mut held.durable else {
+        *lag = no_lag(NOT_OPEN);
+        return held;
+    };
+    compare_file(durable, held.alloc, peer, lag);
+    held
+}
+
+/// Keeps the part of what a peer lacks of a site over files; the table stays.
+fn show_file_part(
+    durable: &mut FileSite<Unknown>,
+    alloc: Global,
+    text: &mut Text,
+    peer: &[u8],
+    from: u64,
+    most: u64,
+    size: u64,
+    reply: &mut Reply,
+)
+    ensures table { durable.new.table ≡ durable.old.table }
+    ensures owed { durable.new.owed ≡ durable.old.owed }
+    ensures shows { PartLacked peer.now from most size
+        (record { site = durable.old.site; text = text.old; alloc = alloc })
+        (record { site = durable.new.site; text = text.new; alloc = alloc }) reply.new }
+{
+    show_part(
+        &mut durable.site,
         alloc,
-    } = held;
-    match durable {
-        Some(durable) => {
-            let DurableSite {
-                table,
-                site,
-                owed,
-                alloc,
-            } = durable;
-            let Held { site, text, alloc } = compared(Held { site, text, alloc }, peer, lag);
-            FileHeld {
-                durable: Some(DurableSite {
-                    table,
-                    site,
-                    owed,
-                    alloc,
-                }),
-                text,
-                offers: Offers::none(alloc),
-                alloc,
-            }
-        }
-        None => {
-            *lag = Lag {
-                status: NOT_OPEN,
-                lacking: 0,
-                ahead: 0,
-                blocks: 0,
-            };
-            FileHeld {
-                durable: None,
-                text,
-                offers: Offers::none(alloc),
-                alloc,
-            }
-        }
-    }
+        text,
+        peer,
+        from,
+        most,
+        size,
+        reply,
+    );
 }
 
 /// Keeps the part of what a peer lacks, from a place on.
 pub(crate) fn file_part_lacked(
-    held: FileHeld,
+    mut held: FileHeld,
     peer: &[u8],
     from: u64,
     most: u64,
@@ -419,88 +420,41 @@ pub(crate) fn file_part_lacked(
 ) -> FileHeld
     ensures { PartLackedFile peer.now from most size held result reply.new }
 {
-    let FileHeld {
+    held.offers.let_go(held.alloc);
+    let alloc = held.alloc;
+    let Some(durable) = &mut held.durable else {
+        tell_nothing(NOT_OPEN, held.text.as_str().len() as u64, reply);
+        return held;
+    };
+    show_file_part(
         durable,
-        text,
-        offers: _,
         alloc,
-    } = held;
-    match durable {
-        Some(durable) => {
-            let DurableSite {
-                table,
-                site,
-                owed,
-                alloc,
-            } = durable;
-            let asked = Held { site, text, alloc };
-            let Held { site, text, alloc } = part_lacked(asked, peer, from, most, size, reply);
-            FileHeld {
-                durable: Some(DurableSite {
-                    table,
-                    site,
-                    owed,
-                    alloc,
-                }),
-                text,
-                offers: Offers::none(alloc),
-                alloc,
-            }
-        }
-        None => {
-            tell_nothing(NOT_OPEN, text.as_str().len() as u64, reply);
-            FileHeld {
-                durable: None,
-                text,
-                offers: Offers::none(alloc),
-                alloc,
-            }
-        }
-    }
+        &mut held.text,
+        peer,
+        from,
+        most,
+        size,
+        reply,
+    );
+    held
 }
 
 /// Keeps the lines of the events of a source and an id.
-pub(crate) fn file_found(held: FileHeld, source: &[u8], id: &[u8], reply: &mut Reply) -> FileHeld
+pub(crate) fn file_found(
+    mut held: FileHeld,
+    source: &[u8],
+    id: &[u8],
+    reply: &mut Reply,
+) -> FileHeld
     ensures { FoundFile source.now id.now held result reply.new }
 {
-    let FileHeld {
-        durable,
-        text,
-        offers: _,
-        alloc,
-    } = held;
-    match durable {
-        Some(durable) => {
-            let DurableSite {
-                table,
-                site,
-                owed,
-                alloc,
-            } = durable;
-            let asked = Held { site, text, alloc };
-            let Held { site, text, alloc } = found(asked, source, id, reply);
-            FileHeld {
-                durable: Some(DurableSite {
-                    table,
-                    site,
-                    owed,
-                    alloc,
-                }),
-                text,
-                offers: Offers::none(alloc),
-                alloc,
-            }
-        }
-        None => {
-            tell_nothing(NOT_OPEN, text.as_str().len() as u64, reply);
-            FileHeld {
-                durable: None,
-                text,
-                offers: Offers::none(alloc),
-                alloc,
-            }
-        }
-    }
+    held.offers.let_go(held.alloc);
+    let Some(durable) = &mut held.durable else {
+        tell_nothing(NOT_OPEN, held.text.as_str().len() as u64, reply);
+        return held;
+    };
+    find(&durable.site, held.alloc, &mut held.text, source, id, reply);
+    held
 }
 
 /// Offers a body, which stands behind those that were offered.

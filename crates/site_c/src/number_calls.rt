@@ -1,8 +1,9 @@
 //! What each call does to the numberer over a file that lies in the room.
 
-ghost use Rattle.std.specs.Prelude.{◌≡◌, [], length, IfErr, IfOk};
+ghost use Rattle.std.specs.Prelude.{◌≡◌, ℕ, [], length, IfErr, IfOk, Result};
 ghost use Rattle.sqlite.specs.Held.{state};
 ghost use Rattle.event_json.specs.Reading.{Reads};
+ghost use Rattle.site_c.specs.declared.calls.Answered.{Answered as Made};
 ghost use Rattle.site_c.specs.Numbers.{FindsNumbers, HasReadNumbers, IsNoEvents, KeepsMade, LetsGoNumbers, Numbered, Numbers, NumbersBytes, OpenedNumbers, ServesNumbers, number_status};
 
 use crate::calls::{Answered, DONE, OUT_OF_MEMORY, Piece, Reply, copied, page_line};
@@ -131,55 +132,52 @@ fn number_bytes<S: Alter + Drop>(
     }
 }
 
-/// The text that was made, or that of before, and the reply to it.
-fn kept_text(made: Result<Answered, u32>, text: Text, reply: &mut Reply) -> Text
-    ensures keeps { KeepsMade made text result reply.new }
-    ensures length { reply.new.length ≡ length result }
+/// Keeps the text that was made in place of the last one, or tells why there is none.
+fn keep_text(made: Result<Answered, u32>, text: &mut Text, reply: &mut Reply)
+    ensures keeps { KeepsMade made text.old text.new reply.new }
+    ensures length { reply.new.length ≡ length text.new }
 {
     tell_nothing(DONE, 0, reply);
-    let kept = match made {
+    match made {
         Ok(answered) => {
             reply.listed = answered.listed;
-            answered.text
+            *text = answered.text;
         }
-        Err(status) => {
-            reply.status = status;
-            text
-        }
-    };
-    reply.length = kept.as_str().len() as u64;
-    kept
+        Err(status) => reply.status = status,
+    }
+    reply.length = text.as_str().len() as u64;
+}
+
+/// Has a numberer number the events that bytes spell, keeps their line, and tells how many it
+/// numbered.
+fn number_and_tell<S: Alter + Drop>(
+    numberer: &mut Numberer<S>,
+    alloc: Global,
+    text: &mut Text,
+    bytes: &[u8],
+    reply: &mut Reply,
+)
+    ensures did { (made : Result Made ℕ)
+        × NumbersBytes S.Store bytes.now numberer.old numberer.new made
+        × KeepsMade made text.old text.new reply.new }
+    ensures events { reply.new.events ≡ numberer.new.table.rows }
+    ensures length { reply.new.length ≡ length text.new }
+{
+    let made = number_bytes(numberer, alloc, bytes);
+    keep_text(made, text, reply);
+    reply.events = numberer.table.rows();
 }
 
 /// Numbers the events that the bytes spell.
-pub(crate) fn numbered(held: NumbersHeld, bytes: &[u8], reply: &mut Reply) -> NumbersHeld
+pub(crate) fn numbered(mut held: NumbersHeld, bytes: &[u8], reply: &mut Reply) -> NumbersHeld
     ensures { Numbered bytes.now held result reply.new }
 {
-    let NumbersHeld {
-        numberer,
-        text,
-        alloc,
-    } = held;
-    match numberer {
-        Some(mut numberer) => {
-            let made = number_bytes(&mut numberer, alloc, bytes);
-            let text = kept_text(made, text, reply);
-            reply.events = numberer.table.rows();
-            NumbersHeld {
-                numberer: Some(numberer),
-                text,
-                alloc,
-            }
-        }
-        None => {
-            tell_nothing(NOT_OPEN, text.as_str().len() as u64, reply);
-            NumbersHeld {
-                numberer: None,
-                text,
-                alloc,
-            }
-        }
-    }
+    let Some(numberer) = &mut held.numberer else {
+        tell_nothing(NOT_OPEN, held.text.as_str().len() as u64, reply);
+        return held;
+    };
+    number_and_tell(numberer, held.alloc, &mut held.text, bytes, reply);
+    held
 }
 
 /// Copies a piece of the answer's text, counted from 0; a piece behind the text's end has no bytes.

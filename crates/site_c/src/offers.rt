@@ -78,6 +78,13 @@ impl Offers {
         }
     }
 
+    /// Lets all bodies go.
+    pub(crate) fn let_go(&mut self, alloc: Global)
+        ensures { self.new ≡ no_offers }
+    {
+        *self = Offers::none(alloc);
+    }
+
     /// These, and a body behind them. At want of memory all are let go.
     pub(crate) fn with(mut self, body: Body) -> Result<Offers, AllocError>
         ensures { IfOk result (λ o. IsBehind body.head body.batch self o) }

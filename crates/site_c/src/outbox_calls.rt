@@ -375,40 +375,38 @@ fn event_line(alloc: Global, event: &Sequenced) -> Result<Text, AllocError>
 }
 
 /// Tells of a refusal; the text of before stays.
-fn refuse(status: u32, text: Text, reply: &mut OutboxReply) -> Text
-    ensures text { result ≡ text }
+fn refuse(status: u32, text: &Text, reply: &mut OutboxReply)
     ensures replies { (reply.new.status ≡ status) × (reply.new.number ≡ 0)
-        × (reply.new.listed ≡ 0) × (reply.new.length ≡ length result) }
+        × (reply.new.listed ≡ 0) × (reply.new.length ≡ length text.now) }
     ensures none { (reply.new.base ≡ 0) × (reply.new.last ≡ 0) × (reply.new.orders ≡ 0) }
 {
     tell(status, 0, 0, text.as_str().len() as u64, reply);
-    text
 }
 
-/// Gives a service a command, and answers the text that lies there then.
+/// Gives a service a command, and keeps the line of its event.
 fn carry_out<S: Alter>(
     service: &mut Service<S>,
     alloc: Global,
-    text: Text,
+    text: &mut Text,
     asked: &OrderCommand,
     reply: &mut OutboxReply,
-) -> Text
+)
     requires order { (1 ≤ asked.now.order) × (asked.now.order ≤ max_sequence) }
     requires short { length asked.now.at ≤ 64 }
     ensures did { Carries S.Store (record {
       status = asked.now.status;
       order = asked.now.order;
       at = asked.now.at;
-    }) service.old service.new text result reply.new.status reply.new.number }
+    }) service.old service.new text.old text.new reply.new.status reply.new.number }
     ensures listed { reply.new.listed ≡ 0 }
-    ensures length { reply.new.length ≡ length result }
+    ensures length { reply.new.length ≡ length text.new }
 {
     // The line is made first, so that no memory is wanted once the command is written.
     match next_line(alloc, service, asked.status, asked.order, &asked.at) {
         Ok(line) => match command(service, asked.status, asked.order, &asked.at) {
             Ok(_) => {
                 tell(DONE, last_of(service), 0, line.as_str().len() as u64, reply);
-                line
+                *text = line;
             }
             Err(fault) => refuse(outbox_status(fault), text, reply),
         },
@@ -416,20 +414,20 @@ fn carry_out<S: Alter>(
     }
 }
 
-/// Gives a service the command that the arguments name, and answers the text that lies there then.
+/// Gives a service the command that the arguments name, and keeps the line of its event.
 fn ordered<S: Alter>(
     service: &mut Service<S>,
     alloc: Global,
-    text: Text,
+    text: &mut Text,
     action: u32,
     order: u64,
     time: &[u8],
     reply: &mut OutboxReply,
-) -> Text
-    ensures did { Commands S.Store action order time.now service.old service.new text result
-        reply.new.status reply.new.number }
+)
+    ensures did { Commands S.Store action order time.now service.old service.new
+        text.old text.new reply.new.status reply.new.number }
     ensures listed { reply.new.listed ≡ 0 }
-    ensures length { reply.new.length ≡ length result }
+    ensures length { reply.new.length ≡ length text.new }
 {
     match command_of(alloc, action, order, time) {
         Ok(asked) => carry_out(service, alloc, text, &asked, reply),
@@ -437,9 +435,29 @@ fn ordered<S: Alter>(
     }
 }
 
+/// The same, and tells of the service.
+fn order_and_tell<S: Alter>(
+    service: &mut Service<S>,
+    alloc: Global,
+    text: &mut Text,
+    action: u32,
+    order: u64,
+    time: &[u8],
+    reply: &mut OutboxReply,
+)
+    ensures did { Commands S.Store action order time.now service.old service.new
+        text.old text.new reply.new.status reply.new.number }
+    ensures tells { TellsService S.Store service.new reply.new }
+    ensures listed { reply.new.listed ≡ 0 }
+    ensures length { reply.new.length ≡ length text.new }
+{
+    ordered(service, alloc, text, action, order, time, reply);
+    tell_service(service, reply);
+}
+
 /// Gives the service a command, and answers what lies in the room then.
 pub(crate) fn outbox_ordered(
-    held: OutboxHeld,
+    mut held: OutboxHeld,
     action: u32,
     order: u64,
     time: &[u8],
@@ -447,27 +465,20 @@ pub(crate) fn outbox_ordered(
 ) -> OutboxHeld
     ensures { OrderedOutbox action order time.now held result reply.new }
 {
-    let OutboxHeld {
+    let Some(service) = &mut held.service else {
+        refuse(NOT_OPEN, &held.text, reply);
+        return held;
+    };
+    order_and_tell(
         service,
-        text,
-        alloc,
-    } = held;
-    match service {
-        Some(mut service) => {
-            let text = ordered(&mut service, alloc, text, action, order, time, reply);
-            tell_service(&service, reply);
-            OutboxHeld {
-                service: Some(service),
-                text,
-                alloc,
-            }
-        }
-        None => OutboxHeld {
-            service: None,
-            text: refuse(NOT_OPEN, text, reply),
-            alloc,
-        },
-    }
+        held.alloc,
+        &mut held.text,
+        action,
+        order,
+        time,
+        reply,
+    );
+    held
 }
 
 /// The line of the batch of the next rows after a number, or the status.
@@ -488,53 +499,56 @@ fn rows_line<S: Alter>(service: &mut Service<S>, alloc: Global, after: u64) -> R
     }
 }
 
-/// Shows a service's next rows after a number, and answers the text that lies there then.
+/// Shows a service's next rows after a number: the text is their batch's line.
 fn shown<S: Alter>(
     service: &mut Service<S>,
     alloc: Global,
-    text: Text,
+    text: &mut Text,
     after: u64,
     reply: &mut OutboxReply,
-) -> Text
-    ensures did { ShowsRows S.Store after service.old service.new text result
+)
+    ensures did { ShowsRows S.Store after service.old service.new text.old text.new
         reply.new.status reply.new.listed }
     ensures number { reply.new.number ≡ 0 }
-    ensures length { reply.new.length ≡ length result }
+    ensures length { reply.new.length ≡ length text.new }
 {
     match rows_line(service, alloc, after) {
         Ok(page) => {
             tell(DONE, 0, page.listed, page.text.as_str().len() as u64, reply);
-            page.text
+            *text = page.text;
         }
         Err(status) => refuse(status, text, reply),
     }
 }
 
+/// The same, and tells of the service.
+fn show_and_tell<S: Alter>(
+    service: &mut Service<S>,
+    alloc: Global,
+    text: &mut Text,
+    after: u64,
+    reply: &mut OutboxReply,
+)
+    ensures did { ShowsRows S.Store after service.old service.new text.old text.new
+        reply.new.status reply.new.listed }
+    ensures tells { TellsService S.Store service.new reply.new }
+    ensures number { reply.new.number ≡ 0 }
+    ensures length { reply.new.length ≡ length text.new }
+{
+    shown(service, alloc, text, after, reply);
+    tell_service(service, reply);
+}
+
 /// Shows the service's next rows after a number, and answers what lies in the room then.
-pub(crate) fn outbox_shown(held: OutboxHeld, after: u64, reply: &mut OutboxReply) -> OutboxHeld
+pub(crate) fn outbox_shown(mut held: OutboxHeld, after: u64, reply: &mut OutboxReply) -> OutboxHeld
     ensures { ShownOutbox after held result reply.new }
 {
-    let OutboxHeld {
-        service,
-        text,
-        alloc,
-    } = held;
-    match service {
-        Some(mut service) => {
-            let text = shown(&mut service, alloc, text, after, reply);
-            tell_service(&service, reply);
-            OutboxHeld {
-                service: Some(service),
-                text,
-                alloc,
-            }
-        }
-        None => OutboxHeld {
-            service: None,
-            text: refuse(NOT_OPEN, text, reply),
-            alloc,
-        },
-    }
+    let Some(service) = &mut held.service else {
+        refuse(NOT_OPEN, &held.text, reply);
+        return held;
+    };
+    show_and_tell(service, held.alloc, &mut held.text, after, reply);
+    held
 }
 
 /// Copies a piece of the answer's text, counted from 0; a piece behind the text's end has no bytes.

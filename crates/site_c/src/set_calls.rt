@@ -1,12 +1,14 @@
 //! What a service asks of the site that lies in the room, beside the calls of `calls`.
 
-ghost use Rattle.std.specs.Prelude.{◌≡◌, ◌≢◌, ◌≤◌, ◌++◌, [], ◌∷◌, IfErr, IfOk, IsTrue, OnErr, length};
+ghost use Rattle.std.specs.Prelude.{◌≡◌, ◌≢◌, ◌≤◌, ◌⊎◌, ◌++◌, [], ◌∷◌, IfErr, IfOk, IsTrue, OnErr, length};
+ghost use Rattle.coverage.specs.Digests.{Digests};
+ghost use Rattle.coverage.specs.Summary.{Sources};
 ghost use Rattle.file_reports.specs.Reports.{IsRefusal, SpellAll};
 ghost use Rattle.inbox.specs.Sets.{set_of};
 ghost use Rattle.site.specs.Delta.{delta};
 ghost use Rattle.site.specs.Key.{with_key};
 ghost use Rattle.site_c.specs.Calls.{IsPeer, IsRefusedPeer};
-ghost use Rattle.site_c.specs.Sets.{Arrived, Compared, Copied, Found, IsApart, IsFound, IsNamed, IsLag, IsNameOf, IsPart, LacksPart, Named, PartLacked, Released, Tested, WantsFound, part_limit};
+ghost use Rattle.site_c.specs.Sets.{Arrived, Compared, Copied, Found, IsApart, IsFound, IsNamed, IsLag, IsNameOf, IsPart, LacksPart, Named, PartLacked, Released, TellsLag, TellsName, Tested, WantsFound, part_limit};
 
 use crate::calls::{
     Answered, DONE, MAX_PAGE, OUT_OF_MEMORY, Reply, batch_of, keep, page_line, peer_of,
@@ -51,23 +53,33 @@ const MAX_PART: u64 = 2_000;
 /// The most pages of a part.
 const PART_PAGES: u64 = 20;
 
-/// Keeps the page of the site's events in the order in which they came, behind so many.
-pub(crate) fn arrived(mut held: Held, after: u64, reply: &mut Reply) -> Held
-    ensures { Arrived after held result reply.new }
+/// Keeps the page of a site's events in the order in which they came, behind so many.
+pub(crate) fn show_arrivals(
+    site: &Site,
+    alloc: Global,
+    text: &mut Text,
+    after: u64,
+    reply: &mut Reply,
+)
+    ensures { Arrived after (record { site = site.now; text = text.old; alloc = alloc })
+        (record { site = site.now; text = text.new; alloc = alloc }) reply.new }
 {
-    let page = held.site.arrivals_after(after, MAX_PAGE);
-    let made = page_line(held.alloc, page);
-    keep(&mut held, made, reply);
-    held
+    let page = site.arrivals_after(after, MAX_PAGE);
+    let made = page_line(alloc, page);
+    keep(site, text, made, reply);
 }
 
 /// Lets the text of the last answer go.
-pub(crate) fn released(mut held: Held, reply: &mut Reply) -> Held
-    ensures { Released held result reply.new }
+pub(crate) fn release(site: &Site, alloc: Global, text: &mut Text, reply: &mut Reply)
+    ensures { Released (record { site = site.now; text = text.old; alloc = alloc })
+        (record { site = site.now; text = text.new; alloc = alloc }) reply.new }
 {
-    let text = Text::from_string(String::new(held.alloc));
-    keep(&mut held, Ok(Answered { text, listed: 0 }), reply);
-    held
+    let empty = Text::from_string(String::new(alloc));
+    let made = Ok(Answered {
+        text: empty,
+        listed: 0,
+    });
+    keep(site, text, made, reply);
 }
 
 /// The name of a site's set.
@@ -79,17 +91,25 @@ fn name_of(site: &mut Site) -> Result<[u8; 32], AllocError>
     Ok(Sha256::digest(text.as_str()))
 }
 
-/// Tells the name of the site's set.
-pub(crate) fn named(mut held: Held, name: &mut Name) -> Held
-    ensures { Named held result name.old name.new }
+/// Tells the name of a site's set.
+pub(crate) fn tell_name(site: &mut Site, name: &mut Name)
+    ensures same { site.new ≡ site.old }
+    ensures tells { TellsName (set_of site.old) name.old name.new }
 {
-    match name_of(&mut held.site) {
+    match name_of(site) {
         Ok(bytes) => {
             name.status = DONE;
             name.bytes = bytes;
         }
         Err(_) => name.status = OUT_OF_MEMORY,
     }
+}
+
+/// Tells the name of the set of the site that lies in the room.
+pub(crate) fn named(mut held: Held, name: &mut Name) -> Held
+    ensures { Named held result name.old name.new }
+{
+    tell_name(&mut held.site, name);
     held
 }
 
@@ -105,6 +125,16 @@ fn apart(own: &Summary, peer: &Summary) -> Result<Lag, AllocError>
     })
 }
 
+/// How far a site and a peer are apart.
+fn lag_to(site: &mut Site, peer: &Summary) -> Result<Lag, AllocError>
+    ensures same { site.new ≡ site.old }
+    ensures ok { IfOk result (λ lag. (own : Sources) × Digests (set_of site.old) own
+        × IsApart own peer.now lag) }
+{
+    let own = site.summary()?;
+    apart(&own, peer)
+}
+
 /// How far a site and the peer of the bytes are apart, or the status.
 fn lag_of(alloc: Global, site: &mut Site, peer: &[u8]) -> Result<Lag, u32>
     ensures same { site.new ≡ site.old }
@@ -112,28 +142,40 @@ fn lag_of(alloc: Global, site: &mut Site, peer: &[u8]) -> Result<Lag, u32>
     ensures err { IfErr result (IsRefusedPeer peer.now) }
 {
     let peer = peer_of(alloc, peer)?;
-    let Ok(own) = site.summary() else {
-        return Err(OUT_OF_MEMORY);
-    };
-    match apart(&own, &peer) {
+    match lag_to(site, &peer) {
         Ok(lag) => Ok(lag),
         Err(_) => Err(OUT_OF_MEMORY),
     }
 }
 
-/// Tells how far the site and the peer of the bytes are apart.
+/// A lag that tells why there is none.
+pub(crate) fn no_lag(status: u32) -> Lag
+    ensures { result ≡ record { status = status; lacking = 0; ahead = 0; blocks = 0 } }
+{
+    Lag {
+        status,
+        lacking: 0,
+        ahead: 0,
+        blocks: 0,
+    }
+}
+
+/// Tells how far a site and the peer of the bytes are apart.
+pub(crate) fn compare(site: &mut Site, alloc: Global, peer: &[u8], lag: &mut Lag)
+    ensures same { site.new ≡ site.old }
+    ensures tells { TellsLag peer.now (set_of site.old) lag.new }
+{
+    *lag = match lag_of(alloc, site, peer) {
+        Ok(found) => found,
+        Err(status) => no_lag(status),
+    };
+}
+
+/// Tells how far the site that lies in the room and the peer of the bytes are apart.
 pub(crate) fn compared(mut held: Held, peer: &[u8], lag: &mut Lag) -> Held
     ensures { Compared peer.now held result lag.new }
 {
-    *lag = match lag_of(held.alloc, &mut held.site, peer) {
-        Ok(found) => found,
-        Err(status) => Lag {
-            status,
-            lacking: 0,
-            ahead: 0,
-            blocks: 0,
-        },
-    };
+    compare(&mut held.site, held.alloc, peer, lag);
     held
 }
 
@@ -225,7 +267,26 @@ fn part_at(
     page_line(alloc, part)
 }
 
-/// Keeps the part of what a peer lacks, from a place on.
+/// Keeps the part of what a peer lacks of a site, from a place on.
+pub(crate) fn show_part(
+    site: &mut Site,
+    alloc: Global,
+    text: &mut Text,
+    peer: &[u8],
+    from: u64,
+    most: u64,
+    size: u64,
+    reply: &mut Reply,
+)
+    ensures { PartLacked peer.now from most size
+        (record { site = site.old; text = text.old; alloc = alloc })
+        (record { site = site.new; text = text.new; alloc = alloc }) reply.new }
+{
+    let made = part_at(alloc, site, peer, from, most, size);
+    keep(site, text, made, reply);
+}
+
+/// Shows a part of what a peer lacks of the site that lies in the room, as [`show_part`] does.
 pub(crate) fn part_lacked(
     mut held: Held,
     peer: &[u8],
@@ -236,24 +297,38 @@ pub(crate) fn part_lacked(
 ) -> Held
     ensures { PartLacked peer.now from most size held result reply.new }
 {
-    let made = part_at(held.alloc, &mut held.site, peer, from, most, size);
-    keep(&mut held, made, reply);
+    let alloc = held.alloc;
+    show_part(
+        &mut held.site,
+        alloc,
+        &mut held.text,
+        peer,
+        from,
+        most,
+        size,
+        reply,
+    );
     held
 }
 
-/// A site in memory with the same events and no text; one without events where memory runs out.
+/// A site in memory with the same events; one without events where memory runs out.
+pub(crate) fn copy_of(site: &Site, alloc: Global) -> Site
+    ensures { (result ≡ site.now) ⊎ ((result ≡ []) × (site.now ≢ [])) }
+{
+    match site.copy() {
+        Ok(copy) => copy,
+        Err(_) => Site::empty(alloc),
+    }
+}
+
+/// The same of the site that lies in a room, with no text.
 pub(crate) fn copied_site(held: &mut Held) -> Held
     ensures { Copied held.old held.new result }
 {
-    let text = Text::from_string(String::new(held.alloc));
-    let alloc = held.alloc;
-    match held.site.copy() {
-        Ok(site) => Held { site, text, alloc },
-        Err(_) => Held {
-            site: Site::empty(alloc),
-            text,
-            alloc,
-        },
+    Held {
+        site: copy_of(&held.site, held.alloc),
+        text: Text::from_string(String::new(held.alloc)),
+        alloc: held.alloc,
     }
 }
 
@@ -288,11 +363,27 @@ fn found_at(alloc: Global, site: &Site, source: &[u8], id: &[u8]) -> Result<Answ
 }
 
 /// Keeps the lines of the events of a source and an id.
+pub(crate) fn find(
+    site: &Site,
+    alloc: Global,
+    text: &mut Text,
+    source: &[u8],
+    id: &[u8],
+    reply: &mut Reply,
+)
+    ensures { Found source.now id.now (record { site = site.now; text = text.old; alloc = alloc })
+        (record { site = site.now; text = text.new; alloc = alloc }) reply.new }
+{
+    let made = found_at(alloc, site, source, id);
+    keep(site, text, made, reply);
+}
+
+/// Finds events in the site that lies in the room, as [`find`] does.
 pub(crate) fn found(mut held: Held, source: &[u8], id: &[u8], reply: &mut Reply) -> Held
     ensures { Found source.now id.now held result reply.new }
 {
-    let made = found_at(held.alloc, &held.site, source, id);
-    keep(&mut held, made, reply);
+    let room = &mut held;
+    find(&room.site, room.alloc, &mut room.text, source, id, reply);
     held
 }
 

@@ -1,5 +1,5 @@
 use Rattle.std.proofs.Common.{inl, refl}
 use Rattle.site_c.proofs.file_calls.file_part_lacked.Goals as goal
 
-pub returns-in-Some : goal.returns-in-Some
-returns-in-Some c = inl (c.in-Some.durable, _, c.in-Some.is, refl, refl, refl, c.part_lacked-site.ensures)
+pub returns : goal.returns
+returns c = let it = c.show_file_part.ensures in inl (_, _, c.in-Some.is, refl, it.table, it.owed, it.shows)

@@ -1,7 +1,5 @@
 use Rattle.std.proofs.Common.{inl, refl}
 use Rattle.site_c.proofs.file_calls.told.Goals as goal
 
-pub returns-in-Some : goal.returns-in-Some
-returns-in-Some c = record {
-  told = inl (c.in-Some.durable, _, c.in-Some.is, refl, refl, refl, c.answered-site.ensures);
-}
+pub returns : goal.returns
+returns c = let it = c.tell.ensures in record { told = inl (_, _, c.in-Some.is, refl, it.table, it.owed, it.tells) }
