@@ -8,7 +8,7 @@ use std::alloc::{AllocError, Global};
 pub type Row<'a> = (&'a str, u64, &'a str, &'a str, &'a str);
 
 /// Sets an attribute.
-fn set(alloc: Global, parts: &mut Parts, name: &str, text: &str) -> Result<(), AllocError> {
+pub fn set(alloc: Global, parts: &mut Parts, name: &str, text: &str) -> Result<(), AllocError> {
     parts.set(name, Given::Words(Text::of(alloc, text)?))
 }
 
