@@ -1,12 +1,13 @@
 //! What no contract says of a fan-out, whose threads no row has: that every row gets to every route, that routes are sent to
 //! at the same time, that the others go on where one fails, and that the gate is asked.
 
-use crate::fixture::{create, placed};
+use crate::fixture::{create, stock};
 use attributes::Batch;
 use outbox::Service;
 use relay::{End, FanOut, MemoryRoute, Relay, RelayFault, Route, RouteFailed, fan_out};
 use site::{Gate, GateShut, Wide};
 use sqlite::MemStore;
+use std::alloc::Global;
 use std::process::Abort;
 use std::sync::Wait;
 use std::sync::atomic::{AtomicU64, Ordering};
@@ -214,125 +215,132 @@ fn is_ended(out: &FanOut<FailsOnce>, relays: &[Relay], want: &[(End, u64, u64)])
     true
 }
 
-/// Relays of the sites from 0 on, with the marks of these.
-fn relays_of<R: AllocGlobal + Abort>(rt: &R, from: &[(u64, u64)]) -> Vec<Relay> {
-    let mut relays = Vec::new(rt.alloc());
+/// Adds relays of the sites from 0 on, with the marks of these, and answers whether it did.
+fn add_relays(relays: &mut Vec<Relay>, from: &[(u64, u64)]) -> bool {
     for (mark, _) in from {
         let site = u32::try_from(relays.len()).unwrap_or(0);
-        assert!(rt; relays.push(Relay::at(site, *mark)).is_ok());
+        if relays.push(Relay::at(site, *mark)).is_err() {
+            return false;
+        }
     }
-    relays
+    true
 }
 
-/// Routes that fail at the sends of these.
-fn routes_of<R: AllocGlobal + Abort>(rt: &R, from: &[(u64, u64)]) -> Vec<FailsOnce> {
-    let mut routes = Vec::new(rt.alloc());
+/// Adds a route that fails at that send, and answers whether it did.
+fn add_route(alloc: Global, routes: &mut Vec<FailsOnce>, send: u64) -> bool {
+    let route = MemoryRoute::empty(alloc);
+    routes.push(FailsOnce { route, send }).is_ok()
+}
+
+/// Adds routes that fail at the sends of these, and answers whether it did.
+fn add_routes(alloc: Global, routes: &mut Vec<FailsOnce>, from: &[(u64, u64)]) -> bool {
     for (_, send) in from {
-        assert!(rt;
-            routes
-                .push(FailsOnce {
-                    route: MemoryRoute::empty(rt.alloc()),
-                    send: *send
-                })
-                .is_ok()
-        );
+        if !add_route(alloc, routes, *send) {
+            return false;
+        }
     }
-    routes
+    true
+}
+
+/// Whether relays to routes end so, with these marks and so many accepted rows.
+fn relays_end_as<R: AllocGlobal + Threads + Wait + Sync, G: Gate + Sync>(
+    rt: &R,
+    service: &mut Service<MemStore>,
+    gate: &G,
+    relays: &mut Vec<Relay>,
+    routes: Vec<FailsOnce>,
+    want: &[(End, u64, u64)],
+) -> bool {
+    if routes.is_empty() || routes.len() > 16 || relays.len() != routes.len() {
+        return false;
+    }
+    let out = fan_out(rt, rt.alloc(), service, relays, routes, gate);
+    is_ended(&out, relays.as_slice(), want)
 }
 
 /// Whether relays with these marks, to routes that fail at these sends, end so, with these marks
 /// and so many accepted rows.
-fn ends_as<R: AllocGlobal + Threads + Wait + Abort + Sync, G: Gate + Sync>(
+fn ends_as<R: AllocGlobal + Threads + Wait + Sync, G: Gate + Sync>(
     rt: &R,
     service: &mut Service<MemStore>,
     gate: &G,
     from: &[(u64, u64)],
     want: &[(End, u64, u64)],
 ) -> bool {
-    let mut relays = relays_of(rt, from);
-    let routes = routes_of(rt, from);
-    if routes.is_empty() || routes.len() > 16 || relays.len() != routes.len() {
-        return false;
-    }
-    let out = fan_out(rt, rt.alloc(), service, &mut relays, routes, gate);
-    is_ended(&out, relays.as_slice(), want)
+    let mut relays = Vec::new(rt.alloc());
+    let mut routes = Vec::new(rt.alloc());
+    add_relays(&mut relays, from)
+        && add_routes(rt.alloc(), &mut routes, from)
+        && relays_end_as(rt, service, gate, &mut relays, routes, want)
 }
 
-// A fan-out begins threads, which no row does.
-#[test]
-fn every_row_goes_to_both_routes(rt: HostRuntime) {
-    let mut service = placed(&rt, 0, 2);
-    let want = [(End::Done, 2, 2), (End::Done, 2, 2)];
-    assert!(rt; ends_as(&rt, &mut service, &Wide, &[(0, 0), (0, 0)], &want));
+/// Whether every row goes to two routes.
+fn goes_to_both<R: AllocGlobal + Threads + Wait + Sync, G: Gate + Sync>(
+    rt: &R,
+    service: &mut Service<MemStore>,
+    gate: &G,
+    count: u64,
+) -> bool {
+    let want = [(End::Done, count, count), (End::Done, count, count)];
+    ends_as(rt, service, gate, &[(0, 0), (0, 0)], &want)
 }
 
-// Its gate holds each of two threads until the other has come.
-#[test]
-fn two_routes_are_sent_to_at_the_same_time(rt: HostRuntime) {
-    let mut service = placed(&rt, 0, 150);
-    let gate = Ruled::by(Rule::Together);
-    let want = [(End::Done, 150, 150), (End::Done, 150, 150)];
-    assert!(rt; ends_as(&rt, &mut service, &gate, &[(0, 0), (0, 0)], &want));
-}
-
-// Its gate holds one thread until the others are done.
-#[test]
-fn no_route_waits_for_another(rt: HostRuntime) {
-    // The first route gets nothing before the others have every row, which are more than a window.
-    let mut service = placed(&rt, 0, 1_150);
+/// Whether three routes get every row before the first one gets any, which is more than a window.
+fn goes_past_the_first<R: AllocGlobal + Threads + Wait + Sync>(
+    rt: &R,
+    service: &mut Service<MemStore>,
+) -> bool {
     let gate = Ruled::by(Rule::FirstHeld(36));
     let all = (End::Done, 1_150, 1_150);
     let from = [(0, 0), (0, 0), (0, 0), (0, 0)];
-    assert!(rt; ends_as(&rt, &mut service, &gate, &from, &[all, all, all, all]));
+    ends_as(rt, service, &gate, &from, &[all, all, all, all])
 }
 
-// A fan-out begins threads; a gate of the test is shut to one, and counts the calls of both.
-#[test]
-fn the_others_go_on_where_one_stops(rt: HostRuntime) {
-    let mut service = placed(&rt, 0, 250);
+/// Whether two routes get every row where the first one fails at its second send.
+fn goes_past_a_failed<R: AllocGlobal + Threads + Wait + Sync>(
+    rt: &R,
+    service: &mut Service<MemStore>,
+) -> bool {
     let failed = End::Failed(RelayFault::RouteFailed);
     let want = [
         (failed, 100, 100),
         (End::Done, 250, 220),
         (End::Done, 300, 0),
     ];
-    assert!(rt;
-        ends_as(
-            &rt,
-            &mut service,
-            &Wide,
-            &[(0, 2), (30, 0), (300, 0)],
-            &want
-        )
-    );
+    ends_as(rt, service, &Wide, &[(0, 2), (30, 0), (300, 0)], &want)
+}
+
+/// Whether a route gets every row where the gate is shut to the other one, of four calls in all.
+fn goes_past_a_shut<R: AllocGlobal + Threads + Wait + Sync>(
+    rt: &R,
+    service: &mut Service<MemStore>,
+) -> bool {
     let gate = Ruled::by(Rule::ShutAtSecond);
     let shut = End::Failed(RelayFault::GateShut);
     let want = [(End::Done, 250, 250), (shut, 100, 100)];
-    assert!(rt; ends_as(&rt, &mut service, &gate, &[(0, 0), (0, 0)], &want));
-    assert!(rt; gate.counted.load(Ordering::SeqCst) == 4);
+    ends_as(rt, service, &gate, &[(0, 0), (0, 0)], &want)
+        && gate.counted.load(Ordering::SeqCst) == 4
 }
 
-// A gate of the test notes what threads tell it.
-#[test]
-fn the_gate_is_told_each_call_of_each_worker(rt: HostRuntime) {
-    let mut service = placed(&rt, 0, 250);
+/// Whether a gate is told of three calls of one worker, and of one of the other.
+fn tells_each_call<R: AllocGlobal + Threads + Wait + Sync>(
+    rt: &R,
+    service: &mut Service<MemStore>,
+) -> bool {
     let gate = Heard {
         first: Calls::none(),
         second: Calls::none(),
         strange: AtomicU64::new(0),
     };
     let want = [(End::Done, 250, 250), (End::Done, 250, 100)];
-    assert!(rt; ends_as(&rt, &mut service, &gate, &[(0, 0), (150, 0)], &want));
-    assert!(rt; gate.has_made(3, 1));
+    ends_as(rt, service, &gate, &[(0, 0), (150, 0)], &want) && gate.has_made(3, 1)
 }
 
-// A fan-out begins threads, which no row does.
-#[test]
-fn marks_without_rows_after_them_are_done(rt: HostRuntime) {
-    let mut empty = create(&rt, 0);
-    let want = [(End::Done, 0, 0), (End::Done, 7, 0)];
-    assert!(rt; ends_as(&rt, &mut empty, &Wide, &[(0, 0), (7, 0)], &want));
-    let mut based = placed(&rt, 5, 1);
+/// Whether marks at and behind the one row of a service with the base 5 are done.
+fn is_done_behind<R: AllocGlobal + Threads + Wait + Sync>(
+    rt: &R,
+    service: &mut Service<MemStore>,
+) -> bool {
     let want = [
         (End::Done, 6, 1),
         (End::Done, 6, 1),
@@ -340,5 +348,94 @@ fn marks_without_rows_after_them_are_done(rt: HostRuntime) {
         (End::Done, 9, 0),
     ];
     let from = [(0, 0), (5, 0), (6, 0), (9, 0)];
-    assert!(rt; ends_as(&rt, &mut based, &Wide, &from, &want));
+    ends_as(rt, service, &Wide, &from, &want)
+}
+
+/// Whether marks of a service without rows are done.
+fn is_done_without<R: AllocGlobal + Threads + Wait + Sync>(
+    rt: &R,
+    service: &mut Service<MemStore>,
+) -> bool {
+    let want = [(End::Done, 0, 0), (End::Done, 7, 0)];
+    ends_as(rt, service, &Wide, &[(0, 0), (7, 0)], &want)
+}
+
+/// What a fan-out is to do.
+#[derive(Clone, Copy)]
+enum Task {
+    GoToBoth,
+    GoTogether,
+    GoPastTheFirst,
+    GoPastOthers,
+    TellEachCall,
+    BeDoneWithout,
+    BeDoneBehind,
+}
+
+/// Whether a fan-out of a service does so.
+fn does<R: AllocGlobal + Threads + Wait + Sync>(
+    rt: &R,
+    service: &mut Service<MemStore>,
+    task: Task,
+) -> bool {
+    match task {
+        Task::GoToBoth => goes_to_both(rt, service, &Wide, 2),
+        Task::GoTogether => goes_to_both(rt, service, &Ruled::by(Rule::Together), 150),
+        Task::GoPastTheFirst => goes_past_the_first(rt, service),
+        Task::GoPastOthers => goes_past_a_failed(rt, service) && goes_past_a_shut(rt, service),
+        Task::TellEachCall => tells_each_call(rt, service),
+        Task::BeDoneWithout => is_done_without(rt, service),
+        Task::BeDoneBehind => is_done_behind(rt, service),
+    }
+}
+
+/// Whether a fan-out of a service with this base and so many placed orders does so. All tests own
+/// their service here, at one end.
+fn is_done<R: AllocGlobal + Threads + Wait + Abort + Sync>(
+    rt: &R,
+    base: u64,
+    count: u64,
+    task: Task,
+) -> bool {
+    let mut service = create(rt, base);
+    stock(rt, &mut service, count);
+    does(rt, &mut service, task)
+}
+
+// A fan-out begins threads, which no row does.
+#[test]
+fn every_row_goes_to_both_routes(rt: HostRuntime) {
+    assert!(rt; is_done(&rt, 0, 2, Task::GoToBoth));
+}
+
+// Its gate holds each of two threads until the other has come.
+#[test]
+fn two_routes_are_sent_to_at_the_same_time(rt: HostRuntime) {
+    assert!(rt; is_done(&rt, 0, 150, Task::GoTogether));
+}
+
+// Its gate holds one thread until the others are done.
+#[test]
+fn no_route_waits_for_another(rt: HostRuntime) {
+    assert!(rt; is_done(&rt, 0, 1_150, Task::GoPastTheFirst));
+}
+
+// A fan-out begins threads; a gate of the test is shut to one, and counts the calls of both.
+#[test]
+fn the_others_go_on_where_one_stops(rt: HostRuntime) {
+    assert!(rt; is_done(&rt, 0, 250, Task::GoPastOthers));
+}
+
+// A gate of the test notes what threads tell it.
+#[test]
+fn the_gate_is_told_each_call_of_each_worker(rt: HostRuntime) {
+    assert!(rt; is_done(&rt, 0, 250, Task::TellEachCall));
+}
+
+// A fan-out begins threads, which no row does.
+#[test]
+fn marks_without_rows_after_them_are_done(rt: HostRuntime) {
+    let is_done_twice = is_done(&rt, 0, 0, Task::BeDoneWithout)
+        && is_done(&rt, 5, 1, Task::BeDoneBehind);
+    assert!(rt; is_done_twice);
 }

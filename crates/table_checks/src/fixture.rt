@@ -2,6 +2,8 @@
 //! can't be had end a test at once: so nothing is let go half-way, which would be dear to prove.
 
 use attributes::{Moment, Sequenced, Text};
+use event_json::read_events;
+use inbox_table::Table;
 use outbox::{OutboxFault, Service};
 use sqlite::{Connection, MemStore};
 use std::process::Abort;
@@ -11,6 +13,28 @@ const MAX: u64 = 9_223_372_036_854_775_807;
 /// A database in memory.
 pub(crate) fn database<R: AllocGlobal + Abort>(rt: &R) -> Connection<MemStore> {
     Connection::open_in_memory(rt.alloc()).expect(rt, "a database")
+}
+
+/// The event of a text.
+pub(crate) fn event<R: AllocGlobal + Abort>(rt: &R, text: &str) -> Sequenced {
+    let Ok(events) = read_events(rt.alloc(), text.as_bytes()) else {
+        panic!(rt; "no event");
+    };
+    let Some(event) = events.into_vec().pop() else {
+        panic!(rt; "no event");
+    };
+    match Sequenced::of(event) {
+        Ok(event) => event,
+        Err(_) => panic!(rt; "no number"),
+    }
+}
+
+/// A new table of a database in memory.
+pub(crate) fn created<R: AllocGlobal + Abort>(rt: &R) -> Table<MemStore> {
+    match Table::create(rt.alloc(), database(rt)) {
+        Ok(table) => table,
+        Err(_) => panic!(rt; "no table"),
+    }
 }
 
 /// The time of all commands.
@@ -40,12 +64,18 @@ fn place(
     service.place(order, at)
 }
 
-/// A service with this base and so many placed orders.
-pub(crate) fn placed<R: AllocGlobal + Abort>(rt: &R, base: u64, count: u64) -> Service<MemStore> {
-    let at = time(rt);
-    let mut service = create(rt, base);
+/// Places so many orders, and answers whether it did.
+fn place_all(service: &mut Service<MemStore>, at: &Moment, count: u64) -> bool {
     for order in 1..=count {
-        assert!(rt; place(&mut service, order, &at).is_ok());
+        if place(service, order, at).is_err() {
+            return false;
+        }
     }
-    service
+    true
+}
+
+/// Places so many orders.
+pub(crate) fn stock<R: AllocGlobal + Abort>(rt: &R, service: &mut Service<MemStore>, count: u64) {
+    let is_placed = place_all(service, &time(rt), count);
+    assert!(rt; is_placed);
 }

@@ -12,6 +12,7 @@ use crate::fixture::{create, time};
 use attributes::{Moment, Sequenced};
 use outbox::{OutboxFault, Service};
 use sqlite::MemStore;
+use std::process::Abort;
 
 /// [`Service::place`], whose effect is promised without a premise.
 fn place(service: &mut Service<MemStore>, order: u64, at: &Moment) -> Result<Sequenced, OutboxFault>
@@ -28,15 +29,18 @@ fn is_placed_once(service: &mut Service<MemStore>, at: &Moment) -> bool {
     if at.as_str().len() > 64 {
         return false;
     }
-    let first = place(service, 7, at);
-    let again = place(service, 7, at);
-    first.is_ok() && matches!(again, Err(OutboxFault::OrderExists))
+    place(service, 7, at).is_ok() && matches!(place(service, 7, at), Err(OutboxFault::OrderExists))
+}
+
+/// Whether the first order of a new service is accepted once.
+fn is_placed_by_one<R: AllocGlobal + Abort>(rt: &R) -> bool {
+    let at = time(rt);
+    let mut service = create(rt, 0);
+    is_placed_once(&mut service, &at)
 }
 
 // It states a contract of its own: that the effect is promised without a premise.
 #[test]
 fn a_service_in_memory_needs_no_premise(rt: HostRuntime) {
-    let mut service = create(&rt, 0);
-    let at = time(&rt);
-    assert!(rt; is_placed_once(&mut service, &at));
+    assert!(rt; is_placed_by_one(&rt));
 }

@@ -1,6 +1,6 @@
 //! What a numberer answers. No row can say it yet: the drivers know events that have a number alone.
 
-use crate::fixture::database;
+use crate::fixture::{created, database, event};
 use attributes::{Batch, Events};
 use event_json::read_events;
 use inbox_table::Table;
@@ -79,25 +79,67 @@ const NUMBERED: &str =
 const LATE: &str =
     r#"{"specversion":"1.0","id":"9","source":"/a","type":"t","sequence":"00000000000000000009"}"#;
 
+/// What a numberer is to do.
+#[derive(Clone, Copy)]
+enum Task {
+    GiveOne,
+    Refuse,
+    GiveFirst,
+    GiveAgain,
+}
+
+/// Whether a numberer gives a text one number among those of its source.
+fn gives_one<R: AllocGlobal + Abort>(rt: &R, numberer: &mut Numberer<MemStore>) -> bool {
+    numbers(rt, numberer, A, &[1])
+        && numbers(rt, numberer, TWO, &[2, 1, 2])
+        && numbers(rt, numberer, SAME_ID, &[3])
+        && numbers(rt, numberer, A, &[1])
+        && numberer.table.rows() == 4
+}
+
+/// Whether a numberer with the base 7 refuses a number, and keeps none.
+fn refuses<R: AllocGlobal + Abort>(rt: &R, numberer: &mut Numberer<MemStore>) -> bool {
+    refused(rt, numberer, NUMBERED) == Some(NumbererFault::HasSequence { index: 1 })
+        && numberer.table.rows() == 0
+        && numbers(rt, numberer, A, &[8])
+}
+
+/// Whether a numberer does so.
+fn does<R: AllocGlobal + Abort>(rt: &R, numberer: &mut Numberer<MemStore>, task: Task) -> bool {
+    match task {
+        Task::GiveOne => gives_one(rt, numberer),
+        Task::Refuse => refuses(rt, numberer),
+        Task::GiveFirst => numbers(rt, numberer, TWO, &[8, 8, 8]),
+        Task::GiveAgain => {
+            numbers(rt, numberer, TWO, &[8, 8, 8]) && numbers(rt, numberer, A, &[9])
+        }
+    }
+}
+
+/// What is left of a database whose numberer with this base does so. All tests own their numberer
+/// here, at one end.
+fn after<R: AllocGlobal + Abort>(
+    rt: &R,
+    conn: Connection<MemStore>,
+    base: u64,
+    task: Task,
+) -> Connection<MemStore> {
+    let mut numberer = opened(rt, conn, base);
+    let is_done = does(rt, &mut numberer, task);
+    assert!(rt; is_done);
+    numberer.table.into_connection()
+}
+
 // Each source has numbers of its own, and one text has one number: in a batch, and ever after.
 #[test]
 fn a_text_has_one_number_among_those_of_its_source(rt: HostRuntime) {
-    let mut numberer = opened(&rt, database(&rt), 0);
-    let first = numbers(&rt, &mut numberer, A, &[1]);
-    let batch = numbers(&rt, &mut numberer, TWO, &[2, 1, 2]);
-    let other = numbers(&rt, &mut numberer, SAME_ID, &[3]);
-    let again = numbers(&rt, &mut numberer, A, &[1]) && numberer.table.rows() == 4;
-    assert!(rt; first && batch && other && again);
+    drop(after(&rt, database(&rt), 0, Task::GiveOne));
 }
 
 // An event that has a number is refused with its index, and nothing of its batch is numbered.
 #[test]
 fn an_event_with_a_number_is_refused(rt: HostRuntime) {
-    let mut numberer = opened(&rt, database(&rt), 7);
-    let fault = refused(&rt, &mut numberer, NUMBERED);
-    let is_none_kept = numberer.table.rows() == 0;
-    let next = numbers(&rt, &mut numberer, A, &[8]);
-    assert!(rt; fault == Some(NumbererFault::HasSequence { index: 1 }) && is_none_kept && next);
+    drop(after(&rt, database(&rt), 7, Task::Refuse));
 }
 
 /// What an opening of the database is refused for.
@@ -115,27 +157,29 @@ fn refusal<R: AllocGlobal + Abort>(
 // A numberer that is opened again gives the numbers that it gave; with another base it is Foreign.
 #[test]
 fn a_numberer_is_opened_again_with_its_base(rt: HostRuntime) {
-    let mut numberer = opened(&rt, database(&rt), 7);
-    let first = numbers(&rt, &mut numberer, TWO, &[8, 8, 8]);
-    let mut again = opened(&rt, numberer.table.into_connection(), 7);
-    let same = numbers(&rt, &mut again, TWO, &[8, 8, 8]) && numbers(&rt, &mut again, A, &[9]);
-    let other = refusal(&rt, again.table.into_connection(), 6);
-    assert!(rt; first && same && other == Some(NumbererFault::Foreign));
+    let first = after(&rt, database(&rt), 7, Task::GiveFirst);
+    let again = after(&rt, first, 7, Task::GiveAgain);
+    assert!(rt; refusal(&rt, again, 6) == Some(NumbererFault::Foreign));
+}
+
+/// The batch of an event whose source has none of the numbers before.
+fn late<R: AllocGlobal + Abort>(rt: &R) -> Batch {
+    let mut batch = Batch::empty(rt.alloc());
+    let is_there = batch.push(event(rt, LATE)).is_ok();
+    assert!(rt; is_there);
+    batch
+}
+
+/// Keeps that event.
+fn keep_late<R: AllocGlobal + Abort>(rt: &R, table: &mut Table<MemStore>) {
+    let is_kept = table.keep(&late(rt)).is_ok();
+    assert!(rt; is_kept);
 }
 
 /// A table with an event whose source has none of the numbers before.
 fn with_gap<R: AllocGlobal + Abort>(rt: &R) -> Connection<MemStore> {
-    let Ok(mut table) = Table::create(rt.alloc(), database(rt)) else {
-        panic!(rt; "no table");
-    };
-    let Some(event) = events(rt, LATE).into_vec().pop() else {
-        panic!(rt; "no event");
-    };
-    let mut batch = Batch::empty(rt.alloc());
-    let Ok(event) = attributes::Sequenced::of(event) else {
-        panic!(rt; "no number");
-    };
-    assert!(rt; batch.push(event).is_ok() && table.keep(&batch).is_ok());
+    let mut table = created(rt);
+    keep_late(rt, &mut table);
     table.into_connection()
 }
 

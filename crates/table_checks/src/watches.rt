@@ -2,9 +2,8 @@
 
 ghost use Rattle.std.specs.Prelude.{⊤};
 
-use crate::fixture::database;
+use crate::fixture::{created, event};
 use attributes::{Batch, Sequenced};
-use event_json::read_events;
 use inbox_table::{Table, Watch};
 use sqlite::MemStore;
 use std::cell::Cell;
@@ -33,40 +32,40 @@ impl Watch for Counted {
     }
 }
 
-/// The event of a text.
-fn event<R: AllocGlobal + Abort>(rt: &R, text: &str) -> Sequenced {
-    let Ok(events) = read_events(rt.alloc(), text.as_bytes()) else {
-        panic!(rt; "no event");
-    };
-    let Some(event) = events.into_vec().pop() else {
-        panic!(rt; "no event");
-    };
-    match Sequenced::of(event) {
-        Ok(event) => event,
-        Err(_) => panic!(rt; "no number"),
-    }
+/// The event of one source with that number.
+fn numbered<R: AllocGlobal + Abort>(rt: &R, number: u64) -> Sequenced {
+    let text = format!(in rt.alloc();
+        r#"{{"id":"{number}","sequence":"{number:020}","source":"/orders","specversion":"1.0","subject":"x","type":"t.a"}}"#
+    );
+    event(rt, text.expect(rt, "memory").as_str())
 }
 
-/// A new table of a database in memory.
-fn created<R: AllocGlobal + Abort>(rt: &R) -> Table<MemStore> {
-    match Table::create(rt.alloc(), database(rt)) {
-        Ok(table) => table,
-        Err(_) => panic!(rt; "no table"),
-    }
-}
-
-/// So many events of one source, by number from 1.
-fn numbered<R: AllocGlobal + Abort>(rt: &R, count: u64) -> Batch {
-    let mut batch = Batch::empty(rt.alloc());
+/// Adds so many events of one source, by number from 1, and answers whether it did.
+fn add_all<R: AllocGlobal + Abort>(rt: &R, batch: &mut Batch, count: u64) -> bool {
     for _ in 0..count {
         let number = batch.len().saturating_add(1);
-        let text = format!(in rt.alloc();
-            r#"{{"id":"{number}","sequence":"{number:020}","source":"/orders","specversion":"1.0","subject":"x","type":"t.a"}}"#
-        );
-        let text = text.expect(rt, "memory");
-        assert!(rt; batch.push(event(rt, text.as_str())).is_ok());
+        if batch.push(numbered(rt, number)).is_err() {
+            return false;
+        }
     }
-    batch
+    true
+}
+
+/// Whether a table keeps so many events under a watch.
+fn keeps<R: AllocGlobal + Abort>(
+    rt: &R,
+    table: &mut Table<MemStore>,
+    watch: &Counted,
+    count: u64,
+) -> bool {
+    let mut events = Batch::empty(rt.alloc());
+    add_all(rt, &mut events, count) && table.keep_watched(&events, watch) == Ok(count)
+}
+
+/// Whether a new table keeps so many events under a watch.
+fn is_kept<R: AllocGlobal + Abort>(rt: &R, watch: &Counted, count: u64) -> bool {
+    let mut table = created(rt);
+    keeps(rt, &mut table, watch, count)
 }
 
 // A watch is a value of the test, which is told while the call goes on.
@@ -77,12 +76,9 @@ fn a_watch_is_told_each_thousand(rt: HostRuntime) {
         second: Cell::new((0, 0)),
         times: Cell::new(0),
     };
-    let mut table = created(&rt);
-    let events = numbered(&rt, 2500);
-    assert!(rt; table.keep_watched(&events, &watch) == Ok(2500));
-    assert!(rt;
-        watch.first.get() == (1000, 2500)
-            && watch.second.get() == (2000, 2500)
-            && watch.times.get() == 2
-    );
+    let is_told = is_kept(&rt, &watch, 2500)
+        && watch.first.get() == (1000, 2500)
+        && watch.second.get() == (2000, 2500)
+        && watch.times.get() == 2;
+    assert!(rt; is_told);
 }
