@@ -29,7 +29,9 @@ struct publisher {
 
 static int port;
 static unsigned batch;
-static double until;
+static double began, until;
+// All publishers are connected, and the time begins.
+static pthread_barrier_t connected, begun;
 
 static double now(void) {
     struct timespec at;
@@ -111,7 +113,9 @@ static void *publish(void *given) {
     if (!is_confirmed) {
         end("out of memory");
     }
-    for (double began = now(); began < until; began = now()) {
+    pthread_barrier_wait(&connected);
+    pthread_barrier_wait(&begun);
+    for (double start = now(); start < until; start = now()) {
         for (unsigned at = 0; at < batch; at++) {
             char event[512];
             number++;
@@ -143,7 +147,7 @@ static void *publish(void *given) {
                 end("out of memory");
             }
         }
-        self->times[self->batches++] = (now() - began) * 1000;
+        self->times[self->batches++] = (now() - start) * 1000;
     }
     amqp_destroy_connection(connection);
     return NULL;
@@ -163,14 +167,18 @@ int main(int count, char **words) {
     batch = (unsigned)atoi(words[3]);
     declare_queue();
     struct publisher *publishers = calloc(connections, sizeof *publishers);
-    double began = now();
-    until = began + atof(words[4]);
+    pthread_barrier_init(&connected, NULL, (unsigned)connections + 1);
+    pthread_barrier_init(&begun, NULL, (unsigned)connections + 1);
     for (size_t i = 0; publishers && i < connections; i++) {
         publishers[i].id = (unsigned)i;
         if (pthread_create(&publishers[i].thread, NULL, publish, &publishers[i])) {
             end("no thread");
         }
     }
+    pthread_barrier_wait(&connected);
+    began = now();
+    until = began + atof(words[4]);
+    pthread_barrier_wait(&begun);
     for (size_t i = 0; publishers && i < connections; i++) {
         pthread_join(publishers[i].thread, NULL);
         all += publishers[i].batches;

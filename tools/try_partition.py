@@ -4,13 +4,14 @@
     tools/try_partition.py [--program FILE] [--regions N] [--seconds N] [--seed N] [--rate N] [--events N]
 
 By default it is 3 regions for 60 seconds, with 270 events a second each. Writers give events to each region, and note
-what was acknowledged, while regions are cut off, cut off one way, slowed down, made to lose packets, stopped and killed.
-Behind it all regions have to come to the same summary, which has each event that was acknowledged, and none that nobody
-gave. Some sources are written by two regions, so that there are conflicts. With --events a source has at most so many,
-which are then given again, so that the regions stop growing. Each second memory and descriptors of each
-region are looked at, and how they grow is told: by the events, in the last half beside the first one, and what is left of
-both at rest. It wants `ip`, `tc`, curl and namespaces, and the built service: what isn't there is told, and nothing is
-tried. The last line is 'N of M tries of regions that part were right'.
+what was acknowledged, while regions are cut off, cut off one way, slowed down, made to lose packets, stopped and
+killed. Behind it all regions have to come to the same summary, which has each event that was acknowledged, and none
+that nobody gave. Some sources are written by two regions, so that there are conflicts. With --events a source has at
+most so many, which are then given again, so that the regions stop growing. Each second memory and descriptors of each
+region are looked at, and how they grow is told: by the events, in the last half beside the first one, and what is left
+of both at rest; and how many events were acknowledged a second in each region, repeated ones too. It wants `ip`, `tc`,
+curl and namespaces, and the built service: what isn't there is told, and nothing is tried. The last line is 'N of M
+tries of regions that part were right'.
 """
 import argparse
 import contextlib
@@ -61,7 +62,7 @@ def write(address: str, source: str, batch: int, rate: float, most: int, region:
     is_over: list[int] = []
     signal.signal(signal.SIGTERM, lambda *_: is_over.append(True))
     connection: Optional[http.client.HTTPConnection] = None
-    number, due, is_first = 0, time.monotonic(), True
+    number, due, is_first, given = 0, time.monotonic(), True, 0
     with open(file, "w", encoding="utf-8") as out:
         while not is_over:
             events = [
@@ -83,10 +84,13 @@ def write(address: str, source: str, batch: int, rate: float, most: int, region:
                 if is_first:
                     out.writelines(f"{source} {it['id']} {region}\n" for it in events)
                     out.flush()
+                given += batch
                 number, due = number + batch, max(due + batch / rate, time.monotonic() - 1)
                 if number >= most:
                     number, is_first = 0, False
             time.sleep(max(0.0, due - time.monotonic()))
+    with open(f"{file}.given", "w", encoding="ascii") as out:
+        out.write(str(given))
 
 
 class Region:
@@ -295,23 +299,25 @@ def main() -> int:
         net.make()
         for it in net.regions:
             it.start()
-        writers: list[tuple[subprocess.Popen[bytes], str]] = []
+        writers: list[tuple[subprocess.Popen[bytes], str, str]] = []
         for it in net.regions:
             share = given.rate / 270
             for source, batch, rate in ((f"/{it.name}/single", 1, 60 * share), (f"/{it.name}/batch", 10, 200 * share), ("/shared", 1, 10)):
                 file = f"{folder}/acked.{len(writers)}"
                 told = [sys.executable, os.path.realpath(__file__), "--write", it.address, source, str(batch), str(rate), str(given.events)]
                 told += [it.name, file]
-                writers.append((it.started(*told), file))
+                writers.append((it.started(*told), file, it.name))
         watch = Watch(net.regions)
         watch.start()
-        until = time.monotonic() + given.seconds
+        started = time.monotonic()
+        until = started + given.seconds
         while time.monotonic() < until:
             what = trouble(dice.choice(net.regions), dice)
             did[what] = did.get(what, 0) + 1
-        for ran, _ in writers:
+        for ran, _, _ in writers:
             ran.terminate()
-        for ran, _ in writers:
+        gave = time.monotonic() - started
+        for ran, _, _ in writers:
             ran.wait(30)
         watch.is_over.set()
         watch.join()
@@ -325,10 +331,13 @@ def main() -> int:
         answers.append(net.until(same, 60, "all summaries are the same"))
         took = time.monotonic() - began
         acked: set[tuple[str, ...]] = set()
-        for _, file in writers:
-            with open(file, encoding="utf-8") as lines:
+        rates: dict[str, int] = {}
+        for _, file, name in writers:
+            with open(file, encoding="utf-8") as lines, open(f"{file}.given", encoding="ascii") as count:
                 acked |= {tuple(it.split()) for it in lines}
+                rates[name] = rates.get(name, 0) + int(count.read())
         for it in net.regions:
+            print(f"{it.name}: {rates[it.name] / gave:.0f} events a second were acknowledged, of {given.rate} asked for")
             has = it.events()
             answers.append(acked <= has)
             # What was given and whose answer was lost may be there: of each source the event, or the batch, behind the last.
