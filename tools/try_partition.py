@@ -1,17 +1,17 @@
 #!/usr/bin/env python3
 """Tries regions of jumbetaid that lose one another: each in a network namespace of its own, as root.
 
-    tools/try_partition.py [--program FILE] [--regions N] [--seconds N] [--seed N] [--rate N] [--events N]
+    tools/try_partition.py [--program FILE] [--regions N] [--seconds N] [--seed N] [--rate N] [--events N] [--without WHAT..]
 
 By default it is 3 regions for 60 seconds, with 270 events a second each. Writers give events to each region, and note
 what was acknowledged, while regions are cut off, cut off one way, slowed down, made to lose packets, stopped and
 killed. Behind it all regions have to come to the same summary, which has each event that was acknowledged, and none
 that nobody gave. Some sources are written by two regions, so that there are conflicts. With --events a source has at
-most so many, which are then given again, so that the regions stop growing. Each second memory and descriptors of each
-region are looked at, and how they grow is told: by the events, in the last half beside the first one, and what is left
-of both at rest; and how many events were acknowledged a second in each region, repeated ones too. It wants `ip`, `tc`,
-curl and namespaces, and the built service: what isn't there is told, and nothing is tried. The last line is 'N of M
-tries of regions that part were right'.
+most so many, which are then given again, so that the regions stop growing; --without leaves out some kinds of trouble.
+Each second memory and descriptors of each region are looked at, and how they grow is told: by the events, in the last
+half beside the first one, by the hour once no event is new, and what is left of both at rest; and how many events were
+acknowledged a second in each region, repeated ones too. It wants `ip`, `tc`, curl and namespaces, and the built
+service: what isn't there is told, and nothing is tried. The last line is 'N of M tries of regions that part were right'.
 """
 import argparse
 import contextlib
@@ -34,6 +34,7 @@ TOP = os.path.dirname(os.path.dirname(os.path.realpath(__file__)))
 PORT = 8087
 # The process of a region, its events, its memory in KiB, and its descriptors.
 Row = tuple[int, int, int, int]
+TROUBLES = ("cut", "cut one way", "kill", "hang", "slow", "loss", "rest")
 QUESTIONS = ("cover", "gaps", "shown", "latest", "kinds", "days", "conflicts")
 SETTINGS = """name = "{name}"
 db = "{folder}/{name}.db"
@@ -204,6 +205,19 @@ def slope(rows: list[Row]) -> float:
     return above / below if below else 0.0
 
 
+def stands_still(name: str, rows: list[Row]) -> bool:
+    """Says how a region's memory went while it lived and no event was new; false where it grew."""
+    at_rest = [it[2] for it in rows if it[:2] == rows[-1][:2]]
+    third = len(at_rest) // 3
+    # Less than some minutes tell nothing.
+    if third < 100:
+        return True
+    first, last = (sum(it) / third for it in (at_rest[:third], at_rest[-third:]))
+    hourly = (last - first) / (len(at_rest) - third) * 3600 / 1024
+    print(f"{name}, {len(at_rest)} s without a new event: {first / 1024:.1f} MiB in the first third, {last / 1024:.1f} in the last, {hourly:+.1f} MiB an hour")
+    return last <= first * 1.02 + 4096
+
+
 class Watch(threading.Thread):
     """Looks each second how much memory and how many descriptors each region has, and how many events."""
 
@@ -233,13 +247,13 @@ class Watch(threading.Thread):
             print(f"{name}, {len(last)} s since its last start: {told}; descriptors at most {descriptors[0]}, then {descriptors[1]}")
             print(f"{name}, {len(rows)} s in {len({it[0] for it in rows})} starts: {slope(rows):.0f} bytes more for an event more")
             # A connection or two more is no leak.
-            is_right = is_right and descriptors[1] <= descriptors[0] + 8
+            is_right = is_right and stands_still(name, last) and descriptors[1] <= descriptors[0] + 8
         return is_right
 
 
-def trouble(region: Region, dice: random.Random) -> str:
-    """Something that happens to a region, for some seconds; answers what."""
-    what = dice.choice(["cut", "cut one way", "kill", "hang", "slow", "loss", "rest"])
+def trouble(region: Region, dice: random.Random, kinds: list[str]) -> str:
+    """Something of these kinds that happens to a region, for some seconds; answers what."""
+    what = dice.choice(kinds)
     seconds = dice.uniform(1, 4)
     if what == "kill":
         region.ran.send_signal(signal.SIGKILL)
@@ -284,7 +298,9 @@ def main() -> int:
     words.add_argument("--seed", type=int, default=1)
     words.add_argument("--rate", type=int, default=270, help="events a second in each region")
     words.add_argument("--events", type=int, default=1 << 40, help="how many events a source has at most")
+    words.add_argument("--without", nargs="+", choices=TROUBLES, default=[], metavar="WHAT", help=f"of {', '.join(TROUBLES)}")
     given = words.parse_args()
+    kinds = [it for it in TROUBLES if it not in given.without] or ["rest"]
     why = lacks(given.program)
     if why:
         print(f"skipped: regions that part, since {why}\n0 of 0 tries of regions that part were right")
@@ -312,7 +328,7 @@ def main() -> int:
         started = time.monotonic()
         until = started + given.seconds
         while time.monotonic() < until:
-            what = trouble(dice.choice(net.regions), dice)
+            what = trouble(dice.choice(net.regions), dice, kinds)
             did[what] = did.get(what, 0) + 1
         for ran, _, _ in writers:
             ran.terminate()

@@ -39,10 +39,13 @@ CREATE OR REPLACE FUNCTION jumbetai.publish(
 DECLARE
   own text := coalesce(id, gen_random_uuid()::text);
   words text := source || type || own || coalesce(subject, '');
-  -- Line ends stand between tokens alone: an event is one line.
-  given text := translate(data::text, E'\n\r', '  ');
+  given text := data::text;
   made text;
 BEGIN
+  -- Line ends stand between tokens alone: an event is one line.
+  IF strpos(given, E'\n') > 0 OR strpos(given, E'\r') > 0 THEN
+    given := translate(given, E'\n\r', '  ');
+  END IF;
   IF words IS NULL OR source = '' OR type = '' OR own = '' OR subject = '' THEN
     RAISE EXCEPTION 'source, type, id and subject have at least one character' USING ERRCODE = '22023';
   ELSIF words ~ '[\x01-\x1f\x7f-\x9f]' THEN
@@ -56,9 +59,9 @@ BEGIN
     -- Refuses escapes that are no characters, which a json may have.
     PERFORM given::jsonb;
   END IF;
-  made := '{"specversion":"1.0","id":' || to_json(own) || ',"source":' || to_json(source) || ',"type":' || to_json(type)
-    || coalesce(',"subject":' || to_json(subject), '') || coalesce(',"time":"' || to_char("time" AT TIME ZONE 'UTC', 'YYYY-MM-DD"T"HH24:MI:SS.US"Z"'), '')
-    || CASE WHEN "time" IS NULL THEN '' ELSE '"' END || coalesce(',"datacontenttype":"application/json","data":' || given, '');
+  -- concat passes over what is null.
+  made := concat('{"specversion":"1.0","id":', to_json(own), ',"source":', to_json(source), ',"type":', to_json(type), ',"subject":' || to_json(subject),
+    ',"time":"' || to_char("time" AT TIME ZONE 'UTC', 'YYYY-MM-DD"T"HH24:MI:SS.US"Z"') || '"', ',"datacontenttype":"application/json","data":' || given);
   IF extensions IS NOT NULL THEN
     IF EXISTS (SELECT FROM jsonb_each(extensions) AS it WHERE it.key !~ '^[a-z0-9]{1,20}$' OR jsonb_typeof(it.value) <> 'string'
         OR it.key IN ('specversion', 'id', 'source', 'type', 'subject', 'time', 'sequence', 'data', 'datacontenttype', 'dataschema')) THEN
