@@ -1,13 +1,13 @@
 #!/usr/bin/env python3
 """Tries regions of jumbetaid that lose one another: each in a network namespace of its own, as root.
 
-    tools/try_partition.py [--program FILE] [--regions N] [--seconds N] [--seed N] [--rate N] [--events N] [--without WHAT..]
+    tools/try_partition.py [--program FILE] [--regions N] [--seconds N] [--seed N] [--rate N] [--events N] [--spare N]
 
 By default it is 3 regions for 60 seconds, with 270 events a second each. Writers give events to each region, and note
 what was acknowledged, while regions are cut off, cut off one way, slowed down, made to lose packets, stopped and
 killed. Behind it all regions have to come to the same summary, which has each event that was acknowledged, and none
 that nobody gave. Some sources are written by two regions, so that there are conflicts. With --events a source has at
-most so many, which are then given again, so that the regions stop growing; --without leaves out some kinds of trouble.
+most so many, which are then given again, so that the regions stop growing; with --spare the last N regions aren't killed.
 Each second memory and descriptors of each region are looked at, and how they grow is told: by the events, in the last
 half beside the first one, by the hour once no event is new, and what is left of both at rest; and how many events were
 acknowledged a second in each region, repeated ones too. It wants `ip`, `tc`, curl and namespaces, and the built
@@ -251,9 +251,9 @@ class Watch(threading.Thread):
         return is_right
 
 
-def trouble(region: Region, dice: random.Random, kinds: list[str]) -> str:
-    """Something of these kinds that happens to a region, for some seconds; answers what."""
-    what = dice.choice(kinds)
+def trouble(region: Region, dice: random.Random, is_spared: bool) -> str:
+    """Something that happens to a region, for some seconds; answers what."""
+    what = dice.choice([it for it in TROUBLES if it != "kill" or not is_spared])
     seconds = dice.uniform(1, 4)
     if what == "kill":
         region.ran.send_signal(signal.SIGKILL)
@@ -298,9 +298,8 @@ def main() -> int:
     words.add_argument("--seed", type=int, default=1)
     words.add_argument("--rate", type=int, default=270, help="events a second in each region")
     words.add_argument("--events", type=int, default=1 << 40, help="how many events a source has at most")
-    words.add_argument("--without", nargs="+", choices=TROUBLES, default=[], metavar="WHAT", help=f"of {', '.join(TROUBLES)}")
+    words.add_argument("--spare", type=int, default=0, help="how many regions aren't killed")
     given = words.parse_args()
-    kinds = [it for it in TROUBLES if it not in given.without] or ["rest"]
     why = lacks(given.program)
     if why:
         print(f"skipped: regions that part, since {why}\n0 of 0 tries of regions that part were right")
@@ -328,7 +327,8 @@ def main() -> int:
         started = time.monotonic()
         until = started + given.seconds
         while time.monotonic() < until:
-            what = trouble(dice.choice(net.regions), dice, kinds)
+            region = dice.choice(net.regions)
+            what = trouble(region, dice, region in net.regions[given.regions - given.spare :])
             did[what] = did.get(what, 0) + 1
         for ran, _, _ in writers:
             ran.terminate()
