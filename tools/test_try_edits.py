@@ -85,6 +85,55 @@ BESIDE = {
     "a caller that is right": ("least_of", "third", "least(first, last)", "least(last, first)", False, "LET THROUGH"),
     "one that doesn't compile either": ("least_of", "third", "least(first, last)", "fourth", False, "ERROR: the edit did"),
 }
+# `least` isn't tried, so it has no body here.
+HOLLOW = {
+    "a caller's wrong body over one without": ("least_of", "third", "least(first, last)", "last", False, "REFUSED ELSEWHERE, not at third"),
+    "another caller's": ("least_of", "first", "least(first, last)", "last", True, "refused at returns-clause-first"),
+    "a caller's that is right over one without": ("least_of", "first", "least(first, last)", "least(last, first)", False, "LET THROUGH"),
+}
+# Which bodies are taken away: of a law its proof alone, and none of a trait's, a circle's, a constant or of what stays.
+BODIES = """pub const fn zero() -> u8 {
+    0
+}
+
+pub trait Least {
+    fn least(&self) -> u8
+        ensures { result ≤ 0 };
+}
+
+impl Least for Pair<u8> {
+    fn least(&self) -> u8 {
+        0
+    }
+}
+
+impl<T: Copy> Pair<T> {
+    pub fn first(&self) -> T
+        ensures first { IfOk result (λ r. r ≡ 1 → {
+            ⊤ }) }
+    {
+        self.first
+    }
+
+    pub fn second(&self) -> T {
+        self.second
+    }
+}
+
+#[cycle(parity)]
+pub fn is_even(n: u8) -> bool {
+    n == 0 || is_odd(n - 1)
+}
+
+pub fn law()
+    ensures { ⊤ }
+{}
+
+pub fn stays() -> u8 {
+    zero()
+}
+"""
+HOLLOWED = {"first": "self.first", "second": "self.second"}
 
 
 def written(room: str, row: Row) -> str:
@@ -321,6 +370,24 @@ def told_of_copies(folder: str) -> Iterator[tuple[bool, str]]:
     yield not try_edits.is_faithful("small", "inner::least_edit1", ["fn small::least_edit1: proved"]), "wrong: a copy elsewhere"
 
 
+def told_of_bodies(folder: str) -> Iterator[tuple[bool, str]]:
+    """Which functions of a copy lose their bodies, and have a file in place of their proofs."""
+    room, wanted = f"{folder}/bodies", BODIES
+    os.makedirs(f"{room}/src/outer")
+    os.makedirs(f"{room}/proofs/outer/inner/Pair/first")
+    with open(f"{room}/proofs/outer/inner/Pair/first/Answers.antt", "w", encoding="utf-8") as it:
+        it.write(ANSWERS)
+    with open(f"{room}/src/outer/inner.rt", "w", encoding="utf-8") as it:
+        it.write(BODIES)
+    try_edits.hollow(room, {"inner::stays"})
+    for body in HOLLOWED.values():
+        wanted = wanted.replace(f"        {body}\n", "        loop {}\n")
+    text = try_edits.text_of(room, "src/outer/inner.rt")
+    yield text == wanted, f"wrong: bodies taken away: {text}"
+    found = sorted(os.path.relpath(f"{at}/{it}", f"{room}/proofs/outer/inner") for at, _, files in os.walk(f"{room}/proofs") for it in files)
+    yield found == ["Pair/first/Proof.antt", "Pair/second/Proof.antt", "law/Proof.antt"], f"wrong: proofs taken away: {found}"
+
+
 def main() -> int:
     with tempfile.TemporaryDirectory(prefix="edits-tried-") as room:
         os.makedirs(f"{room}/crates/small/src")
@@ -335,9 +402,9 @@ def main() -> int:
         build.TOP = room
         setattr(try_edits, "TOP", room)
         answers = [tried(room, row) for row in ROWS.items()] + [told_of_tables(room)]
-        for rows in (TOGETHER, BESIDE):
+        for rows in (TOGETHER, BESIDE, HOLLOW):
             answers += tried_together(room, rows)
-        answers += [*told_of_kept(room), *told_of_bad(room), *told_of_copies(room)]
+        answers += [*told_of_kept(room), *told_of_bad(room), *told_of_copies(room), *told_of_bodies(room)]
     for is_right, text in answers:
         if not is_right:
             print(text)

@@ -8,9 +8,10 @@ which ('ensures' for a contract of one clause without a name), or another goal b
 ('CALL-requires' of what a call asks, 'invariant_of-result'); and then 'file: src/..', 'old: TEXT' (once in that file)
 and 'new: TEXT', a line each. It is applied to a copy of the crate, and that one function is checked with what it calls, over the
 libraries as they are built. Crates are tried side by side, all edits of a crate in one check: a proof rests on what a
-function calls by its contract alone. The second edit of a function is made to a copy of it, under another name and
-with a copy of its folder of proofs; one copy more stays as it was and has to be proved, or nothing is said of the
-copies. What such a check doesn't show refused at its clause is tried alone. An edit that proves is let through; one
+function calls by its contract alone, so the other functions get an empty loop for a body there, and aren't proved. The
+second edit of a function is made to a copy of it, under another name and with a copy of its folder of proofs; one copy
+more stays as it was, and each of its goals has to be met, or nothing is said of the copies. What such a check doesn't
+show refused at its clause is tried alone, with all bodies. An edit that proves is let through; one
 that doesn't read or compile, whose old line isn't there once, or that takes away a name that the proof uses, is an
 error; one that is refused at other clauses alone is told with those. Each of these fails, and so does a README.md
 beside the edits whose table doesn't name just these. The last line is 'N passed, M failed'.
@@ -290,8 +291,61 @@ def placed(room: str, edits: Sequence[Given], has_copies: bool) -> tuple[list[Pl
     return [*here.values(), *made], left
 
 
+def body_at(lines: list[str], start: int) -> Optional[tuple[int, int]]:
+    """Which lines are the body of a function whose head begins at a line; of an empty one on one line none. None where it
+    isn't laid out so."""
+    indent = lines[start][: len(lines[start]) - len(lines[start].lstrip())]
+    has_clauses = False
+    for at in range(start, len(lines)):
+        has_clauses = has_clauses or re.match(r"\s*(ensures|requires|ghost)\b", lines[at]) is not None
+        if lines[at] == f"{indent}{{}}":
+            return (at, at)
+        if lines[at] == f"{indent}{{" or not has_clauses and lines[at].endswith("{"):
+            end = next((it for it in range(at, len(lines)) if lines[it] == f"{indent}}}"), None)
+            return (at + 1, end) if end is not None else None
+        if not has_clauses and lines[at].endswith(("}", ";")):
+            return None
+    return None
+
+
+def hollow(room: str, stay: set[str]) -> None:
+    """Takes the bodies of a copy's functions away, but for those of traits and of circles of calls and those that stay, each
+    by the end of its path; each gets a file in place of its proof, so that whoever calls it is checked by its contract.
+    Its own proof is then refused at once."""
+    for at, _, files in os.walk(f"{room}/src"):
+        for file in files:
+            path = os.path.relpath(f"{at}/{file}", f"{room}/src").removesuffix(".rt").split(os.sep)
+            module = [] if path == ["lib"] or path == ["main"] else path
+            lines = text_of(f"{at}", file).split("\n")
+            inside: list[str] = []
+            is_of_trait, line = False, 0
+            while line < len(lines):
+                text = lines[line]
+                if found := re.match(r"(?:unsafe )?impl\b(?:<.*?>)? (?:.* for )?(\w+)", text):
+                    inside, is_of_trait = [found[1]], OF_TRAIT.match(text) is not None
+                elif OF_TRAIT.match(text):
+                    is_of_trait = True
+                elif text == "}":
+                    inside, is_of_trait = [], False
+                head = re.match(rf"{FUNCTION}(\w+)", text)
+                can_lose = not is_of_trait and " const fn " not in f" {text}" and not IN_CYCLE.search("\n".join(lines[max(0, line - 2) : line]))
+                body = body_at(lines, line) if head and can_lose else None
+                if head and body:
+                    name = [*module, *(inside if head[1] else []), head[2]]
+                    if not any(f"::{'::'.join(name)}".endswith(f"::{it}") for it in stay):
+                        lines[slice(*body)] = [f"{head[1]}    loop {{}}"] * (body[0] < body[1])
+                        folder = "/".join([room, "proofs", *name])
+                        shutil.rmtree(folder, ignore_errors=True)
+                        os.makedirs(folder)
+                        with open(f"{folder}/Proof.antt", "w", encoding="ascii") as it:
+                            it.write("-- this function isn't tried\n")
+                line += 1
+            with open(f"{at}/{file}", "w", encoding="utf-8") as it:
+                it.write("\n".join(lines))
+
+
 def checked(
-    crates: Crates, name: str, edits: Sequence[Given], folders: dict[str, str], kept: str, has_copies: bool = False
+    crates: Crates, name: str, edits: Sequence[Given], folders: dict[str, str], kept: str, has_copies: bool = False, is_hollow: bool = False
 ) -> tuple[int, list[str], float, list[tuple[Placed, Goals]], list[Given]]:
     """Checks the edits' functions over a copy of the crate with as many of these edits as go into one. Answers the status,
     the lines that the check said, the processor seconds, each edit that was made with its refused goals, and the edits
@@ -301,6 +355,8 @@ def checked(
             if os.path.isdir(f"{TOP}/crates/{name}/{part}"):
                 shutil.copytree(f"{TOP}/crates/{name}/{part}", f"{room}/{part}")
         made, left = placed(room, edits, has_copies)
+        if is_hollow:
+            hollow(room, {it.path for it in made} | {it.control for it in made})
         how: dict[str, Any] = {"cwd": room, "stdin": subprocess.DEVNULL, "stdout": subprocess.PIPE, "stderr": subprocess.STDOUT}
         words = ["rattle", "check", *words_of(crates, name, folders, kit()), "--jobs", "1", "--incremental", kept]
         for only in dict.fromkeys([*(it.path for it in made), *(it.control for it in made if it.control)]):
@@ -332,20 +388,20 @@ def tried(crates: Crates, file: str, folders: dict[str, str], kept: str) -> tupl
 
 
 def tried_of(crates: Crates, files: list[str], folders: dict[str, str]) -> list[tuple[str, bool, str, float]]:
-    """What came of a crate's edits. All are tried in one check, as far as they go into one; where that isn't read, once
-    more without copies; and what isn't shown refused at its clause is tried alone."""
+    """What came of a crate's edits. All are tried in one check, as far as they go into one, without other bodies; where that
+    isn't read, once more with them, and without copies; and what isn't shown refused at its clause is tried alone."""
     found, edits = {}, []
     for file in files:
         with contextlib.suppress(BadEdit, OSError):
             edits.append((file, read_edit(file)))
     with tempfile.TemporaryDirectory(prefix="edits-kept-") as kept:
         has_further = len({only for _, (only, _, _) in edits}) < len(edits)
-        for has_copies in (True, False) if has_further else (False,):
+        for has_copies, is_hollow in ((has_further, True), (has_further, False), *([(False, False)] * has_further)):
             todo = [(file, edit) for file, edit in edits if file not in found]
             while len(todo) > 1:
                 try:
                     name = todo[0][0].split(os.sep)[-3]
-                    status, lines, seconds, goals, left = checked(crates, name, todo, folders, kept, has_copies)
+                    status, lines, seconds, goals, left = checked(crates, name, todo, folders, kept, has_copies, is_hollow)
                 except (BadEdit, OSError):
                     break
                 if asked_and_proved(status, lines) is None:
