@@ -3,11 +3,12 @@ ghost use Rattle.std.specs.Prelude.{IfSome};
 ghost use Rattle.parts.specs.Part.{IsCount};
 
 use attributes::{Batch, Sequenced, Text};
-use parts::{CombineFault, combine_covers, is_count, part_of};
+use parts::{CombineFault, combine_covers, combine_events, is_count, part_of};
 use rows::events::fill;
 use rows::said::{events, number};
 use rows::shelf::Shelf;
 use std::alloc::{AllocError, Global};
+use views::Query;
 
 /// A count of parts, where a region may have so many.
 fn count_of(word: &str) -> Option<u64>
@@ -73,11 +74,11 @@ fn ended_all(alloc: Global, texts: &[&str]) -> Result<Vec<String>, AllocError> {
     Ok(lines)
 }
 
-/// The bytes of texts.
-fn bytes_of<'a>(alloc: Global, texts: &'a [String]) -> Result<Vec<&'a [u8]>, AllocError> {
+/// Texts, lent.
+fn lent<'a>(alloc: Global, texts: &'a [String]) -> Result<Vec<&'a str>, AllocError> {
     let mut all = Vec::with_capacity(alloc, texts.len())?;
     for text in texts {
-        all.push(text.as_bytes())?;
+        all.push(text.as_str())?;
     }
     Ok(all)
 }
@@ -92,12 +93,53 @@ fn add_combined(combined: Result<Text, CombineFault>, out: &mut String) -> bool 
 }
 
 /// `combine TEXT..`: the cover of the whole, from those of its parts, each without its end of line.
-pub fn combine(alloc: Global, words: &[&str], out: &mut String) -> bool {
+pub fn covers(alloc: Global, words: &[&str], out: &mut String) -> bool {
     let Ok(lines) = ended_all(alloc, words) else {
         return false;
     };
-    match bytes_of(alloc, lines.as_slice()) {
+    match lent(alloc, lines.as_slice()) {
         Ok(covers) => add_combined(combine_covers(alloc, covers.as_slice()), out),
+        Err(_) => false,
+    }
+}
+
+/// The texts of parts, between which a `/` stands, each word a line.
+fn texts_of(alloc: Global, words: &[&str]) -> Result<Vec<String>, AllocError> {
+    let mut texts = Vec::new(alloc);
+    let mut text = String::new(alloc);
+    for word in words {
+        if *word == "/" {
+            texts.push(text)?;
+            text = String::new(alloc);
+        } else {
+            text.push_str(word)?;
+            text.push('\n')?;
+        }
+    }
+    texts.push(text)?;
+    Ok(texts)
+}
+
+/// Adds the answer to a question about events over the whole.
+fn add_whole(alloc: Global, word: &str, answers: &[&str], out: &mut String) -> bool {
+    match word {
+        "shown" => add_combined(combine_events(alloc, Query::Shown, answers), out),
+        "latest" => add_combined(combine_events(alloc, Query::Latest, answers), out),
+        _ => false,
+    }
+}
+
+/// `whole QUESTION LINE.. / LINE..`: the answer over the whole, from those of its parts, between
+/// which a `/` stands.
+pub fn whole(alloc: Global, words: &[&str], out: &mut String) -> bool {
+    let [word, words @ ..] = words else {
+        return false;
+    };
+    let Ok(texts) = texts_of(alloc, words) else {
+        return false;
+    };
+    match lent(alloc, texts.as_slice()) {
+        Ok(answers) => add_whole(alloc, word, answers.as_slice(), out),
         Err(_) => false,
     }
 }

@@ -10,3 +10,8 @@ mod TakeLemmas
 mod DivisionLemmas
 mod CoverLemmas
 mod WholeLemmas
+mod LineLemmas
+mod AgainLemmas
+mod ToldLemmas
+mod CountLemmas
+mod PartReadLemmas

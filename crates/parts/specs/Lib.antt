@@ -2,3 +2,6 @@ pub mod Part
 pub mod Merge
 pub mod Law
 pub mod Combined
+pub mod Lines
+pub mod Counts
+pub mod Told

@@ -17,12 +17,12 @@ use views::laws::answers_are_alike;
 use views::{Answer, print};
 
 /// The summary that a text answers `cover` with, where it is such an answer.
-fn read_cover(alloc: Global, text: &[u8]) -> Result<Option<Summary>, CombineFault>
+fn read_cover(alloc: Global, text: &str) -> Result<Option<Summary>, CombineFault>
     ensures some { IfOk result (λ o. IfSome o (λ s. IsFirst s × (text.now ≡ cover_line s))) }
     ensures none { IfOk result (λ o. IfNone o (IsNoCover text.now)) }
     ensures err { OnErr result (result ≡ Err CombineFault.OutOfMemory) }
 {
-    let Some((last, words)) = text.split_last() else {
+    let Some((last, words)) = text.as_bytes().split_last() else {
         return Ok(None);
     };
     if *last != b'\n' {
@@ -42,7 +42,7 @@ fn read_cover(alloc: Global, text: &[u8]) -> Result<Option<Summary>, CombineFaul
 }
 
 /// The summaries that texts answer `cover` with.
-pub(crate) fn read_covers(alloc: Global, covers: &[&[u8]]) -> Result<Vec<Summary>, CombineFault>
+pub(crate) fn read_covers(alloc: Global, covers: &[&str]) -> Result<Vec<Summary>, CombineFault>
     ensures read { IfOk result (λ v. AreCovers (map (λ t. t.now) covers.now) v.items) }
     ensures refused { IfErr result (Refuses (map (λ t. t.now) covers.now)) }
 {
@@ -112,7 +112,7 @@ fn check_part(alloc: Global, summaries: &[Summary], second: u64) -> Result<(), C
 }
 
 /// Whether no source has numbers in two parts; else the first overlap.
-fn check_apart(alloc: Global, summaries: &[Summary]) -> Result<(), CombineFault>
+pub(crate) fn check_apart(alloc: Global, summaries: &[Summary]) -> Result<(), CombineFault>
     ensures apart { OnOk result (AreApart summaries.now) }
     ensures refused { IfErr result (RefusesRead summaries.now) }
 {
@@ -123,7 +123,7 @@ fn check_apart(alloc: Global, summaries: &[Summary]) -> Result<(), CombineFault>
 }
 
 /// What all of the summaries hold, as one of version 1.
-fn unite(alloc: Global, summaries: &[Summary]) -> Result<Summary, AllocError>
+pub(crate) fn unite(alloc: Global, summaries: &[Summary]) -> Result<Summary, AllocError>
     ensures first { IfOk result (λ all. IsFirst all) }
     ensures united { IfOk result (IsUnited summaries.now) }
 {
@@ -136,7 +136,7 @@ fn unite(alloc: Global, summaries: &[Summary]) -> Result<Summary, AllocError>
 }
 
 /// `combine_covers`, without what is told of the parts of a set in error.
-fn unite_texts(alloc: Global, covers: &[&[u8]]) -> Result<Text, CombineFault>
+fn unite_texts(alloc: Global, covers: &[&str]) -> Result<Text, CombineFault>
     ensures combined { (p : List ℕ → ℕ) (E : List EventValue)
         → AreAnswers query.Cover p E (map (λ t. t.now) covers.now)
         → IfOk result (IsAnswer query.Cover E) }
@@ -156,7 +156,7 @@ fn unite_texts(alloc: Global, covers: &[&[u8]]) -> Result<Text, CombineFault>
 /// Refused are a text that is no such answer, and then a source that stands in two parts. Time in
 /// proportion to the sources and intervals, times the parts, times a logarithm; memory to the
 /// texts.
-pub fn combine_covers(alloc: Global, covers: &[&[u8]]) -> Result<Text, CombineFault>
+pub fn combine_covers(alloc: Global, covers: &[&str]) -> Result<Text, CombineFault>
     ensures combined { (p : List ℕ → ℕ) (E : List EventValue)
         → AreAnswers query.Cover p E (map (λ t. t.now) covers.now)
         → IfOk result (IsAnswer query.Cover E) }

@@ -5,7 +5,10 @@ mod cover;
 mod division;
 mod fault;
 pub mod laws;
+mod lines;
+mod told;
 
 pub use cover::combine_covers;
 pub use division::{MAX_PARTS, is_count, part_of, split};
 pub use fault::CombineFault;
+pub use told::combine_events;

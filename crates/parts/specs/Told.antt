@@ -1,0 +1,94 @@
+-- Answers that tell events: the shown ones, the latest ones, and those in conflict.
+use Rattle.std.specs.Prelude.{◌≡◌, ◌<◌, ◌^◌, ℕ, List, [], ◌∷◌, Some, flat_map, length, slice_get, string_bytes, ⊤}
+use Rattle.std.specs.List.Sorted.{IsStrictlySortedBy}
+use Rattle.attributes.specs.Event.{EventValue}
+use Rattle.block_digests.specs.Number.{AreNumbered}
+use Rattle.coverage.specs.Summary.{Sources}
+use Rattle.inbox.specs.Conflicts.{conflicts}
+use Rattle.inbox.specs.KeyOrder.{key_cmp}
+use Rattle.inbox.specs.Sets.{AreEvents, set_of}
+use Rattle.inbox.specs.Shown.{shown}
+use Rattle.views.specs.Latest.{latest}
+use Rattle.views.specs.Number.{Sums}
+use Rattle.views.specs.Question.{IsAnswer}
+use Rattle.views.specs.declared.query.Query.{Query}
+use Rattle.views.specs.declared.query.Query.TheVariants as query
+use Rattle.parts.specs.Combined.{AreApart, HasAt}
+use Rattle.parts.specs.Counts.{AreJoined}
+use Rattle.parts.specs.declared.fault.CombineFault.{CombineFault}
+use Rattle.parts.specs.declared.fault.CombineFault.TheVariants.{OutOfMemory, NotAnAnswer, Overlap}
+
+-- the list is a set of numbered events as a region may hold it: in key order, each once, and fewer
+-- than 2^64
+pub record IsHeld (E : List EventValue) : Type 0 where
+  pub events : AreEvents E
+  pub numbered : AreNumbered E
+  pub sorted : IsStrictlySortedBy key_cmp E
+  pub few : length E < 2 ^ 64
+
+-- the events that the answer to a question tells, in its order; none, where its lines tell none
+abbrev pub told : Query → List EventValue → List EventValue
+told query.Shown E = shown E
+told query.Latest E = latest E
+told query.Conflicts E = flat_map (λ c. c.events) (conflicts E)
+told _ E = []
+
+-- the questions whose answers tell events, a line each
+abbrev pub IsOfEvents : Query → Type 0
+IsOfEvents query.Shown = ⊤
+IsOfEvents query.Latest = ⊤
+IsOfEvents _ = ⊥
+
+-- the text answers the question over no set
+abbrev pub IsNoAnswer : Query → List ℕ → Type 0
+IsNoAnswer query text = (E : List EventValue) → IsHeld E → IsAnswer query E text → ⊥
+
+-- the text answers the question over the set of the events, and tells just these, whichever set it
+-- answers the question over
+pub record TellsEvents (query : Query) (text : List ℕ) (events : List EventValue) : Type 0 where
+  pub are_events : AreEvents events
+  pub answer : IsAnswer query (set_of events) text
+  pub own : (E : List EventValue) → IsHeld E → IsAnswer query E text
+      → events ≡ set_of (told query E)
+
+-- the set has just the events that the text tells
+abbrev pub TellsSet : Query → List ℕ → List EventValue → Type 0
+TellsSet query text E =
+    (events : List EventValue) × TellsEvents query text events × (E ≡ set_of events)
+
+-- the summaries say which numbers the events have that the texts tell
+abbrev pub AreToldBy : Query → List (List ℕ) → List Sources → Type 0
+AreToldBy query [] [] = Unit {0}
+AreToldBy query (text ∷ texts) (s ∷ summaries) =
+    ((events : List EventValue) × TellsEvents query text events × Sums (set_of events) s)
+    × AreToldBy query texts summaries
+AreToldBy query _ _ = ⊥
+
+-- what is true of texts that are refused with the fault
+abbrev pub RefusesTold : Query → List (List ℕ) → CombineFault → Type 0
+RefusesTold query texts OutOfMemory = Unit {0}
+RefusesTold query texts (NotAnAnswer i) =
+    (text : List ℕ) × (slice_get texts i ≡ Some text) × IsNoAnswer query text
+RefusesTold query texts (Overlap name i j) =
+    (summaries : List Sources) × AreToldBy query texts summaries × (i < j)
+    × HasAt summaries i (string_bytes name) × HasAt summaries j (string_bytes name)
+RefusesTold query texts _ = ⊥
+
+-- no source stands in two of the texts
+abbrev pub AreToldApart : Query → List (List ℕ) → Type 0
+AreToldApart query texts =
+    (summaries : List Sources) × AreToldBy query texts summaries × AreApart summaries
+
+-- the events of texts, as a set, and which numbers the events of each have
+pub record AreGathered (query : Query) (texts : List (List ℕ)) (E : List EventValue)
+    (summaries : List Sources) : Type 0 where
+  pub events : List EventValue
+  pub joined : AreJoined (TellsEvents query) texts events
+  pub set : E ≡ set_of events
+  pub covers : AreToldBy query texts summaries
+
+-- the text answers the question over the set of all events that the texts tell
+abbrev pub IsToldTogether : Query → List (List ℕ) → List ℕ → Type 0
+IsToldTogether query texts text =
+    (events : List EventValue) × AreJoined (TellsEvents query) texts events
+    × IsAnswer query (set_of events) text
