@@ -13,5 +13,4 @@ mod WholeLemmas
 mod LineLemmas
 mod AgainLemmas
 mod ToldLemmas
-mod CountLemmas
 mod PartReadLemmas

@@ -26,12 +26,11 @@ use Rattle.views.specs.declared.query.Query.{Query}
 use Rattle.views.specs.declared.query.Query.TheVariants as query
 use Rattle.views.proofs.GreatestLemmas.{each_there}
 use Rattle.parts.specs.Combined.{AreAnswers, HasAt, RefusesRead}
-use Rattle.parts.specs.Counts.{AreJoined}
 use Rattle.parts.specs.Lines.{AreLinesOf, IsPlain}
 use Rattle.parts.specs.Part.{FallsBelow, falls_to, of_parts, part}
-use Rattle.parts.specs.Told.{AreGathered, AreToldBy, IsHeld, IsNoAnswer, IsOfEvents, IsToldTogether, RefusesTold, TellsEvents, TellsSet, told}
+use Rattle.parts.specs.Told.{AreGathered, AreJoined, AreToldBy, IsHeld, IsNoAnswer, IsOfEvents, IsToldTogether, RefusesTold, TellsEvents, TellsSet, told}
 use Rattle.parts.specs.declared.fault.CombineFault.{CombineFault}
-use Rattle.parts.specs.declared.fault.CombineFault.TheVariants.{OutOfMemory, NotACover, NotAnAnswer, TooMany, Overlap}
+use Rattle.parts.specs.declared.fault.CombineFault.TheVariants.{OutOfMemory, NotACover, NotAnAnswer, Overlap}
 use Rattle.parts.proofs.AgainLemmas.{at_place, in_shown, kept_in, latest_again, latest_events, of_set, shown_again}
 use Rattle.parts.proofs.CoverLemmas.{map_got, map_taken}
 use Rattle.parts.proofs.LatestLemmas.{latest_part}
@@ -44,14 +43,14 @@ use Rattle.parts.proofs.TakeLemmas.{sets}
 
 -- ---- texts one behind the other
 
-module _ {X : Type 0} (Tells : List ℕ → List X → Type 0) where
-  pub joined_more : (texts : List (List ℕ)) (all : List X) (t : List ℕ) (rows : List X) → AreJoined Tells texts all → Tells t rows → AreJoined Tells (texts ++ t ∷ []) (all ++ rows)
+module _ (Tells : List ℕ → List EventValue → Type 0) where
+  pub joined_more : (texts : List (List ℕ)) (all : List EventValue) (t : List ℕ) (rows : List EventValue) → AreJoined Tells texts all → Tells t rows → AreJoined Tells (texts ++ t ∷ []) (all ++ rows)
   joined_more [] all t rows none own = (rows, [], own, refl, ap (λ l. l ++ rows) none ∙ sym (append-nil rows))
   joined_more (s ∷ texts) all t rows (first, rest, its, more, is) own =
       (first, rest ++ rows, its, joined_more texts rest t rows more own, ap (λ l. l ++ rows) is ∙ append_assoc first rest rows)
 
-  pub joined_parts : (f : ℕ → List X) (a : ℕ) (texts : List (List ℕ)) (all : List X) → AreJoined Tells texts all
-      → ((i : ℕ) (t : List ℕ) (rows : List X) → slice_get texts i ≡ Some t → Tells t rows → rows ≡ f (a + i)) → all ≡ flat_map f (range_with_len a (length texts))
+  pub joined_parts : (f : ℕ → List EventValue) (a : ℕ) (texts : List (List ℕ)) (all : List EventValue) → AreJoined Tells texts all
+      → ((i : ℕ) (t : List ℕ) (rows : List EventValue) → slice_get texts i ≡ Some t → Tells t rows → rows ≡ f (a + i)) → all ≡ flat_map f (range_with_len a (length texts))
   joined_parts f a [] all none own = none
   joined_parts f a (t ∷ texts) all (rows, rest, its, more, is) own =
       let first : a + 0 ≡ a = omega arith in
@@ -92,25 +91,15 @@ pub told_refuses : (q : Query) (texts : List (List ℕ)) (ss : List Sources) →
 told_refuses q texts ss by OutOfMemory r = tt
 told_refuses q texts ss by (NotACover i) r = absurd r
 told_refuses q texts ss by (NotAnAnswer i) r = absurd r
-told_refuses q texts ss by TooMany r = absurd r
 told_refuses q texts ss by (Overlap name i j) r = (ss, by, r.0, r.1, r.2)
 
 -- ---- parts of a set
-
-pub count_left : {X : Type 0} (p : X → Bool) (xs : List X) → length (filter p xs) ≤ length xs
-count_left p [] = omega arith
-count_left {X} p (x ∷ xs) = by (p x) (count_left p xs)
-  where
-    by : (b : Bool) → length (filter p xs) ≤ length xs → length (cond b (x ∷ filter p xs) (filter p xs)) ≤ length (x ∷ xs)
-    by true h = omega (arith, h)
-    by false h = omega (arith, h)
 
 pub held_part : (p : List ℕ → ℕ) (i : ℕ) (E : List EventValue) → IsHeld E → IsHeld (part p i E)
 held_part p i E held = record {
   events = all_left IsEvent (λ e. falls_to p i (source_of e)) E held.events;
   numbered = all_left (λ e. (n : ℕ) × (number_of e ≡ Some n)) (λ e. falls_to p i (source_of e)) E held.numbered;
   sorted = sorted_left key_cmp (λ e. falls_to p i (source_of e)) E held.sorted;
-  few = (let less = count_left (λ e. falls_to p i (source_of e)) E in omega (arith, less, held.few));
 }
 
 pub told_part : (p : List ℕ → ℕ) (i : ℕ) (q : Query) → IsOfEvents q → (E : List EventValue) → told q (part p i E) ≡ part p i (told q E)
@@ -251,7 +240,6 @@ module _ (tells : (e f : EventValue) → IsEvent e → IsEvent f → text e ≡ 
     memory_alone OutOfMemory r = refl
     memory_alone (NotACover i) r = absurd r
     memory_alone (NotAnAnswer i) r = absurd (r.2 (part p i E) (held_part p i E held) (answers.each i r.0 r.1))
-    memory_alone TooMany r = absurd r
     memory_alone (Overlap name i j) r =
         let below : i < j = r.2 in
         let first : p (string_bytes name) ≡ i = falls r.0 i (string_bytes name) r.1 r.3 in

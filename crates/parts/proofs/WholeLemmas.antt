@@ -14,7 +14,7 @@ use Rattle.views.specs.declared.query.Query.TheVariants as query
 use Rattle.parts.specs.Combined.{AreAnswers, AreCovers, HasAt, IsFirst, IsUnited, Refuses, RefusesRead}
 use Rattle.parts.specs.Part.{falls_to, part}
 use Rattle.parts.specs.declared.fault.CombineFault.{CombineFault}
-use Rattle.parts.specs.declared.fault.CombineFault.TheVariants.{OutOfMemory, NotACover, NotAnAnswer, TooMany, Overlap}
+use Rattle.parts.specs.declared.fault.CombineFault.TheVariants.{OutOfMemory, NotACover, NotAnAnswer, Overlap}
 use Rattle.parts.proofs.CoverLemmas.{any_at, any_found, some_is}
 use Rattle.parts.proofs.PartLemmas.{and_left}
 use Rattle.parts.proofs.RowLemmas.{numbers}
@@ -59,7 +59,6 @@ pub refuses : (texts : List (List ℕ)) (ss : List Sources) → AreCovers texts 
 refuses texts ss are OutOfMemory r = tt
 refuses texts ss are (NotACover i) r = absurd r
 refuses texts ss are (NotAnAnswer i) r = absurd r
-refuses texts ss are TooMany r = absurd r
 refuses texts ss are (Overlap name i j) r = (ss, are, r.0, r.1, r.2)
 
 module _ (tells : (s t : Sources) → IsSummary s → IsSummary t → summary_text s ≡ summary_text t → s ≡ t)
@@ -108,7 +107,6 @@ module _ (tells : (s t : Sources) → IsSummary s → IsSummary t → summary_te
   memory_alone OutOfMemory r = refl
   memory_alone (NotACover i) r = absurd (let a = answered i r.0 (answers.each i r.0 r.1) in r.2 a.0 a.1 a.2)
   memory_alone (NotAnAnswer i) r = absurd r
-  memory_alone TooMany r = absurd r
   memory_alone (Overlap name i j) r =
       let below : i < j = r.2 in
       let in_first : p (string_bytes name) ≡ i = falls r.0 r.1 i r.3 in

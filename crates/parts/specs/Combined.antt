@@ -8,7 +8,7 @@ use Rattle.views.specs.Question.{IsAnswer}
 use Rattle.views.specs.declared.query.Query.{Query}
 use Rattle.parts.specs.Part.{FallsBelow, part}
 use Rattle.parts.specs.declared.fault.CombineFault.{CombineFault}
-use Rattle.parts.specs.declared.fault.CombineFault.TheVariants.{OutOfMemory, NotACover, NotAnAnswer, TooMany, Overlap}
+use Rattle.parts.specs.declared.fault.CombineFault.TheVariants.{OutOfMemory, NotACover, NotAnAnswer, Overlap}
 
 -- the texts answer the question over the parts of E, the text at place i over part i
 pub record AreAnswers (query : Query) (p : List ℕ → ℕ) (E : List EventValue)
@@ -57,7 +57,6 @@ abbrev pub Refuses : List (List ℕ) → CombineFault → Type 0
 Refuses texts OutOfMemory = Unit {0}
 Refuses texts (NotACover i) = (text : List ℕ) × (slice_get texts i ≡ Some text) × IsNoCover text
 Refuses texts (NotAnAnswer i) = ⊥
-Refuses texts TooMany = ⊥
 Refuses texts (Overlap name i j) =
     (summaries : List Sources) × AreCovers texts summaries × (i < j)
     × HasAt summaries i (string_bytes name) × HasAt summaries j (string_bytes name)
@@ -67,7 +66,6 @@ abbrev pub RefusesRead : List Sources → CombineFault → Type 0
 RefusesRead summaries OutOfMemory = Unit {0}
 RefusesRead summaries (NotACover i) = ⊥
 RefusesRead summaries (NotAnAnswer i) = ⊥
-RefusesRead summaries TooMany = ⊥
 RefusesRead summaries (Overlap name i j) =
     (i < j) × HasAt summaries i (string_bytes name) × HasAt summaries j (string_bytes name)
 

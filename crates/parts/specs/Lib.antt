@@ -3,5 +3,4 @@ pub mod Merge
 pub mod Law
 pub mod Combined
 pub mod Lines
-pub mod Counts
 pub mod Told

@@ -1,10 +1,9 @@
--- Answers that tell events: the shown ones, the latest ones, and those in conflict.
-use Rattle.std.specs.Prelude.{◌≡◌, ◌<◌, ◌^◌, ℕ, List, [], ◌∷◌, Some, flat_map, length, slice_get, string_bytes, ⊤}
+-- Answers that tell events, a line each: the shown ones and the latest ones.
+use Rattle.std.specs.Prelude.{◌≡◌, ◌<◌, ◌++◌, ℕ, List, [], ◌∷◌, Some, slice_get, string_bytes, ⊤}
 use Rattle.std.specs.List.Sorted.{IsStrictlySortedBy}
 use Rattle.attributes.specs.Event.{EventValue}
 use Rattle.block_digests.specs.Number.{AreNumbered}
 use Rattle.coverage.specs.Summary.{Sources}
-use Rattle.inbox.specs.Conflicts.{conflicts}
 use Rattle.inbox.specs.KeyOrder.{key_cmp}
 use Rattle.inbox.specs.Sets.{AreEvents, set_of}
 use Rattle.inbox.specs.Shown.{shown}
@@ -14,23 +13,19 @@ use Rattle.views.specs.Question.{IsAnswer}
 use Rattle.views.specs.declared.query.Query.{Query}
 use Rattle.views.specs.declared.query.Query.TheVariants as query
 use Rattle.parts.specs.Combined.{AreApart, HasAt}
-use Rattle.parts.specs.Counts.{AreJoined}
 use Rattle.parts.specs.declared.fault.CombineFault.{CombineFault}
 use Rattle.parts.specs.declared.fault.CombineFault.TheVariants.{OutOfMemory, NotAnAnswer, Overlap}
 
--- the list is a set of numbered events as a region may hold it: in key order, each once, and fewer
--- than 2^64
+-- the list is a set of numbered events, as a region holds it: in key order, each once
 pub record IsHeld (E : List EventValue) : Type 0 where
   pub events : AreEvents E
   pub numbered : AreNumbered E
   pub sorted : IsStrictlySortedBy key_cmp E
-  pub few : length E < 2 ^ 64
 
--- the events that the answer to a question tells, in its order; none, where its lines tell none
+-- the events that an answer tells, a line each and in its order; none, where its lines are others
 abbrev pub told : Query → List EventValue → List EventValue
 told query.Shown E = shown E
 told query.Latest E = latest E
-told query.Conflicts E = flat_map (λ c. c.events) (conflicts E)
 told _ E = []
 
 -- the questions whose answers tell events, a line each
@@ -50,6 +45,14 @@ pub record TellsEvents (query : Query) (text : List ℕ) (events : List EventVal
   pub answer : IsAnswer query (set_of events) text
   pub own : (E : List EventValue) → IsHeld E → IsAnswer query E text
       → events ≡ set_of (told query E)
+
+-- events of one text behind those of another, each text telling its own
+abbrev pub AreJoined : (List ℕ → List EventValue → Type 0) → List (List ℕ) → List EventValue
+    → Type 0
+AreJoined Tells [] all = all ≡ []
+AreJoined Tells (text ∷ texts) all =
+    (events : List EventValue) × (rest : List EventValue) × Tells text events
+    × AreJoined Tells texts rest × (all ≡ events ++ rest)
 
 -- the set has just the events that the text tells
 abbrev pub TellsSet : Query → List ℕ → List EventValue → Type 0

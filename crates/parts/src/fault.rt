@@ -18,9 +18,6 @@ pub enum CombineFault {
     NotAnAnswer {
         part: u64,
     },
-    /// The counts of a type come to more than 18,446,744,073,709,551,615.
-    #[error("too many events of one type")]
-    TooMany,
     /// The source `name` has numbers in two parts, of which `first` comes before `second`.
     #[error("{name}: in parts {first} and {second}")]
     Overlap {
