@@ -46,9 +46,12 @@ pub told_there : ((e f : EventValue) → IsEvent e → IsEvent f → text e ≡ 
     → (q : Query) (t : List ℕ) (list : List EventValue) (o : Option (List EventValue)) (F : List EventValue) → AreEvents (set_of list) → o ≡ Some list
     → ((E : List EventValue) → IsHeld E → IsAnswer q E t → o ≡ Some (told q E)) → F ≡ set_of list → IsAnswer q F t → TellsSet q t F
 told_there tells q t list o F events some own set answer =
-    let twice : set_of (set_of list) ≡ set_of list = set_again tells (set_of list) events (sorted-in_order key_cmp_total list) in
-    (set_of list, record {
-      are_events = events;
-      answer = subst (λ X. IsAnswer q X t) (set ∙ sym twice) answer;
-      own = λ E held h. ap set_of (some_is list (told q E) (sym some ∙ own E held h));
-    }, set ∙ sym twice)
+    let twice : set_of (set_of list) ≡ set_of list = set_again tells (set_of list) events (sorted-in_order key_cmp_total list) in (
+      set_of list,
+      record {
+        are_events = events;
+        answer = subst (λ X. IsAnswer q X t) (set ∙ sym twice) answer;
+        own = λ E held h. ap set_of (some_is list (told q E) (sym some ∙ own E held h));
+      },
+      set ∙ sym twice,
+    )

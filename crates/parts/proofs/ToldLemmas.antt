@@ -229,7 +229,7 @@ module _ (tells : (e f : EventValue) → IsEvent e → IsEvent f → text e ≡ 
         let own = of_part i at.0 L at.1 at.2.1 in
         let same : set_of L ≡ part p i (set_of (set_of X)) = ap set_of own ∙ sets p i tells (set_of X) (all-in_order key_cmp_total IsEvent X (told_events q is E held.events)) in
         let both : (has_number (set_of (set_of X)) source n && falls_to p i source) ≡ true =
-            sym (numbers p i (set_of (set_of X)) source n) ∙ ap (λ l. has_number l source n) (sym same) ∙ sym (at.2.2.exact source n) ∙ there.2.1 in
+        sym (numbers p i (set_of (set_of X)) source n) ∙ ap (λ l. has_number l source n) (sym same) ∙ sym (at.2.2.exact source n) ∙ there.2.1 in
         eqb-true (p source) i (right (has_number (set_of (set_of X)) source n) (falls_to p i source) both)
       where
         right : (a b : Bool) → (a && b) ≡ true → b ≡ true

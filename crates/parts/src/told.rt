@@ -156,17 +156,18 @@ fn gather(alloc: Global, query: Query, texts: &[&str]) -> Result<Gathered, Combi
     Ok(Gathered { all, covers })
 }
 
-/// The answer to a question about events over the whole, from the answers of its parts.
-pub fn combine_events(
-    alloc: Global,
-    query: Query,
-    answers: &[&str],
-) -> Result<Text, CombineFault>
+/// The answer to `shown` or `latest` over the whole, from the answers of its parts, in any order of
+/// the parts. Refused are a text that answers the question over no set of numbered events, and then
+/// a source that stands in two parts. Time in proportion to the texts, times a logarithm, and for
+/// such sources to all sources, times the parts; memory to the texts.
+pub fn combine_events(alloc: Global, query: Query, answers: &[&str]) -> Result<Text, CombineFault>
     requires { IsOfEvents query }
     ensures combined { (p : List ℕ → ℕ) (E : List EventValue) → IsHeld E
         → AreAnswers query p E (map (λ t. t.now) answers.now) → IfOk result (IsAnswer query E) }
     ensures apart { OnOk result (AreToldApart query (map (λ t. t.now) answers.now)) }
     ensures refused { IfErr result (RefusesTold query (map (λ t. t.now) answers.now)) }
+
+    // Answers over the parts of a set want memory alone.
     ensures taken { (p : List ℕ → ℕ) (E : List EventValue) → IsHeld E
         → AreAnswers query p E (map (λ t. t.now) answers.now)
         → OnErr result (result ≡ Err CombineFault.OutOfMemory) }
