@@ -23,8 +23,10 @@ fn add_words(alloc: Global, own: &mut Vec<Text>, words: &[&str]) -> bool {
 /// What a plan is to be.
 #[derive(Clone, Copy)]
 enum Wanted<'a> {
-    /// The question about that database, if one is named, and these files.
-    Ask(Query, &'a str, &'a [&'a str]),
+    /// The question about that database, if one is named, and these files, or their lines.
+    Ask(Query, &'a str, &'a [&'a str], bool),
+    /// These files, or their lines, into the database.
+    Take(&'a [&'a str], bool),
     /// These pages of all events.
     Scrub(Pages),
     /// What came behind so many, a page of it or all.
@@ -33,8 +35,8 @@ enum Wanted<'a> {
     Follow(&'a str),
     /// The service with the source `/orders`, whether the words name it, and the base.
     Service(bool, Option<u64>),
-    /// The check of these files.
-    Check(&'a [&'a str]),
+    /// The check of these files, or of their lines.
+    Check(&'a [&'a str], bool),
     /// The numbers of the lines of this file, set aside under that name, if one is named, and the
     /// base.
     Number(&'a str, &'a str, u64),
@@ -66,9 +68,28 @@ fn is_given(name: &Option<Text>, want: &str) -> bool {
 /// Whether a command with one answer is the one that is wanted.
 fn is_once(once: &Once, wanted: Wanted<'_>) -> bool {
     match (once, wanted) {
-        (Once::Ask { query, db, files }, Wanted::Ask(asked, name, names)) => {
-            *query == asked && is_given(db, name) && are(files.as_slice(), names)
+        (
+            Once::Ask {
+                query,
+                db,
+                files,
+                has_lines,
+            },
+            Wanted::Ask(asked, name, names, by_line),
+        ) => {
+            *query == asked
+                && is_given(db, name)
+                && are(files.as_slice(), names)
+                && *has_lines == by_line
         }
+        (
+            Once::Take {
+                db,
+                files,
+                has_lines,
+            },
+            Wanted::Take(names, by_line),
+        ) => db.as_str() == "d" && are(files.as_slice(), names) && *has_lines == by_line,
         (Once::Scrub { db, pages }, Wanted::Scrub(held)) => db.as_str() == "d" && *pages == held,
         (Once::Arrivals { db, after, is_all }, Wanted::Arrivals(passed, all)) => {
             db.as_str() == "d" && *after == passed && *is_all == all
@@ -98,8 +119,8 @@ fn is_plan(plan: &Plan, wanted: Wanted<'_>) -> bool {
         (Plan::Alone(Alone::Follow(lines)), Wanted::Follow(file)) => {
             lines.db.as_str() == "d" && lines.file.as_str() == file
         }
-        (Plan::Alone(Alone::Check(check)), Wanted::Check(names)) => {
-            check.db.is_none() && are(check.files.as_slice(), names)
+        (Plan::Alone(Alone::Check(check)), Wanted::Check(names, by_line)) => {
+            check.db.is_none() && are(check.files.as_slice(), names) && check.has_lines == by_line
         }
         (Plan::Alone(Alone::Number(lines)), Wanted::Number(file, aside, base)) => {
             lines.db.as_str() == "d"
@@ -134,17 +155,33 @@ fn asks(alloc: Global, words: &[&str], wanted: Wanted<'_>, wait: u64) -> bool {
 }
 
 /// Words, and what they come to.
-static WORDS: [(&[&str], Wanted<'static>); 24] = [
+static WORDS: [(&[&str], Wanted<'static>); 30] = [
     (
         &["shown", "f", "-", "--", "-g"],
-        Wanted::Ask(Query::Shown, "", &["f", "-", "-g"]),
+        Wanted::Ask(Query::Shown, "", &["f", "-", "-g"], false),
     ),
-    (&["days", "--db", "d"], Wanted::Ask(Query::Days, "d", &[])),
+    (
+        &["days", "--db", "d"],
+        Wanted::Ask(Query::Days, "d", &[], false),
+    ),
     (
         &["gaps", "f", "--db", "d"],
-        Wanted::Ask(Query::Gaps, "d", &["f"]),
+        Wanted::Ask(Query::Gaps, "d", &["f"], false),
     ),
     (&["kinds"], Wanted::Fault),
+    // Whole files, or their lines.
+    (
+        &["cover", "f", "--lines"],
+        Wanted::Ask(Query::Cover, "", &["f"], true),
+    ),
+    (
+        &["take", "--db", "d", "--lines", "f", "g"],
+        Wanted::Take(&["f", "g"], true),
+    ),
+    (&["take", "f", "--db", "d"], Wanted::Take(&["f"], false)),
+    (&["check", "--lines", "-"], Wanted::Check(&["-"], true)),
+    (&["kinds", "--lines"], Wanted::Fault),
+    (&["run", "--db", "d", "--lines", "f"], Wanted::Fault),
     // One page or all.
     (&["scrub", "--db", "d"], Wanted::Scrub(Pages::Behind(0))),
     (
@@ -191,7 +228,7 @@ static WORDS: [(&[&str], Wanted<'static>); 24] = [
     ),
     (&["number", "--db", "d", "--base", "-1"], Wanted::Fault),
     (&["check", "f", "--numbers"], Wanted::Fault),
-    (&["check", "f"], Wanted::Check(&["f"])),
+    (&["check", "f"], Wanted::Check(&["f"], false)),
 ];
 
 /// Seconds as a word, of which there are as many; none is allowed where it is 0.

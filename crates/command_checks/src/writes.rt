@@ -92,14 +92,28 @@ fn covers_alone<R: AllocGlobal + Files + Abort, D: Databases + Numberers + Drop>
     let asked = invocation(rt.alloc(), words.as_slice());
     let Ok(
         Invocation {
-            plan: Plan::Alone(Alone::Once(Once::Ask { query, db, files })),
+            plan: Plan::Alone(
+                Alone::Once(
+                    Once::Ask {
+                        query,
+                        db,
+                        files,
+                        has_lines,
+                    },
+                ),
+            ),
             ..
         },
     ) = asked
     else {
         return false;
     };
-    let plan = Alone::Once(Once::Ask { query, db, files });
+    let plan = Alone::Once(Once::Ask {
+        query,
+        db,
+        files,
+        has_lines,
+    });
     let mut out = Vec::new(rt.alloc());
     let mut err = Vec::new(rt.alloc());
     let status = perform_alone(rt, databases, &plan, &mut out, &mut err, &Unwatched);

@@ -82,17 +82,17 @@ app_in (Err e) = new_app []
 abbrev pub with_db : Command → App
 with_db command = with_rule (new_app (word_of command)) (needed_rule (codes "db"))
 
--- the command's word, `--db DB` or none, and `FILE..` or none
+-- the command's word, `--db DB` or none, `--lines`, and `FILE..` or none
 abbrev pub with_any : Command → App
-with_any command = with_rule (with_rule (new_app (word_of command)) (option_rule (codes "db")))
-    question_files_rule
+with_any command = with_rule (with_rule (with_rule (new_app (word_of command))
+    (option_rule (codes "db"))) (flag_rule (codes "lines"))) question_files_rule
 
 -- a command's word and the arguments that not every one has
 abbrev pub own_app : Command → App
 own_app (Ask query) = with_any (Ask query)
 own_app Check = with_any Check
 own_app Summary = with_db Summary
-own_app Take = with_rule (with_db Take) files_rule
+own_app Take = with_rule (with_rule (with_db Take) (flag_rule (codes "lines"))) files_rule
 own_app Follow = with_rule (with_db Follow) lines_rule
 own_app Delta = with_rule (with_rule (with_rule (with_db Delta) from_rule)
     (flag_rule (codes "all"))) (place_rule (codes "summary"))

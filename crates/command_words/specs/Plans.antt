@@ -28,9 +28,9 @@ use Rattle.command_words.specs.Commands.{app_for, word_of}
 
 -- the command of a plan with one answer
 abbrev pub once_of : Once → Command
-once_of (once.Ask query db files) = command.Ask query
+once_of (once.Ask query db files has_lines) = command.Ask query
 once_of (once.Summary db) = command.Summary
-once_of (once.Take db files) = command.Take
+once_of (once.Take db files has_lines) = command.Take
 once_of (once.Delta db which summary) = command.Delta
 once_of (once.Scrub db which) = command.Scrub
 once_of (once.Arrivals db after is_all) = command.Arrivals
@@ -144,11 +144,12 @@ AreSome db files = (is_some db ≡ true) ⊎ (files ≢ [])
 -- a plan with one answer has the texts, and the values that they write, that were matched for its
 -- arguments
 abbrev pub HasTextsOnce : List Row → Once → Type 0
-HasTextsOnce rows (once.Ask query db files) = (db ≡ first_of (codes "db") rows)
+HasTextsOnce rows (once.Ask query db files has_lines) = (db ≡ first_of (codes "db") rows)
     × (files ≡ texts_in rows (codes "file")) × AreSome db files
+    × (has_lines ≡ is_given rows (codes "lines"))
 HasTextsOnce rows (once.Summary db) = db ≡ text_in rows (codes "db")
-HasTextsOnce rows (once.Take db files) =
-    (db ≡ text_in rows (codes "db")) × (files ≡ texts_in rows (codes "file"))
+HasTextsOnce rows (once.Take db files has_lines) = (db ≡ text_in rows (codes "db"))
+    × (files ≡ texts_in rows (codes "file")) × (has_lines ≡ is_given rows (codes "lines"))
 HasTextsOnce rows (once.Delta db which summary) = (db ≡ text_in rows (codes "db"))
     × HasPages rows which × (summary ≡ text_in rows (codes "summary"))
 HasTextsOnce rows (once.Scrub db which) =
@@ -169,6 +170,7 @@ HasTextsOf rows (plan.Alone (alone.Follow lines)) =
     (lines.db ≡ text_in rows (codes "db")) × (lines.file ≡ text_in rows (codes "file"))
 HasTextsOf rows (plan.Alone (alone.Check judged)) = (judged.db ≡ first_of (codes "db") rows)
     × (judged.files ≡ texts_in rows (codes "file")) × AreSome judged.db judged.files
+    × (judged.has_lines ≡ is_given rows (codes "lines"))
 HasTextsOf rows (plan.Alone (alone.Number lines)) = (lines.db ≡ text_in rows (codes "db"))
     × (lines.aside ≡ first_of (codes "aside") rows) × (lines.file ≡ text_in rows (codes "file"))
     × IsBaseNumber (text_in rows (codes "base")) lines.base

@@ -99,6 +99,17 @@ pub fn checked_files<'a>(alloc: Global) -> Arg<'a>
         .action(ArgAction::Append)
 }
 
+/// `--lines`
+pub fn by_line<'a>(alloc: Global) -> Arg<'a>
+    ensures rule { rule_of result ≡ flag_rule (codes "lines") }
+    ensures local { result.global ≡ false }
+{
+    Arg::new(alloc, "lines")
+        .long("lines")
+        .help("Each line of a file is an event or a batch; a line of white space is passed over")
+        .action(ArgAction::SetTrue)
+}
+
 /// `--all`
 pub fn all<'a>(alloc: Global) -> Arg<'a>
     ensures rule { rule_of result ≡ flag_rule (codes "all") }

@@ -5,8 +5,8 @@ ghost use Rattle.command_words.specs.Commands.{app_for, app_in, own_app, word_of
 ghost use Rattle.command_words.specs.declared.command.Command.{Command};
 
 use crate::argument::{
-    action, after, all, arrived, aside, at, base, checked_db, checked_files, db, files, from,
-    lines, numbered_files, numbers_base, numbers_db, order, paged_db, peer, question_db,
+    action, after, all, arrived, aside, at, base, by_line, checked_db, checked_files, db, files,
+    from, lines, numbered_files, numbers_base, numbers_db, order, paged_db, peer, question_db,
     question_files, read_db, source, summary, wait,
 };
 use clap::Arg;
@@ -16,15 +16,15 @@ use views::Query;
 /// A command of the program. Each has `[--wait SECONDS]` too.
 #[derive(Clone, Copy, Debug, PartialEq, Eq)]
 pub enum Command {
-    /// `WORD [--db DB] FILE..`: answers the query for the events of all files together, and those
+    /// `WORD [--db DB] [--lines] FILE..`: answers the query for the events of all files together, and those
     /// of a database.
     Ask(Query),
-    /// `check [--db DB] FILE..`: each event of the files that can't be taken, and why, and what a
+    /// `check [--db DB] [--lines] FILE..`: each event of the files that can't be taken, and why, and what a
     /// database is.
     Check,
     /// `summary --db DB`: which events a database has, for another site to compare.
     Summary,
-    /// `take --db DB FILE..`: adds the files' events to a database.
+    /// `take --db DB [--lines] FILE..`: adds the files' events to a database.
     Take,
     /// `follow --db DB [FILE]`: keeps lines in a database, and acknowledges each.
     Follow,
@@ -233,10 +233,21 @@ impl<'a> Row<'a> {
     {
         let bare = self.bare(alloc);
         match self.command {
-            Command::Ask(_) => with(with(bare, question_db(alloc)), question_files(alloc)),
-            Command::Check => with(with(bare, checked_db(alloc)), checked_files(alloc)),
+            Command::Ask(_) => {
+                let begun = with(with(bare, question_db(alloc)), by_line(alloc));
+                with(begun, question_files(alloc))
+            }
+            Command::Check => {
+                let begun = with(with(bare, checked_db(alloc)), by_line(alloc));
+                with(begun, checked_files(alloc))
+            }
             Command::Summary => with(bare, read_db(alloc)),
-            Command::Take => with(with(bare, db(alloc)), numbered_files(alloc)),
+            Command::Take => {
+                with(
+                    with(with(bare, db(alloc)), by_line(alloc)),
+                    numbered_files(alloc),
+                )
+            }
             Command::Follow => with(with(bare, db(alloc)), lines(alloc)),
             Command::Delta => {
                 let begun = with(with(bare, paged_db(alloc)), from(alloc));

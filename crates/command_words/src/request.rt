@@ -42,6 +42,8 @@ pub enum Once {
         query: Query,
         db: Option<Text>,
         files: Texts,
+        /// Whether each line of the files is an event or a batch.
+        has_lines: bool,
     },
     /// Which events a database has.
     Summary {
@@ -51,6 +53,8 @@ pub enum Once {
     Take {
         db: Text,
         files: Texts,
+        /// Whether each line of the files is an event or a batch.
+        has_lines: bool,
     },
     /// The events of a database that a summary lacks.
     Delta {
@@ -103,6 +107,8 @@ pub struct Follow {
 pub struct Check {
     pub db: Option<Text>,
     pub files: Texts,
+    /// Whether each line of the files is an event or a batch.
+    pub has_lines: bool,
 }
 
 /// The lines of a file, each event of which is given its number and printed once the number is kept.

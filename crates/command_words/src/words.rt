@@ -83,7 +83,13 @@ fn matched(alloc: Global, command: Command, matches: &ArgMatches<'_>) -> Result<
             if db.is_none() && files.is_empty() {
                 return Err(no_events(alloc));
             }
-            Ok(once(Once::Ask { query, db, files }))
+            let has_lines = is_given(matches, "lines");
+            Ok(once(Once::Ask {
+                query,
+                db,
+                files,
+                has_lines,
+            }))
         }
         Command::Check => {
             let db = given_text_of(alloc, matches, "db")?;
@@ -91,7 +97,12 @@ fn matched(alloc: Global, command: Command, matches: &ArgMatches<'_>) -> Result<
             if db.is_none() && files.is_empty() {
                 return Err(no_events(alloc));
             }
-            Ok(Plan::Alone(Alone::Check(Check { db, files })))
+            let has_lines = is_given(matches, "lines");
+            Ok(Plan::Alone(Alone::Check(Check {
+                db,
+                files,
+                has_lines,
+            })))
         }
         Command::Summary => {
             let db = text_of(alloc, matches, "db")?;
@@ -100,7 +111,12 @@ fn matched(alloc: Global, command: Command, matches: &ArgMatches<'_>) -> Result<
         Command::Take => {
             let db = text_of(alloc, matches, "db")?;
             let files = texts_of(alloc, matches, "file")?;
-            Ok(once(Once::Take { db, files }))
+            let has_lines = is_given(matches, "lines");
+            Ok(once(Once::Take {
+                db,
+                files,
+                has_lines,
+            }))
         }
         Command::Follow => {
             let db = text_of(alloc, matches, "db")?;

@@ -1,12 +1,16 @@
 -- The lines of several files, one file more at a time, and what a check finds.
 use Rattle.std.proofs.Common.{◌≡◌, ◌==◌, ◌≢◌, inl, inr, ℕ, suc, ◌+◌, Bool, true, false, List, [], ◌∷◌, ◌++◌, length, take, refl, sym, ap, ◌∙◌, subst, append_assoc, append-nil, true-eqb, false-eqb}
-use Rattle.std.specs.Prelude.{Some, slice_get}
+use Rattle.std.specs.Prelude.{Option, Some, slice_get}
+use Rattle.std.proofs.lemmas.List.{length-map}
 use Rattle.std.proofs.lemmas.List.{take_more}
 use Rattle.std.proofs.lemmas.Option.{get_or_from_slice_get, slice_get_within}
 use Rattle.fault_lines.specs.Lines.{IsFaultText}
 use Rattle.file_reports.specs.Shelves.{AreContents}
 use Rattle.command_words.specs.declared.request.Check.{Check}
-use Rattle.site_commands.specs.Checks.{AreFaultsOf, FindsNone, FindsSome, TellsGiven}
+use Rattle.site_commands.specs.Checks.{AreFaultsOf, FindsNone, FindsSome, TellsFaults, TellsGiven, piece_names}
+use Rattle.site_commands.specs.Lines.{line_names}
+use Rattle.site_commands.specs.Pieces.{ArePieces, file_lines, places_in, places_of}
+use Rattle.site_commands.specs.declared.pieces.LineAt.{LineAt}
 use Rattle.site_commands.specs.steps.Checks.{FindsIn}
 
 -- there is a content for each name
@@ -42,24 +46,40 @@ AreFaultsOf-next files contents i text file bytes lines all is_file is_content g
 
 -- ---- what is found
 
-pub finds_none : (C : List ℕ → List ℕ → Type 0) (judged : Check) (contents : List (List ℕ)) (faultless : Bool) (text : List ℕ) → AreContents C judged.files contents → FindsIn judged contents faultless text → faultless ≡ true → FindsNone C judged text
-finds_none C judged contents faultless text read it is =
+-- what is at fault in the pieces of files that were read
+faults_told : (C : List ℕ → List ℕ → Type 0) (has_lines : Bool) (files texts : List (List ℕ)) (places : List LineAt) (lines : List ℕ) → ArePieces C has_lines files texts places → AreFaultsOf (piece_names has_lines files places) texts lines → TellsFaults C has_lines files lines
+faults_told C has_lines files texts places lines p faults = (
+  p.contents,
+  p.read,
+  subst (λ (ts : List (List ℕ)). AreFaultsOf (piece_names has_lines files (places_in has_lines p.contents)) ts lines) p.cut
+      (subst (λ (ats : List LineAt). AreFaultsOf (piece_names has_lines files ats) texts lines) p.stand faults),
+)
+
+pub finds_none : (C : List ℕ → List ℕ → Type 0) (judged : Check) (texts : List (List ℕ)) (places : List LineAt) (faultless : Bool) (text : List ℕ) → ArePieces C judged.has_lines judged.files texts places → FindsIn judged.db (piece_names judged.has_lines judged.files places) texts faultless text → faultless ≡ true → FindsNone C judged text
+finds_none C judged texts places faultless text pieces it is =
     let both = it.none is in
     record {
       told = it.told;
       lines = it.lines;
-      checks = record { database = subst (λ b. TellsGiven judged.db b it.told) both.0 it.database; faults = (contents, read, it.faults); both = it.both };
+      checks = record { database = subst (λ b. TellsGiven judged.db b it.told) both.0 it.database; faults = faults_told C judged.has_lines judged.files texts places it.lines pieces it.faults; both = it.both };
       empty = both.1;
     }
 
-pub finds_some : (C : List ℕ → List ℕ → Type 0) (judged : Check) (contents : List (List ℕ)) (faultless : Bool) (text : List ℕ) → AreContents C judged.files contents → FindsIn judged contents faultless text → faultless ≡ false → FindsSome C judged text
-finds_some C judged contents faultless text read it is = record {
+pub finds_some : (C : List ℕ → List ℕ → Type 0) (judged : Check) (texts : List (List ℕ)) (places : List LineAt) (faultless : Bool) (text : List ℕ) → ArePieces C judged.has_lines judged.files texts places → FindsIn judged.db (piece_names judged.has_lines judged.files places) texts faultless text → faultless ≡ false → FindsSome C judged text
+finds_some C judged texts places faultless text pieces it is = record {
   sound = it.sound;
   told = it.told;
   lines = it.lines;
-  checks = record { database = it.database; faults = (contents, read, it.faults); both = it.both };
+  checks = record { database = it.database; faults = faults_told C judged.has_lines judged.files texts places it.lines pieces it.faults; both = it.both };
   some = it.some is;
 }
+
+-- each piece has a name
+pub one_name_each : (C : List ℕ → List ℕ → Type 0) (has_lines : Bool) (files texts : List (List ℕ)) (places : List LineAt) → ArePieces C has_lines files texts places → length texts ≡ length (piece_names has_lines files places)
+one_name_each C false files texts places p = ap (λ (l : List (List ℕ)). length l) p.cut ∙ AreContents-length C files p.contents p.read
+one_name_each C true files texts places p =
+    ap (λ (l : List (List ℕ)). length l) p.cut ∙ length-map (file_lines p.contents) _
+    ∙ sym (ap (λ (l : List LineAt). length (line_names files l)) p.stand ∙ length-map (places_of (file_lines p.contents)) _ ∙ length-map (file_lines p.contents) _)
 
 -- a text is empty where its length is found to be 0, and else isn't
 pub empty_is : (text : List ℕ) → (length text == 0) ≡ true → text ≡ []
@@ -69,9 +89,9 @@ empty_is (c ∷ text) h = absurd (let e : suc (length text) ≡ 0 = true-eqb (su
 pub filled_is : (text : List ℕ) → (length text == 0) ≡ false → text ≢ []
 filled_is text h is = absurd (false-eqb (length text) 0 (sym h) (ap length is))
 
-pub finds_sound : (judged : Check) (contents : List (List ℕ)) (sound faultless : Bool) (told lines text : List ℕ) → TellsGiven judged.db sound told → AreFaultsOf judged.files contents lines → text ≡ told ++ lines
-    → sound ≡ true → (faultless ≡ true → lines ≡ []) → (faultless ≡ false → lines ≢ []) → FindsIn judged contents faultless text
-finds_sound judged contents sound faultless told lines text database faults both is none some = record {
+pub finds_sound : (db : Option (List ℕ)) (names contents : List (List ℕ)) (sound faultless : Bool) (told lines text : List ℕ) → TellsGiven db sound told → AreFaultsOf names contents lines → text ≡ told ++ lines
+    → sound ≡ true → (faultless ≡ true → lines ≡ []) → (faultless ≡ false → lines ≢ []) → FindsIn db names contents faultless text
+finds_sound db names contents sound faultless told lines text database faults both is none some = record {
   sound = sound;
   told = told;
   lines = lines;
@@ -82,9 +102,9 @@ finds_sound judged contents sound faultless told lines text database faults both
   some = λ never. inr (some never);
 }
 
-pub finds_unsound : (judged : Check) (contents : List (List ℕ)) (sound faultless : Bool) (told lines text : List ℕ) → TellsGiven judged.db sound told → AreFaultsOf judged.files contents lines → text ≡ told ++ lines
-    → sound ≡ false → faultless ≡ false → FindsIn judged contents faultless text
-finds_unsound judged contents sound faultless told lines text database faults both is never = record {
+pub finds_unsound : (db : Option (List ℕ)) (names contents : List (List ℕ)) (sound faultless : Bool) (told lines text : List ℕ) → TellsGiven db sound told → AreFaultsOf names contents lines → text ≡ told ++ lines
+    → sound ≡ false → faultless ≡ false → FindsIn db names contents faultless text
+finds_unsound db names contents sound faultless told lines text database faults both is never = record {
   sound = sound;
   told = told;
   lines = lines;

@@ -1,6 +1,7 @@
 mod CheckLemmas
 mod EndingLemmas
 mod LineLemmas
+mod PieceLemmas
 mod RunLemmas
 mod StreamLemmas
 mod WorkerLemmas

@@ -233,9 +233,9 @@ base_low None (Some n) h = absurd h
 
 -- what the words ask for is within what a service allows
 once_allowed : (words : List (List ℕ)) (o : Once) → IsPlan words (plan.Alone (alone.Once o)) → IsAllowed o
-once_allowed words (once.Ask query db files) h = tt
+once_allowed words (once.Ask query db files has_lines) h = tt
 once_allowed words (once.Summary db) h = tt
-once_allowed words (once.Take db files) h = tt
+once_allowed words (once.Take db files has_lines) h = tt
 once_allowed words (once.Delta db which summary) h = tt
 once_allowed words (once.Scrub db which) h = tt
 once_allowed words (once.Arrivals db after is_all) h = tt

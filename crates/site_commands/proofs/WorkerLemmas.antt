@@ -14,6 +14,7 @@ use Rattle.site_commands.specs.declared.line.Refusal.TheVariants as refusal
 pub feeds_refuse : (contents feeds : List (List ℕ)) (r : Refusal) → feeds ≡ drop 1 contents → PeerSpells true contents → RefusesFeeds 1 feeds r → RefusesJobs true contents r
 feeds_refuse contents feeds (refusal.Unread at) is peer h = absurd h
 feeds_refuse contents feeds (refusal.File refused) is peer h = inr (subst (λ f. RefusesFeed 1 f refused) is h)
+feeds_refuse contents feeds (refusal.Line refused) is peer h = absurd h
 feeds_refuse contents feeds (refusal.Summary why) is peer h = absurd h
 feeds_refuse contents feeds (refusal.Database why) is peer h = peer
 feeds_refuse contents feeds refusal.NoThread is peer h = peer
@@ -29,6 +30,7 @@ jobs_refuse : (C : List ℕ → List ℕ → Type 0) (U : List ℕ → Unread �
     → AreContents C (files_of_run peer files) contents → RefusesJobs (is_some peer) contents why → RefusesRun C U peer files why
 jobs_refuse C U peer files contents (refusal.Unread at) read h = absurd h
 jobs_refuse C U peer files contents (refusal.File refused) read h = (contents, read, h)
+jobs_refuse C U peer files contents (refusal.Line refused) read h = absurd h
 jobs_refuse C U peer files contents (refusal.Summary why) read h = absurd h
 jobs_refuse C U peer files contents (refusal.Database why) read h = (contents, read, h)
 jobs_refuse C U peer files contents refusal.NoThread read h = (contents, read, h)

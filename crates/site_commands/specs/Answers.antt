@@ -37,6 +37,7 @@ use Rattle.run_command.specs.Run.{SaysRun}
 use Rattle.views.specs.declared.query.Query.{Query}
 use Rattle.site_commands.specs.Names.{files_of_run}
 use Rattle.site_commands.specs.Numbers.{AnswersNumber}
+use Rattle.site_commands.specs.Pieces.{IsRefused, pieces_of}
 use Rattle.site_commands.specs.Streams.{AnswersFollow}
 use Rattle.site_commands.specs.Checks.{FindsNone, RefusesCheck}
 use Rattle.site_commands.specs.declared.line.Refusal.{Refusal}
@@ -44,25 +45,32 @@ use Rattle.site_commands.specs.declared.line.Refusal.TheVariants as refusal
 
 -- the text is the report of the files' contents, and of some events of the database where one is
 -- given
-abbrev pub AnswersQuery : (List ℕ → List ℕ → Type 0) → Query → Option (List ℕ) → List (List ℕ)
-    → List ℕ → Type 0
-AnswersQuery C query None files text = (contents : List (List ℕ)) × AreContents C files contents
-    × IsReport query contents text
-AnswersQuery C query (Some db) files text = (contents : List (List ℕ))
+abbrev pub AnswersQuery : (List ℕ → List ℕ → Type 0) → Query → Bool → Option (List ℕ)
+    → List (List ℕ) → List ℕ → Type 0
+AnswersQuery C query has_lines None files text = (contents : List (List ℕ))
+    × AreContents C files contents × IsReport query (pieces_of has_lines contents) text
+AnswersQuery C query has_lines (Some db) files text = (contents : List (List ℕ))
     × AreContents C files contents
-    × (held : List EventValue) × IsReportWith query held contents text
+    × (held : List EventValue) × IsReportWith query held (pieces_of has_lines contents) text
 
--- the first file that wasn't read, or, where all were, the first at fault, or, where none was, the
--- database, if one is given
+-- the files were read, and this is the first of them at fault, or the first line at fault
+abbrev pub RefusesPiece : (List ℕ → List ℕ → Type 0) → Bool → List (List ℕ) → Refusal → Type 0
+RefusesPiece C has_lines files refusal =
+    (contents : List (List ℕ)) × AreContents C files contents × IsRefused has_lines contents refusal
+
+-- the first file that wasn't read, or, where all were, the first file or line at fault, or, where
+-- none was, the database, if one is given
 abbrev pub RefusesQuery : (List ℕ → List ℕ → Type 0) → (List ℕ → Unread → Type 0)
-    → Option (List ℕ) → List (List ℕ) → Refusal → Type 0
-RefusesQuery C U db files (refusal.Unread at) = IsUnreadAt C U files at
-RefusesQuery C U db files (refusal.File refused) =
-    (contents : List (List ℕ)) × AreContents C files contents × IsRefusal contents refused
-RefusesQuery C U (Some db) files (refusal.Database why) =
+    → Bool → Option (List ℕ) → List (List ℕ) → Refusal → Type 0
+RefusesQuery C U has_lines db files (refusal.Unread at) = IsUnreadAt C U files at
+RefusesQuery C U has_lines db files (refusal.File refused) =
+    RefusesPiece C has_lines files (refusal.File refused)
+RefusesQuery C U has_lines db files (refusal.Line refused) =
+    RefusesPiece C has_lines files (refusal.Line refused)
+RefusesQuery C U has_lines (Some db) files (refusal.Database why) =
     (contents : List (List ℕ)) × AreContents C files contents
-    × (lists : List (List EventValue)) × EachReads contents lists
-RefusesQuery C U db files _ = ⊥
+    × (lists : List (List EventValue)) × EachReads (pieces_of has_lines contents) lists
+RefusesQuery C U has_lines db files _ = ⊥
 
 -- the text is a page of rows behind a number, or all pages
 abbrev pub SaysRelay : ℕ → Bool → List ℕ → Type 0
@@ -90,22 +98,24 @@ pub record IsAllowedRequest (r : Request) : Type 0 where
   pub at : length r.at ≤ 64
 
 -- the text counts the events of the files, and so many of them as new
-abbrev pub AnswersTake : (List ℕ → List ℕ → Type 0) → List (List ℕ) → List ℕ → Type 0
-AnswersTake C files text = (contents : List (List ℕ)) × AreContents C files contents
-    × (events : List EventValue) × SpellAll contents events
+abbrev pub AnswersTake : (List ℕ → List ℕ → Type 0) → Bool → List (List ℕ) → List ℕ → Type 0
+AnswersTake C has_lines files text = (contents : List (List ℕ)) × AreContents C files contents
+    × (events : List EventValue) × SpellAll (pieces_of has_lines contents) events
     × (fresh : ℕ) × (text ≡ counts_line (length events) fresh)
 
--- the first file that wasn't read, or, where all were, the first at fault, or, where none was, the
--- database
+-- the first file that wasn't read, or, where all were, the first file or line at fault, or, where
+-- none was, the database
 abbrev pub RefusesTake : (List ℕ → List ℕ → Type 0) → (List ℕ → Unread → Type 0)
-    → List (List ℕ) → Refusal → Type 0
-RefusesTake C U files (refusal.Unread at) = IsUnreadAt C U files at
-RefusesTake C U files (refusal.File refused) =
-    (contents : List (List ℕ)) × AreContents C files contents × IsRefusal contents refused
-RefusesTake C U files (refusal.Database why) =
+    → Bool → List (List ℕ) → Refusal → Type 0
+RefusesTake C U has_lines files (refusal.Unread at) = IsUnreadAt C U files at
+RefusesTake C U has_lines files (refusal.File refused) =
+    RefusesPiece C has_lines files (refusal.File refused)
+RefusesTake C U has_lines files (refusal.Line refused) =
+    RefusesPiece C has_lines files (refusal.Line refused)
+RefusesTake C U has_lines files (refusal.Database why) =
     (contents : List (List ℕ)) × AreContents C files contents
-    × (events : List EventValue) × SpellAll contents events
-RefusesTake C U files _ = ⊥
+    × (events : List EventValue) × SpellAll (pieces_of has_lines contents) events
+RefusesTake C U has_lines files _ = ⊥
 
 -- the file's bytes, but for one LF at their end, are the text of this summary
 abbrev pub HasSummary : (List ℕ → List ℕ → Type 0) → List ℕ → Sources → Type 0
@@ -203,9 +213,10 @@ RefusesRun C U peer files refusal = (contents : List (List ℕ))
 
 -- the text is the answer to the plan, which has one
 abbrev pub AnswersOnce : (List ℕ → List ℕ → Type 0) → Once → List ℕ → Type 0
-AnswersOnce C (once.Ask query db files) text = AnswersQuery C query db files text
+AnswersOnce C (once.Ask query db files has_lines) text =
+    AnswersQuery C query has_lines db files text
 AnswersOnce C (once.Summary db) text = SaysSummary text
-AnswersOnce C (once.Take db files) text = AnswersTake C files text
+AnswersOnce C (once.Take db files has_lines) text = AnswersTake C has_lines files text
 AnswersOnce C (once.Delta db which summary) text = AnswersDelta C which summary text
 AnswersOnce C (once.Scrub db which) text = SaysPages which text
 AnswersOnce C (once.Arrivals db after is_all) text = SaysArrived after is_all text
@@ -224,9 +235,11 @@ AnswersPlan C (plan.Run run) text = AnswersRun C run.peer run.files text
 -- this is why the plan, which would have one answer, has none
 abbrev pub RefusesOnce : (List ℕ → List ℕ → Type 0) → (List ℕ → Unread → Type 0)
     → Once → Refusal → Type 0
-RefusesOnce C U (once.Ask query db files) refusal = RefusesQuery C U db files refusal
+RefusesOnce C U (once.Ask query db files has_lines) refusal =
+    RefusesQuery C U has_lines db files refusal
 RefusesOnce C U (once.Summary db) refusal = IsOfDatabase refusal
-RefusesOnce C U (once.Take db files) refusal = RefusesTake C U files refusal
+RefusesOnce C U (once.Take db files has_lines) refusal =
+    RefusesTake C U has_lines files refusal
 RefusesOnce C U (once.Delta db which summary) refusal = RefusesDelta C U summary refusal
 RefusesOnce C U (once.Scrub db which) refusal = IsOfDatabase refusal
 RefusesOnce C U (once.Arrivals db after is_all) refusal = IsOfDatabase refusal
@@ -245,9 +258,9 @@ RefusesPlan C U (plan.Run run) refusal = RefusesRun C U run.peer run.files refus
 
 -- what is asked of a service or an order is within what a service allows
 abbrev pub IsAllowed : Once → Type 0
-IsAllowed (once.Ask query db files) = Unit {0}
+IsAllowed (once.Ask query db files has_lines) = Unit {0}
 IsAllowed (once.Summary db) = Unit {0}
-IsAllowed (once.Take db files) = Unit {0}
+IsAllowed (once.Take db files has_lines) = Unit {0}
 IsAllowed (once.Delta db which summary) = Unit {0}
 IsAllowed (once.Scrub db which) = Unit {0}
 IsAllowed (once.Arrivals db after is_all) = Unit {0}

@@ -9,12 +9,14 @@ use Rattle.database_commands.specs.declared.trouble.Trouble.TheVariants.{OutOfMe
 use Rattle.fault_lines.specs.Lines.{IsFaultText}
 use Rattle.file_reports.specs.Shelves.{AreContents, IsUnreadAt}
 use Rattle.file_reports.specs.declared.input.Unread.{Unread}
-use Rattle.site_commands.specs.Lines.{line_of}
+use Rattle.site_commands.specs.Lines.{line_names, line_of}
 use Rattle.site_commands.specs.Names.{of_check}
+use Rattle.site_commands.specs.Pieces.{pieces_of, places_in}
 use Rattle.site_commands.specs.declared.ending.Ending.{Ending}
 use Rattle.site_commands.specs.declared.ending.Ending.TheVariants as ending
 use Rattle.site_commands.specs.declared.line.Refusal.{Refusal}
 use Rattle.site_commands.specs.declared.line.Refusal.TheVariants as refusal
+use Rattle.site_commands.specs.declared.pieces.LineAt.{LineAt}
 
 -- the text has the lines of the events at fault in these contents, file by file, one content for
 -- each name
@@ -24,10 +26,16 @@ AreFaultsOf (file ∷ files) (bytes ∷ contents) text = (lines : List ℕ) × (
     × IsFaultText file bytes lines × AreFaultsOf files contents rest × (text ≡ lines ++ rest)
 AreFaultsOf _ _ text = ⊥
 
+-- the names of what is judged of these files: their own, or those of their lines
+abbrev pub piece_names : Bool → List (List ℕ) → List LineAt → List (List ℕ)
+piece_names false files places = files
+piece_names true files places = line_names files places
+
 -- all files were read, and the text has the lines of their events at fault
-abbrev pub TellsFaults : (List ℕ → List ℕ → Type 0) → List (List ℕ) → List ℕ → Type 0
-TellsFaults C files text = (contents : List (List ℕ)) × AreContents C files contents
-    × AreFaultsOf files contents text
+abbrev pub TellsFaults : (List ℕ → List ℕ → Type 0) → Bool → List (List ℕ) → List ℕ → Type 0
+TellsFaults C has_lines files text = (contents : List (List ℕ)) × AreContents C files contents
+    × AreFaultsOf (piece_names has_lines files (places_in has_lines contents))
+    (pieces_of has_lines contents) text
 
 -- memory ran out, or this is the first file that wasn't read
 abbrev pub RefusesCheck : (List ℕ → List ℕ → Type 0) → (List ℕ → Unread → Type 0)
@@ -50,7 +58,7 @@ TellsGiven (Some db) sound text = TellsDatabase db sound text
 pub record Checks (C : List ℕ → List ℕ → Type 0) (judged : Check) (sound : Bool)
     (told lines text : List ℕ) : Type 0 where
   pub database : TellsGiven judged.db sound told
-  pub faults : TellsFaults C judged.files lines
+  pub faults : TellsFaults C judged.has_lines judged.files lines
   pub both : text ≡ told ++ lines
 
 -- nothing is at fault: the text tells of the database alone

@@ -1,4 +1,5 @@
 pub mod Names
+pub mod Pieces
 pub mod Lines
 pub mod Inputs
 pub mod Streams

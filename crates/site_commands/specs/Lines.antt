@@ -1,5 +1,5 @@
 -- The lines on standard error of a run that was refused.
-use Rattle.std.specs.Prelude.{◌==◌, ◌/◌, ◌%◌, Bool, ℕ, List, [], ◌∷◌, ◌++◌, codes, slice_get, unwrap_or, if◌then◌else◌}
+use Rattle.std.specs.Prelude.{◌==◌, ◌/◌, ◌%◌, Bool, ℕ, List, [], ◌∷◌, ◌++◌, codes, map, slice_get, unwrap_or, if◌then◌else◌}
 use Rattle.std.specs.Char.{digit_char, encode_utf8, is_control}
 use Rattle.std.specs.Fmt.{decimal}
 use Rattle.std.specs.List.{flat_map}
@@ -17,6 +17,7 @@ use Rattle.database_commands.specs.declared.fault.CommandFault.TheVariants as da
 use Rattle.site_commands.specs.Names.{Names}
 use Rattle.site_commands.specs.declared.line.Refusal.{Refusal}
 use Rattle.site_commands.specs.declared.line.Refusal.TheVariants as refusal
+use Rattle.site_commands.specs.declared.pieces.LineAt.{LineAt}
 
 -- ---- names of files
 
@@ -45,6 +46,14 @@ printed_name name = flat_map name_char (chars name)
 -- the name at a place, from 0
 abbrev pub name_at : List (List ℕ) → ℕ → List ℕ
 name_at names file = unwrap_or (slice_get names file) []
+
+-- `FILE line N`
+abbrev pub line_name : List ℕ → ℕ → List ℕ
+line_name name number = name ++ codes " line " ++ decimal number
+
+-- the names of lines of these files
+abbrev pub line_names : List (List ℕ) → List LineAt → List (List ℕ)
+line_names files places = map (λ at. line_name (name_at files at.file) at.line) places
 
 -- ---- the lines
 
@@ -113,6 +122,8 @@ made_lines file service db =
 abbrev pub line_of : Names → Refusal → List ℕ
 line_of names (refusal.Unread at) = unread_line (name_at names.files at.file) at.why
 line_of names (refusal.File refused) = fault_line (name_at names.files refused.file) refused.fault
+line_of names (refusal.Line refused) =
+    fault_line (line_name (name_at names.files refused.at.file) refused.at.line) refused.fault
 line_of names (refusal.Summary why) = summary_line (name_at names.files 0) why
 line_of names (refusal.Database why) = database_line names.db names.order why
 line_of names refusal.NoThread = codes "site: no thread" ++ 10 ∷ []

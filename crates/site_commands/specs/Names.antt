@@ -25,9 +25,9 @@ pub record Names : Type 0 where
 
 -- what a plan with one answer names
 abbrev pub of_once : Once → Names
-of_once (once.Ask query db files) = record { db = unwrap_or db []; order = 0; files = files }
+of_once (once.Ask query db files has_lines) = record { db = unwrap_or db []; order = 0; files = files }
 of_once (once.Summary db) = record { db = db; order = 0; files = [] }
-of_once (once.Take db files) = record { db = db; order = 0; files = files }
+of_once (once.Take db files has_lines) = record { db = db; order = 0; files = files }
 of_once (once.Delta db which name) = record { db = db; order = 0; files = name ∷ [] }
 of_once (once.Scrub db which) = record { db = db; order = 0; files = [] }
 of_once (once.Arrivals db after is_all) = record { db = db; order = 0; files = [] }

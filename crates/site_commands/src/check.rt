@@ -1,6 +1,6 @@
 //! The command that judges files and keeps nothing of them, and tells what a database is.
 ghost use Rattle.std.specs.Prelude.{◌≡◌, IfErr, IfOk, IsFalse, IsTrue, length};
-ghost use Rattle.site_commands.specs.Checks.{AreFaultsOf, FindsNone, FindsSome, IsCheckEnding, RefusesCheck, TellsDatabase, TellsGiven};
+ghost use Rattle.site_commands.specs.Checks.{AreFaultsOf, FindsNone, FindsSome, IsCheckEnding, RefusesCheck, TellsDatabase, TellsGiven, piece_names};
 ghost use Rattle.site_commands.specs.steps.Checks.{FindsIn};
 
 use crate::ending::{Ending, refused};
@@ -8,12 +8,13 @@ use crate::files::Looks;
 use crate::hint::hint_of;
 use crate::line::Refusal;
 use crate::names::Names;
+use crate::pieces::{Pieces, line_names, pieces_of};
 use crate::progress::Progress;
 use attributes::{Octets, Text};
 use command_words::Check;
 use database_commands::{Databases, Trouble, trouble_line};
 use fault_lines::fault_lines;
-use file_reports::{Shelf, Unread, UnreadAt, contents_of};
+use file_reports::{Shelf, Unread, UnreadAt};
 use std::alloc::{AllocError, Global};
 
 /// What is told of a database.
@@ -72,8 +73,8 @@ fn check<S: Shelf, D: Databases>(
     ensures err { IfErr result
         (RefusesCheck (S.is_content shelf.now) (S.is_unread shelf.now) plan.now.files) }
 {
-    match contents_of(alloc, shelf, plan.files.as_slice()) {
-        Ok(contents) => match found_in(alloc, databases, plan, contents.as_slice()) {
+    match pieces_of(alloc, shelf, plan.files.as_slice(), plan.has_lines) {
+        Ok(pieces) => match found_of(alloc, databases, plan, &pieces) {
             Ok(found) => Ok(found),
             Err(_) => Err(Refusal::Unread(UnreadAt {
                 file: 0,
@@ -84,18 +85,41 @@ fn check<S: Shelf, D: Databases>(
     }
 }
 
-/// What is found of the database and in these contents, each of the file at its place.
-fn found_in<D: Databases>(
+/// What is found of the database and in these pieces of the files.
+fn found_of<D: Databases>(
     alloc: Global,
     databases: &D,
     plan: &Check,
+    pieces: &Pieces,
+) -> Result<Found, AllocError>
+    requires { length pieces.now.texts.items ≡ length
+        (piece_names plan.now.has_lines plan.now.files pieces.now.places.items) }
+    ensures { IfOk result (λ f. FindsIn plan.now.db
+        (piece_names plan.now.has_lines plan.now.files pieces.now.places.items)
+        pieces.now.texts.items f.is_faultless f.text) }
+{
+    let files = plan.files.as_slice();
+    let texts = pieces.texts.as_slice();
+    if plan.has_lines {
+        let names = line_names(alloc, files, pieces.places.as_slice())?;
+        return found_in(alloc, databases, &plan.db, names.as_slice(), texts);
+    }
+    found_in(alloc, databases, &plan.db, files, texts)
+}
+
+/// What is found of the database and in these contents, each of the name at its place.
+fn found_in<D: Databases>(
+    alloc: Global,
+    databases: &D,
+    db: &Option<Text>,
+    names: &[Text],
     contents: &[Octets],
 ) -> Result<Found, AllocError>
-    requires { length contents.now ≡ length plan.now.files }
-    ensures { IfOk result (λ f. FindsIn plan.now contents.now f.is_faultless f.text) }
+    requires { length contents.now ≡ length names.now }
+    ensures { IfOk result (λ f. FindsIn db.now names.now contents.now f.is_faultless f.text) }
 {
-    let Told { is_sound, text } = told_if_given(alloc, databases, &plan.db)?;
-    let lines = lines_of(alloc, plan.files.as_slice(), contents)?;
+    let Told { is_sound, text } = told_if_given(alloc, databases, db)?;
+    let lines = lines_of(alloc, names, contents)?;
     let is_faultless = is_sound && lines.as_str().is_empty();
     let mut text = text.into_string();
     text.push_str(lines.as_str())?;

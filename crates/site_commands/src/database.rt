@@ -8,12 +8,13 @@ ghost use Rattle.site_commands.specs.Answers.{AnswersDelta, AnswersOrder, Answer
 ghost use Rattle.site_commands.specs.Printed.{printed};
 
 use crate::line::Refusal;
+use crate::pieces::{Pieces, pieces_of, refusal_at};
 use crate::printed::Printed;
 use attributes::Text;
 use command_words::{Action, Pages, Request};
 use coverage::Summary;
 use database_commands::{CommandFault, Databases, Relayed, Status, summary_of};
-use file_reports::{EventReader, Shelf, UnreadAt, contents_of, events_of};
+use file_reports::{EventReader, Shelf, UnreadAt, events_of};
 use inbox_table::Watch;
 use std::alloc::Global;
 use std::mem;
@@ -28,15 +29,16 @@ pub fn take<S: Shelf, F: EventReader, D: Databases, W: Watch>(
     databases: &D,
     db: &str,
     files: &[Text],
+    has_lines: bool,
     watch: &W,
 ) -> Result<Text, Refusal>
     requires { F.can_read reader.now }
-    ensures ok { IfOk result (AnswersTake (S.is_content shelf.now) files.now) }
+    ensures ok { IfOk result (AnswersTake (S.is_content shelf.now) has_lines files.now) }
     ensures err { IfErr result
-        (RefusesTake (S.is_content shelf.now) (S.is_unread shelf.now) files.now) }
+        (RefusesTake (S.is_content shelf.now) (S.is_unread shelf.now) has_lines files.now) }
 {
-    match contents_of(alloc, shelf, files) {
-        Ok(contents) => match events_of(alloc, reader, contents.as_slice()) {
+    match pieces_of(alloc, shelf, files, has_lines) {
+        Ok(Pieces { texts, places }) => match events_of(alloc, reader, texts.as_slice()) {
             Ok(events) => {
                 let answer = databases.take(alloc, db, &events, watch);
                 mem::forget(events);
@@ -45,7 +47,7 @@ pub fn take<S: Shelf, F: EventReader, D: Databases, W: Watch>(
                     Err(why) => Err(Refusal::Database(why)),
                 }
             }
-            Err(refused) => Err(Refusal::File(refused)),
+            Err(refused) => Err(refusal_at(has_lines, places.as_slice(), refused)),
         },
         Err(at) => Err(Refusal::Unread(at)),
     }

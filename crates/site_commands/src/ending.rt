@@ -6,6 +6,7 @@ ghost use Rattle.site_commands.specs.Endings.{Ends, EndsPages, Grows, SaysRefusa
 ghost use Rattle.site_commands.specs.Names.{lent};
 ghost use Rattle.site_commands.specs.Runs.{IsLine, IsTold};
 
+use crate::hint::Hint;
 use crate::line::{Refusal, line_of, made_lines};
 use crate::names::Names;
 use crate::progress::Progress;
@@ -33,10 +34,7 @@ pub enum Ending {
     Answer(Text),
     /// The answer, for standard output, and the lines of what was made for it, for standard error:
     /// status 0.
-    Told {
-        text: Text,
-        made: Text,
-    },
+    Told { text: Text, made: Text },
     /// The answer in pages, each a line that is made when it is written, for standard output:
     /// status 0. Memory that runs out between two pages ends it with 1 and a line on
     /// standard error.
@@ -49,10 +47,7 @@ pub enum Ending {
     Faulty(Text),
     /// Why there is no answer, one line for standard error: status 1. Who looks on gets the hint
     /// too, where there is one.
-    Refused {
-        line: Text,
-        hint: Option<&'static str>,
-    },
+    Refused { line: Text, hint: Option<Hint> },
     /// Memory ran out, which a line on standard error says: status 1.
     NoMemory,
 }
@@ -131,17 +126,12 @@ fn tell<E: Write>(err: &mut E, made: &str)
 }
 
 /// Writes the line of a refusal, and behind it gives the hint, where there is one.
-fn refuse<E: Write, P: Progress>(
-    err: &mut E,
-    line: &str,
-    hint: Option<&'static str>,
-    progress: &P,
-) -> u8
+fn refuse<E: Write, P: Progress>(err: &mut E, line: &str, hint: Option<Hint>, progress: &P) -> u8
     ensures { Writes result 1 (E.contents err.old) (E.contents err.new) line.now }
 {
     if let Some(shown) = show(err, line) {
         if let Some(hint) = hint {
-            progress.hint(shown, hint);
+            progress.hint(shown, hint.as_str());
         }
     }
     REFUSED
@@ -162,12 +152,7 @@ fn show<E: Write>(err: &mut E, line: &str) -> Option<Shown>
 
 /// The ending of a refusal of a plan that names these: its line, where memory is left for it, and
 /// the hint behind it.
-pub fn refused(
-    alloc: Global,
-    names: Names<'_>,
-    refusal: Refusal,
-    hint: Option<&'static str>,
-) -> Ending
+pub fn refused(alloc: Global, names: Names<'_>, refusal: Refusal, hint: Option<Hint>) -> Ending
     ensures { IsLine (lent names.entry) refusal result }
 {
     match line_of(alloc, names, refusal) {
@@ -202,7 +187,7 @@ pub fn say<E: Write, P: Progress>(
     alloc: Global,
     names: Names<'_>,
     refusal: Refusal,
-    hint: Option<&'static str>,
+    hint: Option<Hint>,
     err: &mut E,
     progress: &P,
 ) -> u8

@@ -5,11 +5,31 @@ use crate::line::Refusal;
 use crate::look::Look;
 use crate::names::Names;
 use crate::progress::Progress;
+use attributes::Text;
 use coverage::SummaryFault;
 use database_commands::{CommandFault, Databases, Trouble};
 use event_json::ReadFault;
 use file_reports::{ReportFault, Unread};
 use std::alloc::Global;
+
+/// What can be done about a refusal.
+#[derive(Drop)]
+pub enum Hint {
+    /// The same words for every refusal of its kind.
+    Words(&'static str),
+    /// Words of this database.
+    Told(Text),
+}
+
+impl Hint {
+    /// The words, lent.
+    pub fn as_str(&self) -> &str {
+        match self {
+            Hint::Words(words) => words,
+            Hint::Told(text) => text.as_str(),
+        }
+    }
+}
 
 /// What is the matter behind a refusal of a plan that names these, and what can be done. None where
 /// nobody looks on, or nothing more is known. It may read the file or the database once more, and
@@ -21,13 +41,46 @@ pub fn hint_of<S: Looks, D: Databases + Drop, P: Progress>(
     progress: &P,
     names: Names<'_>,
     refusal: Refusal,
-) -> Option<&'static str> {
+) -> Option<Hint> {
     if !progress.is_watched() {
         return None;
     }
     match refusal {
+        Refusal::Database(CommandFault::Foreign) => {
+            of_service(
+                alloc,
+                databases,
+                names.db,
+                "leave --base out, or give that one",
+            )
+        }
+        Refusal::Database(CommandFault::AnotherSource) => {
+            of_service(
+                alloc,
+                databases,
+                names.db,
+                "leave --source out, or name that one",
+            )
+        }
+        _ => match words_of(alloc, shelf, databases, names, refusal) {
+            Some(words) => Some(Hint::Words(words)),
+            None => None,
+        },
+    }
+}
+
+/// The words that every refusal of its kind has.
+fn words_of<S: Looks, D: Databases + Drop>(
+    alloc: Global,
+    shelf: &S,
+    databases: &D,
+    names: Names<'_>,
+    refusal: Refusal,
+) -> Option<&'static str> {
+    match refusal {
         Refusal::Unread(at) => of_unread(shelf, names.file(at.file), at.why),
         Refusal::File(refused) => of_file(shelf, names.file(refused.file), refused.fault),
+        Refusal::Line(refused) => of_line(shelf, names.file(refused.at.file), refused.fault),
         Refusal::Summary(why) => of_summary(shelf, names.file(0), why),
         Refusal::Database(why) => of_database(alloc, databases, names.db, why),
         Refusal::NoThread => Some("the system gives no more threads: name fewer files at once"),
@@ -80,6 +133,25 @@ fn of_file<S: Looks>(shelf: &S, name: &str, fault: ReportFault) -> Option<&'stat
     }
 }
 
+/// Why a line spells no events.
+fn of_line<S: Looks>(shelf: &S, name: &str, fault: ReportFault) -> Option<&'static str> {
+    match fault {
+        ReportFault::OutOfMemory | ReportFault::Read(ReadFault::OutOfMemory) => None,
+        ReportFault::Read(ReadFault::NotJson) => match shelf.look(name) {
+            Look::Pretty => Some(
+                "an event stands on one line, and this one on several: without --lines a file is one event or one batch",
+            ),
+            Look::Lines | Look::Other => Some(
+                "nothing was taken of any line: follow keeps the good ones, and tells of each other",
+            ),
+            look => Some(of_look(look)),
+        },
+        _ => Some(
+            "site check --lines FILE says of each line what is wrong, and what to do; follow keeps the good ones",
+        ),
+    }
+}
+
 /// What a file is that is no JSON.
 fn of_look(look: Look) -> &'static str {
     match look {
@@ -89,7 +161,7 @@ fn of_look(look: Look) -> &'static str {
         Look::Database => "it is a database: give it as --db FILE",
         Look::Wide => "it is UTF-16: iconv -f UTF-16 -t UTF-8 makes it UTF-8",
         Look::Lines =>
-            "its events stand one a line: follow takes them so, or jq -s . makes a batch",
+            "its events stand one a line: with --lines take, check and the questions read them so",
         _ => "a file is one JSON text in UTF-8: jq . FILE says where it ends to be one",
     }
 }
@@ -130,20 +202,45 @@ fn of_database<D: Databases + Drop>(
             }
             Err(why) => Some(why.hint()),
         },
-        CommandFault::Foreign => Some(
-            "its tables or rows aren't as site leaves them, or its service has another base: site check --db DB tells",
-        ),
+        CommandFault::Foreign | CommandFault::AnotherSource => None,
         CommandFault::OrderExists => Some("an order is placed once"),
         CommandFault::NoOrder => Some("an order is placed before it is shipped or cancelled"),
         CommandFault::WrongState => Some("an order is shipped or cancelled once"),
         CommandFault::Full => Some("the outbox has no number left: begin another database"),
         CommandFault::RouteFailed => None,
-        CommandFault::AnotherSource => {
-            Some("a database has one service: site check --db DB tells its source")
-        }
         CommandFault::CannotRead => Some(
             "there is no such database: echo '[]' | site take --db DB - begins one, if the name is right",
         ),
         CommandFault::Cache => Some("SITE_CACHE_MIB=64 site .. sets it for one command"),
+    }
+}
+
+/// What is the matter with a database whose tables, or whose service, aren't those that were meant.
+fn of_service<D: Databases + Drop>(
+    alloc: Global,
+    databases: &D,
+    db: &str,
+    advice: &str,
+) -> Option<Hint> {
+    match databases.waiting(0).describe(alloc, db) {
+        Ok(told) => of_told(alloc, told.as_str(), advice),
+        Err(why) => Some(Hint::Words(why.hint())),
+    }
+}
+
+/// The hint where this is told of a database: of its inbox, and behind that of its service.
+fn of_told(alloc: Global, told: &str, advice: &str) -> Option<Hint> {
+    let service = match told.split_once('\n') {
+        Some((_, behind)) => behind.trim_ascii_end(),
+        None => "",
+    };
+    if service.is_empty() {
+        return Some(Hint::Words(
+            "it is sound, and was made with another base, or for another command: site check --db DB tells",
+        ));
+    }
+    match format!(in alloc; "its service is {service}: {advice}") {
+        Ok(words) => Some(Hint::Told(Text::from_string(words))),
+        Err(_) => None,
     }
 }

@@ -11,6 +11,7 @@ mod line;
 mod look;
 mod names;
 mod number;
+mod pieces;
 mod printed;
 mod progress;
 mod query;
@@ -19,6 +20,8 @@ mod stream;
 mod workers;
 
 pub use ending::{Ending, Shown};
+pub use hint::Hint;
 pub use line::Refusal;
+pub use pieces::{LineAt, RefusedLine};
 pub use progress::Progress;
 pub use run::{exit, perform, perform_alone};

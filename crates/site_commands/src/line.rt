@@ -3,9 +3,10 @@ ghost use Rattle.std.specs.Prelude.{◌≡◌, ◌<◌, ◌++◌, [], ◌∷◌,
 ghost use Rattle.std.specs.Char.{digit_char};
 ghost use Rattle.line_intake.specs.Words.{words_of};
 ghost use Rattle.site_commands.specs.Names.{lent};
-ghost use Rattle.site_commands.specs.Lines.{database_line, fault_line, file_line, line_of, lines_line, made_lines, name_char, order_line, other_char, printed_name, summary_line, unread_line};
+ghost use Rattle.site_commands.specs.Lines.{database_line, fault_line, file_line, line_name, line_of, lines_line, made_lines, name_char, order_line, other_char, printed_name, summary_line, unread_line};
 
 use crate::names::Names;
+use crate::pieces::RefusedLine;
 use attributes::Text;
 use coverage::SummaryFault;
 use database_commands::CommandFault;
@@ -21,6 +22,8 @@ pub enum Refusal {
     Unread(UnreadAt),
     /// The first file at fault, where all were read.
     File(Refused),
+    /// The first line at fault, where all files were read.
+    Line(RefusedLine),
     /// The file spells no summary.
     Summary(SummaryFault),
     /// The command over the database.
@@ -40,12 +43,24 @@ pub fn line_of(alloc: Global, names: Names<'_>, refusal: Refusal) -> Result<Text
     match refusal {
         Refusal::Unread(at) => unread_line(alloc, names.file(at.file), at.why),
         Refusal::File(refused) => fault_line(alloc, names.file(refused.file), refused.fault),
+        Refusal::Line(refused) => {
+            let name = line_name(alloc, names.file(refused.at.file), refused.at.line)?;
+            fault_line(alloc, name.as_str(), refused.fault)
+        }
         Refusal::Summary(why) => summary_line(alloc, names.file(0), why),
         Refusal::Database(why) => database_line(alloc, names.db, names.order, why),
         Refusal::NoThread => Text::of(alloc, "site: no thread\n"),
         Refusal::Lines(faults) => lines_line(alloc, faults),
         Refusal::NoNumber => file_line(alloc, names.db, "Full"),
     }
+}
+
+/// `FILE line N`
+pub fn line_name(alloc: Global, name: &str, number: u64) -> Result<Text, AllocError>
+    ensures { IfOk result (λ text. text ≡ line_name name.now number) }
+{
+    let name = format!(in alloc; "{name} line {number}")?;
+    Ok(Text::from_string(name))
 }
 
 /// The lines of what was made: the file of that database, a service in it.

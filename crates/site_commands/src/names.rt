@@ -43,7 +43,7 @@ impl<'a> Names<'a> {
                 files: files.as_slice(),
             },
             Once::Summary { db } => Names::of_db(db.as_str()),
-            Once::Take { db, files } => Names {
+            Once::Take { db, files, .. } => Names {
                 db: db.as_str(),
                 order: 0,
                 first: None,
@@ -147,7 +147,7 @@ fn given_name(name: &Option<Text>) -> &str
 }
 
 /// The name at a place, from 0; empty where there is none.
-fn name_at(names: &[Text], place: u64) -> &str
+pub(crate) fn name_at(names: &[Text], place: u64) -> &str
     ensures { result.now ≡ name_at names.now place }
 {
     match names.get(place as usize) {

@@ -3,9 +3,10 @@ ghost use Rattle.std.specs.Prelude.{◌≡◌, IfErr, IfOk, None, Some};
 ghost use Rattle.site_commands.specs.Answers.{AnswersQuery, RefusesQuery};
 
 use crate::line::Refusal;
+use crate::pieces::{Pieces, pieces_of, refusal_at};
 use attributes::Text;
 use database_commands::{CommandFault, Databases};
-use file_reports::{EventReader, Query, Shelf, contents_of, report, report_with, site_of};
+use file_reports::{EventReader, Query, Shelf, report, report_with, site_of};
 use std::alloc::Global;
 use std::mem;
 
@@ -19,15 +20,20 @@ pub fn ask<S: Shelf, F: EventReader, D: Databases>(
     query: Query,
     db: &Option<Text>,
     files: &[Text],
+    has_lines: bool,
 ) -> Result<Text, Refusal>
     requires { F.can_read reader.now }
-    ensures ok { IfOk result (AnswersQuery (S.is_content shelf.now) query db.now files.now) }
+    ensures ok { IfOk result
+        (AnswersQuery (S.is_content shelf.now) query has_lines db.now files.now) }
     ensures err { IfErr result
-        (RefusesQuery (S.is_content shelf.now) (S.is_unread shelf.now) db.now files.now) }
+        (RefusesQuery (S.is_content shelf.now) (S.is_unread shelf.now) has_lines db.now files.now) }
 {
     match db {
-        Some(db) => ask_with(alloc, shelf, reader, databases, query, db.as_str(), files),
-        None => ask_files(alloc, shelf, reader, query, files),
+        Some(db) => {
+            let db = db.as_str();
+            ask_with(alloc, shelf, reader, databases, query, db, files, has_lines)
+        }
+        None => ask_files(alloc, shelf, reader, query, files, has_lines),
     }
 }
 
@@ -39,19 +45,21 @@ fn ask_files<S: Shelf, F: EventReader>(
     reader: &F,
     query: Query,
     files: &[Text],
+    has_lines: bool,
 ) -> Result<Text, Refusal>
     requires { F.can_read reader.now }
-    ensures ok { IfOk result (AnswersQuery (S.is_content shelf.now) query None files.now) }
+    ensures ok { IfOk result
+        (AnswersQuery (S.is_content shelf.now) query has_lines None files.now) }
     ensures err { IfErr result
-        (RefusesQuery (S.is_content shelf.now) (S.is_unread shelf.now) None files.now) }
+        (RefusesQuery (S.is_content shelf.now) (S.is_unread shelf.now) has_lines None files.now) }
 {
-    match contents_of(alloc, shelf, files) {
-        Ok(contents) => match report(alloc, reader, query, contents) {
+    match pieces_of(alloc, shelf, files, has_lines) {
+        Ok(Pieces { texts, places }) => match report(alloc, reader, query, texts) {
             Ok(report) => {
                 mem::forget(report.events);
                 Ok(report.text)
             }
-            Err(refused) => Err(Refusal::File(refused)),
+            Err(refused) => Err(refusal_at(has_lines, places.as_slice(), refused)),
         },
         Err(at) => Err(Refusal::Unread(at)),
     }
@@ -66,14 +74,16 @@ fn ask_with<S: Shelf, F: EventReader, D: Databases>(
     query: Query,
     db: &str,
     files: &[Text],
+    has_lines: bool,
 ) -> Result<Text, Refusal>
     requires { F.can_read reader.now }
-    ensures ok { IfOk result (AnswersQuery (S.is_content shelf.now) query (Some db.now) files.now) }
-    ensures err { IfErr result
-        (RefusesQuery (S.is_content shelf.now) (S.is_unread shelf.now) (Some db.now) files.now) }
+    ensures ok { IfOk result
+        (AnswersQuery (S.is_content shelf.now) query has_lines (Some db.now) files.now) }
+    ensures err { IfErr result (RefusesQuery (S.is_content shelf.now) (S.is_unread shelf.now)
+        has_lines (Some db.now) files.now) }
 {
-    match contents_of(alloc, shelf, files) {
-        Ok(contents) => match site_of(alloc, reader, contents) {
+    match pieces_of(alloc, shelf, files, has_lines) {
+        Ok(Pieces { texts, places }) => match site_of(alloc, reader, texts) {
             Ok(events) => match databases.events(alloc, db) {
                 Ok(held) => match report_with(query, events, held) {
                     Ok(report) => {
@@ -84,7 +94,7 @@ fn ask_with<S: Shelf, F: EventReader, D: Databases>(
                 },
                 Err(why) => Err(Refusal::Database(why)),
             },
-            Err(refused) => Err(Refusal::File(refused)),
+            Err(refused) => Err(refusal_at(has_lines, places.as_slice(), refused)),
         },
         Err(at) => Err(Refusal::Unread(at)),
     }

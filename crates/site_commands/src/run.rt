@@ -229,7 +229,7 @@ fn perform_run<
 /// are left.
 fn long_files(plan: &Once) -> u64 {
     match plan {
-        Once::Take { db: _, files } => files.len(),
+        Once::Take { files, .. } => files.len(),
         _ => 0,
     }
 }
@@ -329,7 +329,12 @@ fn carried_out<S: Shelf, F: EventReader, D: Databases, P: Progress>(
         (RefusesOnce (S.is_content shelf.now) (S.is_unread shelf.now) plan.now) }
 {
     match plan {
-        Once::Ask { query, db, files } => lined(ask(
+        Once::Ask {
+            query,
+            db,
+            files,
+            has_lines,
+        } => lined(ask(
             alloc,
             shelf,
             reader,
@@ -337,14 +342,20 @@ fn carried_out<S: Shelf, F: EventReader, D: Databases, P: Progress>(
             *query,
             db,
             files.as_slice(),
+            *has_lines,
         )),
-        Once::Take { db, files } => lined(take(
+        Once::Take {
+            db,
+            files,
+            has_lines,
+        } => lined(take(
             alloc,
             shelf,
             reader,
             databases,
             db.as_str(),
             files.as_slice(),
+            *has_lines,
             progress,
         )),
         Once::Summary { db } => lined(summary(alloc, databases, db.as_str())),

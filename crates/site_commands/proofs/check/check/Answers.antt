@@ -1,9 +1,12 @@
-use Rattle.std.proofs.Common.{ℕ, List, length, ap, ◌∙◌}
-use Rattle.site_commands.proofs.CheckLemmas.{AreContents-length}
+use Rattle.std.proofs.Common.{List, ℕ, subst}
+use Rattle.site_commands.specs.Pieces.{ArePieces}
+use Rattle.site_commands.proofs.CheckLemmas.{one_name_each}
 use Rattle.site_commands.proofs.check.check.Goals as goal
 
-pub found_in-requires : goal.found_in-requires
-found_in-requires g c =
-    ap (λ (l : List (List ℕ)). length l) c.as_slice-in-Ok.ensures.value
-    ∙ AreContents-length (g.S.Shelf.is_content c.args.shelf.now) c.as_slice.result.now c.in-Ok.contents.items c.in-Ok.ensures.ok
-    ∙ ap (λ (l : List (List ℕ)). length l) c.as_slice.ensures
+pub found_of-requires : goal.found_of-requires
+found_of-requires g c =
+    let C = g.S.Shelf.is_content c.args.shelf.now in
+    let plan = c.args.plan.now in
+    let texts = c.in-Ok.pieces.texts.items in
+    let places = c.in-Ok.pieces.places.items in
+    one_name_each C plan.has_lines plan.files texts places (subst (λ (files : List (List ℕ)). ArePieces C plan.has_lines files texts places) c.as_slice.ensures c.in-Ok.ensures.ok)

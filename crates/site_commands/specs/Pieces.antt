@@ -1,0 +1,91 @@
+-- What is judged of files: each as a whole, or each of their lines as a file of its own.
+use Rattle.std.specs.Prelude.{◌≡◌, ◌==◌, ◌||◌, ◌⊎◌, ℕ, suc, Bool, true, false, List, [], ◌∷◌, ◌++◌, Some, map, slice_get, if◌then◌else◌}
+use Rattle.std.specs.List.{list_all, slice_split}
+use Rattle.file_reports.specs.Reports.{IsAtFault, IsRefusal}
+use Rattle.file_reports.specs.Shelves.{AreContents}
+use Rattle.file_reports.specs.declared.refusal.ReportFault.TheVariants as report
+use Rattle.site_commands.specs.declared.line.Refusal.{Refusal}
+use Rattle.site_commands.specs.declared.line.Refusal.TheVariants as refusal
+use Rattle.site_commands.specs.declared.pieces.LineAt.{LineAt}
+use Rattle.site_commands.specs.declared.pieces.RefusedLine.{RefusedLine}
+
+-- ---- lines
+
+-- a line of a file: where it stands, and its bytes
+pub record FileLine : Type 0 where
+  pub at : LineAt
+  pub bytes : List ℕ
+
+-- white space of JSON (RFC 8259, section 2), but for LF
+abbrev pub is_white : ℕ → Bool
+is_white b = b == 32 || b == 9 || b == 13
+
+-- there is nothing but white space
+abbrev pub is_blank : List ℕ → Bool
+is_blank line = list_all is_white line
+
+-- the lines of a text: what stands between its LFs
+abbrev pub lines_of : List ℕ → List (List ℕ)
+lines_of bytes = slice_split (λ b. b == 10) bytes
+
+-- a line of this file, behind so many others, unless it is blank
+abbrev pub line_at : ℕ → ℕ → List ℕ → List FileLine
+line_at file before line = if is_blank line then []
+    else record { at = record { file = file; line = suc before }; bytes = line } ∷ []
+
+-- the lines of this file that aren't blank, behind so many others, each with its number from 1
+abbrev pub lines_from : ℕ → ℕ → List (List ℕ) → List FileLine
+lines_from file before [] = []
+lines_from file before (line ∷ lines) =
+    line_at file before line ++ lines_from file (suc before) lines
+
+-- the lines of files, behind so many others, file by file
+abbrev pub lines_behind : ℕ → List (List ℕ) → List FileLine
+lines_behind before [] = []
+lines_behind before (bytes ∷ contents) =
+    lines_from before 0 (lines_of bytes) ++ lines_behind (suc before) contents
+
+-- the lines of all files that aren't blank, file by file
+abbrev pub file_lines : List (List ℕ) → List FileLine
+file_lines contents = lines_behind 0 contents
+
+-- their bytes
+abbrev pub texts_of : List FileLine → List (List ℕ)
+texts_of lines = map (λ l. l.bytes) lines
+
+-- where they stand
+abbrev pub places_of : List FileLine → List LineAt
+places_of lines = map (λ l. l.at) lines
+
+-- ---- what is judged
+
+-- what is judged of the contents of files: each as a whole, or each line as a file of its own
+abbrev pub pieces_of : Bool → List (List ℕ) → List (List ℕ)
+pieces_of false contents = contents
+pieces_of true contents = texts_of (file_lines contents)
+
+-- where these stand, if they are lines
+abbrev pub places_in : Bool → List (List ℕ) → List LineAt
+places_in false contents = []
+places_in true contents = places_of (file_lines contents)
+
+-- the files were read, and these texts are judged of them
+pub record ArePieces (C : List ℕ → List ℕ → Type 0) (has_lines : Bool) (files texts : List (List ℕ))
+    (places : List LineAt) : Type 0 where
+  pub contents : List (List ℕ)
+  pub read : AreContents C files contents
+  pub cut : texts ≡ pieces_of has_lines contents
+  pub stand : places ≡ places_in has_lines contents
+
+-- this line is the first at fault of all files, and this is its first fault
+pub record IsLineAtFault (contents : List (List ℕ)) (refused : RefusedLine) : Type 0 where
+  pub place : ℕ
+  pub is_there : slice_get (places_of (file_lines contents)) place ≡ Some refused.at
+  pub at_fault : IsAtFault (texts_of (file_lines contents)) place refused.fault
+
+-- memory ran out, or this is the first file at fault, or, where lines are judged, the first line
+abbrev pub IsRefused : Bool → List (List ℕ) → Refusal → Type 0
+IsRefused false contents (refusal.File refused) = IsRefusal contents refused
+IsRefused true contents (refusal.Line refused) =
+    (refused.fault ≡ report.OutOfMemory) ⊎ IsLineAtFault contents refused
+IsRefused _ contents _ = ⊥
