@@ -94,6 +94,24 @@ is 'the rows as SQLite has them' 0 "1|/orders|a1|1|0$lf""2|/orders|a2|2|0$lf""3|
 ask s.db 'PRAGMA integrity_check'
 is 'the file as SQLite tests it' 0 "ok$lf" ''
 
+# Lines of files: all are taken, in their order, or none.
+printf '%s\n \n[%s,%s]\n' "$e2" "$e1" "$e2" >some.lines
+run take --db lines.db --lines some.lines
+is 'lines that are taken' 0 "read 3 new 2 repeated 1$lf" ''
+run arrivals --db lines.db --after 0
+is 'lines in their order' 0 "[$e2,$e1]$lf" ''
+printf '%s\nno\n' "$e3" >bad.lines
+run take --db lines.db --lines some.lines bad.lines
+is 'a line at fault' 1 '' "site: bad.lines line 2: not JSON$lf"
+run take --db unmade.lines.db --lines bad.lines
+[ ! -e unmade.lines.db ] || status='a file was made'
+is 'a line at fault makes no file' 1 '' "site: bad.lines line 2: not JSON$lf"
+run shown --db lines.db
+is 'what lines left' 0 "$e1$lf$e2$lf" ''
+printf '%s' "$e3" >one.lines
+run shown --db lines.db --lines one.lines some.lines
+is 'a database and lines' 0 "$e1$lf$e2$lf$e3$lf" ''
+
 # More events than a page holds.
 awk 'BEGIN { printf "["; for (i = 1; i <= 250; i++) printf "%s{\"id\":\"%03d\",\"sequence\":\"%020d\",\"source\":\"/\",\"specversion\":\"1.0\",\"type\":\"t\"}", (i > 1 ? "," : ""), i, i; printf "]" }' >many.json
 run take --db many.db many.json

@@ -428,6 +428,8 @@ completes() {
 }
 completes 'take ' ta
 completes '--help --version -V -h ' -
+completes '--lines ' take --l
+completes '--db --help --lines --wait -h ' check -
 completes 'days delta ' help d
 completes '--at --db --help --source --wait -h cancel place ship ' order ''
 completes 'cancel ' order --db x ca

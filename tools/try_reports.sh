@@ -126,6 +126,31 @@ refuses 'a\tb\n\u001b[1m\u009bé\: cannot read' cover "$(printf 'a\tb\n\033[1m\3
 printf '[]' >-
 answers "{\"sources\":{},\"version\":1}$lf" cover ./-
 
+# Lines, each read as a file of its own: LF ends them, white space alone is none, a CR before LF is white space.
+printf '%s\n' "$first" "$numbers" >lines
+printf ' \t\r\n\n%s\r\n[%s\n,%s]\n' "$greater" "$lesser_id" "$lesser_source" >cut.lines
+answers "{\"sources\":{\"/orders\":[[1,2],[5,5]]},\"version\":1}$lf" cover --lines lines
+printf '\n \n' >empty.lines
+answers "{\"sources\":{},\"version\":1}$lf" cover --lines empty.lines
+run cover lines
+is 'lines as one file' 1 '' "site: lines: not JSON$lf"
+refuses 'cut.lines line 4: not JSON' cover --lines lines cut.lines
+printf '[%s]' "$numbers" >batch.lines
+refuses 'batch.lines line 1: event 0: SpecVersion' gaps --lines batch.lines lines
+printf '\n%s\n3\n{}' "$first" >bad.lines
+refuses 'bad.lines line 3: not an event or a batch' shown --lines bad.lines
+printf '%s\n\n[%s,%s]' "$first" "$first" "$(printf %s "$first" | sed 's/"0*1"/"1"/')" >short.lines
+refuses 'short.lines line 3: event 1: BadSequence' kinds --lines short.lines
+found "{\"file\":\"short.lines line 3\",\"index\":1,\"id\":\"a1\",\"fault\":\"BadSequence\",\"attribute\":\"sequence\",\"value\":\"1\",\"hint\":\"$pad\"}$lf" check --lines lines short.lines
+answers '' check --lines lines empty.lines
+refuses 'missing.lines: cannot read' cover --lines lines missing.lines
+printf '%s' "$first" >one
+answers "$first$lf" shown --lines one
+"$program" shown --lines - <one >got.out 2>got.err
+status=$?
+is 'lines on standard input' 0 "$first$lf" ''
+tells err "unexpected argument '--lines'" summary --db x --lines
+
 # Faulty words, and help that is asked for.
 tells err '<FILE>...' cover
 tells err 'cover'

@@ -136,6 +136,8 @@ READS = (
     (["gaps", "two.json", "--db", "s.db"], "two.json"),
     (["check", "faulty.json"], "faulty.json"),
     (["check", "--db", "s.db", "faulty.json"], "faulty.json"),
+    (["cover", "--lines", "lines"], "lines"),
+    (["take", "--db", "n.db", "--lines", "lines"], "lines"),
     (["take", "--db", "n.db", "two.json"], "two.json"),
     (["take", "--db", "s.db", "two.json"], "two.json"),
     (["delta", "--db", "s.db", "one.summary"], "one.summary"),
