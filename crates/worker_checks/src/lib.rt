@@ -8,6 +8,8 @@ mod desk;
 #[cfg(test)]
 mod event;
 #[cfg(test)]
+mod order;
+#[cfg(test)]
 mod refused;
 #[cfg(test)]
 mod serving;

@@ -65,9 +65,14 @@ struct Meeting {
     turns: AtomicU64,
 }
 
-/// Whether a count comes to a number within so many looks.
+/// Whether a count comes to a number.
 fn comes_to(count: &AtomicU64, number: u64) -> bool {
-    for _look in 0..LOOKS {
+    comes_within(count, number, LOOKS)
+}
+
+/// Whether it does so within so many looks.
+fn comes_within(count: &AtomicU64, number: u64, looks: u64) -> bool {
+    for _look in 0..looks {
         if count.load(Ordering::SeqCst) >= number {
             return true;
         }
@@ -355,6 +360,74 @@ fn workers_meet<R: Threads + Wait + Sync>(rt: &R, alloc: Global) -> Option<bool>
 #[test]
 fn workers_run_at_the_same_time(rt: HostRuntime) {
     assert!(rt; workers_meet(&rt, rt.alloc()) == Some(true));
+}
+
+/// An aside that stops at its third turn.
+#[derive(Drop)]
+struct Stopping<'a> {
+    turns: &'a AtomicU64,
+}
+
+impl<'a> Aside for Stopping<'a> {
+    ghost use Rattle.std.specs.Prelude.{⊤};
+
+    ghost moves = { λ _ _. ⊤ };
+
+    ghost stays = { λ _. tt };
+
+    ghost goes_on = { λ _ _ _ _ _. tt };
+
+    fn turn(&mut self) -> bool {
+        self.turns.fetch_add(1, Ordering::SeqCst) < 2
+    }
+}
+
+/// It holds workers up until an aside has stopped, and lets the aside's thread run for a while
+/// behind that.
+#[derive(Drop)]
+struct Lingering {
+    turns: AtomicU64,
+}
+
+impl Gate for Lingering {
+    ghost use Rattle.std.specs.Prelude.{⊤};
+
+    ghost lets = { λ _ _ _. ⊤ };
+
+    ghost shuts = { λ _ _ _. ⊤ };
+
+    ghost heard = { λ _ _ _. ⊤ };
+
+    fn before(&self, _worker: u64, _call: u64) -> Result<(), GateShut> {
+        if comes_to(&self.turns, 3) && !comes_within(&self.turns, 4, 1_000) {
+            Ok(())
+        } else {
+            Err(GateShut)
+        }
+    }
+
+    fn after(&self, _worker: u64, _call: u64) {}
+}
+
+/// Whether a worker asks its question, while an aside stops and isn't turned again.
+fn asks_beside_stopped<R: Threads + Wait + Sync>(rt: &R, alloc: Global) -> Option<bool> {
+    let Begun { shared, mut pass } = begun(alloc)?;
+    let gate = Lingering {
+        turns: AtomicU64::new(0),
+    };
+    let mut jobs = nothing(alloc);
+    if !add_question(alloc, &mut jobs.asks) || jobs.asks.len() != 1 {
+        return None;
+    }
+    let mut aside = Stopping { turns: &gate.turns };
+    let served = serve(rt, alloc, &shared, &mut pass, jobs, &gate, &mut aside).ok()?;
+    let is_done = served.asked.len() == 1 && served.asked[0].ended == WorkerEnd::Done;
+    Some(is_done & (gate.turns.load(Ordering::SeqCst) == 3))
+}
+
+#[test]
+fn an_aside_that_stopped_is_not_turned_again(rt: HostRuntime) {
+    assert!(rt; asks_beside_stopped(&rt, rt.alloc()) == Some(true));
 }
 
 /// Whether no jobs over a shared site without events are done at once.
