@@ -2,7 +2,7 @@
 ghost use Rattle.std.specs.Prelude.{IfOk, IsErrOf};
 ghost use Rattle.sqlite_wal.specs.Files.{image_at};
 ghost use Rattle.database_commands.specs.Name.{IsNoFile};
-ghost use Rattle.database_commands.specs.OfFile.{IsOver};
+ghost use Rattle.database_commands.specs.OfFile.{IsOver, RefusesFiles, RefusesFilesFor};
 ghost use Rattle.database_commands.specs.declared.fault.CommandFault.TheVariants as CommandFault;
 ghost use Rattle.database_commands.specs.declared.trouble.Trouble.TheVariants as trouble;
 
@@ -47,6 +47,7 @@ impl<'a> Opener<'a> {
     /// As [`crate::open`], once no other process has the file open.
     pub fn open(&self, name: &str, growth: u64) -> Result<Connection<FileStore<File>>, CommandFault>
         ensures over { IfOk result (IsOver (image_at ⟦<Unknown as Start>⟧)) }
+        ensures refused { RefusesFilesFor (image_at ⟦<Unknown as Start>⟧) result }
         ensures none { IsNoFile name.now → IsErrOf result CommandFault.Store }
     {
         if is_no_file(name) {
@@ -61,6 +62,7 @@ impl<'a> Opener<'a> {
     /// As [`Opener::open`], for a command that makes no file: `CannotRead` where there is none.
     pub(crate) fn open_there(&self, name: &str) -> Result<Connection<FileStore<File>>, CommandFault>
         ensures over { IfOk result (IsOver (image_at ⟦<Unknown as Start>⟧)) }
+        ensures refused { RefusesFilesFor (image_at ⟦<Unknown as Start>⟧) result }
         ensures none { IsNoFile name.now → IsErrOf result CommandFault.Store }
     {
         match self.found(name) {
@@ -72,6 +74,7 @@ impl<'a> Opener<'a> {
     /// As [`Opener::open_there`], with what is the matter where it isn't opened.
     pub(crate) fn found(&self, name: &str) -> Result<Connection<FileStore<File>>, Trouble>
         ensures over { IfOk result (IsOver (image_at ⟦<Unknown as Start>⟧)) }
+        ensures refused { RefusesFiles (image_at ⟦<Unknown as Start>⟧) result }
         ensures none { IsNoFile name.now → IsErrOf result trouble.NoFile }
     {
         is_there(self.rt, name)?;
@@ -81,6 +84,7 @@ impl<'a> Opener<'a> {
     /// Opens a file, and tries again while another process has it.
     fn opened(&self, name: &str, growth: u64) -> Result<Connection<FileStore<File>>, Trouble>
         ensures over { IfOk result (IsOver (image_at ⟦<Unknown as Start>⟧)) }
+        ensures refused { RefusesFiles (image_at ⟦<Unknown as Start>⟧) result }
     {
         for _ in 0..self.seconds.saturating_mul(TRIES) {
             match opened(self.rt, name, growth, Unknown) {
