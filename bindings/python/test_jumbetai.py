@@ -13,6 +13,7 @@ import hashlib
 import itertools
 import json
 import os
+import pathlib
 import random
 import resource
 import shutil
@@ -507,6 +508,17 @@ def said(site):
     return [*map(site.ask, QUESTIONS), site.summary(), *site.pages()]
 
 
+def ask_sqlite(file, statement):
+    """What SQLite answers."""
+    with contextlib.closing(sqlite3.connect(file)) as database, database:
+        return database.execute(statement).fetchall()
+
+
+def bytes_in(folder):
+    """The files of a folder, by their names."""
+    return {it.name: it.read_bytes() for it in pathlib.Path(folder).iterdir()}
+
+
 class Files(unittest.TestCase):
     def setUp(self):
         folder = tempfile.TemporaryDirectory()
@@ -598,6 +610,30 @@ class Files(unittest.TestCase):
             self.assertIs(caught.exception.status, status, path)
         with open(text, "rb") as file:
             self.assertEqual(file.read(), b"a" * 200)
+
+    def test_a_file_that_is_refused_stays_as_it_was(self):
+        with Site(self.file) as site:
+            site.take(FEW)
+        for change, back, status in (
+            ("UPDATE inbox2 SET number = 7 WHERE place = 3", "UPDATE inbox2 SET number = 3 WHERE place = 3", "FOREIGN"),
+            (
+                "UPDATE inbox2 SET place = 0 WHERE place = 250",
+                "UPDATE inbox2 SET place = 250 WHERE place = 0",
+                "FOREIGN",
+            ),
+            ("CREATE TABLE other (a INTEGER)", "DROP TABLE other", "STORE"),
+        ):
+            ask_sqlite(self.file, change)
+            rows, before = ask_sqlite(self.file, "SELECT * FROM inbox2"), bytes_in(self.folder)
+            with self.assertRaises(Error) as caught:
+                Site(self.file)
+            self.assertEqual(caught.exception.status.name, status, change)
+            after = bytes_in(self.folder)
+            self.assertEqual({name: after.get(name) for name in before}, before, change)
+            self.assertEqual(ask_sqlite(self.file, "SELECT * FROM inbox2"), rows, change)
+            ask_sqlite(self.file, back)
+        with Site(self.file) as site:
+            self.assertEqual(len(site), 250)
 
     def test_a_forked_process_leaves_the_file(self):
         with Site(self.file) as site, Site() as plain:
@@ -832,30 +868,29 @@ class Outboxes(unittest.TestCase):
         self.is_refused(Status.NO_FILE, Outbox, self.folder)
         self.is_refused(Status.SYSTEM, Outbox, f"{self.folder}/none/orders.db")
 
-    def ask_sqlite(self, statement):
-        with contextlib.closing(sqlite3.connect(self.file)) as database, database:
-            return database.execute(statement).fetchall()
-
     def test_what_is_changed_by_hand_is_refused(self):
         with Outbox(self.file, "/north") as outbox:
             outbox.place(7, NOON)
             outbox.place(8, NOON)
             outbox.ship(7, NOON)
-        self.assertEqual(self.ask_sqlite("SELECT number, state FROM orders"), [(7, 2), (8, 1)])
+        self.assertEqual(ask_sqlite(self.file, "SELECT number, state FROM orders"), [(7, 2), (8, 1)])
         rows = [(1, 1, 7, NOON), (2, 1, 8, NOON), (3, 2, 7, NOON)]
-        self.assertEqual(self.ask_sqlite("SELECT number, kind, order_number, at FROM outbox"), rows)
+        self.assertEqual(ask_sqlite(self.file, "SELECT number, kind, order_number, at FROM outbox"), rows)
         for change, back in (
             ("UPDATE orders SET state = 3 WHERE number = 8", "UPDATE orders SET state = 1 WHERE number = 8"),
             ("UPDATE outbox SET number = 4 WHERE number = 3", "UPDATE outbox SET number = 3 WHERE number = 4"),
             ("UPDATE outbox SET at = 'noon' WHERE number = 2", f"UPDATE outbox SET at = '{NOON}' WHERE number = 2"),
             ("DELETE FROM orders WHERE number = 8", "INSERT INTO orders VALUES (8, 1)"),
         ):
-            self.ask_sqlite(change)
+            ask_sqlite(self.file, change)
+            before = ask_sqlite(self.file, "SELECT * FROM outbox"), ask_sqlite(self.file, "SELECT * FROM orders")
             self.is_refused(Status.FOREIGN, Outbox, self.file)
-            self.ask_sqlite(back)
-        self.ask_sqlite("CREATE TABLE other (a INTEGER)")
+            after = ask_sqlite(self.file, "SELECT * FROM outbox"), ask_sqlite(self.file, "SELECT * FROM orders")
+            self.assertEqual(after, before, change)
+            ask_sqlite(self.file, back)
+        ask_sqlite(self.file, "CREATE TABLE other (a INTEGER)")
         self.is_refused(Status.STORE, Outbox, self.file)
-        self.ask_sqlite("DROP TABLE other")
+        ask_sqlite(self.file, "DROP TABLE other")
         with Outbox(self.file) as outbox:
             self.assertEqual(outbox.counts(), OrderCounts(0, 3, 2))
 
