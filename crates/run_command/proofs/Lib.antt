@@ -1,5 +1,6 @@
 mod EndLemmas
 mod FedLemmas
+mod NamedLemmas
 mod SharedLemmas
 mod TallyLemmas
 mod ToldLemmas

@@ -44,3 +44,18 @@ abbrev pub IsRunFault : RunFault → Type 0
 IsRunFault (run.Database why) = IsOfDatabase why
 IsRunFault run.NoThread = Unit {0}
 IsRunFault (run.Feed feed fault) = Unit {0}
+
+-- so is one of the file of a name: of the database, or of its opening
+abbrev pub IsOfNamed : CommandFault → Type 0
+IsOfNamed command.OutOfMemory = Unit {0}
+IsOfNamed command.Store = Unit {0}
+IsOfNamed command.Foreign = Unit {0}
+IsOfNamed command.CannotRead = Unit {0}
+IsOfNamed command.Cache = Unit {0}
+IsOfNamed _ = ⊥
+
+-- a fault that is told of the file of a name is such a one
+abbrev pub IsNamedFault : RunFault → Type 0
+IsNamedFault (run.Database why) = IsOfNamed why
+IsNamedFault run.NoThread = Unit {0}
+IsNamedFault (run.Feed feed fault) = Unit {0}

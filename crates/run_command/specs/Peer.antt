@@ -1,9 +1,11 @@
 -- What a peer brings to a run, over an inbox that held some events and to which more came.
-use Rattle.std.specs.Prelude.{◌≡◌, List, ◌++◌}
+use Rattle.std.specs.Prelude.{◌≡◌, List, [], ◌++◌}
 use Rattle.std.specs.List.{AllByRecursion}
 use Rattle.attributes.specs.Event.{EventValue}
 use Rattle.coverage.specs.Digests.{Digests}
 use Rattle.coverage.specs.Summary.{Sources}
+use Rattle.inbox.specs.KeyOrder.{key_cmp}
+use Rattle.inbox.specs.Ordered.{append_new}
 use Rattle.inbox.specs.Sets.{set_of}
 use Rattle.site.specs.Delta.{delta}
 use Rattle.site.specs.declared.call.Call.{Call}
@@ -11,6 +13,10 @@ use Rattle.feeds.specs.Pull.{Holds, PullsFrom}
 use Rattle.feeds.specs.Report.{handled}
 use Rattle.feeds.specs.declared.report.WorkerEnd.TheVariants.{Done}
 use Rattle.feeds.specs.declared.report.Report.{Report}
+
+-- a peer that took these events: each once, in the order in which they came
+abbrev pub peer_of : List EventValue → List EventValue
+peer_of events = append_new key_cmp [] events
 
 module _ (held more : List EventValue) where
   -- the peer was told a summary of what had come by some moment, and all that it lacked of the

@@ -2,13 +2,15 @@
 ghost use Rattle.std.specs.Prelude.{◌≡◌, ◌≤◌, ◌+◌, length, List, IfErr, IfOk};
 ghost use Rattle.std.specs.Thread.{IsSync};
 ghost use Rattle.attributes.specs.Event.{EventValue};
+ghost use Rattle.database_commands.specs.OfFile.{Closes};
+ghost use Rattle.run_command.specs.Fault.{IsNamedFault};
 ghost use Rattle.run_command.specs.Outcome.{IsOutcome};
 ghost use Rattle.run_command.specs.Run.{IsFeedFault, SaysRun};
 
 use crate::ending::{RunEnd, run};
 use crate::fault::RunFault;
 use attributes::Text;
-use database_commands::Opener;
+use database_commands::{Opener, close};
 use feeds::Jobs;
 use inbox_table::Watch;
 use site::Wide;
@@ -36,7 +38,8 @@ pub trait Runs {
         ensures left { IsOutcome jobs.feeds jobs.peers result }
         ensures said { IfOk result (λ text.
             (arrivals : List EventValue) × SaysRun jobs.feeds arrivals text) }
-        ensures feed { IfErr result (IsFeedFault jobs.feeds) };
+        ensures feed { IfErr result (IsFeedFault jobs.feeds) }
+        ensures database { IfErr result IsNamedFault };
 }
 
 impl<'a> Runs for Opener<'a> {
@@ -58,13 +61,14 @@ impl<'a> Runs for Opener<'a> {
 
 /// Closes the database of a run, and answers what it came to.
 fn closed(ended: RunEnd<FileStore<File>>) -> Result<Text, RunFault>
-    ensures { result ≡ ended.outcome }
+    ensures answer { result ≡ ended.outcome }
+    ensures closes { Closes ended.conn }
 {
     let RunEnd {
         conn,
         outcome,
         stopped: _,
     } = ended;
-    let _closed = conn.close();
+    close(conn);
     outcome
 }
