@@ -9,9 +9,9 @@ which ('ensures' for a contract of one clause without a name), or another goal b
 and 'new: TEXT', a line each. It is applied to a copy of the crate, and that one function is checked with what it calls, over the
 libraries as they are built. Crates are tried side by side, all edits of a crate in one check: a proof rests on what a
 function calls by its contract alone, so the other functions get an empty loop for a body there, and aren't proved. The
-second edit of a function is made to a copy of it, under another name and with a copy of its folder of proofs; one copy
-more stays as it was, and each of its goals has to be met, or nothing is said of the copies. What such a check doesn't
-show refused at its clause is tried alone, with all bodies. An edit that proves is let through; one
+second edit of a function is made to a copy of it, under another name and with a copy of its folder of proofs. Of each
+function one copy more stays as it was, and each of its goals has to be met, or nothing is said of its edits. What such a
+check doesn't show refused at its clause is tried with all bodies, at last alone. An edit that proves is let through; one
 that doesn't read or compile, whose old line isn't there once, or that takes away a name that the proof uses, is an
 error; one that is refused at other clauses alone is told with those. Each of these fails, and so does a README.md
 beside the edits whose table doesn't name just these. The last line is 'N passed, M failed'.
@@ -255,9 +255,10 @@ def add_copy(room: str, only: str, path: str, name: str, body: str) -> None:
     copy_proofs(room, only, name)
 
 
-def placed(room: str, edits: Sequence[Given], has_copies: bool) -> tuple[list[Placed], list[Given]]:
-    """Makes edits in a copy of their crate, each further one of a function in a copy of it, as far as that goes. Answers
-    those that were made, and those that are left."""
+def placed(room: str, edits: Sequence[Given], has_copies: bool, has_controls: bool) -> tuple[list[Placed], list[Given]]:
+    """Makes edits in a copy of their crate, each further one of a function in a copy of it, as far as that goes. Where
+    controls are asked for, each edit's function has a copy too that stays as it was. Answers those that were made, and
+    those that are left."""
     bodies = {file: body_of(room, only, changes) for file, (only, _, changes) in edits}
     here: dict[str, Placed] = {}
     copies: list[Given] = []
@@ -265,7 +266,9 @@ def placed(room: str, edits: Sequence[Given], has_copies: bool) -> tuple[list[Pl
     taken: list[tuple[str, str]] = []
     for file, edit in sorted(edits, key=lambda it: bodies[it[0]] is not None):
         only, _, changes = edit
-        if only in here:
+        if has_controls and bodies[file] is None:
+            left.append((file, edit))
+        elif only in here:
             can_copy = has_copies and bodies[file] is not None
             (copies if can_copy else left).append((file, edit))
         elif any(path == at and (old in text or text in old) for path, *texts in changes for old in texts for at, text in taken):
@@ -277,13 +280,21 @@ def placed(room: str, edits: Sequence[Given], has_copies: bool) -> tuple[list[Pl
         apply(room, it.changes)
     made: list[Placed] = []
     controls: dict[str, str] = {}
+
+    def control_of(only: str, path: str, body: str) -> str:
+        """The copy of a function that stays as it was, which is made where it isn't there."""
+        *around, own = only.split("::")
+        if only not in controls:
+            controls[only] = "::".join([*around, f"{own}_edit1"])
+            add_copy(room, only, path, f"{own}_edit1", body)
+        return controls[only]
+
+    for placed_here in here.values() if has_controls else ():
+        placed_here.control = control_of(placed_here.only, placed_here.changes[0][0], bodies[placed_here.file] or "")
     for file, (only, clause, changes) in copies:
         path, body, own = changes[0][0], bodies[file] or "", only.split("::")[-1]
-        if only not in controls:
-            controls[only] = f"{own}_edit1"
-            add_copy(room, only, path, controls[only], body)
         it = Placed(file, (only, clause, changes), f"{own}_edit{len(made) + 2}")
-        it.control = "::".join([*only.split("::")[:-1], controls[only]])
+        it.control = control_of(only, path, body)
         for _, old, new in changes:
             body = body.replace(old, new)
         add_copy(room, only, path, it.name, body)
@@ -354,7 +365,7 @@ def checked(
         for part in SOURCES:
             if os.path.isdir(f"{TOP}/crates/{name}/{part}"):
                 shutil.copytree(f"{TOP}/crates/{name}/{part}", f"{room}/{part}")
-        made, left = placed(room, edits, has_copies)
+        made, left = placed(room, edits, has_copies, is_hollow)
         if is_hollow:
             hollow(room, {it.path for it in made} | {it.control for it in made})
         how: dict[str, Any] = {"cwd": room, "stdin": subprocess.DEVNULL, "stdout": subprocess.PIPE, "stderr": subprocess.STDOUT}
@@ -396,7 +407,7 @@ def tried_of(crates: Crates, files: list[str], folders: dict[str, str]) -> list[
             edits.append((file, read_edit(file)))
     with tempfile.TemporaryDirectory(prefix="edits-kept-") as kept:
         has_further = len({only for _, (only, _, _) in edits}) < len(edits)
-        for has_copies, is_hollow in ((has_further, True), (has_further, False), *([(False, False)] * has_further)):
+        for has_copies, is_hollow in ((True, True), (has_further, False), *([(False, False)] * has_further)):
             todo = [(file, edit) for file, edit in edits if file not in found]
             while len(todo) > 1:
                 try:
