@@ -70,7 +70,7 @@ WORDS = [
     faulty("cover", "a file or a database is wanted", "--db <DB>"),
     faulty("cover --lines", "a file or a database is wanted", "--db <DB>"),
     faulty("take --db n.db --line lines.json", "unexpected argument '--line' found", "--lines"),
-    faulty("run --db n.db --lines lines.json", "unexpected argument '--lines' found"),
+    faulty("run --db n.db --line lines.json", "unexpected argument '--line' found", "--lines"),
     faulty("check", "a file or a database is wanted", "--db <DB>"),
     faulty("check --number good.json", "unexpected argument '--number' found"),
     faulty("summary north.db", "unexpected argument 'north.db' found"),
@@ -120,11 +120,13 @@ FILES = [
     refused("kinds marked.json", "marked.json: not JSON", "a byte order mark"),
     refused("kinds packed.json.gz", "packed.json.gz: not JSON", "gzip -dc"),
     refused("kinds wide.json", "wide.json: not JSON", "iconv -f UTF-16"),
-    refused("kinds lines.json", "lines.json: not JSON", "with --lines take, check and the questions read them so"),
-    refused("take --db n.db lines.json", "lines.json: not JSON", "with --lines take, check and the questions read them so"),
+    refused("kinds lines.json", "lines.json: not JSON", "with --lines take, run, check and the questions read them so"),
+    refused("take --db n.db lines.json", "lines.json: not JSON", "with --lines take, run, check and the questions read them so"),
     refused("kinds --lines pretty.json", "pretty.json line 1: not JSON", "without --lines a file is one event"),
     refused("take --db n.db --lines mixed.json", "mixed.json line 2: not JSON", "follow keeps the good ones"),
     refused("take --db n.db --lines lines.json price.json", "price.json line 1: event 1: DataNumber", "site check --lines FILE"),
+    refused("run --db n.db --lines lines.json mixed.json", "mixed.json line 2: not JSON", "follow keeps the good ones"),
+    refused("run --db n.db --lines --peer price.json lines.json", "price.json line 1: event 1: DataNumber", "site check --lines FILE"),
     refused("kinds --lines north.db", "north.db line 1: not JSON", "it is a database: give it as --db"),
     refused("kinds --lines packed.json.gz", "packed.json.gz line 1: not JSON", "gzip -dc"),
     refused("kinds --lines three.json", "three.json line 1: not an event or a batch", "site check --lines FILE"),
@@ -152,7 +154,8 @@ FILES = [
     refused("delta --db north.db touched.summary", "touched.summary: NotCanonical", "as site summary prints it"),
     refused("delta --db north.db later.summary", "later.summary: Version", "version 1 and 2"),
     refused("follow --db n.db pretty.json", "12 lines refused", "jq -c . FILE puts each on its own"),
-    refused("follow --db n.db mixed.json", "1 lines refused", "has its fault on standard output"),
+    refused("follow --db n.db mixed.json", "1 lines refused", "not JSON 1: each line that was refused has its fault on standard output"),
+    refused("follow --db n.db faults.json", "4 lines refused", "DataNumber 2, not JSON 1, NoSequence 1: each line"),
 ]
 
 DATABASES = [
@@ -213,6 +216,11 @@ CHECKS = [
     Row("check --lines lines.json price.json", 1, "", '"file":"price.json line 1","index":1,"id":"e2","fault":"DataNumber"'),
     Row("check --lines mixed.json", 1, "", '"file":"mixed.json line 2","fault":"not JSON"'),
     Row("check price.json", 1, "", "write others as texts"),
+    Row("check --numbers good.json", 1, "", '"file":"good.json","fault":"event 0: HasSequence","hint":"number gives an event its sequence'),
+    Row("check --numbers --lines lines.json mixed.json", 1, "", '"file":"mixed.json line 2","fault":"not JSON","hint":"a file is one JSON text'),
+    Row("check --numbers price.json", 1, "", '"fault":"event 1: DataNumber","hint":"numbers in data are whole'),
+    Row("check --numbers bare.json", 0, "", ""),
+    Row("check --numbers three.json", 1, "", '"fault":"not an event or a batch"'),
     Row("check nosequence.json", 1, "", "an event needs a sequence"),
     Row("check short.json", 1, "", "pad it with zeros on the left"),
     Row("check --db folder", 1, "", "is it a folder"),
@@ -266,6 +274,8 @@ def make_files(program: str) -> None:
         "denied.json": good,
         "pretty.json": json.dumps([event(1)], indent=2) + "\n" * 0,
         "mixed.json": f"{good}\nno\n",
+        "bare.json": compact(without("sequence")),
+        "faults.json": "\n".join([compact(event(2, data={"price": 1.5})), "no", compact(without("sequence")), compact(event(3, data=[0.5]))]),
     }
     for name, text in texts.items():
         write(name, text)

@@ -90,7 +90,9 @@ with_any command = with_rule (with_rule (with_rule (new_app (word_of command))
 -- a command's word and the arguments that not every one has
 abbrev pub own_app : Command → App
 own_app (Ask query) = with_any (Ask query)
-own_app Check = with_any Check
+own_app Check = with_rule (with_rule (with_rule (with_rule (new_app (word_of Check))
+    (option_rule (codes "db"))) (flag_rule (codes "lines"))) (flag_rule (codes "numbers")))
+    question_files_rule
 own_app Summary = with_db Summary
 own_app Take = with_rule (with_rule (with_db Take) (flag_rule (codes "lines"))) files_rule
 own_app Follow = with_rule (with_db Follow) lines_rule
@@ -99,7 +101,8 @@ own_app Delta = with_rule (with_rule (with_rule (with_db Delta) from_rule)
 own_app Scrub = with_rule (with_rule (with_db Scrub) from_rule) (flag_rule (codes "all"))
 own_app Arrivals =
     with_rule (with_rule (with_db Arrivals) (needed_rule (codes "after"))) (flag_rule (codes "all"))
-own_app Run = with_rule (with_rule (with_db Run) (option_rule (codes "peer"))) files_rule
+own_app Run = with_rule (with_rule (with_rule (with_db Run) (option_rule (codes "peer")))
+    (flag_rule (codes "lines"))) files_rule
 own_app Service = with_rule (with_rule (with_db Service)
     (default_rule (codes "source") (codes "/orders"))) (option_rule (codes "base"))
 own_app Order = with_rule (with_rule (with_rule (with_rule (with_db Order)

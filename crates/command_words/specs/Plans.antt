@@ -171,12 +171,14 @@ HasTextsOf rows (plan.Alone (alone.Follow lines)) =
 HasTextsOf rows (plan.Alone (alone.Check judged)) = (judged.db ≡ first_of (codes "db") rows)
     × (judged.files ≡ texts_in rows (codes "file")) × AreSome judged.db judged.files
     × (judged.has_lines ≡ is_given rows (codes "lines"))
+    × (judged.is_for_number ≡ is_given rows (codes "numbers"))
 HasTextsOf rows (plan.Alone (alone.Number lines)) = (lines.db ≡ text_in rows (codes "db"))
     × (lines.aside ≡ first_of (codes "aside") rows) × (lines.file ≡ text_in rows (codes "file"))
     × IsBaseNumber (text_in rows (codes "base")) lines.base
 HasTextsOf rows (plan.Run files) =
     (files.db ≡ text_in rows (codes "db")) × (files.peer ≡ first_of (codes "peer") rows)
     × (files.files ≡ texts_in rows (codes "file"))
+    × (files.has_lines ≡ is_given rows (codes "lines"))
     × AreFew (is_some files.peer) (length files.files)
 
 -- clap's rule for the command finds no fault in the words, and the plan is that command with the

@@ -99,6 +99,17 @@ pub fn checked_files<'a>(alloc: Global) -> Arg<'a>
         .action(ArgAction::Append)
 }
 
+/// `--numbers`
+pub fn for_number<'a>(alloc: Global) -> Arg<'a>
+    ensures rule { rule_of result ≡ flag_rule (codes "numbers") }
+    ensures local { result.global ≡ false }
+{
+    Arg::new(alloc, "numbers")
+        .long("numbers")
+        .help("Judge each file, or line, as number does, which gives events their sequence")
+        .action(ArgAction::SetTrue)
+}
+
 /// `--lines`
 pub fn by_line<'a>(alloc: Global) -> Arg<'a>
     ensures rule { rule_of result ≡ flag_rule (codes "lines") }

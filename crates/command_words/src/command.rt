@@ -6,8 +6,8 @@ ghost use Rattle.command_words.specs.declared.command.Command.{Command};
 
 use crate::argument::{
     action, after, all, arrived, aside, at, base, by_line, checked_db, checked_files, db, files,
-    from, lines, numbered_files, numbers_base, numbers_db, order, paged_db, peer, question_db,
-    question_files, read_db, source, summary, wait,
+    for_number, from, lines, numbered_files, numbers_base, numbers_db, order, paged_db, peer,
+    question_db, question_files, read_db, source, summary, wait,
 };
 use clap::Arg;
 use std::alloc::{AllocError, Global};
@@ -16,11 +16,11 @@ use views::Query;
 /// A command of the program. Each has `[--wait SECONDS]` too.
 #[derive(Clone, Copy, Debug, PartialEq, Eq)]
 pub enum Command {
-    /// `WORD [--db DB] [--lines] FILE..`: answers the query for the events of all files together, and those
-    /// of a database.
+    /// `WORD [--db DB] [--lines] FILE..`: answers the query for the events of all files together, and
+    /// those of a database.
     Ask(Query),
-    /// `check [--db DB] [--lines] FILE..`: each event of the files that can't be taken, and why, and what a
-    /// database is.
+    /// `check [--db DB] [--lines] [--numbers] FILE..`: each event of the files that can't be taken, and
+    /// why, or why `number` refuses it, and what a database is.
     Check,
     /// `summary --db DB`: which events a database has, for another site to compare.
     Summary,
@@ -34,7 +34,7 @@ pub enum Command {
     Scrub,
     /// `arrivals --db DB --after N [--all]`: the events that came behind the first N.
     Arrivals,
-    /// `run --db DB [--peer FILE] FILE..`: takes files side by side into a database.
+    /// `run --db DB [--peer FILE] [--lines] FILE..`: takes files side by side into a database.
     Run,
     /// `service --db DB [--source S] [--base N]`: the service of a database, made where there is
     /// none.
@@ -239,7 +239,7 @@ impl<'a> Row<'a> {
             }
             Command::Check => {
                 let begun = with(with(bare, checked_db(alloc)), by_line(alloc));
-                with(begun, checked_files(alloc))
+                with(with(begun, for_number(alloc)), checked_files(alloc))
             }
             Command::Summary => with(bare, read_db(alloc)),
             Command::Take => {
@@ -257,7 +257,10 @@ impl<'a> Row<'a> {
             Command::Arrivals => {
                 with(with(with(bare, read_db(alloc)), arrived(alloc)), all(alloc))
             }
-            Command::Run => with(with(with(bare, db(alloc)), peer(alloc)), files(alloc)),
+            Command::Run => {
+                let begun = with(with(bare, db(alloc)), peer(alloc));
+                with(with(begun, by_line(alloc)), files(alloc))
+            }
             Command::Service => with(with(with(bare, db(alloc)), source(alloc)), base(alloc)),
             Command::Order => {
                 let begun = with(with(bare, db(alloc)), source(alloc));

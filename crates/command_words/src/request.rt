@@ -109,6 +109,8 @@ pub struct Check {
     pub files: Texts,
     /// Whether each line of the files is an event or a batch.
     pub has_lines: bool,
+    /// Whether the events are judged as `number` takes them, and not as sites do.
+    pub is_for_number: bool,
 }
 
 /// The lines of a file, each event of which is given its number and printed once the number is kept.
@@ -131,6 +133,8 @@ pub struct Run {
     pub db: Text,
     pub peer: Option<Text>,
     pub files: Texts,
+    /// Whether each line of the files is an event or a batch, also of the peer's.
+    pub has_lines: bool,
 }
 
 /// Which pages of a list of events are printed.

@@ -98,10 +98,12 @@ fn matched(alloc: Global, command: Command, matches: &ArgMatches<'_>) -> Result<
                 return Err(no_events(alloc));
             }
             let has_lines = is_given(matches, "lines");
+            let is_for_number = is_given(matches, "numbers");
             Ok(Plan::Alone(Alone::Check(Check {
                 db,
                 files,
                 has_lines,
+                is_for_number,
             })))
         }
         Command::Summary => {
@@ -211,8 +213,14 @@ fn run(alloc: Global, matches: &ArgMatches<'_>) -> Result<Plan, Faulty>
     let db = text_of(alloc, matches, "db")?;
     let peer = given_text_of(alloc, matches, "peer")?;
     let files = texts_of(alloc, matches, "file")?;
+    let has_lines = is_given(matches, "lines");
     match workers(alloc, peer.is_some(), files.len()) {
-        Ok(()) => Ok(Plan::Run(Run { db, peer, files })),
+        Ok(()) => Ok(Plan::Run(Run {
+            db,
+            peer,
+            files,
+            has_lines,
+        })),
         Err(faulty) => Err(faulty),
     }
 }

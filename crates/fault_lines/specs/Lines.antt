@@ -77,11 +77,16 @@ member_line file m =
 abbrev pub member_lines : List ℕ → List FaultyMember → List ℕ
 member_lines file told = flat_map (λ m. member_line file m) told
 
--- the line of a file that is refused as a whole, where this is its name as a JSON string
+-- the line of a file that is refused as a whole, where this is its name as a JSON string, with the
+-- words for the fault and for what to do
+abbrev pub line_with : List ℕ → List ℕ → List ℕ → List ℕ
+line_with file words hint =
+    codes "{\"file\":" ++ (file ++ (codes ",\"fault\":\"" ++ (words
+    ++ (codes "\",\"hint\":\"" ++ (hint ++ (codes "\"}" ++ 10 ∷ []))))))
+
+-- so it is where it is refused for this
 abbrev pub file_line : List ℕ → ReadFault → List ℕ
-file_line file why =
-    codes "{\"file\":" ++ (file ++ (codes ",\"fault\":\"" ++ (whole_words why
-    ++ (codes "\",\"hint\":\"" ++ (whole_hint why ++ (codes "\"}" ++ 10 ∷ []))))))
+file_line file why = line_with file (whole_words why) (whole_hint why)
 
 -- the bytes are an event or a batch, and the text has a line for each member at fault
 abbrev pub TellsMembers : List ℕ → List ℕ → List ℕ → Type 0

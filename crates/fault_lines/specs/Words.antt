@@ -88,7 +88,7 @@ whole_words read.InputTooLarge = codes "too large"
 abbrev pub whole_hint : ReadFault → List ℕ
 whole_hint read.OutOfMemory = codes "memory ran out"
 whole_hint read.NotJson =
-    codes "a file is one JSON text in UTF-8; of events that stand one a line, jq -s . makes one"
+    codes "a file is one JSON text in UTF-8; where events stand one a line, --lines reads them so, or jq -s . makes one"
 whole_hint read.NotEvent = codes "a file is an event, which is an object, or an array of events"
 whole_hint (read.BadEvent index why) =
     codes "a file is an event, which is an object, or an array of events"

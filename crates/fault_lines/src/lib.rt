@@ -8,5 +8,5 @@ mod place;
 mod words;
 
 pub use laws::good_files_are_quiet;
-pub use line::fault_lines;
-pub use words::fault_name;
+pub use line::{fault_lines, whole_line};
+pub use words::{fault_name, hint, whole_hint};

@@ -6,7 +6,7 @@ ghost use Rattle.serde_json.specs.View.{view};
 ghost use Rattle.serde_json.specs.Written.{has_float};
 ghost use Rattle.event_json.specs.Faulty.{member_of};
 ghost use Rattle.fault_lines.specs.Member.{member_at_fault};
-ghost use Rattle.fault_lines.specs.Lines.{IsFaultText, attribute_members, file_line, id_member, id_of, if_short, is_plain, member_line, member_lines, place_at_fault, pointer_member, string_text, value_member, where_members};
+ghost use Rattle.fault_lines.specs.Lines.{IsFaultText, attribute_members, file_line, id_member, id_of, if_short, is_plain, line_with, member_line, member_lines, place_at_fault, pointer_member, string_text, value_member, where_members};
 
 use crate::member::member_at_fault;
 use crate::place::place;
@@ -44,12 +44,29 @@ fn string_text(alloc: Global, words: &str) -> Result<String, AllocError>
     value.to_string(alloc)
 }
 
+/// The line that tells that the file of that name is refused as a whole, with the words for the fault
+/// and for what to do, which stand in JSON strings as they are. Time and memory in proportion to
+/// them.
+pub fn whole_line(alloc: Global, name: &Text, words: &str, hint: &str) -> Result<Text, AllocError>
+    ensures { IfOk result (λ text. text ≡ line_with (string_text name.now) words.now hint.now) }
+{
+    let file = string_text(alloc, name.as_str())?;
+    let line = line_with(alloc, file.as_str(), words, hint)?;
+    Ok(Text::from_string(line))
+}
+
 /// The line of a file that is refused as a whole.
 fn file_line(alloc: Global, file: &str, fault: ReadFault) -> Result<String, AllocError>
     ensures { IfOk result (λ text. string_bytes text ≡ file_line file.now fault) }
 {
-    let words = whole_words(fault);
-    let hint = whole_hint(fault);
+    line_with(alloc, file, whole_words(fault), whole_hint(fault))
+}
+
+/// The line of a file whose name is this JSON string, with these words.
+fn line_with(alloc: Global, file: &str, words: &str, hint: &str) -> Result<String, AllocError>
+    ensures { IfOk result (λ text.
+        string_bytes text ≡ line_with file.now words.now hint.now) }
+{
     let line = format!(in alloc;
         "{{\"file\":{file},\"fault\":\"{words}\",\"hint\":\"{hint}\"}}\n"
     )?;

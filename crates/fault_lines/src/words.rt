@@ -59,7 +59,7 @@ pub fn attribute_name<'a>(fault: Fault) -> Option<&'a str>
     }
 }
 
-/// What to do about a fault.
+/// What to do about the fault of an event, in words of people.
 pub fn hint<'a>(fault: Fault) -> &'a str
     ensures { result.now ≡ hint fault }
 {
@@ -106,14 +106,14 @@ pub fn whole_words<'a>(fault: ReadFault) -> &'a str
     }
 }
 
-/// What to do about that.
+/// What to do about bytes that are refused as a whole, in words of people.
 pub fn whole_hint<'a>(fault: ReadFault) -> &'a str
     ensures { result.now ≡ whole_hint fault }
 {
     match fault {
         ReadFault::OutOfMemory => "memory ran out",
         ReadFault::NotJson =>
-            "a file is one JSON text in UTF-8; of events that stand one a line, jq -s . makes one",
+            "a file is one JSON text in UTF-8; where events stand one a line, --lines reads them so, or jq -s . makes one",
         ReadFault::NotEvent => "a file is an event, which is an object, or an array of events",
         ReadFault::BadEvent { .. } =>
             "a file is an event, which is an object, or an array of events",

@@ -2,6 +2,7 @@
 
 ghost use Rattle.std.specs.Prelude.{◌≡◌, ◌↔◌, ◌≤◌, ◌<◌, ◌+◌, ◌^◌, ℕ, List, Option, [], ◌++◌, ◌∷◌, IfOk, IfSome, IsTrue, OnOk, Some};
 ghost use Rattle.std.specs.Io.KnownBytes.{IsAtEnd, prepend_known};
+ghost use Rattle.attributes.specs.Event.{EventValue};
 ghost use Rattle.line_intake.specs.Lines.{IsNext};
 ghost use Rattle.number_lines.specs.Judged.{IsGathered, IsJudged, IsOwn, faults_in};
 ghost use Rattle.number_lines.specs.steps.Owned.{AreOwned};
@@ -109,6 +110,21 @@ fn judge(alloc: Global, line: &Octets, aside: &Option<Text>) -> Result<Judged, A
         Err(ReadFault::OutOfMemory) => Err(AllocError),
         Err(why) => Ok(refuse(alloc, LineRefusal::Read(why))),
     }
+}
+
+/// Why nothing of these bytes, as of a line, would be numbered where sources have numbers left; none
+/// where each of their events would be. With a name in `aside` an event's own `sequence` is kept by
+/// that name. Time and memory in proportion to the bytes.
+pub fn refusal_of(
+    alloc: Global,
+    bytes: &Octets,
+    aside: &Option<Text>,
+) -> Result<Option<LineRefusal>, AllocError>
+    ensures { IfOk result (λ o.
+        (events : List EventValue) × IsJudged aside.now bytes.now o events) }
+{
+    let judged = judge(alloc, bytes, aside)?;
+    Ok(judged.fault)
 }
 
 /// A line that is refused.

@@ -1,6 +1,7 @@
 //! `site`: keeps CloudEvents of several regions in step, and answers questions about them.
 #![tactic(auto)]
 
+mod causes;
 mod status_line;
 mod system;
 
@@ -15,12 +16,13 @@ fn main(rt: HostRuntime) -> ExitCode {
     // Kept to the end, so that no file takes the place of a stream that is closed.
     let _taken = taken(&rt);
     let line = StatusLine::on(rt.stderr(), rt.stdout().is_terminal(), rt.alloc());
+    let mut out = line.counting(rt.stdout());
     let databases = Opener::new(&rt);
     exit(
         &rt,
         &databases,
         words(&rt),
-        &mut rt.stdout(),
+        &mut out,
         &mut rt.stderr(),
         &line,
     )

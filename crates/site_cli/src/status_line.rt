@@ -1,10 +1,12 @@
 //! How far a long command came, and hints, for those who look on at a terminal.
 
+use crate::causes::Causes;
 use inbox_table::Watch;
 use site_commands::{Progress, Shown};
 use std::alloc::Global;
 use std::cell::Cell;
-use std::io::{IsTerminal, Print};
+use std::io;
+use std::io::{IsTerminal, Print, Write};
 
 /// After how many events more the line is written anew.
 const STEP: u64 = 1_000;
@@ -19,6 +21,7 @@ pub struct StatusLine<E> {
     is_out_terminal: bool,
     is_shown: Cell<bool>,
     told: Cell<(u64, u64)>,
+    causes: Cell<Option<Causes>>,
 }
 
 impl<E: Print + IsTerminal> StatusLine<E> {
@@ -33,6 +36,7 @@ impl<E: Print + IsTerminal> StatusLine<E> {
             is_out_terminal,
             is_shown: Cell::new(false),
             told: Cell::new((u64::MAX, u64::MAX)),
+            causes: Cell::new(None),
         }
     }
 }
@@ -42,6 +46,62 @@ impl<E: Print> StatusLine<E> {
     fn show(&self, text: &str) {
         self.is_shown.set(true);
         let _written = self.to.write_all(text.as_bytes());
+    }
+
+    /// Looks at what was written of an answer, for the faults that it tells.
+    fn note(&self, bytes: &[u8]) {
+        if !self.is_terminal {
+            return;
+        }
+        let mut causes = match self.causes.replace(None) {
+            Some(causes) => causes,
+            None => Causes::none(self.alloc),
+        };
+        causes.note(bytes);
+        self.causes.set(Some(causes));
+    }
+
+    /// The causes of the faults that were told, with a colon behind them; empty, where none was.
+    fn causes_told(&self) -> String {
+        let told = match self.causes.replace(None) {
+            Some(causes) => causes.words().ok(),
+            None => None,
+        };
+        match told {
+            Some(mut words) => {
+                if !words.is_empty() {
+                    let _whole = words.push_str(": ");
+                }
+                words
+            }
+            None => String::new(self.alloc),
+        }
+    }
+
+    /// Standard output, whose answers are looked at too.
+    pub fn counting<W: Write>(&self, to: W) -> CountedOutput<'_, W, E> {
+        CountedOutput { to, line: self }
+    }
+}
+
+/// A writer of answers, which a status line looks at.
+#[derive(Drop)]
+pub struct CountedOutput<'a, W, E> {
+    to: W,
+    line: &'a StatusLine<E>,
+}
+
+impl<'a, W: Write, E: Print> Write for CountedOutput<'a, W, E> {
+    ghost contents = { λ o. W.contents o.to };
+
+    fn write(&mut self, buf: &[u8]) -> io::Result<usize> {
+        let count = self.to.write(buf)?;
+        self.line.note(&buf[..count]);
+        Ok(count)
+    }
+
+    fn flush(&mut self) -> io::Result<()> {
+        self.to.flush()
     }
 }
 
@@ -98,7 +158,8 @@ impl<E: Print> Progress for StatusLine<E> {
         if !self.is_terminal {
             return;
         }
-        if let Ok(line) = format!(in self.alloc; "site: hint: {hint}\n") {
+        let causes = self.causes_told();
+        if let Ok(line) = format!(in self.alloc; "site: hint: {causes}{hint}\n") {
             let _written = self.to.write_all(line.as_str().as_bytes());
         }
     }

@@ -4,10 +4,9 @@ use Rattle.std.specs.Prelude.{Option, Some, slice_get}
 use Rattle.std.proofs.lemmas.List.{length-map}
 use Rattle.std.proofs.lemmas.List.{take_more}
 use Rattle.std.proofs.lemmas.Option.{get_or_from_slice_get, slice_get_within}
-use Rattle.fault_lines.specs.Lines.{IsFaultText}
 use Rattle.file_reports.specs.Shelves.{AreContents}
 use Rattle.command_words.specs.declared.request.Check.{Check}
-use Rattle.site_commands.specs.Checks.{AreFaultsOf, FindsNone, FindsSome, TellsFaults, TellsGiven, piece_names}
+use Rattle.site_commands.specs.Checks.{AreFaultsOf, FindsNone, FindsSome, IsFaultOf, TellsFaults, TellsGiven, piece_names}
 use Rattle.site_commands.specs.Lines.{line_names}
 use Rattle.site_commands.specs.Pieces.{ArePieces, file_lines, places_in, places_of}
 use Rattle.site_commands.specs.declared.pieces.LineAt.{LineAt}
@@ -20,57 +19,57 @@ AreContents-length R [] (c ∷ cs) h = absurd h
 AreContents-length R (n ∷ ns) [] h = absurd h
 AreContents-length R (n ∷ ns) (c ∷ cs) h = ap suc (AreContents-length R ns cs h.1)
 
-AreFaultsOf-more : (files contents : List (List ℕ)) (text file bytes lines : List ℕ)
-    → AreFaultsOf files contents text → IsFaultText file bytes lines
-    → AreFaultsOf (files ++ file ∷ []) (contents ++ bytes ∷ []) (text ++ lines)
-AreFaultsOf-more [] [] text file bytes lines all one = (lines, [], one, refl, ap (λ t. t ++ lines) all ∙ sym (append-nil lines))
-AreFaultsOf-more [] (c ∷ cs) text file bytes lines all one = absurd all
-AreFaultsOf-more (f ∷ fs) [] text file bytes lines all one = absurd all
-AreFaultsOf-more (f ∷ fs) (c ∷ cs) text file bytes lines all one =
-    (all.0, all.1 ++ lines, all.2, AreFaultsOf-more fs cs all.1 file bytes lines all.3 one, ap (λ t. t ++ lines) all.4 ∙ append_assoc all.0 all.1 lines)
+AreFaultsOf-more : (b : Bool) (files contents : List (List ℕ)) (text file bytes lines : List ℕ)
+    → AreFaultsOf b files contents text → IsFaultOf b file bytes lines
+    → AreFaultsOf b (files ++ file ∷ []) (contents ++ bytes ∷ []) (text ++ lines)
+AreFaultsOf-more b [] [] text file bytes lines all one = (lines, [], one, refl, ap (λ t. t ++ lines) all ∙ sym (append-nil lines))
+AreFaultsOf-more b [] (c ∷ cs) text file bytes lines all one = absurd all
+AreFaultsOf-more b (f ∷ fs) [] text file bytes lines all one = absurd all
+AreFaultsOf-more b (f ∷ fs) (c ∷ cs) text file bytes lines all one =
+    (all.0, all.1 ++ lines, all.2, AreFaultsOf-more b fs cs all.1 file bytes lines all.3 one, ap (λ t. t ++ lines) all.4 ∙ append_assoc all.0 all.1 lines)
 
 -- the first elements and the next one
 take_next : {X : Type 0} (xs : List X) (i : ℕ) (x : X) → slice_get xs i ≡ Some x → take (i + 1) xs ≡ take i xs ++ x ∷ []
 take_next xs i x h = take_more xs i x (slice_get_within xs i x h) ∙ ap (λ y. take i xs ++ y ∷ []) (get_or_from_slice_get xs i x x h)
 
 -- the lines of the first files, and those of the next one
-pub AreFaultsOf-next : (files contents : List (List ℕ)) (i : ℕ) (text file bytes lines all : List ℕ)
+pub AreFaultsOf-next : (b : Bool) (files contents : List (List ℕ)) (i : ℕ) (text file bytes lines all : List ℕ)
     → slice_get files i ≡ Some file → slice_get contents i ≡ Some bytes → all ≡ text ++ lines
-    → AreFaultsOf (take i files) (take i contents) text → IsFaultText file bytes lines
-    → AreFaultsOf (take (i + 1) files) (take (i + 1) contents) all
-AreFaultsOf-next files contents i text file bytes lines all is_file is_content grown before one =
-    subst (λ (t : List ℕ). AreFaultsOf (take (i + 1) files) (take (i + 1) contents) t) (sym grown)
-    (subst (λ (fs : List (List ℕ)). AreFaultsOf fs (take (i + 1) contents) (text ++ lines)) (sym (take_next files i file is_file))
-    (subst (λ (cs : List (List ℕ)). AreFaultsOf (take i files ++ file ∷ []) cs (text ++ lines)) (sym (take_next contents i bytes is_content))
-    (AreFaultsOf-more (take i files) (take i contents) text file bytes lines before one)))
+    → AreFaultsOf b (take i files) (take i contents) text → IsFaultOf b file bytes lines
+    → AreFaultsOf b (take (i + 1) files) (take (i + 1) contents) all
+AreFaultsOf-next b files contents i text file bytes lines all is_file is_content grown before one =
+    subst (λ (t : List ℕ). AreFaultsOf b (take (i + 1) files) (take (i + 1) contents) t) (sym grown)
+    (subst (λ (fs : List (List ℕ)). AreFaultsOf b fs (take (i + 1) contents) (text ++ lines)) (sym (take_next files i file is_file))
+    (subst (λ (cs : List (List ℕ)). AreFaultsOf b (take i files ++ file ∷ []) cs (text ++ lines)) (sym (take_next contents i bytes is_content))
+    (AreFaultsOf-more b (take i files) (take i contents) text file bytes lines before one)))
 
 -- ---- what is found
 
 -- what is at fault in the pieces of files that were read
-faults_told : (C : List ℕ → List ℕ → Type 0) (has_lines : Bool) (files texts : List (List ℕ)) (places : List LineAt) (lines : List ℕ) → ArePieces C has_lines files texts places → AreFaultsOf (piece_names has_lines files places) texts lines → TellsFaults C has_lines files lines
-faults_told C has_lines files texts places lines p faults = (
+faults_told : (C : List ℕ → List ℕ → Type 0) (b has_lines : Bool) (files texts : List (List ℕ)) (places : List LineAt) (lines : List ℕ) → ArePieces C has_lines files texts places → AreFaultsOf b (piece_names has_lines files places) texts lines → TellsFaults C b has_lines files lines
+faults_told C b has_lines files texts places lines p faults = (
   p.contents,
   p.read,
-  subst (λ (ts : List (List ℕ)). AreFaultsOf (piece_names has_lines files (places_in has_lines p.contents)) ts lines) p.cut
-      (subst (λ (ats : List LineAt). AreFaultsOf (piece_names has_lines files ats) texts lines) p.stand faults),
+  subst (λ (ts : List (List ℕ)). AreFaultsOf b (piece_names has_lines files (places_in has_lines p.contents)) ts lines) p.cut
+      (subst (λ (ats : List LineAt). AreFaultsOf b (piece_names has_lines files ats) texts lines) p.stand faults),
 )
 
-pub finds_none : (C : List ℕ → List ℕ → Type 0) (judged : Check) (texts : List (List ℕ)) (places : List LineAt) (faultless : Bool) (text : List ℕ) → ArePieces C judged.has_lines judged.files texts places → FindsIn judged.db (piece_names judged.has_lines judged.files places) texts faultless text → faultless ≡ true → FindsNone C judged text
+pub finds_none : (C : List ℕ → List ℕ → Type 0) (judged : Check) (texts : List (List ℕ)) (places : List LineAt) (faultless : Bool) (text : List ℕ) → ArePieces C judged.has_lines judged.files texts places → FindsIn judged.is_for_number judged.db (piece_names judged.has_lines judged.files places) texts faultless text → faultless ≡ true → FindsNone C judged text
 finds_none C judged texts places faultless text pieces it is =
     let both = it.none is in
     record {
       told = it.told;
       lines = it.lines;
-      checks = record { database = subst (λ b. TellsGiven judged.db b it.told) both.0 it.database; faults = faults_told C judged.has_lines judged.files texts places it.lines pieces it.faults; both = it.both };
+      checks = record { database = subst (λ b. TellsGiven judged.db b it.told) both.0 it.database; faults = faults_told C judged.is_for_number judged.has_lines judged.files texts places it.lines pieces it.faults; both = it.both };
       empty = both.1;
     }
 
-pub finds_some : (C : List ℕ → List ℕ → Type 0) (judged : Check) (texts : List (List ℕ)) (places : List LineAt) (faultless : Bool) (text : List ℕ) → ArePieces C judged.has_lines judged.files texts places → FindsIn judged.db (piece_names judged.has_lines judged.files places) texts faultless text → faultless ≡ false → FindsSome C judged text
+pub finds_some : (C : List ℕ → List ℕ → Type 0) (judged : Check) (texts : List (List ℕ)) (places : List LineAt) (faultless : Bool) (text : List ℕ) → ArePieces C judged.has_lines judged.files texts places → FindsIn judged.is_for_number judged.db (piece_names judged.has_lines judged.files places) texts faultless text → faultless ≡ false → FindsSome C judged text
 finds_some C judged texts places faultless text pieces it is = record {
   sound = it.sound;
   told = it.told;
   lines = it.lines;
-  checks = record { database = it.database; faults = faults_told C judged.has_lines judged.files texts places it.lines pieces it.faults; both = it.both };
+  checks = record { database = it.database; faults = faults_told C judged.is_for_number judged.has_lines judged.files texts places it.lines pieces it.faults; both = it.both };
   some = it.some is;
 }
 
@@ -89,9 +88,9 @@ empty_is (c ∷ text) h = absurd (let e : suc (length text) ≡ 0 = true-eqb (su
 pub filled_is : (text : List ℕ) → (length text == 0) ≡ false → text ≢ []
 filled_is text h is = absurd (false-eqb (length text) 0 (sym h) (ap length is))
 
-pub finds_sound : (db : Option (List ℕ)) (names contents : List (List ℕ)) (sound faultless : Bool) (told lines text : List ℕ) → TellsGiven db sound told → AreFaultsOf names contents lines → text ≡ told ++ lines
-    → sound ≡ true → (faultless ≡ true → lines ≡ []) → (faultless ≡ false → lines ≢ []) → FindsIn db names contents faultless text
-finds_sound db names contents sound faultless told lines text database faults both is none some = record {
+pub finds_sound : (b : Bool) (db : Option (List ℕ)) (names contents : List (List ℕ)) (sound faultless : Bool) (told lines text : List ℕ) → TellsGiven db sound told → AreFaultsOf b names contents lines → text ≡ told ++ lines
+    → sound ≡ true → (faultless ≡ true → lines ≡ []) → (faultless ≡ false → lines ≢ []) → FindsIn b db names contents faultless text
+finds_sound b db names contents sound faultless told lines text database faults both is none some = record {
   sound = sound;
   told = told;
   lines = lines;
@@ -102,9 +101,9 @@ finds_sound db names contents sound faultless told lines text database faults bo
   some = λ never. inr (some never);
 }
 
-pub finds_unsound : (db : Option (List ℕ)) (names contents : List (List ℕ)) (sound faultless : Bool) (told lines text : List ℕ) → TellsGiven db sound told → AreFaultsOf names contents lines → text ≡ told ++ lines
-    → sound ≡ false → faultless ≡ false → FindsIn db names contents faultless text
-finds_unsound db names contents sound faultless told lines text database faults both is never = record {
+pub finds_unsound : (b : Bool) (db : Option (List ℕ)) (names contents : List (List ℕ)) (sound faultless : Bool) (told lines text : List ℕ) → TellsGiven db sound told → AreFaultsOf b names contents lines → text ≡ told ++ lines
+    → sound ≡ false → faultless ≡ false → FindsIn b db names contents faultless text
+finds_unsound b db names contents sound faultless told lines text database faults both is never = record {
   sound = sound;
   told = told;
   lines = lines;

@@ -1,5 +1,6 @@
 mod CheckLemmas
 mod EndingLemmas
+mod FeedLemmas
 mod LineLemmas
 mod PieceLemmas
 mod RunLemmas

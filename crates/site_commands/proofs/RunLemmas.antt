@@ -257,7 +257,7 @@ alone_allowed words (alone.Number lines) h = tt
 
 -- and so many files are few
 pub run_allowed : (words : List (List ℕ)) (p : Run) → IsPlan words (plan.Run p) → AreFew (is_some p.peer) (length p.files)
-run_allowed words p h = h.1.texts.3
+run_allowed words p h = h.1.texts.4
 
 -- and what a plan asks for is within what is allowed
 pub plan_allowed : (words : List (List ℕ)) (p : Plan) → IsPlan words p → IsAllowedPlan p

@@ -1,6 +1,6 @@
 -- What the plans of the program are answered with, and why they are refused. C says what a name is
 -- read as, U why a name isn't read.
-use Rattle.std.specs.Prelude.{◌≡◌, ◌≤◌, ◌+◌, ◌⊎◌, Bool, IfSome, List, ℕ, drop, length, slice_get, take, false, true, Option, None, Some}
+use Rattle.std.specs.Prelude.{◌≡◌, ◌≤◌, Bool, IfSome, List, ℕ, length, false, true, Option, None, Some}
 use Rattle.std.specs.Option.{is_some}
 use Rattle.attributes.specs.Character.{is_filled}
 use Rattle.attributes.specs.Event.{EventValue}
@@ -8,8 +8,6 @@ use Rattle.attributes.specs.Sequence.{max_sequence}
 use Rattle.coverage.specs.Summary.{Sources}
 use Rattle.coverage.specs.SummaryText.{summary_text}
 use Rattle.coverage.specs.Refusals as summaries
-use Rattle.event_json.specs.Reading.{Refuses}
-use Rattle.event_json.specs.declared.fault.ReadFault.{ReadFault}
 use Rattle.outbox.specs.declared.status.Status.{Status}
 use Rattle.outbox.specs.declared.status.Status.TheVariants as status
 use Rattle.command_words.specs.Plans.{AreFew}
@@ -29,12 +27,10 @@ use Rattle.command_words.specs.declared.request.Alone.TheVariants as alone
 use Rattle.command_words.specs.declared.request.Once.{Once}
 use Rattle.command_words.specs.declared.request.Once.TheVariants as once
 use Rattle.file_reports.specs.Shelves.{AreContents, IsUnreadAt}
-use Rattle.file_reports.specs.Reports.{EachReads, IsRefusal, IsReport, IsReportWith, SpellAll}
+use Rattle.file_reports.specs.Reports.{EachReads, IsReport, IsReportWith, SpellAll}
 use Rattle.file_reports.specs.declared.input.Unread.{Unread}
-use Rattle.file_reports.specs.declared.refusal.Refused.{Refused}
-use Rattle.file_reports.specs.declared.refusal.ReportFault.TheVariants as report
-use Rattle.run_command.specs.Run.{SaysRun}
 use Rattle.views.specs.declared.query.Query.{Query}
+use Rattle.site_commands.specs.Jobs.{AnswersJobs, RefusesJobs}
 use Rattle.site_commands.specs.Names.{files_of_run}
 use Rattle.site_commands.specs.Numbers.{AnswersNumber}
 use Rattle.site_commands.specs.Pieces.{IsRefused, pieces_of}
@@ -159,57 +155,21 @@ abbrev pub IsOfDatabase : Refusal → Type 0
 IsOfDatabase (refusal.Database why) = Unit {0}
 IsOfDatabase _ = ⊥
 
--- the first content is the peer's, where there is one, and spells events, all of them with numbers
-abbrev pub PeerSpells : Bool → List (List ℕ) → Type 0
-PeerSpells false contents = Unit {0}
-PeerSpells true contents = (events : List EventValue) × SpellAll (take 1 contents) events
-
--- the contents of the feeds of a run: all but its peer's
-abbrev pub feeds_in : Bool → List (List ℕ) → List (List ℕ)
-feeds_in false contents = contents
-feeds_in true contents = drop 1 contents
-
--- one of these feeds, the first of which is the file at this place, spells no events, and this is
--- why
-pub record RefusesFeed (first : ℕ) (feeds : List (List ℕ)) (refused : Refused) : Type 0 where
-  pub feed : ℕ
-  pub at : refused.file ≡ first + feed
-  pub bytes : List ℕ
-  pub is_there : slice_get feeds feed ≡ Some bytes
-  pub fault : ReadFault
-  pub why : refused.fault ≡ report.Read fault
-  pub refuses : Refuses bytes fault
-
--- the peer's file is at fault, or else a feed
-abbrev pub RefusesFile : Bool → List (List ℕ) → Refused → Type 0
-RefusesFile false contents refused = RefusesFeed 0 contents refused
-RefusesFile true contents refused =
-    IsRefusal (take 1 contents) refused ⊎ RefusesFeed 1 (drop 1 contents) refused
-
--- the peer's content spells events, and the text tells of a run of the feeds
-abbrev pub AnswersJobs : Bool → List (List ℕ) → List ℕ → Type 0
-AnswersJobs has_peer contents text = PeerSpells has_peer contents
-    × (arrivals : List EventValue) × SaysRun (feeds_in has_peer contents) arrivals text
-
--- the peer's content or a feed is at fault; or, where the peer's is not, the database or a thread
-abbrev pub RefusesJobs : Bool → List (List ℕ) → Refusal → Type 0
-RefusesJobs has_peer contents (refusal.File refused) = RefusesFile has_peer contents refused
-RefusesJobs has_peer contents (refusal.Database why) = PeerSpells has_peer contents
-RefusesJobs has_peer contents refusal.NoThread = PeerSpells has_peer contents
-RefusesJobs has_peer contents _ = ⊥
-
 -- all files were read, and the text tells of a run of the feeds
-abbrev pub AnswersRun : (List ℕ → List ℕ → Type 0) → Option (List ℕ) → List (List ℕ) → List ℕ
-    → Type 0
-AnswersRun C peer files text = (contents : List (List ℕ))
-    × AreContents C (files_of_run peer files) contents × AnswersJobs (is_some peer) contents text
+abbrev pub AnswersRun : (List ℕ → List ℕ → Type 0) → Option (List ℕ) → List (List ℕ) → Bool
+    → List ℕ → Type 0
+AnswersRun C peer files has_lines text = (contents : List (List ℕ))
+    × AreContents C (files_of_run peer files) contents
+    × AnswersJobs (is_some peer) has_lines contents text
 
 -- the first file that wasn't read; or, where all were, what came of them
 abbrev pub RefusesRun : (List ℕ → List ℕ → Type 0) → (List ℕ → Unread → Type 0)
-    → Option (List ℕ) → List (List ℕ) → Refusal → Type 0
-RefusesRun C U peer files (refusal.Unread at) = IsUnreadAt C U (files_of_run peer files) at
-RefusesRun C U peer files refusal = (contents : List (List ℕ))
-    × AreContents C (files_of_run peer files) contents × RefusesJobs (is_some peer) contents refusal
+    → Option (List ℕ) → List (List ℕ) → Bool → Refusal → Type 0
+RefusesRun C U peer files has_lines (refusal.Unread at) =
+    IsUnreadAt C U (files_of_run peer files) at
+RefusesRun C U peer files has_lines refusal = (contents : List (List ℕ))
+    × AreContents C (files_of_run peer files) contents
+    × RefusesJobs (is_some peer) has_lines contents refusal
 
 -- the text is the answer to the plan, which has one
 abbrev pub AnswersOnce : (List ℕ → List ℕ → Type 0) → Once → List ℕ → Type 0
@@ -230,7 +190,7 @@ AnswersPlan C (plan.Alone (alone.Once asked)) text = AnswersOnce C asked text
 AnswersPlan C (plan.Alone (alone.Follow lines)) text = AnswersFollow C lines.file text
 AnswersPlan C (plan.Alone (alone.Check judged)) text = FindsNone C judged text
 AnswersPlan C (plan.Alone (alone.Number lines)) text = AnswersNumber C lines text
-AnswersPlan C (plan.Run run) text = AnswersRun C run.peer run.files text
+AnswersPlan C (plan.Run run) text = AnswersRun C run.peer run.files run.has_lines text
 
 -- this is why the plan, which would have one answer, has none
 abbrev pub RefusesOnce : (List ℕ → List ℕ → Type 0) → (List ℕ → Unread → Type 0)
@@ -254,7 +214,7 @@ RefusesPlan C U (plan.Alone (alone.Once asked)) refusal = RefusesOnce C U asked 
 RefusesPlan C U (plan.Alone (alone.Follow lines)) refusal = ⊥
 RefusesPlan C U (plan.Alone (alone.Check judged)) refusal = RefusesCheck C U judged.files refusal
 RefusesPlan C U (plan.Alone (alone.Number lines)) refusal = ⊥
-RefusesPlan C U (plan.Run run) refusal = RefusesRun C U run.peer run.files refusal
+RefusesPlan C U (plan.Run run) refusal = RefusesRun C U run.peer run.files run.has_lines refusal
 
 -- what is asked of a service or an order is within what a service allows
 abbrev pub IsAllowed : Once → Type 0

@@ -1,14 +1,22 @@
 -- What a check of files and a database comes to. C says what a name is read as, U why a name isn't
 -- read.
-use Rattle.std.specs.Prelude.{◌≡◌, ◌≢◌, ◌⊎◌, ℕ, Bool, true, false, List, [], ◌∷◌, ◌++◌, Option, None, Some}
+use Rattle.std.specs.Prelude.{◌≡◌, ◌≢◌, ◌⊎◌, ℕ, Bool, true, false, List, [], ◌∷◌, ◌++◌, codes, Option, None, Some}
+use Rattle.attributes.specs.Event.{EventValue}
 use Rattle.command_words.specs.declared.request.Check.{Check}
 use Rattle.database_commands.specs.Described.{SaysDatabase}
 use Rattle.database_commands.specs.Trouble.{trouble_line}
 use Rattle.database_commands.specs.declared.trouble.Trouble.{Trouble}
 use Rattle.database_commands.specs.declared.trouble.Trouble.TheVariants.{OutOfMemory}
-use Rattle.fault_lines.specs.Lines.{IsFaultText}
+use Rattle.event_json.specs.declared.fault.ReadFault.TheVariants as read
+use Rattle.fault_lines.specs.Lines.{IsFaultText, line_with, string_text}
+use Rattle.fault_lines.specs.Words.{hint, whole_hint}
 use Rattle.file_reports.specs.Shelves.{AreContents, IsUnreadAt}
 use Rattle.file_reports.specs.declared.input.Unread.{Unread}
+use Rattle.number_lines.specs.Judged.{IsJudged}
+use Rattle.number_lines.specs.Words.{words_of}
+use Rattle.number_lines.specs.declared.refusal.LineRefusal.{LineRefusal}
+use Rattle.number_lines.specs.declared.refusal.LineRefusal.TheVariants as line
+use Rattle.numbers.specs.declared.fault.NumberFault.TheVariants as number
 use Rattle.site_commands.specs.Lines.{line_names, line_of}
 use Rattle.site_commands.specs.Names.{of_check}
 use Rattle.site_commands.specs.Pieces.{pieces_of, places_in}
@@ -18,23 +26,52 @@ use Rattle.site_commands.specs.declared.line.Refusal.{Refusal}
 use Rattle.site_commands.specs.declared.line.Refusal.TheVariants as refusal
 use Rattle.site_commands.specs.declared.pieces.LineAt.{LineAt}
 
--- the text has the lines of the events at fault in these contents, file by file, one content for
--- each name
-abbrev pub AreFaultsOf : List (List ℕ) → List (List ℕ) → List ℕ → Type 0
-AreFaultsOf [] [] text = text ≡ []
-AreFaultsOf (file ∷ files) (bytes ∷ contents) text = (lines : List ℕ) × (rest : List ℕ)
-    × IsFaultText file bytes lines × AreFaultsOf files contents rest × (text ≡ lines ++ rest)
-AreFaultsOf _ _ text = ⊥
+-- what to do about a refusal of `number`
+abbrev pub number_hint : LineRefusal → List ℕ
+number_hint (line.Read (read.BadEvent index why)) = hint why
+number_hint (line.Read why) = whole_hint why
+number_hint (line.Number number.OutOfMemory) = codes "memory ran out"
+number_hint (line.Number (number.HasSequence index)) =
+    codes "number gives an event its sequence: take keeps the one that it has, or --aside NAME puts it by"
+number_hint (line.Number (number.TooLarge index)) =
+    codes "with its number an event has at most 262,144 bytes; keep large data elsewhere"
+number_hint (line.Number (number.Full index)) =
+    codes "the source has no number left up to 9223372036854775807"
+number_hint (line.Aside index) = codes "its sequence can't stand under that name"
+
+-- the line that says why `number` refuses what has this name; none where it doesn't
+abbrev pub refusal_line : List ℕ → Option LineRefusal → List ℕ
+refusal_line name None = []
+refusal_line name (Some why) = line_with (string_text name) (words_of why) (number_hint why)
+
+-- the text is the line that says why `number` refuses the bytes, which have this name, or none
+abbrev pub TellsRefusal : List ℕ → List ℕ → List ℕ → Type 0
+TellsRefusal name bytes text = (why : Option LineRefusal)
+    × ((events : List EventValue) × IsJudged None bytes why events) × (text ≡ refusal_line name why)
+
+-- the text has the lines of what is at fault in the bytes, which have this name: as sites take
+-- them, or as `number` does
+abbrev pub IsFaultOf : Bool → List ℕ → List ℕ → List ℕ → Type 0
+IsFaultOf false name bytes text = IsFaultText name bytes text
+IsFaultOf true name bytes text = TellsRefusal name bytes text
+
+-- the text has these lines of contents, file by file, one content for each name
+abbrev pub AreFaultsOf : Bool → List (List ℕ) → List (List ℕ) → List ℕ → Type 0
+AreFaultsOf is_for_number [] [] text = text ≡ []
+AreFaultsOf is_for_number (file ∷ files) (bytes ∷ contents) text = (lines : List ℕ)
+    × (rest : List ℕ) × IsFaultOf is_for_number file bytes lines
+    × AreFaultsOf is_for_number files contents rest × (text ≡ lines ++ rest)
+AreFaultsOf is_for_number _ _ text = ⊥
 
 -- the names of what is judged of these files: their own, or those of their lines
 abbrev pub piece_names : Bool → List (List ℕ) → List LineAt → List (List ℕ)
 piece_names false files places = files
 piece_names true files places = line_names files places
 
--- all files were read, and the text has the lines of their events at fault
-abbrev pub TellsFaults : (List ℕ → List ℕ → Type 0) → Bool → List (List ℕ) → List ℕ → Type 0
-TellsFaults C has_lines files text = (contents : List (List ℕ)) × AreContents C files contents
-    × AreFaultsOf (piece_names has_lines files (places_in has_lines contents))
+-- all files were read, and the text has the lines of what is at fault in them
+abbrev pub TellsFaults : (List ℕ → List ℕ → Type 0) → Bool → Bool → List (List ℕ) → List ℕ → Type 0
+TellsFaults C is_for_number has_lines files text = (contents : List (List ℕ))
+    × AreContents C files contents × AreFaultsOf is_for_number (piece_names has_lines files (places_in has_lines contents))
     (pieces_of has_lines contents) text
 
 -- memory ran out, or this is the first file that wasn't read
@@ -58,7 +95,7 @@ TellsGiven (Some db) sound text = TellsDatabase db sound text
 pub record Checks (C : List ℕ → List ℕ → Type 0) (judged : Check) (sound : Bool)
     (told lines text : List ℕ) : Type 0 where
   pub database : TellsGiven judged.db sound told
-  pub faults : TellsFaults C judged.has_lines judged.files lines
+  pub faults : TellsFaults C judged.is_for_number judged.has_lines judged.files lines
   pub both : text ≡ told ++ lines
 
 -- nothing is at fault: the text tells of the database alone

@@ -1,5 +1,6 @@
 pub mod Names
 pub mod Pieces
+pub mod Jobs
 pub mod Lines
 pub mod Inputs
 pub mod Streams

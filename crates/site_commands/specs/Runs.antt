@@ -94,8 +94,8 @@ IsOnceEnding C U asked ending =
 -- what a run comes to
 abbrev pub IsRunEnding : (List ℕ → List ℕ → Type 0) → (List ℕ → Unread → Type 0)
     → Run → Ending → Type 0
-IsRunEnding C U run ending = ComesTo (AnswersRun C run.peer run.files)
-    (RefusesRun C U run.peer run.files) (of_run run) ending
+IsRunEnding C U run ending = ComesTo (AnswersRun C run.peer run.files run.has_lines)
+    (RefusesRun C U run.peer run.files run.has_lines) (of_run run) ending
 
 -- what the words come to
 abbrev pub IsEnding : (List ℕ → List ℕ → Type 0) → (List ℕ → Unread → Type 0)

@@ -1,6 +1,6 @@
 //! The command that judges files and keeps nothing of them, and tells what a database is.
 ghost use Rattle.std.specs.Prelude.{◌≡◌, IfErr, IfOk, IsFalse, IsTrue, length};
-ghost use Rattle.site_commands.specs.Checks.{AreFaultsOf, FindsNone, FindsSome, IsCheckEnding, RefusesCheck, TellsDatabase, TellsGiven, piece_names};
+ghost use Rattle.site_commands.specs.Checks.{AreFaultsOf, FindsNone, FindsSome, IsCheckEnding, IsFaultOf, RefusesCheck, TellsDatabase, TellsGiven, piece_names};
 ghost use Rattle.site_commands.specs.steps.Checks.{FindsIn};
 
 use crate::ending::{Ending, refused};
@@ -10,6 +10,7 @@ use crate::line::Refusal;
 use crate::names::Names;
 use crate::pieces::{Pieces, line_names, pieces_of};
 use crate::progress::Progress;
+use crate::refusal::refusal_line;
 use attributes::{Octets, Text};
 use command_words::Check;
 use database_commands::{Databases, Trouble, trouble_line};
@@ -94,7 +95,7 @@ fn found_of<D: Databases>(
 ) -> Result<Found, AllocError>
     requires { length pieces.now.texts.items ≡ length
         (piece_names plan.now.has_lines plan.now.files pieces.now.places.items) }
-    ensures { IfOk result (λ f. FindsIn plan.now.db
+    ensures { IfOk result (λ f. FindsIn plan.now.is_for_number plan.now.db
         (piece_names plan.now.has_lines plan.now.files pieces.now.places.items)
         pieces.now.texts.items f.is_faultless f.text) }
 {
@@ -102,24 +103,25 @@ fn found_of<D: Databases>(
     let texts = pieces.texts.as_slice();
     if plan.has_lines {
         let names = line_names(alloc, files, pieces.places.as_slice())?;
-        return found_in(alloc, databases, &plan.db, names.as_slice(), texts);
+        return found_in(alloc, databases, plan, names.as_slice(), texts);
     }
-    found_in(alloc, databases, &plan.db, files, texts)
+    found_in(alloc, databases, plan, files, texts)
 }
 
 /// What is found of the database and in these contents, each of the name at its place.
 fn found_in<D: Databases>(
     alloc: Global,
     databases: &D,
-    db: &Option<Text>,
+    plan: &Check,
     names: &[Text],
     contents: &[Octets],
 ) -> Result<Found, AllocError>
     requires { length contents.now ≡ length names.now }
-    ensures { IfOk result (λ f. FindsIn db.now names.now contents.now f.is_faultless f.text) }
+    ensures { IfOk result (λ f. FindsIn plan.now.is_for_number plan.now.db names.now contents.now
+        f.is_faultless f.text) }
 {
-    let Told { is_sound, text } = told_if_given(alloc, databases, db)?;
-    let lines = lines_of(alloc, names, contents)?;
+    let Told { is_sound, text } = told_if_given(alloc, databases, &plan.db)?;
+    let lines = lines_of(alloc, names, contents, plan.is_for_number)?;
     let is_faultless = is_sound && lines.as_str().is_empty();
     let mut text = text.into_string();
     text.push_str(lines.as_str())?;
@@ -168,15 +170,35 @@ fn told_of<D: Databases>(alloc: Global, databases: &D, db: &str) -> Result<Told,
     }
 }
 
-/// The lines of the events at fault in these contents, each of the file of that name.
-fn lines_of(alloc: Global, files: &[Text], contents: &[Octets]) -> Result<Text, AllocError>
+/// The lines of what is at fault in these contents, each of the file of that name.
+fn lines_of(
+    alloc: Global,
+    files: &[Text],
+    contents: &[Octets],
+    is_for_number: bool,
+) -> Result<Text, AllocError>
     requires { length contents.now ≡ length files.now }
-    ensures { IfOk result (AreFaultsOf files.now contents.now) }
+    ensures { IfOk result (AreFaultsOf is_for_number files.now contents.now) }
 {
     let mut text = String::new(alloc);
     for i in 0..files.len() {
-        let lines = fault_lines(alloc, &files[i], contents[i].as_bytes())?;
+        let lines = lines_in(alloc, &files[i], &contents[i], is_for_number)?;
         text.push_str(lines.as_str())?;
     }
     Ok(Text::from_string(text))
+}
+
+/// The lines of what is at fault in this content: as sites take it, or as `number` does.
+fn lines_in(
+    alloc: Global,
+    file: &Text,
+    content: &Octets,
+    is_for_number: bool,
+) -> Result<Text, AllocError>
+    ensures { IfOk result (IsFaultOf is_for_number file.now content.now) }
+{
+    if is_for_number {
+        return refusal_line(alloc, file, content);
+    }
+    fault_lines(alloc, file, content.as_bytes())
 }

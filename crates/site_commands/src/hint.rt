@@ -161,7 +161,7 @@ fn of_look(look: Look) -> &'static str {
         Look::Database => "it is a database: give it as --db FILE",
         Look::Wide => "it is UTF-16: iconv -f UTF-16 -t UTF-8 makes it UTF-8",
         Look::Lines =>
-            "its events stand one a line: with --lines take, check and the questions read them so",
+            "its events stand one a line: with --lines take, run, check and the questions read them so",
         _ => "a file is one JSON text in UTF-8: jq . FILE says where it ends to be one",
     }
 }

@@ -2,6 +2,7 @@
 //! words after its name to what is written, and the exit status.
 #![tactic(auto)]
 
+mod batches;
 mod check;
 mod database;
 mod ending;
@@ -15,6 +16,7 @@ mod pieces;
 mod printed;
 mod progress;
 mod query;
+mod refusal;
 mod run;
 mod stream;
 mod workers;

@@ -44,7 +44,7 @@ fn is_white(byte: u8) -> bool
 }
 
 /// Whether a line has nothing but white space.
-fn is_blank(line: &[u8]) -> bool
+pub(crate) fn is_blank(line: &[u8]) -> bool
     ensures { result ≡ is_blank line.now }
 {
     line.iter().all(|byte| is_white(*byte))
@@ -58,7 +58,7 @@ fn line_end(text: &[u8]) -> Option<usize>
 }
 
 /// The first line of a text, and what stands behind its LF, where it has one.
-fn first_line(text: &[u8]) -> (&[u8], Option<&[u8]>)
+pub(crate) fn first_line(text: &[u8]) -> (&[u8], Option<&[u8]>)
     ensures lines { lines_of text.now
         ≡ result.0.now ∷ option_map_or (λ rest. lines_of rest.now) result.1 [] }
     ensures shorter { IfSome result.1 (λ rest. length rest.now < length text.now) }
@@ -136,7 +136,11 @@ fn file_lines(alloc: Global, contents: Vec<Octets>) -> Result<Pieces, AllocError
 }
 
 /// What is judged of these contents of files: the lines, or each as it is.
-fn pieces_in(alloc: Global, contents: Vec<Octets>, has_lines: bool) -> Result<Pieces, AllocError>
+pub(crate) fn pieces_in(
+    alloc: Global,
+    contents: Vec<Octets>,
+    has_lines: bool,
+) -> Result<Pieces, AllocError>
     ensures texts { IfOk result (λ p. p.texts.items ≡ pieces_of has_lines contents.items) }
     ensures places { IfOk result (λ p. p.places.items ≡ places_in has_lines contents.items) }
 {
@@ -191,6 +195,20 @@ pub fn refusal_at(has_lines: bool, places: &[LineAt], refused: Refused) -> Refus
             fault,
         }),
     }
+}
+
+/// The refusal for want of memory of what is judged of files.
+pub fn memory_refusal(has_lines: bool) -> Refusal
+    ensures { (contents : List (List ℕ)) → IsRefused has_lines contents result }
+{
+    let fault = ReportFault::OutOfMemory;
+    if has_lines {
+        return Refusal::Line(RefusedLine {
+            at: LineAt { file: 0, line: 0 },
+            fault,
+        });
+    }
+    Refusal::File(Refused { file: 0, fault })
 }
 
 /// The names of lines of these files.

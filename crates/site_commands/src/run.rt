@@ -302,6 +302,7 @@ fn ending_of_run<
         plan.db.as_str(),
         &plan.peer,
         plan.files.as_slice(),
+        plan.has_lines,
         progress,
     ) {
         Ok(text) => Ending::Answer(text),

@@ -1,15 +1,17 @@
 //! The command `run`: files taken side by side.
-ghost use Rattle.std.specs.Prelude.{◌≡◌, ◌≤◌, ◌+◌, ◌++◌, List, length, true, false, IfErr, IfOk, OnOk};
+ghost use Rattle.std.specs.Prelude.{◌≡◌, ◌≤◌, ◌+◌, ◌∷◌, [], length, true, false, IfErr, IfOk};
 ghost use Rattle.std.specs.Option.{is_some};
-ghost use Rattle.attributes.specs.Event.{EventValue};
 ghost use Rattle.command_words.specs.Plans.{AreFew};
-ghost use Rattle.run_command.specs.Run.{SaysRun};
-ghost use Rattle.site_commands.specs.Answers.{AnswersJobs, AnswersRun, RefusesJobs, RefusesRun};
+ghost use Rattle.run_command.specs.Peer.{peer_of};
+ghost use Rattle.site_commands.specs.Answers.{AnswersRun, RefusesRun};
+ghost use Rattle.site_commands.specs.Jobs.{AnswersFeeds, AnswersJobs, ArePeers, RefusesFeeds, RefusesJobs};
 ghost use Rattle.site_commands.specs.Names.{files_of_run};
-ghost use Rattle.site_commands.specs.steps.Feeds.{RefusesFeeds};
+ghost use Rattle.site_commands.specs.Pieces.{IsRefused, pieces_of, places_in};
 
+use crate::batches::{FeedFault, append, feeds_of};
 use crate::line::Refusal;
-use attributes::{List, Octets, Text, Texts};
+use crate::pieces::{Pieces, memory_refusal, pieces_in, refusal_at};
+use attributes::{Batch, List, Octets, Text, Texts};
 use database_commands::CommandFault;
 use file_reports::{
     Refused, ReportFault, SequentialReader, Shelf, Unread, UnreadAt, contents_of, events_of,
@@ -23,8 +25,11 @@ use std::thread::Threads;
 
 /// Takes files side by side into a database, each in a thread of its own, with the events of a
 /// peer's file where one is given. All files are read, the peer's first, and the peer's is judged,
-/// before the database is opened. Answers how many events the files had, how many of them had no
-/// number, how many the database has now, and its summary. It may wait.
+/// before the database is opened; of files that have lines each line is an event or a batch, and all
+/// lines are judged before. Answers how many events the files had, how many of them had no number,
+/// how many the database has now, and its summary. Of several faults the first is told, in the order
+/// of the files. It may wait. With lines a file's events stand in memory twice while its batch is
+/// made.
 #[tactic(auto, using(crate::proofs::WorkerLemmas::answers_run, crate::proofs::WorkerLemmas::refuses_run))]
 pub fn run<R: Threads + Wait + Sync, S: Shelf, D: Runs, W: Watch>(
     rt: &R,
@@ -34,12 +39,14 @@ pub fn run<R: Threads + Wait + Sync, S: Shelf, D: Runs, W: Watch>(
     db: &str,
     peer: &Option<Text>,
     files: &[Text],
+    has_lines: bool,
     watch: &W,
 ) -> Result<Text, Refusal>
     requires { AreFew (is_some peer.now) (length files.now) }
-    ensures ok { IfOk result (AnswersRun (S.is_content shelf.now) peer.now files.now) }
-    ensures err { IfErr result
-        (RefusesRun (S.is_content shelf.now) (S.is_unread shelf.now) peer.now files.now) }
+    ensures ok { IfOk result
+        (AnswersRun (S.is_content shelf.now) peer.now files.now has_lines) }
+    ensures err { IfErr result (RefusesRun (S.is_content shelf.now) (S.is_unread shelf.now)
+        peer.now files.now has_lines) }
 {
     let Ok(names) = files_of_run(alloc, peer, files) else {
         return Err(Refusal::Unread(UnreadAt {
@@ -50,9 +57,9 @@ pub fn run<R: Threads + Wait + Sync, S: Shelf, D: Runs, W: Watch>(
     match contents_of(alloc, shelf, names.as_slice()) {
         Ok(contents) => {
             if peer.is_some() {
-                run_with_peer(rt, alloc, databases, db, contents, watch)
+                run_with_peer(rt, alloc, databases, db, contents, has_lines, watch)
             } else {
-                run_feeds(rt, alloc, databases, db, contents, watch)
+                run_feeds(rt, alloc, databases, db, contents, has_lines, watch)
             }
         }
         Err(at) => Err(Refusal::Unread(at)),
@@ -86,14 +93,46 @@ fn copies(alloc: Global, texts: &[Text]) -> Result<Texts, AllocError>
     Ok(copies)
 }
 
-/// Moves texts behind those of a list.
-fn append(texts: &mut Texts, more: Vec<Text>) -> Result<(), AllocError>
-    ensures { OnOk result (texts.new ≡ texts.old ++ more.items) }
+/// The peer of this content: a site with its events.
+fn peer_of(alloc: Global, content: Octets, has_lines: bool) -> Result<Site, Refusal>
+    ensures ok { IfOk result (λ site. ArePeers true has_lines (content ∷ []) (site ∷ [])) }
+    ensures err { IfErr result (IsRefused has_lines (content ∷ [])) }
 {
-    for text in more {
-        texts.push(text)?;
+    let Ok(pieces) = piece_of(alloc, content, has_lines) else {
+        return Err(memory_refusal(has_lines));
+    };
+    let events = match events_of(alloc, &SequentialReader {}, pieces.texts.as_slice()) {
+        Ok(events) => events,
+        Err(refused) => {
+            return Err(refusal_at(has_lines, pieces.places.as_slice(), refused));
+        }
+    };
+    match site_of(alloc, events) {
+        Ok(site) => Ok(site),
+        Err(_) => Err(memory_refusal(has_lines)),
     }
-    Ok(())
+}
+
+/// What is judged of the content of one file.
+fn piece_of(alloc: Global, content: Octets, has_lines: bool) -> Result<Pieces, AllocError>
+    ensures texts { IfOk result (λ p. p.texts.items ≡ pieces_of has_lines (content ∷ [])) }
+    ensures places { IfOk result (λ p. p.places.items ≡ places_in has_lines (content ∷ [])) }
+{
+    let mut contents = Vec::new(alloc);
+    contents.push(content)?;
+    pieces_in(alloc, contents, has_lines)
+}
+
+/// A site that took these events.
+fn site_of(alloc: Global, events: Batch) -> Result<Site, AllocError>
+    ensures { IfOk result (λ site. site ≡ peer_of events) }
+{
+    let mut events = events;
+    let mut site = Site::empty(alloc);
+    match site.take_batch(&mut events) {
+        Ok(_) => Ok(site),
+        Err(_) => Err(AllocError),
+    }
 }
 
 /// Runs with a peer, whose content is the first.
@@ -103,27 +142,26 @@ fn run_with_peer<R: Threads + Wait + Sync, D: Runs, W: Watch>(
     databases: &D,
     db: &str,
     contents: Vec<Octets>,
+    has_lines: bool,
     watch: &W,
 ) -> Result<Text, Refusal>
     requires { (1 ≤ length contents.items) × (length contents.items ≤ 16) }
-    ensures ok { IfOk result (AnswersJobs true contents.items) }
-    ensures err { IfErr result (RefusesJobs true contents.items) }
+    ensures ok { IfOk result (AnswersJobs true has_lines contents.items) }
+    ensures err { IfErr result (RefusesJobs true has_lines contents.items) }
 {
     let mut contents = contents;
-    let mut events = match events_of(alloc, &SequentialReader {}, &contents.as_slice()[..1]) {
-        Ok(events) => events,
-        Err(refused) => return Err(Refusal::File(refused)),
+    let content = contents.remove(0);
+    let site = match peer_of(alloc, content, has_lines) {
+        Ok(site) => site,
+        Err(refusal) => return Err(refusal),
     };
-    let mut site = Site::empty(alloc);
-    if site.take_batch(&mut events).is_err() {
-        return Err(Refusal::Database(CommandFault::OutOfMemory));
-    }
     let mut peers = List::empty(alloc);
     if peers.push(site).is_err() {
-        return Err(Refusal::Database(CommandFault::OutOfMemory));
+        return Err(memory_refusal(has_lines));
     }
-    let _peer = contents.remove(0);
-    run_workers(rt, alloc, databases, db, contents, peers, 1, watch)
+    run_workers(
+        rt, alloc, databases, db, contents, has_lines, peers, 1, watch,
+    )
 }
 
 /// Runs without a peer.
@@ -133,44 +171,43 @@ fn run_feeds<R: Threads + Wait + Sync, D: Runs, W: Watch>(
     databases: &D,
     db: &str,
     contents: Vec<Octets>,
+    has_lines: bool,
     watch: &W,
 ) -> Result<Text, Refusal>
     requires { length contents.items ≤ 16 }
-    ensures ok { IfOk result (AnswersJobs false contents.items) }
-    ensures err { IfErr result (RefusesJobs false contents.items) }
+    ensures ok { IfOk result (AnswersJobs false has_lines contents.items) }
+    ensures err { IfErr result (RefusesJobs false has_lines contents.items) }
 {
+    let peers = List::empty(alloc);
     run_workers(
-        rt,
-        alloc,
-        databases,
-        db,
-        contents,
-        List::empty(alloc),
-        0,
-        watch,
+        rt, alloc, databases, db, contents, has_lines, peers, 0, watch,
     )
 }
 
-/// Runs; the feeds' files stand from the place `first` on.
+/// Runs beside these peers; the feeds' files stand from the place `first` on.
 fn run_workers<R: Threads + Wait + Sync, D: Runs, W: Watch>(
     rt: &R,
     alloc: Global,
     databases: &D,
     db: &str,
     contents: Vec<Octets>,
+    has_lines: bool,
     peers: List<Site>,
     first: u64,
     watch: &W,
 ) -> Result<Text, Refusal>
     requires few { length contents.items + length peers ≤ 16 }
     requires first { first ≤ 1 }
-    ensures ok { IfOk result (λ text.
-        (arrivals : List EventValue) × SaysRun contents.items arrivals text) }
-    ensures err { IfErr result (RefusesFeeds first contents.items) }
+    ensures ok { IfOk result (AnswersFeeds has_lines first contents.items peers) }
+    ensures err { IfErr result (RefusesFeeds has_lines first contents.items peers) }
 {
     let growth = bytes_in(contents.as_slice());
-    let Ok(feeds) = listed(alloc, contents) else {
-        return Err(Refusal::Database(CommandFault::OutOfMemory));
+    let feeds = match feeds_of(alloc, contents, has_lines, first) {
+        Ok(feeds) => feeds,
+        Err(FeedFault::Line(refused)) => return Err(Refusal::Line(refused)),
+        Err(FeedFault::OutOfMemory) => {
+            return Err(Refusal::Database(CommandFault::OutOfMemory));
+        }
     };
     let jobs = Jobs {
         feeds,
@@ -186,17 +223,6 @@ fn run_workers<R: Threads + Wait + Sync, D: Runs, W: Watch>(
             fault: ReportFault::Read(fault),
         })),
     }
-}
-
-/// The contents as a list.
-fn listed(alloc: Global, contents: Vec<Octets>) -> Result<List<Octets>, AllocError>
-    ensures { IfOk result (λ list. list ≡ contents.items) }
-{
-    let mut list = List::empty(alloc);
-    for bytes in contents {
-        list.push(bytes)?;
-    }
-    Ok(list)
 }
 
 /// About how many bytes a database grows by when it takes these contents.

@@ -1,12 +1,12 @@
--- Why a run whose peer's file is judged has no answer.
-use Rattle.std.specs.Prelude.{ℕ, List}
-use Rattle.site_commands.specs.Answers.{RefusesFeed}
-use Rattle.site_commands.specs.declared.line.Refusal.{Refusal}
-use Rattle.site_commands.specs.declared.line.Refusal.TheVariants as refusal
+-- Why feeds have nothing to read.
+use Rattle.std.specs.Prelude.{◌≡◌, Bool, true, ℕ, List}
+use Rattle.site_commands.specs.Jobs.{IsFirstUnread}
+use Rattle.site_commands.specs.Pieces.{lines_behind}
+use Rattle.site_commands.specs.declared.batches.FeedFault.{FeedFault}
+use Rattle.site_commands.specs.declared.batches.FeedFault.TheVariants as feed
 
--- one of these feeds, the first of which is the file at this place; or the database or a thread
-abbrev pub RefusesFeeds : ℕ → List (List ℕ) → Refusal → Type 0
-RefusesFeeds first feeds (refusal.File refused) = RefusesFeed first feeds refused
-RefusesFeeds first feeds (refusal.Database why) = Unit {0}
-RefusesFeeds first feeds refusal.NoThread = Unit {0}
-RefusesFeeds first feeds _ = ⊥
+-- memory ran out, or the files have lines, one of which is the first at fault
+abbrev pub HasNoFeeds : Bool → ℕ → List (List ℕ) → FeedFault → Type 0
+HasNoFeeds has_lines first contents feed.OutOfMemory = Unit {0}
+HasNoFeeds has_lines first contents (feed.Line refused) =
+    (has_lines ≡ true) × IsFirstUnread (lines_behind first contents) refused
