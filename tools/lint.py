@@ -3,7 +3,7 @@
 
     tools/lint.py [CHECK..]     all checks, or those of these names
     tools/lint.py --fix         lays out what rattle, black, clang-format and rustfmt lay out
-    tools/lint.py --install     Debian's packages of the linters, as root
+    tools/lint.py --install     Debian's packages of the linters and of pytest, as root
 
 The settings stand in pyproject.toml, .flake8, .clang-format and .shellcheckrc, and for Rust in rustfmt.toml and
 clippy.toml. Layouts differ between versions of black and clang-format: Debian 12's are asked, and others left out. Clippy
@@ -23,9 +23,10 @@ from typing import Callable, Iterable, Optional
 sys.dont_write_bytecode = True
 TOP = os.path.dirname(os.path.dirname(os.path.realpath(__file__)))
 sys.path.insert(0, f"{TOP}/tools")
+import run_tests  # noqa: E402
 import service  # noqa: E402
 
-PACKAGES = ("black", "clang-format", "flake8", "mypy", "shellcheck")
+PACKAGES = ("black", "clang-format", "flake8", "mypy", "shellcheck", run_tests.PACKAGE)
 # Whose layout is asked for: that of Debian 12.
 LAYOUTS = {"black": "23.", "clang-format": "14."}
 OUT = f"{TOP}/out/lint"
@@ -89,7 +90,8 @@ def black(*how: str) -> Said:
 
 
 def mypy() -> Said:
-    return clean(wanted("mypy"), "--cache-dir", f"{OUT}/mypy")
+    """Without pytest, whose types the tests stand on, of all but these."""
+    return clean(wanted("mypy"), "--cache-dir", f"{OUT}/mypy", *([] if run_tests.python_with_pytest() else ["gate", "tools"]))
 
 
 def mypy_of_package() -> Said:
@@ -184,8 +186,7 @@ def main() -> int:
     words.add_argument("checks", nargs="*", metavar="CHECK", choices=[[], *CHECKS])
     given = words.parse_args()
     if given.install:
-        each = (["apt-get", "update"], ["apt-get", "install", "-y", "--no-install-recommends", *PACKAGES])
-        return max(subprocess.run(it, check=False).returncode for it in each)
+        return run_tests.install(*PACKAGES)
     os.makedirs(OUT, exist_ok=True)
     if given.fix:
         return fix()

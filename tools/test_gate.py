@@ -3,6 +3,8 @@
 tries: what turns it red, what it takes of earlier runs, and what runs beside what. The last line is 'N passed, M failed'.
 """
 
+import contextlib
+import io
 import os
 import shutil
 import sys
@@ -15,10 +17,12 @@ TOP = os.path.dirname(os.path.dirname(os.path.realpath(__file__)))
 sys.path.insert(0, f"{TOP}/tools")
 import subprocess  # noqa: E402
 
+import run_tests  # noqa: E402
 from harness import tell  # noqa: E402
 from test_try_edits import Copy, kept_files  # noqa: E402
 
-lanes = SourceFileLoader("gate", f"{TOP}/gate").load_module().lanes
+of_gate = SourceFileLoader("gate", f"{TOP}/gate").load_module()
+lanes = of_gate.lanes
 # In the place of `rt`: `rt ci` leaves libraries, as old as those that it keeps, and the program, and says what a run says.
 RT = """#!/bin/sh
 [ "$1" = doc ] && { echo FOLDER/kit/START-HERE.md; exit; }
@@ -60,7 +64,7 @@ status=$?
 echo "end try_edits" >>FOLDER/order
 exit $status
 """
-SCRIPTS = ["try_bindings.py", "try_release.py", "try_refusals.py", "try_rows.py", "try_program.sh", "try_reports.sh", "try_databases.sh", "try_run.sh"]
+SCRIPTS = ["try_bindings.py", "try_release.py", "try_refusals.py", "try_rows.py", "run_tests.py", "try_program.sh", "try_reports.sh", "try_databases.sh"]
 SCRIPTS += ["try_mistakes.py", "try_numbers.py", "try_reading.py", "try_papers.py", "run_guide.py"]
 SCRIPTS += ["try_streams.py", "try_terminal.py", "try_together.py", "try_service.py", "try_partition.py"]
 ALONE = SCRIPTS[-5:]
@@ -154,9 +158,32 @@ def rows(folder: str) -> Iterator[tuple[bool, str]]:
         yield (status, said[-1]) == (1, f"{counts - 1} passed, 1 failed"), f"{script} fails: {said[-8:]}"
 
 
+# Tests of pytest: one that passes, one that fails, and one that can't begin; and a file that can't be read.
+OF_PYTEST = "def test_right(): pass\ndef test_wrong(): assert False\ndef test_without(nothing): pass\n"
+NO_TESTS = "import nothing_of_this_name\n"
+
+
+def rows_of_pytest(folder: str) -> Iterator[tuple[bool, str]]:
+    """Pairs of whether the last line of tests/ tells the gate what passed, and what is wrong; and so where pytest isn't there."""
+    python, run_tests.PYTHONS = run_tests.python_with_pytest(), ("false",)
+    with contextlib.redirect_stdout(io.StringIO()) as said:
+        status = run_tests.main()
+    yield of_gate.counted(said.getvalue(), status) == (0, 1), f"no pytest, and no failure: {said.getvalue()}"
+    for name, text, wanted, counts in (("wrong", OF_PYTEST, 1, (1, 2)), ("unread", NO_TESTS, 2, (0, 1))):
+        if python:
+            os.mkdir(f"{folder}/{name}")
+            for it in ("conftest.py", "shell.py"):
+                shutil.copy(f"{TOP}/tests/{it}", f"{folder}/{name}/{it}")
+            with open(f"{folder}/{name}/test_it.py", "w", encoding="ascii") as file:
+                file.write(text)
+            ran = subprocess.run([python, "-B", "-m", "pytest", "-q", "-p", "no:cacheprovider"], cwd=f"{folder}/{name}", capture_output=True, text=True)
+            told = ran.returncode, of_gate.counted(ran.stdout, ran.returncode)
+            yield told == (wanted, counts), f"tests of pytest: {told} {ran.stdout[-300:]}"
+
+
 def main() -> int:
     with tempfile.TemporaryDirectory(prefix="gate-tried-") as folder:
-        answers = [*rows(folder)]
+        answers = [*rows(folder), *rows_of_pytest(folder)]
     return tell(answers)
 
 
