@@ -20,10 +20,39 @@ def page(*events: str) -> str:
     return f"{batch(*events)}\n"
 
 
+def pages(*events: str) -> str:
+    """A line for each hundred events."""
+    return "".join(page(*events[at : at + 100]) for at in range(0, len(events), 100))
+
+
+def lines(*texts: str) -> str:
+    return "".join(f"{it}\n" for it in texts)
+
+
 def cover(last: Optional[int]) -> str:
     """The answer to `cover`, and the oldest form of a summary, of the numbers of /orders from 1 to the last, or of no event."""
     return f'{{"sources":{{"/orders":[[1,{last}]]}},"version":1}}' if last else '{"sources":{},"version":1}'
 
 
+def numbered_events(count: int, digits: int = 0) -> list[str]:
+    """That many events of the source /, whose ids are their numbers."""
+    return [event(f"{it:0{digits}d}", it, source="/") for it in range(1, count + 1)]
+
+
+def fault(**members: object) -> str:
+    """The line of `check` with these members, in their order."""
+    return json.dumps(members, separators=(",", ":")) + "\n"
+
+
+AT = "2024-02-29T10:00:00Z"
+
+
+def acknowledgement(line: int, new: int, repeated: int) -> str:
+    """What `follow` says of a line."""
+    return f'{{"line":{line},"new":{new},"repeated":{repeated}}}\n'
+
+
 E1, E2 = event("a1", 1, "t.a", subject="x"), event("a2", 2, "t.b", subject="x")
 E3, E4 = event("a3", 3, "t.a", subject="y"), event("a4", 4, "t.a", subject="y")
+QUESTIONS = ("cover", "gaps", "shown", "latest", "kinds", "days", "conflicts")
+NO_FILE = "there is no file of that name, or none that this user may look at"

@@ -1,0 +1,92 @@
+"""Words, and what is said of them: answers, refusals, faulty words and help, each with its status."""
+import os
+
+import pytest
+from events import QUESTIONS, cover, event
+from shell import TOP, As, Room, answers, refuses, rejects, rows, tells
+from version import version
+
+EVENT = event("a1", 1, "t.a")
+LINE = f"{cover(1)}\n"
+FILES = {
+    "f.json": EVENT,
+    "-x.json": EVENT,
+    "empty.json": "[]",
+    "bad.json": "3",
+    "none.json": event("a", None, source="/"),
+    "void.json": "",
+    "folder/": "",
+}
+
+# Status 0.
+test_answers = rows(
+    FILES,
+    answers("an answer", "site cover f.json", LINE),
+    answers("shown", "site shown f.json", f"{EVENT}\n"),
+    answers("no event is shown", "site shown empty.json"),
+    answers("words after --", "site cover -- f.json", LINE),
+    answers("a name with a dash in front", "site cover -- -x.json", LINE),
+    answers("no event has no gap", "site gaps empty.json"),
+    answers("an event that stands again is no conflict", "site conflicts f.json f.json"),
+)
+
+# Status 1: one line, and nothing on standard output.
+test_refusals = rows(
+    FILES,
+    refuses("a file that is not there", "site cover f.json missing.json", "missing.json: cannot read"),
+    refuses("all files are read before one is judged", "site cover bad.json missing.json", "missing.json: cannot read"),
+    refuses("the first file at fault is named", "site cover f.json bad.json void.json", "bad.json: not an event or a batch"),
+    refuses("an empty file", "site cover void.json", "void.json: not JSON"),
+    refuses("an event without a number", "site cover none.json", "none.json: event 0: NoSequence"),
+    refuses("a folder", "site cover folder", "folder: cannot read"),
+    refuses("a folder before other files", "site cover folder f.json bad.json", "folder: cannot read"),
+    refuses("a folder between other files", "site cover f.json folder bad.json", "folder: cannot read"),
+    refuses("a folder behind other files", "site cover f.json bad.json folder", "folder: cannot read"),
+    refuses("an input without end", "site cover /dev/zero", "/dev/zero: too large"),
+    refuses("a name with a line feed", r"site cover $'a\nb'", r"a\nb: cannot read"),
+    refuses("a name with an escape", r"site cover $'a\e[31mb'", r"a\u001b[31mb: cannot read"),
+    refuses("other control characters, and a backslash", r"site cover $'a\x7f\xc2\x85\t\\b'", r"a\u007f\u0085\t\b: cannot read"),
+    refuses("letters and quotes stay as they are", "site cover 'größe \"x\"'", 'größe "x": cannot read'),
+    refuses("the empty name", "site cover ''", ": cannot read"),
+)
+
+# Status 2.
+test_faulty_words = rows(
+    FILES,
+    rejects("no word", "site"),
+    rejects("an unknown word", "site covers f.json"),
+    rejects("a missing file", "site cover"),
+    rejects("an unknown option", "site cover --from 3 f.json"),
+    rejects("an empty word", "site '' f.json"),
+    rejects("a word that is no text", r"site cover $'\xff'", "site: the arguments aren't text\n"),
+    rejects("more than one file", "site follow --db stream.db f.json f.json", lacks="stream.db"),
+    rejects("lines without a database", "site follow f.json"),
+    rejects("all rows behind no number", "site relay --db rows.db --all", lacks="rows.db"),
+    rejects("all rows and a word more", "site relay --db rows.db --after 0 --all rows", lacks="rows.db"),
+    rejects("a check of no file", "site check"),
+)
+
+# Help is what was asked for, and yet no answer.
+test_help = rows(
+    {},
+    tells("help", "site --help"),
+    tells("the version", "site --version", f"site {version()}\n"),
+    tells("help of a command", "site cover --help"),
+    tells("its usage", "site cover --help | grep '^Usage: site cover '"),
+    tells("help by its word", "site help cover"),
+    tells("the usage is the same by both", "site help cover | grep '^Usage: '", As("site cover --help | grep '^Usage: '", 2)),
+    tells("help of follow", "site follow --help"),
+    *(tells(f"help names {it}", f"site --help | grep '^ *{it}  *[A-Z]'") for it in QUESTIONS),
+)
+
+
+@pytest.mark.parametrize("name", ["site", "link", "link-of-a-link"])
+def test_script_that_builds(name: str, room: Room, program: str) -> None:
+    """The script ./site, where it has built this program already, by its own name and by links to it."""
+    if program != f"{TOP}/crates/site_cli/out/site_cli" or not os.path.exists(f"{program}.built"):
+        pytest.skip("./site has not built this program")
+    room.put({"f.json": EVENT})
+    os.symlink(f"{TOP}/site", room.at("link"))
+    os.symlink("link", room.at("link-of-a-link"))
+    script = f"{TOP}/site" if name == "site" else f"./{name}"
+    assert room.run(f"'{script}' cover f.json") == (0, LINE, "")
