@@ -1,8 +1,8 @@
 """Questions about files: what each of the seven answers."""
 import re
 
-from events import QUESTIONS
-from shell import TOP, answers, rows
+from events import QUESTIONS, batch, cover, event, lines
+from shell import TOP, answers, refuses, rows
 
 
 def example(question: str) -> str:
@@ -15,3 +15,65 @@ def example(question: str) -> str:
 
 # The examples that were worked out by hand.
 test_examples = rows({}, *(answers(f"the example of {it}", f"site {it} '{TOP}/examples/orders.json'", example(it)) for it in QUESTIONS))
+
+
+# An event of 111 bytes, with another type, with a sequence that is too short, and in another spelling. A lesser id, and a lesser
+# source.
+FIRST, GREATER, SHORT = event("a1", 1, "t.a", subject="x"), event("a1", 1, "t.b", subject="x"), event("a1", "1", "t.a", subject="x")
+SPELLED = r'{"type":"t.a","subject":"x","specversion":"1.0","source":"/orders","sequence":"00000000000000000001","id":"\u0061\u0031"}'
+LESSER_ID, LESSER_SOURCE = event("a0", 2, "t.a"), event("b", 1, "t.a", "/")
+# Events of one source, with gaps between their numbers and in them.
+NUMBERS = batch(event("a", 1), event("b", 2), event("c", 5))
+FILES = {
+    "empty": "[]",
+    "numbers": NUMBERS,
+    "more": batch(event("d", 4), event("e", 3)),
+    "last": event("z", 2**63 - 1),
+    "first": FIRST,
+    "spelled": SPELLED,
+    "greater": GREATER,
+    "keys": batch(FIRST, LESSER_ID, LESSER_SOURCE),
+}
+
+
+def test_length_of_the_first_event() -> None:
+    assert len(FIRST) == 111
+
+
+# Questions.
+test_questions = rows(
+    FILES,
+    answers("no event covers nothing", "site cover empty", f"{cover(0)}\n"),
+    answers("a gap between intervals", "site cover numbers", '{"sources":{"/orders":[[1,2],[5,5]]},"version":1}\n'),
+    answers("two files fill the gap", "site cover numbers more", f"{cover(5)}\n"),
+    answers("the greatest number", "site cover last empty", '{"sources":{"/orders":[[9223372036854775807,9223372036854775807]]},"version":1}\n'),
+    answers("no event is shown", "site shown empty"),
+    answers("the canonical text is shown", "site shown spelled empty", lines(FIRST)),
+    answers("the lesser text is shown, which comes last", "site shown greater first", lines(FIRST)),
+    answers("the lesser text is shown, which comes first", "site shown first greater", lines(FIRST)),
+    answers("by source, then id", "site shown greater keys first", lines(LESSER_SOURCE, LESSER_ID, FIRST)),
+)
+
+# Lines, each read as a file of its own: LF ends them, white space alone is none, a CR before LF is white space.
+test_lines = rows(
+    {
+        "lines": lines(FIRST, NUMBERS),
+        "cut.lines": f" \t\r\n\n{GREATER}\r\n[{LESSER_ID}\n,{LESSER_SOURCE}]\n",
+        "empty.lines": "\n \n",
+        "batch.lines": f"[{NUMBERS}]",
+        "bad.lines": f"\n{FIRST}\n3\n{{}}",
+        "short.lines": f"{FIRST}\n\n{batch(FIRST, SHORT)}",
+        "one": FIRST,
+        "-": "[]",
+    },
+    answers("an event and a batch", "site cover --lines lines", '{"sources":{"/orders":[[1,2],[5,5]]},"version":1}\n'),
+    answers("no line but white space", "site cover --lines empty.lines", f"{cover(0)}\n"),
+    refuses("lines as one file", "site cover lines", "lines: not JSON"),
+    refuses("a text that is cut by a line end", "site cover --lines lines cut.lines", "cut.lines line 4: not JSON"),
+    refuses("a batch in a batch", "site gaps --lines batch.lines lines", "batch.lines line 1: event 0: SpecVersion"),
+    refuses("the first line at fault", "site shown --lines bad.lines", "bad.lines line 3: not an event or a batch"),
+    refuses("the first event at fault of a line", "site kinds --lines short.lines", "short.lines line 3: event 1: BadSequence"),
+    refuses("a file that is not there", "site cover --lines lines missing.lines", "missing.lines: cannot read"),
+    answers("a file of one event", "site shown --lines one", lines(FIRST)),
+    answers("lines on standard input", "site shown --lines - <one", lines(FIRST)),
+)

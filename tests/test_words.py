@@ -3,7 +3,7 @@ import os
 
 import pytest
 from events import QUESTIONS, cover, event
-from shell import TOP, As, Room, answers, refuses, rejects, rows, tells
+from shell import TOP, As, Has, Room, answers, refuses, rejects, rows, tells
 from version import version
 
 EVENT = event("a1", 1, "t.a")
@@ -64,6 +64,12 @@ test_faulty_words = rows(
     rejects("all rows behind no number", "site relay --db rows.db --all", lacks="rows.db"),
     rejects("all rows and a word more", "site relay --db rows.db --after 0 --all rows", lacks="rows.db"),
     rejects("a check of no file", "site check"),
+    rejects("lines of a command that takes none", "site summary --db x --lines", Has("unexpected argument '--lines'"), lacks="x"),
+    rejects("a missing file is named", "site cover", Has("<FILE>...")),
+    rejects("a missing file of another command is named", "site shown", Has("<FILE>...")),
+    rejects("a command is named where no word is given", "site", Has("cover")),
+    rejects("an unknown word is named", "site covers f", Has("covers")),
+    rejects("an unknown option is named", "site cover --from f", Has("--from")),
 )
 
 # Help is what was asked for, and yet no answer.
@@ -76,6 +82,11 @@ test_help = rows(
     tells("help by its word", "site help cover"),
     tells("the usage is the same by both", "site help cover | grep '^Usage: '", As("site cover --help | grep '^Usage: '", 2)),
     tells("help of follow", "site follow --help"),
+    tells("the usage of a command", "site cover --help", Has("Usage: site cover [OPTIONS] [FILE]...")),
+    tells("the usage of a command by its word", "site help cover", Has("Usage: site cover [OPTIONS] [FILE]...")),
+    tells("what a file is", "site shown --help", Has("Files of CloudEvents")),
+    tells("a command", "site --help", Has("cover")),
+    tells("the version stands there", "site --version", Has(f"site {version()}")),
     *(tells(f"help names {it}", f"site --help | grep '^ *{it}  *[A-Z]'") for it in QUESTIONS),
 )
 
