@@ -47,6 +47,11 @@ def fault(**members: object) -> str:
 AT = "2024-02-29T10:00:00Z"
 
 
+def order_event(number: int, order: int, what: str, source: str = "/orders") -> str:
+    """The event of the row of a service by which an order was placed, shipped or cancelled at that time."""
+    return event(f"{number:020d}", number, f"order.{what}", source, subject=str(order), time=AT)
+
+
 def acknowledgement(line: int, new: int, repeated: int) -> str:
     """What `follow` says of a line."""
     return f'{{"line":{line},"new":{new},"repeated":{repeated}}}\n'

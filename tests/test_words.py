@@ -2,8 +2,8 @@
 import os
 
 import pytest
-from events import QUESTIONS, cover, event
-from shell import TOP, As, Has, Room, answers, refuses, rejects, rows, tells
+from events import AT, E1, E2, E3, QUESTIONS, batch, cover, event
+from shell import TOP, As, Has, Room, answers, lacks, refuses, rejects, rows, tells
 from version import version
 
 EVENT = event("a1", 1, "t.a")
@@ -70,6 +70,42 @@ test_faulty_words = rows(
     rejects("a command is named where no word is given", "site", Has("cover")),
     rejects("an unknown word is named", "site covers f", Has("covers")),
     rejects("an unknown option is named", "site cover --from f", Has("--from")),
+)
+
+# Of commands over databases: no file is made.
+test_faulty_words_of_databases = rows(
+    {"three.json": batch(E1, E2, E3), "held.json": '{"sources":{"/orders":[[2,2]]},"version":1}'},
+    *(
+        rejects(it, f"site {it}")
+        for it in (
+            "take three.json",
+            "take --db w.db",
+            "delta --db w.db",
+            "delta --db w.db --from x held.json",
+            "delta --db w.db --from +1 held.json",
+            "scrub --db w.db --from 18446744073709551616",
+            "scrub --db w.db --from 000000000000000000001",
+            "scrub --db w.db --all --from 1",
+            "scrub --db w.db --all 1",
+            "delta --db w.db --from 0 --all held.json",
+            "summary",
+            "summary --db w.db three.json",
+            "cover",
+            "cover --all three.json",
+            "relay --db w.db",
+            "relay --db w.db --after -1",
+            "order --db w.db place 7",
+            "order --db w.db --at 2024-02-30T10:00:00Z place 7",
+            "order --db w.db --at 2024-02-29T10:00:00Z send 7",
+            "order --db w.db --at 2024-02-29T10:00:00Z place 0",
+            "order --db w.db --at 2024-02-29T10:00:00Z place 9223372036854775808",
+            "order --db w.db --at 2024-02-29T10:00:00Z place seven",
+        )
+    ),
+    rejects("an empty source", f"site order --db w.db --source '' --at {AT} place 7"),
+    rejects("a source with a control character", rf"site order --db w.db --source $'a\tb' --at {AT} place 7"),
+    rejects("a source of 1,025 bytes", f"site order --db w.db --source {'0' * 1025} --at {AT} place 7"),
+    lacks("faulty words make no file", "w.db"),
 )
 
 # Help is what was asked for, and yet no answer.
