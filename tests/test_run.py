@@ -1,5 +1,5 @@
 """The command `run`: what it prints of feeds and a peer, and what its database then holds."""
-from events import E1, E2, E3, E4, batch, cover, event, page
+from events import E1, E2, E3, E4, batch, cover, event, lines, page
 from shell import answers, fails, lacks, refuses, rejects, rows
 
 BARE = event("z", None)
@@ -56,6 +56,36 @@ test_many_events = rows(
     answers("1,850 events in two feeds", "site run --db many.db low.json high.json", answer(1900, 0, 1850)),
     fails("standard output closed", "site run --db closed.db low.json high.json >&-"),
     answers("all was kept", "site take --db closed.db low.json high.json", "read 1900 new 0 repeated 1900\n"),
+)
+
+# Lines, each an event or a batch. All are judged before a database is opened.
+LINES = {
+    "f.lines": f"{E1}\r\n \n{E2}",
+    "g.lines": lines(batch(E2, E3), "[]"),
+    "p.lines": lines(E3, batch(E4)),
+    "bare.lines": lines(E1, BARE),
+    "bad.lines": lines(E1, "", "[]", batch(E2, '{"id":"x"}')),
+    "cut.lines": lines(E1, E2[:40]),
+    "blank.lines": " \n\n",
+    "f.json": batch(E1, E2),
+}
+test_lines = rows(
+    LINES,
+    answers("lines of two feeds and a peer", "site run --db s.db --lines --peer p.lines f.lines g.lines", answer(4, 0, 4)),
+    answers(
+        "the same as of their batches",
+        "site run --db t.db --peer p.lines --lines f.lines g.lines && site summary --db s.db >s && site summary --db t.db >t && cmp s t",
+        answer(4, 0, 4),
+    ),
+    answers("an event without a number in a line", "site run --db bare.db --lines bare.lines f.lines", answer(4, 1, 2)),
+    answers("lines of nothing", "site run --db none.db --lines blank.lines", f"read 0 refused 0 held 0\n{cover(None)}\n"),
+    answers("a batch of one line", "site run --db one.db --lines f.json", answer(2, 0, 2)),
+    refuses("the first line at fault", "site run --db bad.db --lines f.lines bad.lines cut.lines", "bad.lines line 4: event 1: SpecVersion"),
+    refuses("a line that is cut", "site run --db bad.db --lines cut.lines bad.lines", "cut.lines line 2: not JSON"),
+    refuses("a line of the peer without a number", "site run --db bad.db --lines --peer bare.lines bad.lines", "bare.lines line 2: event 0: NoSequence"),
+    refuses("a line at fault behind a peer", "site run --db bad.db --lines --peer p.lines f.lines bad.lines", "bad.lines line 4: event 1: SpecVersion"),
+    lacks("lines at fault make no database", "bad.db"),
+    refuses("lines without the word", "site run --db bad.db f.lines", "f.lines: not JSON"),
 )
 
 SIXTEEN = " ".join(["f.json"] * 16)
