@@ -1,14 +1,16 @@
-//! Calls of parts: which part a source falls to, events in parts, and covers of parts put together.
+//! Calls of parts: which part a source falls to, events in parts, and answers of parts put together.
 ghost use Rattle.std.specs.Prelude.{IfSome};
 ghost use Rattle.parts.specs.Part.{IsCount};
 
+use crate::inboxes::query_of;
 use attributes::{Batch, Sequenced, Text};
-use parts::{CombineFault, combine_covers, combine_events, is_count, part_of};
+use inbox::Inbox;
+use parts::{CombineFault, combine, is_count, part_of};
 use rows::events::fill;
 use rows::said::{events, number};
 use rows::shelf::Shelf;
 use std::alloc::{AllocError, Global};
-use views::Query;
+use views::{Query, answer_lines};
 
 /// A count of parts, where a region may have so many.
 fn count_of(word: &str) -> Option<u64>
@@ -83,7 +85,7 @@ fn lent<'a>(alloc: Global, texts: &'a [String]) -> Result<Vec<&'a str>, AllocErr
     Ok(all)
 }
 
-/// Adds what covers come to, or why they come to nothing.
+/// Adds what answers come to, or why they come to nothing.
 fn add_combined(combined: Result<Text, CombineFault>, out: &mut String) -> bool {
     match combined {
         Ok(text) => out.push_str(text.as_str()).is_ok(),
@@ -98,48 +100,122 @@ pub fn covers(alloc: Global, words: &[&str], out: &mut String) -> bool {
         return false;
     };
     match lent(alloc, lines.as_slice()) {
-        Ok(covers) => add_combined(combine_covers(alloc, covers.as_slice()), out),
+        Ok(covers) => add_combined(combine(alloc, Query::Cover, covers.as_slice(), &[]), out),
         Err(_) => false,
     }
 }
 
-/// The texts of parts, between which a `/` stands, each word a line.
-fn texts_of(alloc: Global, words: &[&str]) -> Result<Vec<String>, AllocError> {
-    let mut texts = Vec::new(alloc);
+/// The answers of parts, and the covers beside them.
+#[derive(Drop)]
+struct Texts {
+    answers: Vec<String>,
+    covers: Vec<String>,
+}
+
+impl Texts {
+    /// None yet.
+    fn empty(alloc: Global) -> Texts {
+        Texts {
+            answers: Vec::new(alloc),
+            covers: Vec::new(alloc),
+        }
+    }
+}
+
+/// The answers of parts, between which a `/` stands, each word a line; behind `with` each word is
+/// the line of a cover.
+fn texts_of(alloc: Global, words: &[&str]) -> Result<Texts, AllocError> {
+    let mut texts = Texts::empty(alloc);
     let mut text = String::new(alloc);
+    let mut covers_follow = false;
     for word in words {
-        if *word == "/" {
-            texts.push(text)?;
+        if covers_follow {
+            texts.covers.push(ended(alloc, word)?)?;
+        } else if *word == "with" {
+            covers_follow = true;
+        } else if *word == "/" {
+            texts.answers.push(text)?;
             text = String::new(alloc);
         } else {
             text.push_str(word)?;
             text.push('\n')?;
         }
     }
-    texts.push(text)?;
+    texts.answers.push(text)?;
     Ok(texts)
 }
 
-/// Adds the answer to a question about events over the whole.
-fn add_whole(alloc: Global, word: &str, answers: &[&str], out: &mut String) -> bool {
-    match word {
-        "shown" => add_combined(combine_events(alloc, Query::Shown, answers), out),
-        "latest" => add_combined(combine_events(alloc, Query::Latest, answers), out),
-        _ => false,
+/// Adds the answer over the whole.
+fn add_whole(alloc: Global, query: Query, texts: &Texts, out: &mut String) -> bool {
+    let Ok(answers) = lent(alloc, texts.answers.as_slice()) else {
+        return false;
+    };
+    match lent(alloc, texts.covers.as_slice()) {
+        Ok(covers) => {
+            let combined = combine(alloc, query, answers.as_slice(), covers.as_slice());
+            add_combined(combined, out)
+        }
+        Err(_) => false,
     }
 }
 
-/// `whole QUESTION LINE.. / LINE..`: the answer over the whole, from those of its parts, between
-/// which a `/` stands.
+/// `whole QUESTION LINE.. / LINE.. [with COVER..]`: the answer over the whole, from those of its
+/// parts, between which a `/` stands, and the covers beside them.
 pub fn whole(alloc: Global, words: &[&str], out: &mut String) -> bool {
     let [word, words @ ..] = words else {
         return false;
     };
-    let Ok(texts) = texts_of(alloc, words) else {
+    match (query_of(word), texts_of(alloc, words)) {
+        (Some(query), Ok(texts)) => add_whole(alloc, query, &texts, out),
+        _ => false,
+    }
+}
+
+/// Adds what a part answers, and its cover.
+fn ask_part(
+    alloc: Global,
+    part: &Batch,
+    query: Query,
+    texts: &mut Texts,
+) -> Result<(), AllocError> {
+    let mut inbox = Inbox::empty(alloc);
+    for i in 0..part.len() {
+        let Ok(_) = inbox.take(part.at(i).copy()?) else {
+            return Err(AllocError);
+        };
+    }
+    let answer = answer_lines(alloc, &inbox, query)?;
+    let cover = answer_lines(alloc, &inbox, Query::Cover)?;
+    texts.answers.push(answer.into_string())?;
+    texts.covers.push(cover.into_string())?;
+    Ok(())
+}
+
+/// What so many parts of an inbox answer, each from its own events.
+fn ask_parts(alloc: Global, inbox: &Inbox, count: u64, query: Query) -> Result<Texts, AllocError>
+    requires { IsCount count }
+{
+    let parts = parts::split(alloc, inbox.events()?, count)?;
+    let mut texts = Texts::empty(alloc);
+    for part in parts.as_slice() {
+        ask_part(alloc, part, query, &mut texts)?;
+    }
+    Ok(texts)
+}
+
+/// `divide NAME COUNT QUESTION`: the answer over an inbox, from those of so many parts of it.
+pub fn divide(alloc: Global, inboxes: &Shelf<Inbox>, words: &[&str], out: &mut String) -> bool {
+    let [name, count, word] = words else {
         return false;
     };
-    match lent(alloc, texts.as_slice()) {
-        Ok(answers) => add_whole(alloc, word, answers.as_slice(), out),
-        Err(_) => false,
+    let Some(count) = count_of(count) else {
+        return false;
+    };
+    match (inboxes.get(name), query_of(word)) {
+        (Some(inbox), Some(query)) => match ask_parts(alloc, inbox, count, query) {
+            Ok(texts) => add_whole(alloc, query, &texts, out),
+            Err(_) => false,
+        },
+        _ => false,
     }
 }

@@ -9,7 +9,7 @@ use std::alloc::{AllocError, Global};
 use views::{Answer, Query, answer, print};
 
 /// The question of a word.
-fn query_of(word: &str) -> Option<Query> {
+pub fn query_of(word: &str) -> Option<Query> {
     match word {
         "cover" => Some(Query::Cover),
         "shown" => Some(Query::Shown),

@@ -121,6 +121,7 @@ fn call(alloc: Global, values: &mut Values, word: &str, words: &[&str], said: &m
         ("split", _) => divisions::split(alloc, &values.events, words, &mut said.text),
         ("combine", _) => divisions::covers(alloc, words, &mut said.text),
         ("whole", _) => divisions::whole(alloc, words, &mut said.text),
+        ("divide", _) => divisions::divide(alloc, &values.inboxes, words, &mut said.text),
         ("all", _) | ("best", _) | ("size", _) | ("came", _) | ("rivals", _) => {
             inboxes::tell(&values.inboxes, word, words, &mut said.text)
         }

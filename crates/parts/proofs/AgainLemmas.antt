@@ -4,15 +4,15 @@ use Rattle.std.specs.Prelude.{Contains, slice_index_or}
 use Rattle.std.specs.declared.cmp.Ordering.{Ordering}
 use Rattle.std.specs.declared.cmp.Ordering.TheVariants.{Less, Equal, Greater}
 use Rattle.std.specs.List.{AllByRecursion, cons_option, list_any}
-use Rattle.std.specs.Option.{option_map, option_map_or}
+use Rattle.std.specs.Option.{option_map_or}
 use Rattle.std.specs.Ordering.{ordering_then}
 use Rattle.std.proofs.lemmas.Cmp.{tied_itself}
 use Rattle.std.proofs.lemmas.List.Folds.{list_any_at}
 use Rattle.std.proofs.lemmas.Map.Lookups.{exact_bytes}
 use Rattle.attributes.specs.Bytes.{byte_cmp}
-use Rattle.attributes.specs.Event.{EventValue, source_of, subject_of, text}
+use Rattle.attributes.specs.Event.{EventValue, text}
 use Rattle.attributes.specs.Fault.{IsEvent}
-use Rattle.inbox.specs.KeyOrder.{key_cmp, same_key, text_cmp}
+use Rattle.inbox.specs.KeyOrder.{same_key, text_cmp}
 use Rattle.inbox.specs.Ordered.{has}
 use Rattle.inbox.specs.Sets.{AreEvents, set_of}
 use Rattle.inbox.specs.Shown.{is_shown, shown}
@@ -35,10 +35,10 @@ at_place {X} Q (x ∷ xs) e a c = from (at_place Q xs e a.1) c.0 c.1 c.2
     from later (suc k) lt at = later (k, omega (arith, lt), at)
 
 module _ {X : Type 0} where
-  here : (x : X) (xs : List X) → Contains (x ∷ xs) x
+  pub here : (x : X) (xs : List X) → Contains (x ∷ xs) x
   here x xs = (0, omega arith, refl)
 
-  later : (y x : X) (xs : List X) → Contains xs x → Contains (y ∷ xs) x
+  pub later : (y x : X) (xs : List X) → Contains xs x → Contains (y ∷ xs) x
   later y x xs c = (suc c.0, omega (arith, c.1), c.2)
 
   pub any_in : (q : X → Bool) (xs : List X) (x : X) → Contains xs x → q x ≡ true → list_any q xs ≡ true

@@ -8,6 +8,8 @@ use Rattle.std.proofs.lemmas.Slice.Eq.{bytes_eq-Decides}
 use Rattle.coverage.specs.Intervals.{holds}
 use Rattle.coverage.specs.Summary.{Entries, Entry, Sources, holds_in, numbers_in, numbers_of}
 use Rattle.views.specs.Line.{cover_line}
+use Rattle.parts.specs.Lines.{AreJoined}
+use Rattle.parts.proofs.LineLemmas.{joined_more}
 use Rattle.parts.specs.Combined.{AreCovers, HasSource, IsFirst, IsNoCover}
 
 pub some_is : {X : Type 0} (y x : X) → Some y ≡ Some x → y ≡ x
@@ -110,3 +112,18 @@ none_read covers i d o lt none told =
 
 pub any_taken : {X : Type 0} (q : X → Bool) (xs : List X) (i : ℕ) (x : X) → i < length xs → x ≡ get_or xs i x → list_any q (take (i + 1) xs) ≡ (list_any q (take i xs) || q x)
 any_taken q xs i x lt is = ap (list_any q) (take_more xs i x lt ∙ ap (λ y. take i xs ++ y ∷ []) (sym is)) ∙ any_more q (take i xs) x
+
+-- rows of one text more
+pub joined_next : {X : Type 0} (Tells : List ℕ → List X → Type 0) (texts : List (Bor (List ℕ))) (i : ℕ) (d : Bor (List ℕ)) (o : Option (List X)) (rows all new : List X) → i < length texts → o ≡ Some rows
+    → IfSome o (Tells (get_or texts i d).now) → AreJoined Tells (map (λ t. t.now) (take i texts)) all → new ≡ all ++ rows → AreJoined Tells (map (λ t. t.now) (take (i + 1) texts)) new
+joined_next Tells texts i d o rows all new lt some told are added =
+    let now : Bor (List ℕ) → List ℕ = λ t. t.now in
+    let own = subst (λ m. IfSome m (Tells (get_or texts i d).now)) some told in
+    subst (AreJoined Tells (map now (take (i + 1) texts))) (sym added)
+    (subst (λ l. AreJoined Tells l (all ++ rows)) (sym (map_taken now texts i d lt)) (joined_more Tells (map now (take i texts)) all (get_or texts i d).now rows are own))
+
+-- what is true of the text at a place where nothing was read
+pub none_there : {X : Type 0} {P : List ℕ → Type 0} (texts : List (Bor (List ℕ))) (i : ℕ) (d : Bor (List ℕ)) (o : Option X) → i < length texts → o ≡ None → IfNone o (P (get_or texts i d).now)
+    → (text : List ℕ) × (slice_get (map (λ t. t.now) texts) i ≡ Some text) × P text
+none_there {X} {P} texts i d o lt none told =
+    ((get_or texts i d).now, map_got (λ t. t.now) texts i d lt, subst (λ m. IfNone m (P (get_or texts i d).now)) none told)

@@ -12,5 +12,14 @@ mod CoverLemmas
 mod WholeLemmas
 mod LineLemmas
 mod AgainLemmas
+mod ConflictLemmas
 mod ToldLemmas
+mod ConflictLineLemmas
 mod PartReadLemmas
+mod CountLemmas
+mod SummedLemmas
+mod ReadLemmas
+mod KindLemmas
+mod DayLemmas
+mod GapLemmas
+mod CombineLemmas

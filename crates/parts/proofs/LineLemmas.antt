@@ -1,10 +1,10 @@
 -- The lines of a text, one after the other.
-use Rattle.std.proofs.Common.{◌≡◌, ◌≢◌, ◌≤◌, ◌<◌, ◌==◌, ◌+◌, ◌++◌, ℕ, suc, Bool, true, false, not, cond, List, [], ◌∷◌, flat_map, length, take, drop, refl, sym, ap, ap₂, ◌∙◌, subst, arith, append_assoc, append-nil, length-append, Option, Some, None}
+use Rattle.std.proofs.Common.{◌≡◌, ◌≢◌, ◌≤◌, ◌<◌, ◌==◌, ◌+◌, ◌++◌, ℕ, suc, Bool, false, not, cond, List, [], ◌∷◌, flat_map, length, take, drop, slice_get, refl, sym, ap, ap₂, ◌∙◌, subst, arith, append_assoc, append-nil, length-append, Option, Some, None}
 use Rattle.std.proofs.lemmas.Bool.Decides.{nat_tests}
 use Rattle.std.proofs.lemmas.List.{drop_at, length_push, take_at}
-use Rattle.std.specs.List.{AllByRecursion, after_first, before_first, position_or_len}
+use Rattle.std.specs.List.{AllByRecursion, after_first, before_first, position_or_len, range_with_len}
 use Rattle.views.specs.Line.{line}
-use Rattle.parts.specs.Lines.{AreLinesOf, IsPlain}
+use Rattle.parts.specs.Lines.{AreJoined, AreLinesOf, IsPlain}
 
 abbrev pub is_lf : ℕ → Bool
 is_lf b = b == 10
@@ -102,3 +102,19 @@ lines_are P f plain (row ∷ rows) all =
 pub seen_plain : (bytes : List ℕ) → AllByRecursion (λ b. 32 ≤ b) bytes → IsPlain bytes
 seen_plain [] h = tt
 seen_plain (b ∷ bytes) h = ((λ e. omega (arith, h.0, e)), seen_plain bytes h.1)
+
+-- ---- texts one behind the other
+
+module _ {X : Type 0} (Tells : List ℕ → List X → Type 0) where
+  pub joined_more : (texts : List (List ℕ)) (all : List X) (t : List ℕ) (rows : List X) → AreJoined Tells texts all → Tells t rows → AreJoined Tells (texts ++ t ∷ []) (all ++ rows)
+  joined_more [] all t rows none own = (rows, [], own, refl, ap (λ l. l ++ rows) none ∙ sym (append-nil rows))
+  joined_more (s ∷ texts) all t rows (first, rest, its, more, is) own =
+      (first, rest ++ rows, its, joined_more texts rest t rows more own, ap (λ l. l ++ rows) is ∙ append_assoc first rest rows)
+
+  pub joined_parts : (f : ℕ → List X) (a : ℕ) (texts : List (List ℕ)) (all : List X) → AreJoined Tells texts all
+      → ((i : ℕ) (t : List ℕ) (rows : List X) → slice_get texts i ≡ Some t → Tells t rows → rows ≡ f (a + i)) → all ≡ flat_map f (range_with_len a (length texts))
+  joined_parts f a [] all none own = none
+  joined_parts f a (t ∷ texts) all (rows, rest, its, more, is) own =
+      let first : a + 0 ≡ a = omega arith in
+      is ∙ ap₂ (λ x y. x ++ y) (own 0 t rows refl its ∙ ap f first)
+      (joined_parts f (a + 1) texts rest more (λ i s r got k. own (suc i) s r got k ∙ (let e : a + suc i ≡ a + 1 + i = omega arith in ap f e)))

@@ -91,30 +91,42 @@ module _ {X : Type 0} where
       by true h = ap (λ l. f x ∷ l) h
       by false h = h
 
+-- what passes a test that is the same for all events of a key
+module _ (own : EventValue → Bool) (alike : (e f : EventValue) → same_key f e ≡ true → own f ≡ own e) (E : List EventValue) where
+  of_own_key : (e : EventValue) → own e ≡ true → (f : EventValue) → same_key f e ≡ true → own f ≡ true
+  of_own_key e h f k = alike e f k ∙ h
+
+  shown_same : (e : EventValue) → own e ≡ true → is_shown (filter own E) e ≡ is_shown E e
+  shown_same e h = ap not (any_narrow (λ f. same_key f e && is_lt (text_cmp f e)) own (λ f t. of_own_key e h f (and_left (same_key f e) (is_lt (text_cmp f e)) t)) E)
+
+  pub shown_kept : shown (filter own E) ≡ filter own (shown E)
+  shown_kept = filter_swap (is_shown (filter own E)) (is_shown E) own shown_same E
+
+  key_same : (e : EventValue) → own e ≡ true → of_key (filter own E) e ≡ of_key E e
+  key_same e h = filter_narrow (λ f. same_key f e) own (of_own_key e h) E
+
+  several_same : (e : EventValue) → own e ≡ true → is_first_of_several (filter own E) e ≡ is_first_of_several E e
+  several_same e h = ap₂ (λ (a b : Bool). a && b) (shown_same e h) (ap (λ l. nat_lt 1 (length l)) (key_same e h))
+
+  conflict_same : (e : EventValue) → own e ≡ true → conflict_of (filter own E) e ≡ conflict_of E e
+  conflict_same e h = ap (λ l. let c : Conflict = record { source = source_of e; id = id_of e; events = l } in c) (key_same e h)
+
+  pub conflicts_kept : conflicts (filter own E) ≡ map (conflict_of E) (filter own (filter (is_first_of_several E) E))
+  conflicts_kept =
+      ap (map (conflict_of (filter own E))) (filter_swap (is_first_of_several (filter own E)) (is_first_of_several E) own several_same E)
+      ∙ map_passing own (conflict_of (filter own E)) (conflict_of E) conflict_same (filter (is_first_of_several E) E)
+
 module _ (p : List ℕ → ℕ) (i : ℕ) (E : List EventValue) where
   abbrev own : EventValue → Bool
   own e = falls_to p i (source_of e)
 
-  of_own_key : (e : EventValue) → own e ≡ true → (f : EventValue) → same_key f e ≡ true → own f ≡ true
-  of_own_key e h f k = ap (falls_to p i) (key_source f e k) ∙ h
-
-  pub shown_same : (e : EventValue) → own e ≡ true → is_shown (part p i E) e ≡ is_shown E e
-  shown_same e h = ap not (any_narrow (λ f. same_key f e && is_lt (text_cmp f e)) own (λ f t. of_own_key e h f (and_left (same_key f e) (is_lt (text_cmp f e)) t)) E)
+  pub own_alike : (e f : EventValue) → same_key f e ≡ true → falls_to p i (source_of f) ≡ falls_to p i (source_of e)
+  own_alike e f k = ap (falls_to p i) (key_source f e k)
 
   pub shown_part : shown (part p i E) ≡ part p i (shown E)
-  shown_part = filter_swap (is_shown (part p i E)) (is_shown E) own shown_same E
-
-  key_same : (e : EventValue) → own e ≡ true → of_key (part p i E) e ≡ of_key E e
-  key_same e h = filter_narrow (λ f. same_key f e) own (of_own_key e h) E
-
-  several_same : (e : EventValue) → own e ≡ true → is_first_of_several (part p i E) e ≡ is_first_of_several E e
-  several_same e h = ap₂ (λ (a b : Bool). a && b) (shown_same e h) (ap (λ l. nat_lt 1 (length l)) (key_same e h))
-
-  conflict_same : (e : EventValue) → own e ≡ true → conflict_of (part p i E) e ≡ conflict_of E e
-  conflict_same e h = ap (λ l. let c : Conflict = record { source = source_of e; id = id_of e; events = l } in c) (key_same e h)
+  shown_part = shown_kept own own_alike E
 
   pub conflicts_part : conflicts (part p i E) ≡ filter (λ c. falls_to p i c.source) (conflicts E)
   conflicts_part =
-      ap (map (conflict_of (part p i E))) (filter_swap (is_first_of_several (part p i E)) (is_first_of_several E) own several_same E)
-      ∙ map_passing own (conflict_of (part p i E)) (conflict_of E) conflict_same (filter (is_first_of_several E) E)
+      conflicts_kept own own_alike E
       ∙ sym (filter_mapped (conflict_of E) (λ c. falls_to p i c.source) (filter (is_first_of_several E) E))

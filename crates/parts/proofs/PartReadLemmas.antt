@@ -9,7 +9,7 @@ use Rattle.inbox.proofs.SetLemmas.{sorted-in_order}
 use Rattle.views.specs.Law.{AnswersAreOne}
 use Rattle.views.specs.Question.{IsAnswer}
 use Rattle.views.specs.declared.query.Query.{Query}
-use Rattle.parts.specs.Told.{IsHeld, IsOfEvents, TellsEvents, TellsSet, told}
+use Rattle.parts.specs.Told.{IsHeld, IsOfEvents, TellsSet, told}
 use Rattle.parts.proofs.ToldLemmas.{again, set_again}
 
 pub none_told : {X : Type 0} {x : X} → ◌≡◌ {A = Option X} None (Some x) → ⊥
@@ -26,7 +26,7 @@ was_false false h = refl
 pub equal_texts : (x y : List ℕ) → false ≡ not (bytes_eq x y) → x ≡ y
 equal_texts x y test = (bytes_eq-Decides x y).0 (was_true (bytes_eq x y) test)
 
-unequal_texts : (x y : List ℕ) → true ≡ not (bytes_eq x y) → x ≡ y → ⊥
+pub unequal_texts : (x y : List ℕ) → true ≡ not (bytes_eq x y) → x ≡ y → ⊥
 unequal_texts x y test same = true≢false (sym ((bytes_eq-Decides x y).1 same) ∙ was_false (bytes_eq x y) test)
 
 some_is : (x y : List EventValue) → ◌≡◌ {A = Option (List EventValue)} (Some x) (Some y) → x ≡ y

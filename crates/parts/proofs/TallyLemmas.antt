@@ -105,7 +105,7 @@ module _ {K : Type 0} {R : K → K → Ordering} (o : IsTotalOrder R) (exact : (
     abbrev rows : List (K × ℕ)
     rows = of_parts n (λ i. tally R (part_keys i))
 
-    summed : (k : K) → sum_by (λ r. cond (is_eq (R k r.0)) r.1 0) rows ≡ count_by (λ j. is_eq (R k j)) keys
+    pub summed : (k : K) → sum_by (λ r. cond (is_eq (R k r.0)) r.1 0) rows ≡ count_by (λ j. is_eq (R k j)) keys
     summed k =
         sum_by_is (λ r. cond (is_eq (R k r.0)) r.1 0) rows
         ∙ sumr-parts (λ r. cond (is_eq (R k r.0)) r.1 0) (λ i. tally R (part_keys i)) 0 n
@@ -146,14 +146,14 @@ second_equal Greater s h = cc
 exact_ints : (x y : ℤ) → int_cmp x y ≡ Equal → x ≡ y
 exact_ints = exact_signed
 
-exact_days : (x y : List ℕ × ℤ) → day_cmp x y ≡ Equal → x ≡ y
+pub exact_days : (x y : List ℕ × ℤ) → day_cmp x y ≡ Equal → x ≡ y
 exact_days x y h =
     let a = exact_bytes x.0 y.0 (first_equal (byte_cmp x.0 y.0) (int_cmp x.1 y.1) h) in
     let b = exact_ints x.1 y.1 (second_equal (byte_cmp x.0 y.0) (int_cmp x.1 y.1) h) in
     (λ k. (a k, b k))
 
 module _ (p : List ℕ → ℕ) (n : ℕ) (E : List EventValue) (falls : FallsBelow p n) where
-  kinds_add : (k : List ℕ) → sumn 0 n (λ i. sumr (λ j. cond (is_eq (byte_cmp k j)) 1 0) (map kind_of (shown (part p i E)))) ≡ sumr (λ j. cond (is_eq (byte_cmp k j)) 1 0) (map kind_of (shown E))
+  pub kinds_add : (k : List ℕ) → sumn 0 n (λ i. sumr (λ j. cond (is_eq (byte_cmp k j)) 1 0) (map kind_of (shown (part p i E)))) ≡ sumr (λ j. cond (is_eq (byte_cmp k j)) 1 0) (map kind_of (shown E))
   kinds_add k =
       let w : List ℕ → ℕ = λ j. cond (is_eq (byte_cmp k j)) 1 0 in
       let v : EventValue → ℕ = λ e. w (kind_of e) in
@@ -163,7 +163,7 @@ module _ (p : List ℕ → ℕ) (n : ℕ) (E : List EventValue) (falls : FallsBe
   pub kinds_added : kinds E ≡ added byte_cmp (of_parts n (λ i. kinds (part p i E)))
   kinds_added = tally_added nat_list_cmp_total exact_bytes n (λ i. map kind_of (shown (part p i E))) (map kind_of (shown E)) kinds_add
 
-  days_add : (k : List ℕ × ℤ) → sumn 0 n (λ i. sumr (λ j. cond (is_eq (day_cmp k j)) 1 0) (filter_map kind_and_day (shown (part p i E)))) ≡ sumr (λ j. cond (is_eq (day_cmp k j)) 1 0) (filter_map kind_and_day (shown E))
+  pub days_add : (k : List ℕ × ℤ) → sumn 0 n (λ i. sumr (λ j. cond (is_eq (day_cmp k j)) 1 0) (filter_map kind_and_day (shown (part p i E)))) ≡ sumr (λ j. cond (is_eq (day_cmp k j)) 1 0) (filter_map kind_and_day (shown E))
   days_add k =
       let w : List ℕ × ℤ → ℕ = λ j. cond (is_eq (day_cmp k j)) 1 0 in
       let v : EventValue → ℕ = λ e. option_map_or w (kind_and_day e) 0 in

@@ -1,7 +1,6 @@
 -- What the parts of a set tell of their events is what the set tells.
-use Rattle.std.proofs.Common.{◌≡◌, ◌≤◌, ◌<◌, ◌+◌, ◌^◌, ◌++◌, ℕ, zero, suc, List, [], ◌∷◌, Bool, true, false, cond, ◌&&◌, ◌||◌, filter, flat_map, length, map, nat_lt, take, get_or, Bor, Option, Some, None, slice_get, string_bytes, Result, Ok, Err, refl, sym, ap, ap₂, ◌∙◌, subst, arith, append_assoc, append-nil, eqb-true, is_eq, true≢false}
-use Rattle.std.specs.Prelude.{Contains}
-use Rattle.std.specs.List.{All, AllByRecursion, range_with_len}
+use Rattle.std.proofs.Common.{◌≡◌, ◌≤◌, ◌<◌, ◌+◌, ◌++◌, ℕ, zero, suc, List, [], ◌∷◌, Bool, true, false, cond, ◌&&◌, ◌||◌, length, map, nat_lt, take, get_or, Bor, Option, Some, None, slice_get, string_bytes, Result, Ok, Err, refl, sym, ap, ◌∙◌, subst, arith, eqb-true, is_eq, true≢false}
+use Rattle.std.specs.List.{AllByRecursion, range_with_len}
 use Rattle.std.specs.List.Sorted.{IsStrictlySortedBy}
 use Rattle.std.specs.Option.{IfNone, IfSome}
 use Rattle.std.specs.Result.{IfErr, OnErr}
@@ -10,7 +9,7 @@ use Rattle.attributes.specs.Fault.{IsEvent}
 use Rattle.attributes.specs.Sequence.{number_of}
 use Rattle.attributes.proofs.LineLemmas.{text_line}
 use Rattle.block_digests.proofs.ListLemmas.{by_recursion}
-use Rattle.coverage.specs.Summary.{Sources, holds_at}
+use Rattle.coverage.specs.Summary.{Sources}
 use Rattle.inbox.specs.KeyOrder.{key_cmp}
 use Rattle.inbox.specs.Kept.{Kept, events}
 use Rattle.inbox.specs.Ordered.{has}
@@ -19,43 +18,29 @@ use Rattle.inbox.specs.Shown.{is_shown, shown}
 use Rattle.inbox.proofs.OrderLemmas.{key_cmp_total, tied_events}
 use Rattle.inbox.proofs.SetLemmas.{add_all-append, all-add_all, all-in_order, all_append, has-add_all, has-in_order, same_sets, sets_are_members, sorted-add_all, sorted-in_order}
 use Rattle.views.specs.Latest.{latest}
-use Rattle.views.specs.Line.{event_lines}
+use Rattle.views.specs.Line.{conflict_lines, event_lines}
 use Rattle.views.specs.Number.{Sums, has_number}
 use Rattle.views.specs.Question.{IsAnswer}
 use Rattle.views.specs.declared.query.Query.{Query}
 use Rattle.views.specs.declared.query.Query.TheVariants as query
 use Rattle.views.proofs.GreatestLemmas.{each_there}
 use Rattle.parts.specs.Combined.{AreAnswers, HasAt, RefusesRead}
-use Rattle.parts.specs.Lines.{AreLinesOf, IsPlain}
+use Rattle.parts.specs.Conflict.{IsSequenced}
+use Rattle.parts.specs.Lines.{AreJoined, AreLinesOf, IsPlain}
 use Rattle.parts.specs.Part.{FallsBelow, falls_to, of_parts, part}
-use Rattle.parts.specs.Told.{AreGathered, AreJoined, AreToldBy, IsHeld, IsNoAnswer, IsOfEvents, IsToldTogether, RefusesTold, TellsEvents, TellsSet, told}
+use Rattle.parts.specs.Told.{AreGathered, AreToldBy, IsHeld, IsNoAnswer, IsOfEvents, IsToldTogether, RefusesTold, TellsEvents, TellsSet, told}
 use Rattle.parts.specs.declared.fault.CombineFault.{CombineFault}
-use Rattle.parts.specs.declared.fault.CombineFault.TheVariants.{OutOfMemory, NotACover, NotAnAnswer, Overlap}
-use Rattle.parts.proofs.AgainLemmas.{at_place, in_shown, kept_in, latest_again, latest_events, of_set, shown_again}
+use Rattle.parts.specs.declared.fault.CombineFault.TheVariants.{OutOfMemory, NotACover, NotAnAnswer, CoverCount, TooMany, Overlap}
+use Rattle.parts.proofs.AgainLemmas.{at_place, in_shown, kept_in, latest_again, latest_events, shown_again}
+use Rattle.parts.proofs.ConflictLemmas.{conflict_events, conflicts_again, conflicts_own}
 use Rattle.parts.proofs.CoverLemmas.{map_got, map_taken}
 use Rattle.parts.proofs.LatestLemmas.{latest_part}
-use Rattle.parts.proofs.LineLemmas.{lines_are, seen_plain}
-use Rattle.parts.proofs.MergeLemmas.{all_left, all_parts, flat_same, sorted_left}
-use Rattle.parts.proofs.PartLemmas.{shown_part}
+use Rattle.parts.proofs.LineLemmas.{joined_more, joined_parts, lines_are, seen_plain}
+use Rattle.parts.proofs.MergeLemmas.{all_left, all_parts, sorted_left}
+use Rattle.parts.proofs.PartLemmas.{own_alike, shown_part}
 use Rattle.parts.proofs.RowLemmas.{numbers}
 use Rattle.parts.proofs.SumLemmas.{any_counts, whole}
 use Rattle.parts.proofs.TakeLemmas.{sets}
-
--- ---- texts one behind the other
-
-module _ (Tells : List ℕ → List EventValue → Type 0) where
-  pub joined_more : (texts : List (List ℕ)) (all : List EventValue) (t : List ℕ) (rows : List EventValue) → AreJoined Tells texts all → Tells t rows → AreJoined Tells (texts ++ t ∷ []) (all ++ rows)
-  joined_more [] all t rows none own = (rows, [], own, refl, ap (λ l. l ++ rows) none ∙ sym (append-nil rows))
-  joined_more (s ∷ texts) all t rows (first, rest, its, more, is) own =
-      (first, rest ++ rows, its, joined_more texts rest t rows more own, ap (λ l. l ++ rows) is ∙ append_assoc first rest rows)
-
-  pub joined_parts : (f : ℕ → List EventValue) (a : ℕ) (texts : List (List ℕ)) (all : List EventValue) → AreJoined Tells texts all
-      → ((i : ℕ) (t : List ℕ) (rows : List EventValue) → slice_get texts i ≡ Some t → Tells t rows → rows ≡ f (a + i)) → all ≡ flat_map f (range_with_len a (length texts))
-  joined_parts f a [] all none own = none
-  joined_parts f a (t ∷ texts) all (rows, rest, its, more, is) own =
-      let first : a + 0 ≡ a = omega arith in
-      is ∙ ap₂ (λ x y. x ++ y) (own 0 t rows refl its ∙ ap f first)
-      (joined_parts f (a + 1) texts rest more (λ i s r got k. own (suc i) s r got k ∙ (let e : a + suc i ≡ a + 1 + i = omega arith in ap f e)))
 
 pub told_more : (q : Query) (texts : List (List ℕ)) (ss : List Sources) (t : List ℕ) (s : Sources) (L : List EventValue) → AreToldBy q texts ss → TellsEvents q t L → Sums (set_of L) s
     → AreToldBy q (texts ++ t ∷ []) (ss ++ s ∷ [])
@@ -91,6 +76,8 @@ pub told_refuses : (q : Query) (texts : List (List ℕ)) (ss : List Sources) →
 told_refuses q texts ss by OutOfMemory r = tt
 told_refuses q texts ss by (NotACover i) r = absurd r
 told_refuses q texts ss by (NotAnAnswer i) r = absurd r
+told_refuses q texts ss by (CoverCount m n) r = absurd r
+told_refuses q texts ss by TooMany r = absurd r
 told_refuses q texts ss by (Overlap name i j) r = (ss, by, r.0, r.1, r.2)
 
 -- ---- parts of a set
@@ -105,7 +92,7 @@ held_part p i E held = record {
 pub told_part : (p : List ℕ → ℕ) (i : ℕ) (q : Query) → IsOfEvents q → (E : List EventValue) → told q (part p i E) ≡ part p i (told q E)
 told_part p i query.Cover is E = absurd is
 told_part p i query.Shown is E = shown_part p i E
-told_part p i query.Conflicts is E = absurd is
+told_part p i query.Conflicts is E = conflicts_own (λ e. falls_to p i (source_of e)) (own_alike p i E) E
 told_part p i query.Latest is E = latest_part p i E
 told_part p i query.Kinds is E = absurd is
 told_part p i query.Days is E = absurd is
@@ -155,7 +142,7 @@ module _ (tells : (e f : EventValue) → IsEvent e → IsEvent f → text e ≡ 
   pub told_events : (q : Query) → IsOfEvents q → (E : List EventValue) → AreEvents E → AreEvents (told q E)
   told_events query.Cover is E a = absurd is
   told_events query.Shown is E a = all_left IsEvent (is_shown E) E a
-  told_events query.Conflicts is E a = absurd is
+  told_events query.Conflicts is E a = conflict_events E a
   told_events query.Latest is E a = latest_events tells E a
   told_events query.Kinds is E a = absurd is
   told_events query.Days is E a = absurd is
@@ -168,14 +155,11 @@ module _ (tells : (e f : EventValue) → IsEvent e → IsEvent f → text e ≡ 
       let X = shown E in
       let same : set_of X ≡ X = set_again X (all_left IsEvent (is_shown E) E held.events) (sorted_left key_cmp (is_shown E) E held.sorted) in
       h ∙ ap (λ l. event_lines (shown l)) same ∙ ap event_lines (shown_again tells E X (λ e c. c))
-  again query.Conflicts is E held t h = absurd is
+  again query.Conflicts is E held t h = h ∙ ap conflict_lines (conflicts_again E tells held.events held.sorted)
   again query.Latest is E held t h = h ∙ ap event_lines (latest_again tells E held.events)
   again query.Kinds is E held t h = absurd is
   again query.Days is E held t h = absurd is
   again query.Gaps is E held t h = absurd is
-
-  abbrev pub IsSequenced : EventValue → Type 0
-  IsSequenced e = IsEvent e × ((n : ℕ) × (number_of e ≡ Some n))
 
   both : {X : Type 0} (P Q : X → Type 0) (xs : List X) → AllByRecursion P xs → AllByRecursion Q xs → AllByRecursion (λ x. P x × Q x) xs
   both P Q [] a b = tt
@@ -187,22 +171,22 @@ module _ (tells : (e f : EventValue) → IsEvent e → IsEvent f → text e ≡ 
   plain_text : (e : EventValue) → IsSequenced e → IsPlain (text e)
   plain_text e own = seen_plain (text e) (by_recursion (λ b. 32 ≤ b) (text e) (text_line e own.0))
 
-  all_sequenced : (E : List EventValue) → IsHeld E → AllByRecursion IsSequenced E
+  pub all_sequenced : (E : List EventValue) → IsHeld E → AllByRecursion IsSequenced E
   all_sequenced E held = both IsEvent (λ e. (n : ℕ) × (number_of e ≡ Some n)) E held.events held.numbered
 
-  -- the lines of an answer are those of the events that it tells
-  pub lines_told : (q : Query) → IsOfEvents q → (E : List EventValue) → IsHeld E → (t : List ℕ) → IsAnswer q E t → AreLinesOf is_line (told q E) t
-  lines_told query.Cover is E held t h = absurd is
-  lines_told query.Shown is E held t h =
+  -- the lines of an answer are those of the events that it tells, but for conflicts
+  pub lines_told : (q : Query) → IsOfEvents q → (q ≡ query.Conflicts → ⊥) → (E : List EventValue) → IsHeld E → (t : List ℕ) → IsAnswer q E t → AreLinesOf is_line (told q E) t
+  lines_told query.Cover is other E held t h = absurd is
+  lines_told query.Shown is other E held t h =
       subst (AreLinesOf is_line (shown E)) (sym h) (lines_are IsSequenced text plain_text (shown E) (all_left IsSequenced (is_shown E) E (all_sequenced E held)))
-  lines_told query.Conflicts is E held t h = absurd is
-  lines_told query.Latest is E held t h =
+  lines_told query.Conflicts is other E held t h = absurd (other refl)
+  lines_told query.Latest is other E held t h =
       subst (AreLinesOf is_line (latest E)) (sym h)
       (lines_are IsSequenced text plain_text (latest E)
       (each_there IsSequenced (latest E) (λ e c. at_place IsSequenced E e (all_sequenced E held) (kept_in (is_shown E) E e (in_shown tells E held.events e c)).0)))
-  lines_told query.Kinds is E held t h = absurd is
-  lines_told query.Days is E held t h = absurd is
-  lines_told query.Gaps is E held t h = absurd is
+  lines_told query.Kinds is other E held t h = absurd is
+  lines_told query.Days is other E held t h = absurd is
+  lines_told query.Gaps is other E held t h = absurd is
 
   module _ (q : Query) (is : IsOfEvents q) (p : List ℕ → ℕ) (E : List EventValue) (held : IsHeld E) (texts : List (List ℕ)) (answers : AreAnswers q p E texts) where
     abbrev X : List EventValue
@@ -236,15 +220,17 @@ module _ (tells : (e f : EventValue) → IsEvent e → IsEvent f → text e ≡ 
         right true b h = h
         right false b h = absurd (true≢false (sym h))
 
-    memory_alone : (e : CombineFault) → RefusesTold q texts e → e ≡ OutOfMemory
-    memory_alone OutOfMemory r = refl
-    memory_alone (NotACover i) r = absurd r
-    memory_alone (NotAnAnswer i) r = absurd (r.2 (part p i E) (held_part p i E held) (answers.each i r.0 r.1))
-    memory_alone (Overlap name i j) r =
+    pub told_memory : (e : CombineFault) → RefusesTold q texts e → e ≡ OutOfMemory
+    told_memory OutOfMemory r = refl
+    told_memory (NotACover i) r = absurd r
+    told_memory (NotAnAnswer i) r = absurd (r.2 (part p i E) (held_part p i E held) (answers.each i r.0 r.1))
+    told_memory (CoverCount m n) r = absurd r
+    told_memory TooMany r = absurd r
+    told_memory (Overlap name i j) r =
         let below : i < j = r.2 in
         let first : p (string_bytes name) ≡ i = falls r.0 i (string_bytes name) r.1 r.3 in
         let second : p (string_bytes name) ≡ j = falls r.0 j (string_bytes name) r.1 r.4 in absurd (omega (arith, below, first, second))
 
     pub taken : (r : Result (List ℕ) CombineFault) → IfErr r (RefusesTold q texts) → OnErr r (r ≡ Err OutOfMemory)
     taken (Ok t) h = tt
-    taken (Err e) h = ap Err (memory_alone e h)
+    taken (Err e) h = ap Err (told_memory e h)

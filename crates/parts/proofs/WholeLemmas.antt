@@ -14,7 +14,7 @@ use Rattle.views.specs.declared.query.Query.TheVariants as query
 use Rattle.parts.specs.Combined.{AreAnswers, AreCovers, HasAt, IsFirst, IsUnited, Refuses, RefusesRead}
 use Rattle.parts.specs.Part.{falls_to, part}
 use Rattle.parts.specs.declared.fault.CombineFault.{CombineFault}
-use Rattle.parts.specs.declared.fault.CombineFault.TheVariants.{OutOfMemory, NotACover, NotAnAnswer, Overlap}
+use Rattle.parts.specs.declared.fault.CombineFault.TheVariants.{OutOfMemory, NotACover, NotAnAnswer, CoverCount, TooMany, Overlap}
 use Rattle.parts.proofs.CoverLemmas.{any_at, any_found, some_is}
 use Rattle.parts.proofs.PartLemmas.{and_left}
 use Rattle.parts.proofs.RowLemmas.{numbers}
@@ -41,7 +41,7 @@ same_front x (y ∷ ys) (z ∷ zs) h = ap₂ (λ a l. a ∷ l) (first h) (same_f
     rest : y ∷ (ys ++ x ∷ []) ≡ z ∷ (zs ++ x ∷ []) → ys ++ x ∷ [] ≡ zs ++ x ∷ []
     rest h = cc
 
-all_at : {X : Type 0} (P : X → Type 0) (xs : List X) (i : ℕ) (x : X) → AllByRecursion P xs → slice_get xs i ≡ Some x → P x
+pub all_at : {X : Type 0} (P : X → Type 0) (xs : List X) (i : ℕ) (x : X) → AllByRecursion P xs → slice_get xs i ≡ Some x → P x
 all_at P [] i x a got = cc
 all_at P (y ∷ ys) zero x a got = subst P (some_is y x got) a.0
 all_at P (y ∷ ys) (suc i) x a got = all_at P ys i x a.1 got
@@ -59,6 +59,8 @@ pub refuses : (texts : List (List ℕ)) (ss : List Sources) → AreCovers texts 
 refuses texts ss are OutOfMemory r = tt
 refuses texts ss are (NotACover i) r = absurd r
 refuses texts ss are (NotAnAnswer i) r = absurd r
+refuses texts ss are (CoverCount m n) r = absurd r
+refuses texts ss are TooMany r = absurd r
 refuses texts ss are (Overlap name i j) r = (ss, are, r.0, r.1, r.2)
 
 module _ (tells : (s t : Sources) → IsSummary s → IsSummary t → summary_text s ≡ summary_text t → s ≡ t)
@@ -72,7 +74,7 @@ module _ (tells : (s t : Sources) → IsSummary s → IsSummary t → summary_te
   exact : (s t : Sources) → IsFirst s → IsFirst t → cover_line s ≡ cover_line t → s ≡ t
   exact s t a b h = tells s t a.0 b.0 (same_front 10 (summary_text s) (summary_text t) h)
 
-  held : (ss : List Sources) → AreCovers texts ss → (i : ℕ) (s : Sources) → slice_get ss i ≡ Some s → (source : List ℕ) (n : ℕ)
+  pub held : (ss : List Sources) → AreCovers texts ss → (i : ℕ) (s : Sources) → slice_get ss i ≡ Some s → (source : List ℕ) (n : ℕ)
       → holds_at s source n ≡ (has_number E source n && falls_to p i source)
   held ss are i s got source n =
       let there : slice_get texts i ≡ Some (cover_line s) = sym (ap (λ l. slice_get l i) are.written) ∙ slice_get-map cover_line ss i ∙ ap (option_map cover_line) got in
@@ -107,6 +109,8 @@ module _ (tells : (s t : Sources) → IsSummary s → IsSummary t → summary_te
   memory_alone OutOfMemory r = refl
   memory_alone (NotACover i) r = absurd (let a = answered i r.0 (answers.each i r.0 r.1) in r.2 a.0 a.1 a.2)
   memory_alone (NotAnAnswer i) r = absurd r
+  memory_alone (CoverCount m n) r = absurd r
+  memory_alone TooMany r = absurd r
   memory_alone (Overlap name i j) r =
       let below : i < j = r.2 in
       let in_first : p (string_bytes name) ≡ i = falls r.0 r.1 i r.3 in

@@ -8,7 +8,7 @@ use Rattle.views.specs.Question.{IsAnswer}
 use Rattle.views.specs.declared.query.Query.{Query}
 use Rattle.parts.specs.Part.{FallsBelow, part}
 use Rattle.parts.specs.declared.fault.CombineFault.{CombineFault}
-use Rattle.parts.specs.declared.fault.CombineFault.TheVariants.{OutOfMemory, NotACover, NotAnAnswer, Overlap}
+use Rattle.parts.specs.declared.fault.CombineFault.TheVariants.{OutOfMemory, NotACover, Overlap}
 
 -- the texts answer the question over the parts of E, the text at place i over part i
 pub record AreAnswers (query : Query) (p : List ℕ → ℕ) (E : List EventValue)
@@ -56,18 +56,17 @@ IsNoCover text = (s : Sources) → IsFirst s → text ≢ cover_line s
 abbrev pub Refuses : List (List ℕ) → CombineFault → Type 0
 Refuses texts OutOfMemory = Unit {0}
 Refuses texts (NotACover i) = (text : List ℕ) × (slice_get texts i ≡ Some text) × IsNoCover text
-Refuses texts (NotAnAnswer i) = ⊥
 Refuses texts (Overlap name i j) =
     (summaries : List Sources) × AreCovers texts summaries × (i < j)
     × HasAt summaries i (string_bytes name) × HasAt summaries j (string_bytes name)
+Refuses texts _ = ⊥
 
 -- what is true of summaries that are refused with the fault
 abbrev pub RefusesRead : List Sources → CombineFault → Type 0
 RefusesRead summaries OutOfMemory = Unit {0}
-RefusesRead summaries (NotACover i) = ⊥
-RefusesRead summaries (NotAnAnswer i) = ⊥
 RefusesRead summaries (Overlap name i j) =
     (i < j) × HasAt summaries i (string_bytes name) × HasAt summaries j (string_bytes name)
+RefusesRead summaries _ = ⊥
 
 -- the summary holds what one of the summaries does
 abbrev pub IsUnited : List Sources → Sources → Type 0

@@ -3,4 +3,8 @@ pub mod Merge
 pub mod Law
 pub mod Combined
 pub mod Lines
+pub mod Conflict
 pub mod Told
+pub mod Counts
+pub mod Gaps
+pub mod Whole

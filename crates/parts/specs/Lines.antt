@@ -12,3 +12,10 @@ AreLinesOf is_line [] text = text ≡ []
 AreLinesOf is_line (row ∷ rows) text =
     (line : List ℕ) × (rest : List ℕ) × is_line row line × IsPlain line
     × (text ≡ line ++ 10 ∷ rest) × AreLinesOf is_line rows rest
+
+-- what one text tells behind what another does, each text telling its own
+abbrev pub AreJoined : {X : Type 0} → (List ℕ → List X → Type 0) → List (List ℕ) → List X → Type 0
+AreJoined Tells [] all = all ≡ []
+AreJoined {X} Tells (text ∷ texts) all =
+    (first : List X) × (rest : List X) × Tells text first × AreJoined Tells texts rest
+    × (all ≡ first ++ rest)

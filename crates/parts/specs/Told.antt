@@ -1,9 +1,10 @@
--- Answers that tell events, a line each: the shown ones and the latest ones.
-use Rattle.std.specs.Prelude.{◌≡◌, ◌<◌, ◌++◌, ℕ, List, [], ◌∷◌, Some, slice_get, string_bytes, ⊤}
+-- Answers that tell events: the shown ones, those in conflict and the latest.
+use Rattle.std.specs.Prelude.{◌≡◌, ◌<◌, ℕ, List, [], ◌∷◌, Some, flat_map, slice_get, string_bytes, ⊤}
 use Rattle.std.specs.List.Sorted.{IsStrictlySortedBy}
 use Rattle.attributes.specs.Event.{EventValue}
 use Rattle.block_digests.specs.Number.{AreNumbered}
 use Rattle.coverage.specs.Summary.{Sources}
+use Rattle.inbox.specs.Conflicts.{conflicts}
 use Rattle.inbox.specs.KeyOrder.{key_cmp}
 use Rattle.inbox.specs.Sets.{AreEvents, set_of}
 use Rattle.inbox.specs.Shown.{shown}
@@ -13,6 +14,7 @@ use Rattle.views.specs.Question.{IsAnswer}
 use Rattle.views.specs.declared.query.Query.{Query}
 use Rattle.views.specs.declared.query.Query.TheVariants as query
 use Rattle.parts.specs.Combined.{AreApart, HasAt}
+use Rattle.parts.specs.Lines.{AreJoined}
 use Rattle.parts.specs.declared.fault.CombineFault.{CombineFault}
 use Rattle.parts.specs.declared.fault.CombineFault.TheVariants.{OutOfMemory, NotAnAnswer, Overlap}
 
@@ -22,15 +24,17 @@ pub record IsHeld (E : List EventValue) : Type 0 where
   pub numbered : AreNumbered E
   pub sorted : IsStrictlySortedBy key_cmp E
 
--- the events that an answer tells, a line each and in its order; none, where its lines are others
+-- the events that an answer tells, in its order; none, where its lines tell none
 abbrev pub told : Query → List EventValue → List EventValue
 told query.Shown E = shown E
+told query.Conflicts E = flat_map (λ c. c.events) (conflicts E)
 told query.Latest E = latest E
 told _ E = []
 
--- the questions whose answers tell events, a line each
+-- the questions whose answers tell events
 abbrev pub IsOfEvents : Query → Type 0
 IsOfEvents query.Shown = ⊤
+IsOfEvents query.Conflicts = ⊤
 IsOfEvents query.Latest = ⊤
 IsOfEvents _ = ⊥
 
@@ -45,14 +49,6 @@ pub record TellsEvents (query : Query) (text : List ℕ) (events : List EventVal
   pub answer : IsAnswer query (set_of events) text
   pub own : (E : List EventValue) → IsHeld E → IsAnswer query E text
       → events ≡ set_of (told query E)
-
--- events of one text behind those of another, each text telling its own
-abbrev pub AreJoined : (List ℕ → List EventValue → Type 0) → List (List ℕ) → List EventValue
-    → Type 0
-AreJoined Tells [] all = all ≡ []
-AreJoined Tells (text ∷ texts) all =
-    (events : List EventValue) × (rest : List EventValue) × Tells text events
-    × AreJoined Tells texts rest × (all ≡ events ++ rest)
 
 -- the set has just the events that the text tells
 abbrev pub TellsSet : Query → List ℕ → List EventValue → Type 0

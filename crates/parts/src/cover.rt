@@ -156,7 +156,7 @@ fn unite_texts(alloc: Global, covers: &[&str]) -> Result<Text, CombineFault>
 /// Refused are a text that is no such answer, and then a source that stands in two parts. Time in
 /// proportion to the sources and intervals, times the parts, times a logarithm; memory to the
 /// texts.
-pub fn combine_covers(alloc: Global, covers: &[&str]) -> Result<Text, CombineFault>
+pub(crate) fn combine_covers(alloc: Global, covers: &[&str]) -> Result<Text, CombineFault>
     ensures combined { (p : List ℕ → ℕ) (E : List EventValue)
         → AreAnswers query.Cover p E (map (λ t. t.now) covers.now)
         → IfOk result (IsAnswer query.Cover E) }

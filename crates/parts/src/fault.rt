@@ -18,6 +18,15 @@ pub enum CombineFault {
     NotAnAnswer {
         part: u64,
     },
+    /// Beside answers that have no sources there are more or fewer covers than answers.
+    #[error("{covers} covers beside {answers} answers")]
+    CoverCount {
+        answers: u64,
+        covers: u64,
+    },
+    /// A sum is above 2^64 - 1.
+    #[error("a count above 18446744073709551615")]
+    TooMany,
     /// The source `name` has numbers in two parts, of which `first` comes before `second`.
     #[error("{name}: in parts {first} and {second}")]
     Overlap {

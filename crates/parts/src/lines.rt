@@ -1,9 +1,17 @@
 //! The lines of answers, and what each says.
 
-ghost use Rattle.std.specs.Prelude.{◌≡◌, IfOk, List, Some};
+ghost use Rattle.std.specs.Prelude.{◌≡◌, ◌≤◌, ◌++◌, IfOk, List, OnOk, Some, option_and_then, option_map};
+ghost use Rattle.serde_json.specs.Data.{Data, depth};
+ghost use Rattle.serde_json.specs.Find.{as_number, as_str, as_u64, at};
+ghost use Rattle.serde_json.specs.Read.{max_depth};
+ghost use Rattle.serde_json.specs.View.{view};
+ghost use Rattle.serde_json.specs.Written.{compact_text};
+ghost use Rattle.attributes.specs.Exact.{IsExact};
 ghost use Rattle.parts.specs.Lines.{AreLinesOf};
 
 use attributes::List;
+use attributes::laws::exact_json_reads_back;
+use serde_json::{Category, Value};
 use std::alloc::{AllocError, Global};
 
 /// What a line of an answer says.
@@ -36,4 +44,51 @@ pub(crate) fn read_rows<R: Row + Drop>(
         rest = more;
     }
     Ok(Some(rows))
+}
+
+/// Adds values at the end.
+pub(crate) fn append<R: Drop>(all: &mut List<R>, more: List<R>) -> Result<(), AllocError>
+    ensures { OnOk result (all.new ≡ all.old ++ more) }
+{
+    for row in more.into_vec() {
+        all.push(row)?;
+    }
+    Ok(())
+}
+
+/// The value that a line is the compact text of, where it is that of one.
+pub(crate) fn read_value(alloc: Global, line: &str) -> Result<Option<Value>, AllocError>
+    ensures { IfOk result (λ o. (d : Data) → IsExact d → depth d ≤ max_depth
+        → line.now ≡ compact_text d → option_map view o ≡ Some d) }
+{
+    // A law that the clause rests on; the call does nothing.
+    exact_json_reads_back();
+    match Value::from_str(alloc, line) {
+        Ok(value) => Ok(Some(value)),
+        Err(e) => match e.classify() {
+            Category::Memory => Err(AllocError),
+            _ => Ok(None),
+        },
+    }
+}
+
+/// The text at a place of an array, where one stands there.
+pub(crate) fn word_at(value: &Value, place: usize) -> Option<&str>
+    ensures { option_map (λ s. s.now) result ≡ option_and_then as_str (at place (view value.now)) }
+{
+    match value.get(place) {
+        Some(item) => item.as_str(),
+        None => None,
+    }
+}
+
+/// The whole number from 0 to 2^64 - 1 at a place of an array, where one stands there.
+pub(crate) fn whole_at(value: &Value, place: usize) -> Option<u64>
+    ensures { result ≡ option_and_then (λ d. option_and_then as_u64 (as_number d))
+        (at place (view value.now)) }
+{
+    match value.get(place) {
+        Some(item) => item.as_u64(),
+        None => None,
+    }
 }

@@ -1,9 +1,8 @@
-//! Answers that tell events, in the whole from its parts: the shown events and the latest ones.
+//! Answers that tell events, in the whole from its parts: the shown ones, those in conflict and the
+//! latest.
 
-ghost use Rattle.std.specs.Prelude.{◌≡◌, ◌≢◌, ◌∷◌, [], IfErr, IfNone, IfOk, IfSome, List, OnErr, OnOk, Some, ℕ, map};
-ghost use Rattle.attributes.specs.Event.{EventValue, text};
-ghost use Rattle.attributes.specs.Fault.{IsEvent};
-ghost use Rattle.attributes.specs.Sequence.{number_of};
+ghost use Rattle.std.specs.Prelude.{◌≡◌, IfErr, IfNone, IfOk, IfSome, List, OnErr, OnOk, Some, ℕ, flat_map, map};
+ghost use Rattle.attributes.specs.Event.{EventValue};
 ghost use Rattle.inbox.specs.Kept.{events};
 ghost use Rattle.inbox.specs.Sets.{AreEvents, set_of};
 ghost use Rattle.views.specs.Number.{Sums};
@@ -15,58 +14,14 @@ ghost use Rattle.parts.specs.Told.{AreGathered, AreToldApart, IsHeld, IsNoAnswer
 
 use crate::cover::check_apart;
 use crate::fault::CombineFault;
-use crate::lines::{Row, read_rows};
+use crate::lines::{append, read_rows};
 use attributes::laws::text_tells_events;
-use attributes::{Events, List, Sequenced, Text};
+use attributes::{List, Sequenced, Text};
 use coverage::Summary;
-use event_json::{ReadFault, read_events, readings_are_one, texts_read_back};
 use inbox::Inbox;
 use std::alloc::{AllocError, Global};
 use views::laws::answers_are_alike;
 use views::{Answer, Query, answer, answer_lines};
-
-/// The event with a number that stands alone in a list.
-fn lone(list: Events) -> Option<Sequenced>
-    ensures { (e : EventValue) (n : ℕ) → list ≡ e ∷ [] → number_of e ≡ Some n
-        → result ≡ Some e }
-{
-    let mut items = list.into_vec();
-    let Some(event) = items.pop() else {
-        return None;
-    };
-    match Sequenced::of(event) {
-        Ok(event) => Some(event),
-        Err(_) => None,
-    }
-}
-
-/// The event with a number whose canonical text a line is.
-fn read_event(alloc: Global, line: &str) -> Result<Option<Sequenced>, AllocError>
-    ensures { IfOk result (λ o. (e : EventValue) (n : ℕ) → IsEvent e → number_of e ≡ Some n
-        → line.now ≡ text e → o ≡ Some e) }
-{
-    // Laws that the clause rests on; the calls do nothing.
-    texts_read_back();
-    readings_are_one();
-    match read_events(alloc, line.as_bytes()) {
-        Ok(events) => Ok(lone(events)),
-        Err(ReadFault::OutOfMemory) => Err(AllocError),
-        Err(_) => Ok(None),
-    }
-}
-
-impl Row for Sequenced {
-    ghost use Rattle.std.specs.Prelude.{◌≡◌, Some, ℕ};
-    ghost use Rattle.attributes.specs.Event.{text};
-    ghost use Rattle.attributes.specs.Fault.{IsEvent};
-    ghost use Rattle.attributes.specs.Sequence.{number_of};
-
-    ghost is_line = { λ e l. (IsEvent e × ((n : ℕ) × (number_of e ≡ Some n))) × (l ≡ text e) };
-
-    fn read(alloc: Global, line: &str) -> Result<Option<Sequenced>, AllocError> {
-        read_event(alloc, line)
-    }
-}
 
 /// The set of copies of events.
 fn set_of_copies(alloc: Global, list: &[Sequenced]) -> Result<Inbox, AllocError>
@@ -84,6 +39,30 @@ fn set_of_copies(alloc: Global, list: &[Sequenced]) -> Result<Inbox, AllocError>
     Ok(inbox)
 }
 
+/// The events of lists, one list behind the other.
+fn flatten(alloc: Global, lists: List<List<Sequenced>>) -> Result<List<Sequenced>, AllocError>
+    ensures { IfOk result (λ all. all ≡ flat_map (λ events. events) lists) }
+{
+    let mut all = List::empty(alloc);
+    for events in lists.into_vec() {
+        append(&mut all, events)?;
+    }
+    Ok(all)
+}
+
+/// The events that a text tells in its lines, where it answers `conflicts` over some set.
+fn read_conflicts(alloc: Global, text: &str) -> Result<Option<List<Sequenced>>, AllocError>
+    ensures { IfOk result (λ o. (E : List EventValue) → IsHeld E
+        → IsAnswer query.Conflicts E text.now → o ≡ Some (told query.Conflicts E)) }
+{
+    // A law that the clause rests on; the call does nothing.
+    text_tells_events();
+    let Some(rows) = read_rows::<List<Sequenced>>(alloc, text)? else {
+        return Ok(None);
+    };
+    Ok(Some(flatten(alloc, rows)?))
+}
+
 /// The events that a text tells in its lines, where it answers the question over some set.
 fn read_told(alloc: Global, query: Query, text: &str) -> Result<Option<List<Sequenced>>, AllocError>
     requires { IsOfEvents query }
@@ -92,7 +71,10 @@ fn read_told(alloc: Global, query: Query, text: &str) -> Result<Option<List<Sequ
 {
     // A law that the clause rests on; the call does nothing.
     text_tells_events();
-    read_rows::<Sequenced>(alloc, text)
+    match query {
+        Query::Conflicts => read_conflicts(alloc, text),
+        _ => read_rows::<Sequenced>(alloc, text),
+    }
 }
 
 /// The set of the events that a text tells, where it answers the question over some set.
@@ -156,11 +138,15 @@ fn gather(alloc: Global, query: Query, texts: &[&str]) -> Result<Gathered, Combi
     Ok(Gathered { all, covers })
 }
 
-/// The answer to `shown` or `latest` over the whole, from the answers of its parts, in any order of
-/// the parts. Refused are a text that answers the question over no set of numbered events, and then
-/// a source that stands in two parts. Time in proportion to the texts, times a logarithm, and for
-/// such sources to all sources, times the parts; memory to the texts.
-pub fn combine_events(alloc: Global, query: Query, answers: &[&str]) -> Result<Text, CombineFault>
+/// The answer to `shown`, `conflicts` or `latest` over the whole, from the answers of its parts, in
+/// any order of the parts. Refused are a text that answers the question over no set of numbered
+/// events, and then a source that stands in two texts. Time in proportion to the texts, times a
+/// logarithm, and for such sources to all sources, times the parts; memory to the texts.
+pub(crate) fn combine_events(
+    alloc: Global,
+    query: Query,
+    answers: &[&str],
+) -> Result<Text, CombineFault>
     requires { IsOfEvents query }
     ensures combined { (p : List ℕ → ℕ) (E : List EventValue) → IsHeld E
         → AreAnswers query p E (map (λ t. t.now) answers.now) → IfOk result (IsAnswer query E) }

@@ -1,4 +1,4 @@
-use Rattle.std.proofs.Common.{◌∷◌, ◌++◌, [], take, sym, ap, ◌∙◌}
+use Rattle.std.proofs.Common.{◌∷◌, [], take, sym, ap, ◌∙◌}
 use Rattle.std.proofs.lemmas.List.{take_more}
 use Rattle.inbox.proofs.OrderLemmas.{key_cmp_total}
 use Rattle.inbox.specs.Sets.{set_of, union}
