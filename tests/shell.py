@@ -88,12 +88,25 @@ def text_of(said: bytes) -> str:
 
 @dataclass(frozen=True)
 class Has:
-    """A text that isn't empty, and has this part."""
+    """A text that isn't empty, and has this part, and this one."""
 
     part: str = ""
+    other: str = ""
 
     def is_so(self, said: str, _: Room) -> bool:
-        return bool(said) and self.part in said
+        return bool(said) and self.part in said and self.other in said
+
+
+@dataclass(frozen=True)
+class Hint:
+    """The line of a refusal, and behind it one line that says what to do, which has this part."""
+
+    line: str
+    part: str
+
+    def is_so(self, said: str, _: Room) -> bool:
+        hint = said.removeprefix(self.line)
+        return said == self.line + hint and hint.startswith("site: hint: ") and self.part in hint and hint.find("\n") == len(hint) - 1
 
 
 @dataclass(frozen=True)
@@ -107,7 +120,7 @@ class As:
         return room.run(self.typed) == Said(self.status, said)
 
 
-Wanted = Union[str, Has, As]
+Wanted = Union[str, Has, Hint, As]
 SOME = Has()
 
 
@@ -115,7 +128,7 @@ SOME = Has()
 class Row:
     """What is asked; what is typed or done; what stands on each stream then; and the status. Before it files are written.
     Behind it some files are as they were before it, and some aren't there: names with spaces between them. A slow one takes
-    more than a second."""
+    more than a second. Where what it wants isn't there, it is skipped."""
 
     what: str
     act: Union[str, Callable[[Room], Said]]
@@ -126,6 +139,7 @@ class Row:
     keeps: str = ""
     lacks: str = ""
     is_slow: bool = False
+    wants: tuple[pytest.MarkDecorator, ...] = ()
 
     def play(self, room: Room) -> list[str]:
         """What is wrong with it, line by line."""
@@ -252,7 +266,7 @@ class Stage:
 def rows(files: Mapping[str, str], *steps: Step) -> Callable[..., None]:
     """A test of each row of a session, which begins in a folder with these files."""
     session, every = Session(files, steps), [it for it in steps if isinstance(it, Row)]
-    each = [pytest.param(at, id=it.what, marks=[pytest.mark.slow] * it.is_slow) for at, it in enumerate(every)]
+    each = [pytest.param(at, id=it.what, marks=[*it.wants, *[pytest.mark.slow] * it.is_slow]) for at, it in enumerate(every)]
 
     @pytest.mark.parametrize("at", each)
     def test(at: int, stage: Stage) -> None:

@@ -65,7 +65,7 @@ echo "end try_edits" >>FOLDER/order
 exit $status
 """
 SCRIPTS = ["try_bindings.py", "try_release.py", "try_refusals.py", "try_rows.py", "run_tests.py"]
-SCRIPTS += ["try_mistakes.py", "try_numbers.py", "try_reading.py", "try_papers.py", "run_guide.py"]
+SCRIPTS += ["try_numbers.py", "try_reading.py", "try_papers.py", "run_guide.py"]
 SCRIPTS += ["try_streams.py", "try_terminal.py", "try_together.py", "try_service.py", "try_partition.py"]
 ALONE = SCRIPTS[-5:]
 FIRST = ["lint.py"]
