@@ -1,7 +1,7 @@
 #!/usr/bin/env python3
 """Runs the tests of the built program, which stand in tests/, by pytest.
 
-    tools/run_tests.py [--program FILE] [WORD..]    words of pytest, as -k WORD, -m 'not slow' or tests/test_run.py
+    tools/run_tests.py [--program FILE] [WORD..]    words of pytest, as -k WORD, -m 'not slow', -m alone or tests/test_run.py
     tools/run_tests.py --install                    Debian's package of pytest, as root, where it isn't there
 
 The package is for Debian's own python3, which needn't be the first one on the path. Where there is no pytest, that is a

@@ -44,16 +44,18 @@ fi
 echo "rt: ok; handles allowed: Threads, Wait; done in this run: 1 of the 2 proofs (of crates and of their tests); the others are kept"
 echo "2 passed, 0 failed"
 """
-# In the place of each script of the part `program`: it notes when it began and ended, and whether edits were tried then.
+# In the place of each script of the part `program`: it notes when it began and ended, with its words, and whether edits were
+# tried then.
 SCRIPT = """#!/bin/sh
-echo "begin $(basename "$0")" >>FOLDER/order
+name="$(basename "$0")${1:+ $*}"
+echo "begin $name" >>FOLDER/order
 [ "$(basename "$0")" = try_bindings.py ] && {
     i=0
     while ! grep -q 'begin try_edits' FOLDER/order && [ $i -lt 300 ]; do i=$((i + 1)); sleep 0.1; done
     echo "library: 1 kept, 0 built anew"
 }
-echo "end $(basename "$0")" >>FOLDER/order
-[ "$(basename "$0")" = "$(cat FOLDER/bad_script)" ] && { echo "wrong: it"; echo "3 passed, 1 failed"; exit 1; }
+echo "end $name" >>FOLDER/order
+[ "$name" = "$(cat FOLDER/bad_script)" ] && { echo "wrong: it"; echo "3 passed, 1 failed"; exit 1; }
 echo "4 passed, 0 failed"
 """
 # What notes when the edits began and ended.
@@ -64,9 +66,9 @@ status=$?
 echo "end try_edits" >>FOLDER/order
 exit $status
 """
-SCRIPTS = ["try_bindings.py", "try_release.py", "try_refusals.py", "try_rows.py", "run_tests.py"]
+SCRIPTS = ["try_bindings.py", "try_release.py", "try_refusals.py", "try_rows.py", "run_tests.py -m not alone"]
 SCRIPTS += ["try_numbers.py", "try_reading.py", "try_papers.py", "run_guide.py"]
-SCRIPTS += ["try_streams.py", "try_terminal.py", "try_together.py", "try_service.py", "try_partition.py"]
+SCRIPTS += ["run_tests.py -m alone", "try_streams.py", "try_together.py", "try_service.py", "try_partition.py"]
 ALONE = SCRIPTS[-5:]
 FIRST = ["lint.py"]
 TESTS = ["test_gate.py", "test_build.py", "test_try_rows.py", "test_try_edits.py", "test_prometheus.py"]
@@ -81,7 +83,7 @@ class Tried(Copy):
         os.rename(f"{self.top}/tools/try_edits.py", f"{self.top}/tools/try_edits_itself.py")
         self.write("bad_script", "none\n")
         self.write("bin/rt", RT.replace("FOLDER", folder))
-        for it in [*FIRST, *SCRIPTS, *TESTS]:
+        for it in [*FIRST, *(script.split()[0] for script in SCRIPTS), *TESTS]:
             self.write(f"top/tools/{it}", "#!/bin/sh\necho 1 passed, 0 failed\n" if it.startswith("test") else SCRIPT.replace("FOLDER", folder))
             os.chmod(f"{self.top}/tools/{it}", 0o755)
         self.write("top/tools/try_edits.py", EDITS.replace("FOLDER", folder))
@@ -110,7 +112,7 @@ def rows(folder: str) -> Iterator[tuple[bool, str]]:
     yield all(behind), f"scripts alone behind them: {order}"
     turns = [it for it in order if "try_edits" not in it]
     for lane in (FIRST, SCRIPTS[:2], SCRIPTS[2:-5], ALONE):
-        own = [it for it in turns if it.split()[1] in lane]
+        own = [it for it in turns if it.partition(" ")[2] in lane]
         yield own == [f"{what} {it}" for it in lane for what in ("begin", "end")], f"each script of a lane in turn: {order}"
     yield turns[-2 * len(ALONE)] == f"begin {ALONE[0]}", f"nothing beside those that run alone: {order}"
     with open(f"{copy.top}/out/gate/times", encoding="utf-8") as it:
@@ -152,7 +154,7 @@ def rows(folder: str) -> Iterator[tuple[bool, str]]:
     status, said, _ = copy.gate()
     yield (status, said[-1]) == (1, f"{counts - 1} passed, 1 failed"), f"an edit that is let through: {said[-8:]}"
     copy.edit("two", "first", "first_is_wrong")
-    for script in ("try_refusals.py", "try_together.py"):
+    for script in ("try_refusals.py", "run_tests.py -m alone"):
         copy.write("bad_script", f"{script}\n")
         status, said, _ = copy.gate()
         yield (status, said[-1]) == (1, f"{counts - 1} passed, 1 failed"), f"{script} fails: {said[-8:]}"
