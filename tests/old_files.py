@@ -4,7 +4,7 @@ import os
 import sqlite3
 from typing import Callable
 
-from shell import Room
+from shell import Room, Said
 
 OLD_INBOX = (
     "CREATE TABLE inbox (place INTEGER PRIMARY KEY, source TEXT NOT NULL, id TEXT NOT NULL, "
@@ -16,6 +16,18 @@ NEW_INBOX = OLD_INBOX.replace("inbox", "inbox2").replace("body TEXT NOT NULL", "
 def sqlite(file: str, *statements: str) -> Callable[[Room], object]:
     """A step by which another program writes to a file."""
     return lambda room: room.sqlite(file, *statements)
+
+
+def while_held(file: str, act: Callable[[Room], Said], *statements: str) -> Callable[[Room], Said]:
+    """What comes of an act while another program has a file open, in which it has said these statements."""
+
+    def acted(room: Room) -> Said:
+        with contextlib.closing(sqlite3.connect(room.at(file), isolation_level=None)) as base:
+            for it in statements:
+                base.execute(it)
+            return act(room)
+
+    return acted
 
 
 def copy_with(old: str, new: str, statement: str) -> Callable[[Room], object]:

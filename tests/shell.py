@@ -63,11 +63,11 @@ class Room:
         how = {"stdin": subprocess.DEVNULL, "stdout": subprocess.PIPE, "stderr": subprocess.PIPE, **how}
         return subprocess.Popen(words, cwd=self.folder, env=self.environment, pass_fds=[self.left], **how)
 
-    def run(self, typed: str) -> Said:
+    def run(self, typed: str, longest: float = LONGEST) -> Said:
         """Types a line, and waits for its end."""
         with self.start(typed, start_new_session=True) as ran:
             try:
-                out, err = ran.communicate(timeout=LONGEST)
+                out, err = ran.communicate(timeout=longest)
             except subprocess.TimeoutExpired:
                 os.killpg(ran.pid, signal.SIGKILL)
                 raise

@@ -3,16 +3,14 @@
 A refusal is typed twice: with standard error on a pipe, where one line is told, and on a terminal, where a hint stands behind
 it. What was made without a word for it is told in both.
 """
-import contextlib
 import json
 import os
-import sqlite3
-from typing import Callable, Iterator
+from typing import Iterator
 
 import pytest
 from events import AT, acknowledgement, batch, event, fault, lines, order_event, page
-from old_files import copy_with, sqlite
-from shell import Has, Hint, Room, Row, Said, Wanted, answers, finds, lacks, rejects, rows
+from old_files import copy_with, sqlite, while_held
+from shell import Has, Hint, Room, Row, Wanted, answers, finds, lacks, rejects, rows
 from terminal import TERMINAL, on_terminal
 
 HELP = "For more information, try '--help'."
@@ -253,23 +251,12 @@ test_databases = rows(
 )
 
 
-def while_busy(act: Callable[[Room], Said]) -> Callable[[Room], Said]:
-    """What comes of it while another program has busy.db to itself."""
-
-    def acted(room: Room) -> Said:
-        with contextlib.closing(sqlite3.connect(room.at("busy.db"), isolation_level=None)) as base:
-            base.execute("PRAGMA locking_mode = EXCLUSIVE")
-            base.execute("BEGIN EXCLUSIVE")
-            return act(room)
-
-    return acted
-
-
 def refused_while_busy(typed: str) -> Iterator[Row]:
-    """Rows of a refusal while another program has the database open, off a terminal and on one."""
-    yield Row(typed, while_busy(lambda room: room.run(f"site {typed}")), "", "site: busy.db: Store\n", 1)
-    hint = Hint("site: busy.db: Store\n", BUSY)
-    yield Row(f"{typed}, on a terminal", while_busy(on_terminal(f"site {typed}")), "", hint, 1, wants=(TERMINAL,))
+    """Rows of a refusal while another program has the database to itself, off a terminal and on one."""
+    line, alone = "site: busy.db: Store\n", ("PRAGMA locking_mode = EXCLUSIVE", "BEGIN EXCLUSIVE")
+    yield Row(typed, while_held("busy.db", lambda room: room.run(f"site {typed}"), *alone), "", line, 1)
+    act = while_held("busy.db", on_terminal(f"site {typed}"), *alone)
+    yield Row(f"{typed}, on a terminal", act, "", Hint(line, BUSY), 1, wants=(TERMINAL,))
 
 
 # A database that another program has open.
