@@ -9,9 +9,9 @@ which ('ensures' for a contract of one clause without a name), or another goal b
 and 'new: TEXT', a line each. It is applied to a copy of the crate, and that one function is checked with what it calls, over the
 libraries as they are built. Crates are tried side by side, all edits of a crate in one check: a proof rests on what a
 function calls by its contract alone, so the other functions get an empty loop for a body there, and aren't proved. The
-second edit of a function is made to a copy of it, under another name and with a copy of its folder of proofs. Of each
-function one copy more stays as it was, and each of its goals has to be met, or nothing is said of its edits. What such a
-check doesn't show refused at its clause is tried with all bodies, at last alone. An edit that proves is let through; one
+second edit of a function is made to a copy of it, under another name and with a copy of its folder of proofs. One copy more
+stays as it was, of each such function or, where there is none, of one; each of its goals has to be met, or nothing is said
+of the check. What such a check doesn't show refused at its clause is tried alone, with all bodies. An edit that proves is let through; one
 that doesn't read or compile, whose old line isn't there once, or that takes away a name that the proof uses, is an
 error; one that is refused at other clauses alone is told with those. Each of these fails, and so does a README.md
 beside the edits whose table doesn't name just these. The last line is 'N passed, M failed'.
@@ -257,8 +257,8 @@ def add_copy(room: str, only: str, path: str, name: str, body: str) -> None:
 
 def placed(room: str, edits: Sequence[Given], has_copies: bool, has_controls: bool) -> tuple[list[Placed], list[Given]]:
     """Makes edits in a copy of their crate, each further one of a function in a copy of it, as far as that goes. Where
-    controls are asked for, each edit's function has a copy too that stays as it was. Answers those that were made, and
-    those that are left."""
+    controls are asked for and no function has further edits, one of them has a copy too that stays as it was. Answers
+    those that were made, and those that are left."""
     bodies = {file: body_of(room, only, changes) for file, (only, _, changes) in edits}
     here: dict[str, Placed] = {}
     copies: list[Given] = []
@@ -266,9 +266,7 @@ def placed(room: str, edits: Sequence[Given], has_copies: bool, has_controls: bo
     taken: list[tuple[str, str]] = []
     for file, edit in sorted(edits, key=lambda it: bodies[it[0]] is not None):
         only, _, changes = edit
-        if has_controls and bodies[file] is None:
-            left.append((file, edit))
-        elif only in here:
+        if only in here:
             can_copy = has_copies and bodies[file] is not None
             (copies if can_copy else left).append((file, edit))
         elif any(path == at and (old in text or text in old) for path, *texts in changes for old in texts for at, text in taken):
@@ -289,8 +287,9 @@ def placed(room: str, edits: Sequence[Given], has_copies: bool, has_controls: bo
             add_copy(room, only, path, f"{own}_edit1", body)
         return controls[only]
 
-    for placed_here in here.values() if has_controls else ():
-        placed_here.control = control_of(placed_here.only, placed_here.changes[0][0], bodies[placed_here.file] or "")
+    if has_controls and not copies:
+        for first in [it for it in here.values() if bodies[it.file]][:1]:
+            first.control = control_of(first.only, first.changes[0][0], bodies[first.file] or "")
     for file, (only, clause, changes) in copies:
         path, body, own = changes[0][0], bodies[file] or "", only.split("::")[-1]
         it = Placed(file, (only, clause, changes), f"{own}_edit{len(made) + 2}")
@@ -418,12 +417,17 @@ def tried_of(crates: Crates, files: list[str], folders: dict[str, str]) -> list[
                 if asked_and_proved(status, lines) is None:
                     break
                 todo = left
+                controls = {it.control for it, _ in goals if it.control}
+                if is_hollow and not (controls and all(is_faithful(name, it, lines) for it in controls)):
+                    continue
                 for it, refused in goals:
                     well, text = judged(it.only, it.clause, refused)
                     if well and (not it.control or is_faithful(name, it.control, lines)):
                         found[it.file] = well, text, seconds / len(goals)
             else:
-                break
+                # Without bodies nothing may have been shown, for want of a copy, or as none of its goals was met.
+                if found or not is_hollow:
+                    break
         return [(file, *(found.get(file) or tried(crates, file, folders, kept))) for file in files]
 
 
