@@ -27,7 +27,7 @@ LIMITS = {
     "CHANGELOG.md": (None, 1500),  # grows by at most 30 lines a version
     "CONTRIBUTING.md": (None, 1700),  # what a walk by the prover doesn't name
     "SECURITY.md": (None, 500),
-    "docs/ARCHITECTURE.md": (105, 2000),  # a row a crate
+    "docs/ARCHITECTURE.md": (104, 2000),  # a row a crate
     "docs/DECISIONS.md": (None, 3500),
     "docs/DEVELOPMENT.md": (60, 1000),
     "docs/FORMATS.md": (None, 5500),  # every rule, line and fault that others implement against
@@ -39,6 +39,7 @@ LIMITS = {
     "crates/database_commands/README.md": (60, 1200),  # fourteen commands
     "crates/inbox_table/README.md": (60, 1050),  # what each call leaves at each exit
     "crates/site/README.md": (60, 1050),  # what all above stands on
+    "crates/site_c/README.md": (60, 1050),  # twenty exports
     "docs/SERVICE.md": (None, 1100),  # an interface, as others call it
     "docs/PRODUCERS.md": (300, 2400),  # a recipe for each kind of producer, with its faults
 }

@@ -5,29 +5,49 @@ ghost use Rattle.std.specs.Borrow.{full_share, sem};
 ghost use Rattle.std.specs.Mem.{type_size};
 ghost use Rattle.std.specs.Prelude.{◌≡◌};
 ghost use Rattle.std.specs.Ptr.{lies_at, room_at};
-ghost use Rattle.site_calls.specs.Calls.{Asked, Checked, HasRead, IsEmpty, Lacked, Paged, Summed, Took, Viewed};
-ghost use Rattle.site_calls.specs.FileSets.{ComparedFile, CopiedFile, FoundFile, NamedFile, PartLackedFile};
-ghost use Rattle.site_calls.specs.Files.{Answered, HasReadFile, LetsGo, OpenedFile, Told, TookFile};
-ghost use Rattle.site_calls.specs.Numbers.{HasReadNumbers, LetsGoNumbers, Numbered, OpenedNumbers};
-ghost use Rattle.site_calls.specs.Offers.{HasAnswer, KeptOffers, Offered};
-ghost use Rattle.site_calls.specs.Outboxes.{HasReadOutbox, LetsGoOutbox, OpenedOutbox, OrderedOutbox, ShownOutbox};
-ghost use Rattle.site_calls.specs.Sets.{Compared, Copied, Found, Named, PartLacked, Tested};
-ghost use Rattle.site_calls.specs.contracts.file_held.FileHeld.{the_row as file_row};
-ghost use Rattle.site_calls.specs.contracts.held.Held.{the_row};
-ghost use Rattle.site_calls.specs.contracts.numbers_held.NumbersHeld.{the_row as numbers_row};
-ghost use Rattle.site_calls.specs.contracts.outbox_held.OutboxHeld.{the_row as outbox_row};
+ghost use Rattle.site_c.specs.Calls.{Asked, Checked, HasRead, IsEmpty, Lacked, Paged, Summed, Took, Viewed};
+ghost use Rattle.site_c.specs.FileSets.{ComparedFile, CopiedFile, FoundFile, NamedFile, PartLackedFile};
+ghost use Rattle.site_c.specs.Files.{Answered, HasReadFile, LetsGo, OpenedFile, Told, TookFile};
+ghost use Rattle.site_c.specs.Numbers.{HasReadNumbers, LetsGoNumbers, Numbered, OpenedNumbers};
+ghost use Rattle.site_c.specs.Offers.{HasAnswer, KeptOffers, Offered};
+ghost use Rattle.site_c.specs.Outboxes.{HasReadOutbox, LetsGoOutbox, OpenedOutbox, OrderedOutbox, ShownOutbox};
+ghost use Rattle.site_c.specs.Sets.{Compared, Copied, Found, Named, PartLacked, Tested};
+ghost use Rattle.site_c.specs.contracts.file_held.FileHeld.{the_row as file_row};
+ghost use Rattle.site_c.specs.contracts.held.Held.{the_row};
+ghost use Rattle.site_c.specs.contracts.numbers_held.NumbersHeld.{the_row as numbers_row};
+ghost use Rattle.site_c.specs.contracts.outbox_held.OutboxHeld.{the_row as outbox_row};
 ghost use Rattle.durable_site.specs.contracts.file.GivenFiles.{the_row as given_row};
 ghost use base.Fml.{fsep};
 
+mod calls;
+mod file_calls;
+mod file_held;
+mod held;
+pub mod laws;
+mod number_calls;
+mod numbers_held;
+mod offers;
+mod outbox_calls;
+mod outbox_held;
+mod set_calls;
+
+pub use calls::{PIECE, Piece, Reply};
+use calls::{asked, checked, lacked, let_go, paged, read, summed, taken, viewed};
 use durable_site::GivenFiles;
-use site_calls::{
-    FileHeld, Head, Held, Lag, Name, NumbersHeld, Offers, OutboxHeld, OutboxReply, Piece, Reply,
-    answered, asked, checked, compared, copied_file, copied_site, file_compared, file_found,
-    file_let_go, file_named, file_opened, file_part_lacked, file_read, file_taken, found, lacked,
-    let_go, named, numbered, numbers_let_go, numbers_opened, numbers_read, offer_told, offered,
-    offers_kept, outbox_let_go, outbox_opened, outbox_ordered, outbox_read, outbox_shown, paged,
-    part_lacked, read, summed, taken, tested, told, viewed,
+use file_calls::{
+    answered, copied_file, file_compared, file_found, file_let_go, file_named, file_opened,
+    file_part_lacked, file_read, file_taken, offer_told, offered, offers_kept, told,
 };
+pub use file_held::FileHeld;
+pub use held::Held;
+use number_calls::{numbered, numbers_let_go, numbers_opened, numbers_read};
+pub use numbers_held::NumbersHeld;
+pub use offers::{Head, Offers};
+pub use outbox_calls::OutboxReply;
+use outbox_calls::{outbox_let_go, outbox_opened, outbox_ordered, outbox_read, outbox_shown};
+pub use outbox_held::OutboxHeld;
+pub use set_calls::{Lag, Name};
+use set_calls::{compared, copied_site, found, named, part_lacked, tested};
 use std::alloc::Global;
 
 /// How many bytes of room a site needs.

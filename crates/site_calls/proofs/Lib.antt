@@ -1,4 +1,0 @@
-mod Crossing
-mod OutboxLemmas
-mod PartLemmas
-mod NumberLemmas
