@@ -56,14 +56,18 @@ def run(room: Room, typed: str) -> Said:
 
 
 def begin(room: Room, typed: str, **how: int) -> "subprocess.Popen[bytes]":
-    """Starts a line whose program is about to begin, where `typed` waits for nothing else."""
+    """Starts a line, and answers once it is about to be run."""
     ran = room.start(f"echo; {typed}", **how)
     assert ran.stdout and ran.stdout.read(1) == b"\n"
     return ran
 
 
 def end(ran: "subprocess.Popen[bytes]") -> Said:
-    out, err = ran.communicate(timeout=PATIENCE)
+    try:
+        out, err = ran.communicate(timeout=PATIENCE)
+    except subprocess.TimeoutExpired:
+        ran.kill()
+        raise
     return Said(ran.returncode, text_of(out), text_of(err))
 
 
@@ -286,9 +290,8 @@ def reading(stage: Stage) -> Reading:
     room.put({"many.json": batch(*MANY)})
     assert run(room, "site take --db read.db t0.json") == TAKEN
     was, before, beside, until = run(room, "site scrub --db read.db"), read(room), [], time.monotonic() + PATIENCE
-    with begin(room, "exec site take --db read.db many.json") as ran:
-        # It has the file by then, mostly.
-        time.sleep(0.03)
+    # A reader that has the file when the writer comes is in its way, as a writer would be.
+    with begin(room, f"exec site take --db read.db --wait {PATIENCE} many.json") as ran:
         while ran.poll() is None and time.monotonic() < until:
             beside.append(read(room))
             time.sleep(0.005)
@@ -296,9 +299,8 @@ def reading(stage: Stage) -> Reading:
     return Reading(room, before, beside, read(room), writer, was, run(room, "site scrub --db read.db"))
 
 
-def test_take_beside_readers_is_done_or_the_file_was_busy(reading: Reading) -> None:
-    """A reader that has the file when the writer comes is in its way, as a writer would be."""
-    assert reading.writer in (MANY_TAKEN, busy("read.db"))
+def test_take_beside_readers_that_waits_is_done(reading: Reading) -> None:
+    assert reading.writer == MANY_TAKEN
 
 
 def test_readers_see_all_of_before_or_all(reading: Reading) -> None:
@@ -350,9 +352,9 @@ def killed(stage: Stage) -> Killed:
     room.run("site service --db killed.db")
 
     def once(typed: str) -> Said:
-        """Places an order, or is killed at a moment within the usual time."""
-        with begin(room, f"exec {typed}") as ran:
-            time.sleep(CHANCE.uniform(0, 0.015))
+        """Places an order, or is killed while it waits for the file, or has it."""
+        with begin(room, f"exec {typed} --wait {PATIENCE}") as ran:
+            time.sleep(CHANCE.uniform(0, 0.4))
             ran.kill()
             return end(ran)
 
@@ -363,7 +365,7 @@ def killed(stage: Stage) -> Killed:
 
 
 def test_killed_processes_tell_nothing_else(killed: Killed) -> None:
-    assert [it for it in killed.told if it.status not in (0, -signal.SIGKILL) and it != busy("killed.db")] == []
+    assert [it for it in killed.told if it.status not in (0, -signal.SIGKILL)] == []
 
 
 def test_what_killed_processes_told_is_there(killed: Killed) -> None:
