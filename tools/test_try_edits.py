@@ -335,7 +335,11 @@ def told_of_bad(folder: str) -> Iterator[tuple[bool, str]]:
     copy = Copy(f"{folder}/faithless")
     copy.write("asked.faithless", "")
     status, said, checks = copy.run()
-    yield (status, said[-1], checks[1:]) == (0, ALL_TRIED[1], ["first second first_edit2 first_edit1", "first"]), f"wrong: a copy that isn't faithful: {said} {checks}"
+    yield (status, said[-1], checks[1:]) == (
+        0,
+        ALL_TRIED[1],
+        ["first second first_edit2 first_edit1", "first"],
+    ), f"wrong: a copy that isn't faithful: {said} {checks}"
     copy = Copy(f"{folder}/calling")
     copy.write("asked.calls", "")
     status, said, checks = copy.run()
