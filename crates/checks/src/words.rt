@@ -35,8 +35,10 @@ enum Wanted<'a> {
     Follow(&'a str),
     /// The service with the source `/orders`, whether the words name it, and the base.
     Service(bool, Option<u64>),
-    /// The check of these files, or of their lines.
-    Check(&'a [&'a str], bool),
+    /// These files, or their lines, side by side into the database.
+    Run(&'a [&'a str], bool),
+    /// The check of these files, or of their lines, and whether it is one for `number`.
+    Check(&'a [&'a str], bool, bool),
     /// The numbers of the lines of this file, set aside under that name, if one is named, and the
     /// base.
     Number(&'a str, &'a str, u64),
@@ -119,8 +121,17 @@ fn is_plan(plan: &Plan, wanted: Wanted<'_>) -> bool {
         (Plan::Alone(Alone::Follow(lines)), Wanted::Follow(file)) => {
             lines.db.as_str() == "d" && lines.file.as_str() == file
         }
-        (Plan::Alone(Alone::Check(check)), Wanted::Check(names, by_line)) => {
-            check.db.is_none() && are(check.files.as_slice(), names) && check.has_lines == by_line
+        (Plan::Run(run), Wanted::Run(names, by_line)) => {
+            run.db.as_str() == "d"
+                && run.peer.is_none()
+                && are(run.files.as_slice(), names)
+                && run.has_lines == by_line
+        }
+        (Plan::Alone(Alone::Check(check)), Wanted::Check(names, by_line, for_number)) => {
+            check.db.is_none()
+                && are(check.files.as_slice(), names)
+                && check.has_lines == by_line
+                && check.is_for_number == for_number
         }
         (Plan::Alone(Alone::Number(lines)), Wanted::Number(file, aside, base)) => {
             lines.db.as_str() == "d"
@@ -155,7 +166,7 @@ fn asks(alloc: Global, words: &[&str], wanted: Wanted<'_>, wait: u64) -> bool {
 }
 
 /// Words, and what they come to.
-static WORDS: [(&[&str], Wanted<'static>); 30] = [
+static WORDS: [(&[&str], Wanted<'static>); 33] = [
     (
         &["shown", "f", "-", "--", "-g"],
         Wanted::Ask(Query::Shown, "", &["f", "-", "-g"], false),
@@ -179,9 +190,20 @@ static WORDS: [(&[&str], Wanted<'static>); 30] = [
         Wanted::Take(&["f", "g"], true),
     ),
     (&["take", "f", "--db", "d"], Wanted::Take(&["f"], false)),
-    (&["check", "--lines", "-"], Wanted::Check(&["-"], true)),
+    (
+        &["check", "--lines", "-"],
+        Wanted::Check(&["-"], true, false),
+    ),
     (&["kinds", "--lines"], Wanted::Fault),
-    (&["run", "--db", "d", "--lines", "f"], Wanted::Fault),
+    (
+        &["run", "--db", "d", "--lines", "f"],
+        Wanted::Run(&["f"], true),
+    ),
+    (
+        &["run", "f", "g", "--db", "d"],
+        Wanted::Run(&["f", "g"], false),
+    ),
+    (&["summary", "--db", "d", "--lines"], Wanted::Fault),
     // One page or all.
     (&["scrub", "--db", "d"], Wanted::Scrub(Pages::Behind(0))),
     (
@@ -227,8 +249,12 @@ static WORDS: [(&[&str], Wanted<'static>); 30] = [
         Wanted::Number("f", "seq", 7),
     ),
     (&["number", "--db", "d", "--base", "-1"], Wanted::Fault),
-    (&["check", "f", "--numbers"], Wanted::Fault),
-    (&["check", "f"], Wanted::Check(&["f"], false)),
+    (
+        &["check", "f", "--numbers"],
+        Wanted::Check(&["f"], false, true),
+    ),
+    (&["take", "--db", "d", "f", "--numbers"], Wanted::Fault),
+    (&["check", "f"], Wanted::Check(&["f"], false, false)),
 ];
 
 /// Seconds as a word, of which there are as many; none is allowed where it is 0.
