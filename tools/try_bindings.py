@@ -270,20 +270,20 @@ def try_proved_statuses(tries: Tries, statuses: dict[str, int]) -> None:
     constants = [
         it
         for file in ("calls", "file_calls", "number_calls", "offers", "outbox_calls")
-        for it in re.findall(r"const ([A-Z_]+): u32 = (\d+);", read(f"site_c/src/{file}.rt"))
+        for it in re.findall(r"const ([A-Z_]+): u32 = (\d+);", read(f"library_calls/src/{file}.rt"))
     ]
     judge("the code's constants", constants, 14)
-    judge("the code's opening and table", re.findall(r"(?:Open|Table)Fault::(\w+) => (\d+),", read("site_c/src/file_calls.rt")), 7)
-    judge("the code's outbox", re.findall(r"OutboxFault::(\w+) => (\d+),", read("site_c/src/outbox_calls.rt")), 6)
-    judge("the code's numbers", re.findall(r"NumbererFault::(\w+).* => (\d+),", read("site_c/src/number_calls.rt")), 3)
-    summary = [(f"Summary{name}", number) for name, number in re.findall(r"SummaryFault::(\w+) => (\d+),", read("site_c/src/calls.rt"))]
+    judge("the code's opening and table", re.findall(r"(?:Open|Table)Fault::(\w+) => (\d+),", read("library_calls/src/file_calls.rt")), 7)
+    judge("the code's outbox", re.findall(r"OutboxFault::(\w+) => (\d+),", read("library_calls/src/outbox_calls.rt")), 6)
+    judge("the code's numbers", re.findall(r"NumbererFault::(\w+).* => (\d+),", read("library_calls/src/number_calls.rt")), 3)
+    summary = [(f"Summary{name}", number) for name, number in re.findall(r"SummaryFault::(\w+) => (\d+),", read("library_calls/src/calls.rt"))]
     judge("the code's summaries", summary, 4)
     definitions: list[tuple[str, str, str, dict[str, str]]] = [
-        ("opening", "site_c/specs/Files", "open_status opening", {}),
-        ("table", "site_c/specs/Files", "table_status table", {}),
-        ("outbox", "site_c/specs/Outboxes", "outbox_status outbox", {}),
-        ("numbers", "site_c/specs/Numbers", "number_status fault", {}),
-        ("summaries", "site_c/specs/Calls", "summary_status summary", {"OutOfMemory": "OutOfMemory"}),
+        ("opening", "library_calls/specs/Files", "open_status opening", {}),
+        ("table", "library_calls/specs/Files", "table_status table", {}),
+        ("outbox", "library_calls/specs/Outboxes", "outbox_status outbox", {}),
+        ("numbers", "library_calls/specs/Numbers", "number_status fault", {}),
+        ("summaries", "library_calls/specs/Calls", "summary_status summary", {"OutOfMemory": "OutOfMemory"}),
         ("reports", "file_reports/specs/Numbers", "fault_number fault", {"Read": "NoEvents", "Event": "NoNumber"}),
     ]
     for what, file, word, names in definitions:

@@ -39,7 +39,6 @@ LIMITS = {
     "crates/database_commands/README.md": (60, 1200),  # fourteen commands
     "crates/inbox_table/README.md": (60, 1050),  # what each call leaves at each exit
     "crates/site/README.md": (60, 1050),  # what all above stands on
-    "crates/site_c/README.md": (60, 1050),  # twenty exports
     "docs/SERVICE.md": (None, 1100),  # an interface, as others call it
     "docs/PRODUCERS.md": (300, 2400),  # a recipe for each kind of producer, with its faults
 }

@@ -5,49 +5,26 @@ ghost use Rattle.std.specs.Borrow.{full_share, sem};
 ghost use Rattle.std.specs.Mem.{type_size};
 ghost use Rattle.std.specs.Prelude.{◌≡◌};
 ghost use Rattle.std.specs.Ptr.{lies_at, room_at};
-ghost use Rattle.site_c.specs.Calls.{Asked, Checked, HasRead, IsEmpty, Lacked, Paged, Summed, Took, Viewed};
-ghost use Rattle.site_c.specs.FileSets.{ComparedFile, CopiedFile, FoundFile, NamedFile, PartLackedFile};
-ghost use Rattle.site_c.specs.Files.{Answered, HasReadFile, LetsGo, OpenedFile, Told, TookFile};
-ghost use Rattle.site_c.specs.Numbers.{HasReadNumbers, LetsGoNumbers, Numbered, OpenedNumbers};
-ghost use Rattle.site_c.specs.Offers.{HasAnswer, KeptOffers, Offered};
-ghost use Rattle.site_c.specs.Outboxes.{HasReadOutbox, LetsGoOutbox, OpenedOutbox, OrderedOutbox, ShownOutbox};
-ghost use Rattle.site_c.specs.Sets.{Compared, Copied, Found, Named, PartLacked, Tested};
-ghost use Rattle.site_c.specs.contracts.file_held.FileHeld.{the_row as file_row};
-ghost use Rattle.site_c.specs.contracts.held.Held.{the_row};
-ghost use Rattle.site_c.specs.contracts.numbers_held.NumbersHeld.{the_row as numbers_row};
-ghost use Rattle.site_c.specs.contracts.outbox_held.OutboxHeld.{the_row as outbox_row};
+ghost use Rattle.library_calls.specs.Calls.{Asked, Checked, HasRead, IsEmpty, Lacked, Paged, Summed, Took, Viewed};
+ghost use Rattle.library_calls.specs.FileSets.{ComparedFile, CopiedFile, FoundFile, NamedFile, PartLackedFile};
+ghost use Rattle.library_calls.specs.Files.{Answered, HasReadFile, LetsGo, OpenedFile, Told, TookFile};
+ghost use Rattle.library_calls.specs.Numbers.{HasReadNumbers, LetsGoNumbers, Numbered, OpenedNumbers};
+ghost use Rattle.library_calls.specs.Offers.{HasAnswer, KeptOffers, Offered};
+ghost use Rattle.library_calls.specs.Outboxes.{HasReadOutbox, LetsGoOutbox, OpenedOutbox, OrderedOutbox, ShownOutbox};
+ghost use Rattle.library_calls.specs.Sets.{Compared, Copied, Found, Named, PartLacked, Tested};
+ghost use Rattle.library_calls.specs.contracts.file_held.FileHeld.{the_row as file_row};
+ghost use Rattle.library_calls.specs.contracts.held.Held.{the_row};
+ghost use Rattle.library_calls.specs.contracts.numbers_held.NumbersHeld.{the_row as numbers_row};
+ghost use Rattle.library_calls.specs.contracts.outbox_held.OutboxHeld.{the_row as outbox_row};
 ghost use Rattle.durable_site.specs.contracts.file.GivenFiles.{the_row as given_row};
 ghost use base.Fml.{fsep};
 
 mod calls;
-mod file_calls;
-mod file_held;
-mod held;
-pub mod laws;
-mod number_calls;
-mod numbers_held;
-mod offers;
-mod outbox_calls;
-mod outbox_held;
-mod set_calls;
 
-pub use calls::{PIECE, Piece, Reply};
-use calls::{asked, checked, lacked, let_go, paged, read, summed, taken, viewed};
 use durable_site::GivenFiles;
-use file_calls::{
-    answered, copied_file, file_compared, file_found, file_let_go, file_named, file_opened,
-    file_part_lacked, file_read, file_taken, offer_told, offered, offers_kept, told,
+use library_calls::{
+    FileHeld, Held, Lag, Name, NumbersHeld, OutboxHeld, OutboxReply, Piece, Reply, bytes_test,
 };
-pub use file_held::FileHeld;
-pub use held::Held;
-use number_calls::{numbered, numbers_let_go, numbers_opened, numbers_read};
-pub use numbers_held::NumbersHeld;
-pub use offers::{Head, Offers};
-pub use outbox_calls::OutboxReply;
-use outbox_calls::{outbox_let_go, outbox_opened, outbox_ordered, outbox_read, outbox_shown};
-pub use outbox_held::OutboxHeld;
-pub use set_calls::{Lag, Name};
-use set_calls::{compared, copied_site, found, named, part_lacked, tested};
 use std::alloc::Global;
 
 /// How many bytes of room a site needs.
@@ -64,7 +41,7 @@ pub unsafe extern "C" fn jumbetai_site_open(alloc: Global, at: *mut u8)
     requires* { sem 𝓛 (room_at the_row at) }
     ensures* { ∃ₛ λ made. sem 𝓛 (lies_at the_row full_share at made) ∗ ⌜ IsEmpty made ⌝ }
 {
-    std::ptr::write(at as *mut Held, Held::empty(alloc));
+    std::ptr::write(at as *mut Held, calls::site_open(alloc));
 }
 
 /// Takes the events that the bytes spell, one event or a batch.
@@ -76,7 +53,7 @@ pub unsafe extern "C" fn jumbetai_site_take(at: *mut u8, bytes: &[u8], reply: &m
         ∗ ⌜ Took bytes.now held kept reply.new ⌝ }
 {
     let to = at as *mut Held;
-    std::ptr::write(to, taken(std::ptr::read(to), bytes, reply));
+    std::ptr::write(to, calls::site_take(std::ptr::read(to), bytes, reply));
 }
 
 /// Asks a question about the site's events; the text of the answer stays in the site until it is
@@ -89,7 +66,7 @@ pub unsafe extern "C" fn jumbetai_site_ask(at: *mut u8, query: u32, reply: &mut 
         ∗ ⌜ Asked query held kept reply.new ⌝ }
 {
     let to = at as *mut Held;
-    std::ptr::write(to, asked(std::ptr::read(to), query, reply));
+    std::ptr::write(to, calls::site_ask(std::ptr::read(to), query, reply));
 }
 
 /// Asks for the summary that digests the site's events; its text stays in the site as an answer's
@@ -102,7 +79,7 @@ pub unsafe extern "C" fn jumbetai_site_summary(at: *mut u8, reply: &mut Reply)
         ∗ ⌜ Summed held kept reply.new ⌝ }
 {
     let to = at as *mut Held;
-    std::ptr::write(to, summed(std::ptr::read(to), reply));
+    std::ptr::write(to, calls::site_summary(std::ptr::read(to), reply));
 }
 
 /// Asks for the events that a peer lacks by its summary, from a place on, at most 100, as a batch;
@@ -115,7 +92,7 @@ pub unsafe extern "C" fn jumbetai_site_delta(at: *mut u8, peer: &[u8], from: u64
         ∗ ⌜ Lacked peer.now from held kept reply.new ⌝ }
 {
     let to = at as *mut Held;
-    std::ptr::write(to, lacked(std::ptr::read(to), peer, from, reply));
+    std::ptr::write(to, calls::site_delta(std::ptr::read(to), peer, from, reply));
 }
 
 /// Asks for the events at the places from `from` on in key order, at most 100, as a batch; its text
@@ -128,7 +105,7 @@ pub unsafe extern "C" fn jumbetai_site_page(at: *mut u8, from: u64, reply: &mut 
         ∗ ⌜ Paged from held kept reply.new ⌝ }
 {
     let to = at as *mut Held;
-    std::ptr::write(to, paged(std::ptr::read(to), from, reply));
+    std::ptr::write(to, calls::site_page(std::ptr::read(to), from, reply));
 }
 
 /// Tells what is wrong with bytes that `jumbetai_site_take` refuses, a line for each event at
@@ -141,7 +118,7 @@ pub unsafe extern "C" fn jumbetai_site_check(at: *mut u8, bytes: &[u8], reply: &
         ∗ ⌜ Checked bytes.now held kept reply.new ⌝ }
 {
     let to = at as *mut Held;
-    std::ptr::write(to, checked(std::ptr::read(to), bytes, reply));
+    std::ptr::write(to, calls::site_check(std::ptr::read(to), bytes, reply));
 }
 
 /// Has the site keep views from now on, by 16 random bytes that nobody else knows: questions about
@@ -154,7 +131,7 @@ pub unsafe extern "C" fn jumbetai_site_keep_views(at: *mut u8, seed: &[u8], repl
         ∗ ⌜ Viewed held kept reply.new ⌝ }
 {
     let to = at as *mut Held;
-    std::ptr::write(to, viewed(std::ptr::read(to), seed, reply));
+    std::ptr::write(to, calls::site_keep_views(std::ptr::read(to), seed, reply));
 }
 
 /// Tells what is asked of the site by a number, as `jumbetai_file_tell` does.
@@ -172,7 +149,7 @@ pub unsafe extern "C" fn jumbetai_site_tell(
         ∗ ⌜ Answered what bytes.now from held kept reply.new ⌝ }
 {
     let to = at as *mut Held;
-    std::ptr::write(to, answered(std::ptr::read(to), what, bytes, from, reply));
+    std::ptr::write(to, calls::site_tell(std::ptr::read(to), what, bytes, from, reply));
 }
 
 /// Asks for the part from a place on of what a peer lacks by its summary, as a batch: at most so
@@ -196,7 +173,7 @@ pub unsafe extern "C" fn jumbetai_site_part(
     let to = at as *mut Held;
     std::ptr::write(
         to,
-        part_lacked(std::ptr::read(to), peer, from, most, size, reply),
+        calls::site_part(std::ptr::read(to), peer, from, most, size, reply),
     );
 }
 
@@ -210,7 +187,7 @@ pub unsafe extern "C" fn jumbetai_site_get(at: *mut u8, source: &[u8], id: &[u8]
         ∗ ⌜ Found source.now id.now held kept reply.new ⌝ }
 {
     let to = at as *mut Held;
-    std::ptr::write(to, found(std::ptr::read(to), source, id, reply));
+    std::ptr::write(to, calls::site_get(std::ptr::read(to), source, id, reply));
 }
 
 /// Tells the name of the site's set, by which two sites are the same.
@@ -222,7 +199,7 @@ pub unsafe extern "C" fn jumbetai_site_name(at: *mut u8, name: &mut Name)
         ∗ ⌜ Named held kept name.old name.new ⌝ }
 {
     let to = at as *mut Held;
-    std::ptr::write(to, named(std::ptr::read(to), name));
+    std::ptr::write(to, calls::site_name(std::ptr::read(to), name));
 }
 
 /// Tells how far the site and a peer are apart, by its summary.
@@ -234,7 +211,7 @@ pub unsafe extern "C" fn jumbetai_site_compare(at: *mut u8, peer: &[u8], lag: &m
         ∗ ⌜ Compared peer.now held kept lag.new ⌝ }
 {
     let to = at as *mut Held;
-    std::ptr::write(to, compared(std::ptr::read(to), peer, lag));
+    std::ptr::write(to, calls::site_compare(std::ptr::read(to), peer, lag));
 }
 
 /// Makes a copy of the site in another room; one without events where memory runs out.
@@ -245,7 +222,7 @@ pub unsafe extern "C" fn jumbetai_site_copy(at: *mut u8, to: *mut u8)
     ensures* { ∃ₛ λ kept. ∃ₛ λ copy. sem 𝓛 (fsep (lies_at the_row full_share at kept)
         (lies_at the_row full_share to copy)) ∗ ⌜ Copied held kept copy ⌝ }
 {
-    let copy = copied_site(&mut *(at as *mut Held));
+    let copy = calls::site_copy(&mut *(at as *mut Held));
     std::ptr::write(to as *mut Held, copy);
 }
 
@@ -254,7 +231,7 @@ pub unsafe extern "C" fn jumbetai_site_copy(at: *mut u8, to: *mut u8)
 pub extern "C" fn jumbetai_bytes_test(alloc: Global, bytes: &[u8], reply: &mut Reply)
     ensures { Tested bytes.now reply.new }
 {
-    tested(alloc, bytes, reply);
+    bytes_test(alloc, bytes, reply);
 }
 
 /// Copies a piece of the answer's text, counted from 0.
@@ -266,7 +243,7 @@ pub unsafe extern "C" fn jumbetai_site_read(at: *mut u8, piece: u32, out: &mut P
         ∗ ⌜ HasRead piece held kept out.old out.new ⌝ }
 {
     let to = at as *mut Held;
-    std::ptr::write(to, read(std::ptr::read(to), piece, out));
+    std::ptr::write(to, calls::site_read(std::ptr::read(to), piece, out));
 }
 
 /// Gives the site's memory back; its room is room again.
@@ -276,7 +253,7 @@ pub unsafe extern "C" fn jumbetai_site_close(at: *mut u8)
     requires* { sem 𝓛 (lies_at the_row full_share at held) }
     ensures* { sem 𝓛 (room_at the_row at) }
 {
-    let_go(std::ptr::read(at as *mut Held));
+    calls::site_close(std::ptr::read(at as *mut Held));
 }
 
 /// How many bytes of room a site over a file needs.
@@ -302,7 +279,7 @@ pub unsafe extern "C" fn jumbetai_file_open(
         (room_at given_row given)) ∗ ⌜ OpenedFile made reply.new ⌝ }
 {
     let files = std::ptr::read(given as *mut GivenFiles);
-    std::ptr::write(at as *mut FileHeld, file_opened(alloc, files, reply));
+    std::ptr::write(at as *mut FileHeld, calls::file_open(alloc, files, reply));
 }
 
 /// Takes the events that the bytes spell, one event or a batch: they are kept in the file and
@@ -315,7 +292,7 @@ pub unsafe extern "C" fn jumbetai_file_take(at: *mut u8, bytes: &[u8], reply: &m
         ∗ ⌜ TookFile bytes.now held kept reply.new ⌝ }
 {
     let to = at as *mut FileHeld;
-    std::ptr::write(to, file_taken(std::ptr::read(to), bytes, reply));
+    std::ptr::write(to, calls::file_take(std::ptr::read(to), bytes, reply));
 }
 
 /// Tells what is asked of the site by a number: 1 to 7 a question, 8 the summary, 9 what the peer
@@ -336,7 +313,7 @@ pub unsafe extern "C" fn jumbetai_file_tell(
         ∗ ⌜ Told what bytes.now from held kept reply.new ⌝ }
 {
     let to = at as *mut FileHeld;
-    std::ptr::write(to, told(std::ptr::read(to), what, bytes, from, reply));
+    std::ptr::write(to, calls::file_tell(std::ptr::read(to), what, bytes, from, reply));
 }
 
 /// Asks for a part of what a peer lacks, as `jumbetai_site_part` does.
@@ -357,7 +334,7 @@ pub unsafe extern "C" fn jumbetai_file_part(
     let to = at as *mut FileHeld;
     std::ptr::write(
         to,
-        file_part_lacked(std::ptr::read(to), peer, from, most, size, reply),
+        calls::file_part(std::ptr::read(to), peer, from, most, size, reply),
     );
 }
 
@@ -370,7 +347,7 @@ pub unsafe extern "C" fn jumbetai_file_get(at: *mut u8, source: &[u8], id: &[u8]
         ∗ ⌜ FoundFile source.now id.now held kept reply.new ⌝ }
 {
     let to = at as *mut FileHeld;
-    std::ptr::write(to, file_found(std::ptr::read(to), source, id, reply));
+    std::ptr::write(to, calls::file_get(std::ptr::read(to), source, id, reply));
 }
 
 /// Tells the name of the site's set, as `jumbetai_site_name` does.
@@ -382,7 +359,7 @@ pub unsafe extern "C" fn jumbetai_file_name(at: *mut u8, name: &mut Name)
         ∗ ⌜ NamedFile held kept name.old name.new ⌝ }
 {
     let to = at as *mut FileHeld;
-    std::ptr::write(to, file_named(std::ptr::read(to), name));
+    std::ptr::write(to, calls::file_name(std::ptr::read(to), name));
 }
 
 /// Tells how far the site and a peer are apart, as `jumbetai_site_compare` does.
@@ -394,7 +371,7 @@ pub unsafe extern "C" fn jumbetai_file_compare(at: *mut u8, peer: &[u8], lag: &m
         ∗ ⌜ ComparedFile peer.now held kept lag.new ⌝ }
 {
     let to = at as *mut FileHeld;
-    std::ptr::write(to, file_compared(std::ptr::read(to), peer, lag));
+    std::ptr::write(to, calls::file_compare(std::ptr::read(to), peer, lag));
 }
 
 /// Makes a copy of the site in a room for one in memory, as `jumbetai_site_copy` does.
@@ -405,7 +382,7 @@ pub unsafe extern "C" fn jumbetai_file_copy(at: *mut u8, to: *mut u8)
     ensures* { ∃ₛ λ kept. ∃ₛ λ copy. sem 𝓛 (fsep (lies_at file_row full_share at kept)
         (lies_at the_row full_share to copy)) ∗ ⌜ CopiedFile held kept copy ⌝ }
 {
-    let copy = copied_file(&mut *(at as *mut FileHeld));
+    let copy = calls::file_copy(&mut *(at as *mut FileHeld));
     std::ptr::write(to as *mut Held, copy);
 }
 
@@ -419,7 +396,7 @@ pub unsafe extern "C" fn jumbetai_file_offer(at: *mut u8, bytes: &[u8], reply: &
         ∗ ⌜ Offered bytes.now held kept reply.new ⌝ }
 {
     let to = at as *mut FileHeld;
-    std::ptr::write(to, offered(std::ptr::read(to), bytes, reply));
+    std::ptr::write(to, calls::file_offer(std::ptr::read(to), bytes, reply));
 }
 
 /// Keeps the bodies that were offered, one behind the other, in one transaction that is synced.
@@ -431,7 +408,7 @@ pub unsafe extern "C" fn jumbetai_file_keep(at: *mut u8, reply: &mut Reply)
         ∗ ⌜ KeptOffers held kept reply.new ⌝ }
 {
     let to = at as *mut FileHeld;
-    std::ptr::write(to, offers_kept(std::ptr::read(to), reply));
+    std::ptr::write(to, calls::file_keep(std::ptr::read(to), reply));
 }
 
 /// Tells what became of the body at a place of those that were kept.
@@ -443,7 +420,7 @@ pub unsafe extern "C" fn jumbetai_file_answer(at: *mut u8, place: u64, reply: &m
         ∗ ⌜ HasAnswer place held kept reply.new ⌝ }
 {
     let to = at as *mut FileHeld;
-    std::ptr::write(to, offer_told(std::ptr::read(to), place, reply));
+    std::ptr::write(to, calls::file_answer(std::ptr::read(to), place, reply));
 }
 
 /// Copies a piece of the text, counted from 0.
@@ -455,7 +432,7 @@ pub unsafe extern "C" fn jumbetai_file_read(at: *mut u8, piece: u32, out: &mut P
         ∗ ⌜ HasReadFile piece held kept out.old out.new ⌝ }
 {
     let to = at as *mut FileHeld;
-    std::ptr::write(to, file_read(std::ptr::read(to), piece, out));
+    std::ptr::write(to, calls::file_read(std::ptr::read(to), piece, out));
 }
 
 /// Copies the log into the database file, closes both and gives the site's memory back; its room is
@@ -466,7 +443,7 @@ pub unsafe extern "C" fn jumbetai_file_close(at: *mut u8)
     requires* { sem 𝓛 (lies_at file_row full_share at held) }
     ensures* { sem 𝓛 (room_at file_row at) ∗ ⌜ LetsGo held ⌝ }
 {
-    file_let_go(std::ptr::read(at as *mut FileHeld));
+    calls::file_close(std::ptr::read(at as *mut FileHeld));
 }
 
 /// How many bytes of room an outbox over a file needs.
@@ -500,7 +477,7 @@ pub unsafe extern "C" fn jumbetai_outbox_open(
     let files = std::ptr::read(given as *mut GivenFiles);
     std::ptr::write(
         at as *mut OutboxHeld,
-        outbox_opened(alloc, files, has_source, source, base, reply),
+        calls::outbox_open(alloc, files, has_source, source, base, reply),
     );
 }
 
@@ -523,7 +500,7 @@ pub unsafe extern "C" fn jumbetai_outbox_order(
     let to = at as *mut OutboxHeld;
     std::ptr::write(
         to,
-        outbox_ordered(std::ptr::read(to), action, order, time, reply),
+        calls::outbox_order(std::ptr::read(to), action, order, time, reply),
     );
 }
 
@@ -537,7 +514,7 @@ pub unsafe extern "C" fn jumbetai_outbox_rows(at: *mut u8, after: u64, reply: &m
         ∗ ⌜ ShownOutbox after held kept reply.new ⌝ }
 {
     let to = at as *mut OutboxHeld;
-    std::ptr::write(to, outbox_shown(std::ptr::read(to), after, reply));
+    std::ptr::write(to, calls::outbox_rows(std::ptr::read(to), after, reply));
 }
 
 /// Copies a piece of the text, counted from 0.
@@ -549,7 +526,7 @@ pub unsafe extern "C" fn jumbetai_outbox_read(at: *mut u8, piece: u32, out: &mut
         ∗ ⌜ HasReadOutbox piece held kept out.old out.new ⌝ }
 {
     let to = at as *mut OutboxHeld;
-    std::ptr::write(to, outbox_read(std::ptr::read(to), piece, out));
+    std::ptr::write(to, calls::outbox_read(std::ptr::read(to), piece, out));
 }
 
 /// Copies the log into the database file, closes both and gives the outbox's memory back; its room
@@ -560,7 +537,7 @@ pub unsafe extern "C" fn jumbetai_outbox_close(at: *mut u8)
     requires* { sem 𝓛 (lies_at outbox_row full_share at held) }
     ensures* { sem 𝓛 (room_at outbox_row at) ∗ ⌜ LetsGoOutbox held ⌝ }
 {
-    outbox_let_go(std::ptr::read(at as *mut OutboxHeld));
+    calls::outbox_close(std::ptr::read(at as *mut OutboxHeld));
 }
 
 /// How many bytes of room a numberer over a file needs.
@@ -590,7 +567,7 @@ pub unsafe extern "C" fn jumbetai_numbers_open(
     let files = std::ptr::read(given as *mut GivenFiles);
     std::ptr::write(
         at as *mut NumbersHeld,
-        numbers_opened(alloc, files, base, reply),
+        calls::numbers_open(alloc, files, base, reply),
     );
 }
 
@@ -605,7 +582,7 @@ pub unsafe extern "C" fn jumbetai_numbers_number(at: *mut u8, bytes: &[u8], repl
         ∗ ⌜ Numbered bytes.now held kept reply.new ⌝ }
 {
     let to = at as *mut NumbersHeld;
-    std::ptr::write(to, numbered(std::ptr::read(to), bytes, reply));
+    std::ptr::write(to, calls::numbers_number(std::ptr::read(to), bytes, reply));
 }
 
 /// Copies a piece of the text, counted from 0.
@@ -617,7 +594,7 @@ pub unsafe extern "C" fn jumbetai_numbers_read(at: *mut u8, piece: u32, out: &mu
         ∗ ⌜ HasReadNumbers piece held kept out.old out.new ⌝ }
 {
     let to = at as *mut NumbersHeld;
-    std::ptr::write(to, numbers_read(std::ptr::read(to), piece, out));
+    std::ptr::write(to, calls::numbers_read(std::ptr::read(to), piece, out));
 }
 
 /// Copies the log into the database file, closes both and gives the numberer's memory back; its
@@ -628,5 +605,5 @@ pub unsafe extern "C" fn jumbetai_numbers_close(at: *mut u8)
     requires* { sem 𝓛 (lies_at numbers_row full_share at held) }
     ensures* { sem 𝓛 (room_at numbers_row at) ∗ ⌜ LetsGoNumbers held ⌝ }
 {
-    numbers_let_go(std::ptr::read(at as *mut NumbersHeld));
+    calls::numbers_close(std::ptr::read(at as *mut NumbersHeld));
 }

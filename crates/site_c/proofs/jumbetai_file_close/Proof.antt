@@ -1,14 +1,14 @@
 use Rattle.site_c.proofs.Steps.{[], ◌∷◌, refl, ftrue, proved, leaves, vunit, tables, yes, Ptr, RawPtr, rawptr_vals, rawptr_Tells, plain, lasts, alive, framed, Stays, walk_of, stay_dropped, Goes-dropped}
 use Rattle.site_c.proofs.Exports.{closes_it}
-use Rattle.site_c.specs.Files.{LetsGo}
-use Rattle.site_c.specs.contracts.file_held.FileHeld.{the_row as R}
-use Rattle.site_c.proofs.file_held.FileHeld.TheLaws.{the_row_laws as LR}
+use Rattle.library_calls.specs.Files.{LetsGo}
+use Rattle.library_calls.specs.contracts.file_held.FileHeld.{the_row as R}
+use Rattle.library_calls.proofs.file_held.FileHeld.TheLaws.{the_row_laws as LR}
 use Rattle.site_c.specs.contracts.jumbetai_file_close as f
 use Rattle.site_c.proofs.jumbetai_file_close.Statement.{statement}
 use Rattle.site_c.proofs.jumbetai_file_close.Code as code
-use Rattle.site_c.specs.contracts.file_calls.file_let_go as g
-use Rattle.site_c.proofs.file_calls.file_let_go.Symbol.{name}
-use Rattle.site_c.proofs.file_calls.file_let_go.Met.{met}
+use Rattle.site_c.specs.contracts.calls.file_close as g
+use Rattle.site_c.proofs.calls.file_close.Symbol.{name}
+use Rattle.site_c.proofs.calls.file_close.Met.{met}
 
 abbrev stayed : Stays f.ended.signature.params f.ended.kept
 stayed = (stay_dropped _ yes, tt)
@@ -23,4 +23,4 @@ jumbetai_file_close_spec 𝓤 𝓛 𝓜 𝓡 wired =
     closes_it 𝓛 R refl (λ x v is. ((LR.lawful 𝓛).typed x (v ∷ []) is).0) 𝓣.C (framed 𝓤 𝓛.H 𝓜 𝓣) 𝓣.Λ name
     (alive 𝓛 f.signature κs qs) ftrue a.0 h (λ p. W.post (y p))
     (lasts g.ended κs (h, tt)) (LetsGo h) (λ p. leaves 𝓛 f.ended stayed c (y p) vunit tt (tt, tt) (tt, tt))
-    (λ v. met 𝓤 𝓛 𝓜 𝓡 (code.calls-site_c::file_calls::file_let_go 𝓡.env wired) ((κs, qs, tt, (h, tt), (v ∷ [], tt)), tt)))
+    (λ v. met 𝓤 𝓛 𝓜 𝓡 (code.calls-site_c::calls::file_close 𝓡.env wired) ((κs, qs, tt, (h, tt), (v ∷ [], tt)), tt)))

@@ -7,15 +7,15 @@ use types.SemTy.{Body}
 use mir.Val.{vptr}
 use denote.Lend.{lends_ref, ref_back}
 use denote.Memory.{mem}
-use Rattle.site_c.specs.FileSets.{CopiedFile}
-use Rattle.site_c.specs.contracts.file_held.FileHeld.{the_row as F}
-use Rattle.site_c.specs.contracts.held.Held.{the_row as R}
-use Rattle.site_c.proofs.held.Held.TheLaws.{the_row_laws as LR}
+use Rattle.library_calls.specs.FileSets.{CopiedFile}
+use Rattle.library_calls.specs.contracts.file_held.FileHeld.{the_row as F}
+use Rattle.library_calls.specs.contracts.held.Held.{the_row as R}
+use Rattle.library_calls.proofs.held.Held.TheLaws.{the_row_laws as LR}
 use Rattle.site_c.specs.contracts.jumbetai_file_copy as f
 use Rattle.site_c.proofs.jumbetai_file_copy.Statement.{statement}
 use Rattle.site_c.proofs.jumbetai_file_copy.Code as code
-use Rattle.site_c.specs.contracts.file_calls.copied_file as g
-use Rattle.site_c.proofs.file_calls.copied_file.Met.{met}
+use Rattle.site_c.specs.contracts.calls.file_copy as g
+use Rattle.site_c.proofs.calls.file_copy.Met.{met}
 
 abbrev stayed : Stays f.ended.signature.params f.ended.kept
 stayed = (stay_dropped _ yes, (stay_dropped _ yes, tt))
@@ -48,7 +48,7 @@ jumbetai_file_copy_spec 𝓤 𝓛 𝓜 𝓡 wired =
     let z : G.Ghost = (((α ∷ [], tt), (full_share, tt), tt, (record { ref_ptr = (b, o); ghost_name = γ; now = h }, tt), (vptr b o ∷ [], tt)), tt) in
     nothing ! $ move ! (1 ∷ 0 ∷ []) $ join ! $ nothing ! $ move ! (3 ∷ 0 ∷ []) $ join ! $ join ! $
     nothing ! $ move ! (1 ∷ 0 ∷ []) $ use2 𝓛 (raw (G.pre z)) (id⊢ 𝓤 _) $
-    calls_at ! (framed 𝓤 𝓛.H 𝓜 𝓣) G (met 𝓤 𝓛 𝓜 𝓡 (code.calls-site_c::file_calls::copied_file 𝓡.env wired)) z (and_then ! (get ! refl) (no_more !)) (λ u.
+    calls_at ! (framed 𝓤 𝓛.H 𝓜 𝓣) G (met 𝓤 𝓛 𝓜 𝓡 (code.calls-site_c::calls::file_copy 𝓡.env wired)) z (and_then ! (get ! refl) (no_more !)) (λ u.
     use1 𝓛 (later (some (λ (r : R.Denot). ((‵ (flft (α ∷ []) full_share) ⊛ ‵ ftrue) ⊛ ‵ (R.own_val r (u ∷ []))) ⊛
     some (λ (ws : Lasts g.ended z.0.0 z.0.3). ‵ (lasts g.ended z.0.0 z.0.3 ws) ⊛ raw (fact 𝓤 (CopiedFile h ws.0 r)))))) (id⊢ 𝓤 _) $
     await ! tt $ pick ! (λ r. split ! $ split ! $ split ! $ lft_end ! tt $

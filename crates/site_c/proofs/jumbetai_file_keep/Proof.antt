@@ -1,15 +1,15 @@
 use Rattle.site_c.proofs.Steps.{List, [], ◌∷◌, refl, proved, leaves, named, Val, vunit, tables, yes, lone, owns, MutRef, Ptr, RawPtr, rawptr_vals, rawptr_Tells, mut_vals, mut_Tells, plain, Lasts, left, lasts_of, alive, framed, Stays, walk_of, stay_dropped, gave_ref, Goes-dropped, Goes-gave_ref}
 use Rattle.site_c.proofs.Exports.{behind, keeps_0, type_of}
-use Rattle.site_c.specs.Offers.{KeptOffers}
-use Rattle.site_c.specs.contracts.file_held.FileHeld.{the_row as R}
-use Rattle.site_c.specs.contracts.calls.Reply.{the_row as A}
-use Rattle.site_c.proofs.file_held.FileHeld.TheLaws.{the_row_laws as LR}
+use Rattle.library_calls.specs.Offers.{KeptOffers}
+use Rattle.library_calls.specs.contracts.file_held.FileHeld.{the_row as R}
+use Rattle.library_calls.specs.contracts.calls.Reply.{the_row as A}
+use Rattle.library_calls.proofs.file_held.FileHeld.TheLaws.{the_row_laws as LR}
 use Rattle.site_c.specs.contracts.jumbetai_file_keep as f
 use Rattle.site_c.proofs.jumbetai_file_keep.Statement.{statement}
 use Rattle.site_c.proofs.jumbetai_file_keep.Code as code
-use Rattle.site_c.specs.contracts.file_calls.offers_kept as g
-use Rattle.site_c.proofs.file_calls.offers_kept.Symbol.{name}
-use Rattle.site_c.proofs.file_calls.offers_kept.Met.{met}
+use Rattle.site_c.specs.contracts.calls.file_keep as g
+use Rattle.site_c.proofs.calls.file_keep.Symbol.{name}
+use Rattle.site_c.proofs.calls.file_keep.Met.{met}
 
 abbrev stayed : Stays f.ended.signature.params f.ended.kept
 stayed = (stay_dropped _ yes, (gave_ref (0 ∷ []) tt (plain (λ _. A)), tt))
@@ -25,4 +25,4 @@ jumbetai_file_keep_spec 𝓤 𝓛 𝓜 𝓡 wired =
     keeps_0 𝓛 R refl (λ x v is. ((LR.lawful 𝓛).typed x (v ∷ []) is).0) 𝓣.C (framed 𝓤 𝓛.H 𝓜 𝓣) 𝓣.Λ name
     (alive 𝓛 f.signature κs qs) (owns (MutRef (named 0) κs.0 A ∷ []) a.1 rest) a.0 h (λ p. W.post (y p))
     (λ (ws : Lasts g.ended κs (h, a.1)). left (R.exit g.ended.kept.0) h ws.0) (λ ws. lasts_of κs (behind g.signature.params) g.ended.kept.1 a.1 ws.1) (λ r ws. KeptOffers h r ws.1.0) (λ p ws. leaves 𝓛 f.ended stayed c (y p) vunit tt (tt, (ws.1.0, tt)) (tt, (tt, tt)))
-    1 (type_of 2 code.function.locals) (type_of 6 code.function.locals) (lone A.mir) a.1.0.ref_ptr.0 a.1.0.ref_ptr.1 (tt, tt) (tt, tt) (λ v. met 𝓤 𝓛 𝓜 𝓡 (code.calls-site_c::file_calls::offers_kept 𝓡.env wired) ((κs, qs, tt, (h, a.1), (v ∷ [], rest)), tt)))
+    1 (type_of 2 code.function.locals) (type_of 6 code.function.locals) (lone A.mir) a.1.0.ref_ptr.0 a.1.0.ref_ptr.1 (tt, tt) (tt, tt) (λ v. met 𝓤 𝓛 𝓜 𝓡 (code.calls-site_c::calls::file_keep 𝓡.env wired) ((κs, qs, tt, (h, a.1), (v ∷ [], rest)), tt)))

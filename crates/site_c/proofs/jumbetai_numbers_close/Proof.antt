@@ -1,14 +1,14 @@
 use Rattle.site_c.proofs.Steps.{[], ◌∷◌, refl, ftrue, proved, leaves, vunit, tables, yes, Ptr, RawPtr, rawptr_vals, rawptr_Tells, plain, lasts, alive, framed, Stays, walk_of, stay_dropped, Goes-dropped}
 use Rattle.site_c.proofs.Exports.{closes_it}
-use Rattle.site_c.specs.Numbers.{LetsGoNumbers}
-use Rattle.site_c.specs.contracts.numbers_held.NumbersHeld.{the_row as R}
-use Rattle.site_c.proofs.numbers_held.NumbersHeld.TheLaws.{the_row_laws as LR}
+use Rattle.library_calls.specs.Numbers.{LetsGoNumbers}
+use Rattle.library_calls.specs.contracts.numbers_held.NumbersHeld.{the_row as R}
+use Rattle.library_calls.proofs.numbers_held.NumbersHeld.TheLaws.{the_row_laws as LR}
 use Rattle.site_c.specs.contracts.jumbetai_numbers_close as f
 use Rattle.site_c.proofs.jumbetai_numbers_close.Statement.{statement}
 use Rattle.site_c.proofs.jumbetai_numbers_close.Code as code
-use Rattle.site_c.specs.contracts.number_calls.numbers_let_go as g
-use Rattle.site_c.proofs.number_calls.numbers_let_go.Symbol.{name}
-use Rattle.site_c.proofs.number_calls.numbers_let_go.Met.{met}
+use Rattle.site_c.specs.contracts.calls.numbers_close as g
+use Rattle.site_c.proofs.calls.numbers_close.Symbol.{name}
+use Rattle.site_c.proofs.calls.numbers_close.Met.{met}
 
 abbrev stayed : Stays f.ended.signature.params f.ended.kept
 stayed = (stay_dropped _ yes, tt)
@@ -23,4 +23,4 @@ jumbetai_numbers_close_spec 𝓤 𝓛 𝓜 𝓡 wired =
     closes_it 𝓛 R refl (λ x v is. ((LR.lawful 𝓛).typed x (v ∷ []) is).0) 𝓣.C (framed 𝓤 𝓛.H 𝓜 𝓣) 𝓣.Λ name
     (alive 𝓛 f.signature κs qs) ftrue a.0 h (λ p. W.post (y p))
     (lasts g.ended κs (h, tt)) (LetsGoNumbers h) (λ p. leaves 𝓛 f.ended stayed c (y p) vunit tt (tt, tt) (tt, tt))
-    (λ v. met 𝓤 𝓛 𝓜 𝓡 (code.calls-site_c::number_calls::numbers_let_go 𝓡.env wired) ((κs, qs, tt, (h, tt), (v ∷ [], tt)), tt)))
+    (λ v. met 𝓤 𝓛 𝓜 𝓡 (code.calls-site_c::calls::numbers_close 𝓡.env wired) ((κs, qs, tt, (h, tt), (v ∷ [], tt)), tt)))

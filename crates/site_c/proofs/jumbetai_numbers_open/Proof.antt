@@ -1,19 +1,19 @@
 -- The files are read, so that their room is left, and handed on with what is given and the reply; what comes back is written into the room.
 use Rattle.site_c.proofs.Steps.{List, [], ◌∷◌, ◌++◌, refl, proved, leaves, full_share, id⊢, emp, ex, ex_i, sep, fsep, fat, named, Val, vunit, fact, fact_i, tables, WpFn, sem, ‵, raw, ◌⊛◌, some, later, prop, ◌$◌, ◌∵◌, !, qed, by, move, keep, drop, use0, use1, split, join, fsplit, fjoin, feq_i, pick, await, regoal, enter, of_opd, unit_lit, addr, load, look, init, forget, stop, no_more, and_then, assigns, returns, alloc_all, pass_all, free_all, look_at, get, through, sets, lands_as, yes, Is, shows, part_at, lone, owns, MutRef, Ptr, RawPtr, block_ptr, lies_at, room_at, in_a_block, rawptr_vals, rawptr_Tells, mut_vals, mut_Tells, uint_vals, uint_Tells, u64, w64, plain, nothing, heard, peeks, calls_at, lasts, Lasts, alive, triple_of, framed, Stays, walk_of, stay_dropped, gave_ref, Goes-dropped, Goes-gave_ref, part_out, part_in}
-use Rattle.site_c.specs.Numbers.{OpenedNumbers}
+use Rattle.library_calls.specs.Numbers.{OpenedNumbers}
 use Rattle.std.proofs.alloc.Calls.{Goes-blank}
 use Rattle.std.specs.contracts.alloc.Global as heap
 use Rattle.std.proofs.alloc.Global.TheLaws as heap_laws
-use Rattle.site_c.specs.contracts.numbers_held.NumbersHeld.{the_row as R}
-use Rattle.site_c.specs.contracts.calls.Reply.{the_row as A}
-use Rattle.site_c.proofs.numbers_held.NumbersHeld.TheLaws.{the_row_laws as LR}
+use Rattle.library_calls.specs.contracts.numbers_held.NumbersHeld.{the_row as R}
+use Rattle.library_calls.specs.contracts.calls.Reply.{the_row as A}
+use Rattle.library_calls.proofs.numbers_held.NumbersHeld.TheLaws.{the_row_laws as LR}
 use Rattle.durable_site.specs.contracts.file.GivenFiles.{the_row as F}
 use Rattle.durable_site.proofs.file.GivenFiles.TheLaws.{the_row_laws as LF}
 use Rattle.site_c.specs.contracts.jumbetai_numbers_open as f
 use Rattle.site_c.proofs.jumbetai_numbers_open.Statement.{statement}
 use Rattle.site_c.proofs.jumbetai_numbers_open.Code as code
-use Rattle.site_c.specs.contracts.number_calls.numbers_opened as g
-use Rattle.site_c.proofs.number_calls.numbers_opened.Met.{met}
+use Rattle.site_c.specs.contracts.calls.numbers_open as g
+use Rattle.site_c.proofs.calls.numbers_open.Met.{met}
 
 abbrev stayed : Stays f.ended.signature.params f.ended.kept
 stayed = (stay_dropped _ yes, (stay_dropped _ yes, (stay_dropped _ yes, (stay_dropped _ yes, (gave_ref (0 ∷ []) tt (plain (λ _. A)), tt)))))
@@ -50,7 +50,7 @@ jumbetai_numbers_open_spec 𝓤 𝓛 𝓜 𝓡 wired =
     move ! (3 ∷ []) $ split ! $ move ! (1 ∷ []) $ fsplit ! $ move ! (1 ∷ []) $ fsplit ! $ drop ! $ fsplit ! $ drop ! $
     -- [the reply; the allocator; the tokens; the files; their cell; the room]
     move ! (3 ∷ 0 ∷ []) $ fjoin ! $ move ! (1 ∷ 0 ∷ []) $ fjoin ! $ move ! (1 ∷ 0 ∷ []) $ join ! $ nothing ! $ move ! (1 ∷ 0 ∷ []) $ join ! $ use1 𝓛 (raw (G.pre z)) (id⊢ 𝓤 _) $
-    calls_at ! (framed 𝓤 𝓛.H 𝓜 𝓣) G (met 𝓤 𝓛 𝓜 𝓡 (code.calls-site_c::number_calls::numbers_opened 𝓡.env wired)) z (and_then ! (get ! refl) (and_then ! (get ! refl) (and_then ! (get ! refl) (and_then ! (get ! refl) (no_more !))))) (λ u.
+    calls_at ! (framed 𝓤 𝓛.H 𝓜 𝓣) G (met 𝓤 𝓛 𝓜 𝓡 (code.calls-site_c::calls::numbers_open 𝓡.env wired)) z (and_then ! (get ! refl) (and_then ! (get ! refl) (and_then ! (get ! refl) (and_then ! (get ! refl) (no_more !))))) (λ u.
     use1 𝓛 (later (some (λ (r : R.Denot). (raw (alive 𝓛 f.signature κs qs) ⊛ ‵ (R.own_val r (u ∷ []))) ⊛
     some (λ (ws : Lasts g.ended κs (a.0, (h, a.1.1.1))). ‵ (lasts g.ended κs (a.0, (h, a.1.1.1)) ws) ⊛ raw (fact 𝓤 (OpenedNumbers a.1.1.1.0 r ws.1.1.1.0)))))) (id⊢ 𝓤 _) $
     await ! tt $ pick ! (λ r. split ! $ move ! (1 ∷ []) $ pick ! (λ ws. split ! $ move ! (1 ∷ []) $ heard ! (OpenedNumbers a.1.1.1.0 r ws.1.1.1.0) (λ told. move ! (1 ∷ []) $ split ! $ move ! (1 ∷ []) $

@@ -1,16 +1,16 @@
 use Rattle.site_c.proofs.Steps.{[], ◌∷◌, refl, w64}
 use Rattle.site_c.proofs.Exports.{number_kept, type_of}
-use Rattle.site_c.specs.Outboxes.{ShownOutbox}
-use Rattle.site_c.specs.contracts.outbox_held.OutboxHeld.{the_row as R}
-use Rattle.site_c.specs.contracts.outbox_calls.OutboxReply.{the_row as A}
-use Rattle.site_c.proofs.outbox_held.OutboxHeld.TheLaws.{the_row_laws as LR}
+use Rattle.library_calls.specs.Outboxes.{ShownOutbox}
+use Rattle.library_calls.specs.contracts.outbox_held.OutboxHeld.{the_row as R}
+use Rattle.library_calls.specs.contracts.outbox_calls.OutboxReply.{the_row as A}
+use Rattle.library_calls.proofs.outbox_held.OutboxHeld.TheLaws.{the_row_laws as LR}
 use Rattle.site_c.specs.contracts.jumbetai_outbox_rows.Key.{name as key}
 use Rattle.site_c.proofs.jumbetai_outbox_rows.Statement.{statement}
 use Rattle.site_c.proofs.jumbetai_outbox_rows.Code as code
-use Rattle.site_c.proofs.outbox_calls.outbox_shown.Symbol.{name}
-use Rattle.site_c.proofs.outbox_calls.outbox_shown.Met.{met}
+use Rattle.site_c.proofs.calls.outbox_rows.Symbol.{name}
+use Rattle.site_c.proofs.calls.outbox_rows.Met.{met}
 
 pub jumbetai_outbox_rows_spec : {M : Type 1} → statement M
 jumbetai_outbox_rows_spec 𝓤 𝓛 𝓜 𝓡 wired = number_kept R A w64 (λ n h r old new. ShownOutbox n h r new) 𝓛 refl (λ h v is. ((LR.lawful 𝓛).typed h (v ∷ []) is).0)
     𝓜 𝓡 key name (type_of 3 code.function.locals) (type_of 7 code.function.locals) (λ b o. (tt, tt)) (λ b o. (tt, tt))
-    (code.unfolded 𝓤 𝓛.H 𝓜 𝓡 wired) (met 𝓤 𝓛 𝓜 𝓡 (code.calls-site_c::outbox_calls::outbox_shown 𝓡.env wired))
+    (code.unfolded 𝓤 𝓛.H 𝓜 𝓡 wired) (met 𝓤 𝓛 𝓜 𝓡 (code.calls-site_c::calls::outbox_rows 𝓡.env wired))

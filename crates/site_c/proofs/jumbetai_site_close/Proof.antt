@@ -1,13 +1,13 @@
 use Rattle.site_c.proofs.Steps.{[], ◌∷◌, refl, ftrue, proved, leaves, vunit, tables, yes, Ptr, RawPtr, rawptr_vals, rawptr_Tells, plain, lasts, alive, framed, Stays, walk_of, stay_dropped, Goes-dropped}
 use Rattle.site_c.proofs.Exports.{lets_go}
-use Rattle.site_c.specs.contracts.held.Held.{the_row as R}
-use Rattle.site_c.proofs.held.Held.TheLaws.{the_row_laws as LR}
+use Rattle.library_calls.specs.contracts.held.Held.{the_row as R}
+use Rattle.library_calls.proofs.held.Held.TheLaws.{the_row_laws as LR}
 use Rattle.site_c.specs.contracts.jumbetai_site_close as f
 use Rattle.site_c.proofs.jumbetai_site_close.Statement.{statement}
 use Rattle.site_c.proofs.jumbetai_site_close.Code as code
-use Rattle.site_c.specs.contracts.calls.let_go as g
-use Rattle.site_c.proofs.calls.let_go.Symbol.{name}
-use Rattle.site_c.proofs.calls.let_go.Met.{met}
+use Rattle.site_c.specs.contracts.calls.site_close as g
+use Rattle.site_c.proofs.calls.site_close.Symbol.{name}
+use Rattle.site_c.proofs.calls.site_close.Met.{met}
 
 abbrev stayed : Stays f.ended.signature.params f.ended.kept
 stayed = (stay_dropped _ yes, tt)
@@ -22,4 +22,4 @@ jumbetai_site_close_spec 𝓤 𝓛 𝓜 𝓡 wired =
     lets_go 𝓛 R refl (λ x v is. ((LR.lawful 𝓛).typed x (v ∷ []) is).0) 𝓣.C (framed 𝓤 𝓛.H 𝓜 𝓣) 𝓣.Λ name
     (alive 𝓛 f.signature κs qs) ftrue a.0 h (λ p. W.post (y p))
     (lasts g.ended κs (h, tt)) (λ p. leaves 𝓛 f.ended stayed c (y p) vunit tt (tt, tt) (tt, tt))
-    (λ v. met 𝓤 𝓛 𝓜 𝓡 (code.calls-site_c::calls::let_go 𝓡.env wired) ((κs, qs, tt, (h, tt), (v ∷ [], tt)), tt)))
+    (λ v. met 𝓤 𝓛 𝓜 𝓡 (code.calls-site_c::calls::site_close 𝓡.env wired) ((κs, qs, tt, (h, tt), (v ∷ [], tt)), tt)))

@@ -1,16 +1,16 @@
 -- A new value is written into the room.
 use Rattle.site_c.proofs.Steps.{List, [], ◌∷◌, refl, proved, leaves, full_share, id⊢, emp, ex, ex_i, sep, ftrue, fsep, Val, vunit, fact, fact_i, tables, WpFn, sem, ‵, raw, ◌⊛◌, some, later, prop, ◌$◌, ◌∵◌, !, qed, by, move, keep, drop, use0, use1, split, join, fsplit, fjoin, feq_i, pick, await, regoal, enter, of_opd, unit_lit, init, stop, no_more, and_then, assigns, returns, alloc_all, pass_all, free_all, look_at, get, through, sets, lands_as, yes, Is, shows, part_at, Ptr, RawPtr, block_ptr, lies_at, room_at, in_a_block, rawptr_vals, rawptr_Tells, plain, nothing, heard, peeks, calls_at, lasts, Lasts, alive, triple_of, framed, Stays, walk_of, stay_dropped, Goes-dropped, part_in}
-use Rattle.site_c.specs.Calls.{IsEmpty}
+use Rattle.library_calls.specs.Calls.{IsEmpty}
 use Rattle.std.proofs.alloc.Calls.{Goes-blank}
 use Rattle.std.specs.contracts.alloc.Global as heap
 use Rattle.std.proofs.alloc.Global.TheLaws as heap_laws
-use Rattle.site_c.specs.contracts.held.Held.{the_row as R}
-use Rattle.site_c.proofs.held.Held.TheLaws.{the_row_laws as LR}
+use Rattle.library_calls.specs.contracts.held.Held.{the_row as R}
+use Rattle.library_calls.proofs.held.Held.TheLaws.{the_row_laws as LR}
 use Rattle.site_c.specs.contracts.jumbetai_site_open as f
 use Rattle.site_c.proofs.jumbetai_site_open.Statement.{statement}
 use Rattle.site_c.proofs.jumbetai_site_open.Code as code
-use Rattle.site_c.specs.contracts.held.Held.empty as g
-use Rattle.site_c.proofs.held.Held.empty.Met.{met}
+use Rattle.site_c.specs.contracts.calls.site_open as g
+use Rattle.site_c.proofs.calls.site_open.Met.{met}
 
 abbrev stayed : Stays f.ended.signature.params f.ended.kept
 stayed = (stay_dropped _ yes, (stay_dropped _ yes, tt))
@@ -35,7 +35,7 @@ jumbetai_site_open_spec 𝓤 𝓛 𝓜 𝓡 wired =
     move ! (1 ∷ []) $ split ! $ move ! (1 ∷ []) $ fsplit ! $ move ! (1 ∷ []) $ drop ! $
     -- [the allocator; the tokens; the room]
     nothing ! $ move ! (1 ∷ 0 ∷ []) $ fjoin ! $ move ! (1 ∷ 0 ∷ []) $ join ! $ nothing ! $ move ! (1 ∷ 0 ∷ []) $ join ! $ use1 𝓛 (raw (G.pre z)) (id⊢ 𝓤 _) $
-    calls_at ! (framed 𝓤 𝓛.H 𝓜 𝓣) G (met 𝓤 𝓛 𝓜 𝓡 (code.calls-site_c::held::Held::empty 𝓡.env wired)) z (and_then ! (get ! refl) (no_more !)) (λ u.
+    calls_at ! (framed 𝓤 𝓛.H 𝓜 𝓣) G (met 𝓤 𝓛 𝓜 𝓡 (code.calls-site_c::calls::site_open 𝓡.env wired)) z (and_then ! (get ! refl) (no_more !)) (λ u.
     use1 𝓛 (later (some (λ (r : R.Denot). (raw (alive 𝓛 f.signature κs qs) ⊛ ‵ (R.own_val r (u ∷ []))) ⊛
     some (λ (ws : Lasts g.ended κs (a.0, tt)). ‵ (lasts g.ended κs (a.0, tt) ws) ⊛ raw (fact 𝓤 (IsEmpty r)))))) (id⊢ 𝓤 _) $
     await ! tt $ pick ! (λ r. split ! $ move ! (1 ∷ []) $ pick ! (λ ws. split ! $ drop ! $ heard ! (IsEmpty r) (λ told. split ! $ move ! (1 ∷ []) $

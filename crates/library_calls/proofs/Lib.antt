@@ -1,0 +1,4 @@
+mod Crossing
+mod OutboxLemmas
+mod PartLemmas
+mod NumberLemmas

@@ -1,0 +1,9 @@
+use Rattle.std.proofs.Common.{inl, refl}
+use Rattle.library_calls.proofs.outbox_calls.outbox_order.Goals as goal
+
+pub returns : goal.returns
+returns c = let it = c.order_and_tell.ensures in record {
+  did = inl (_, _, c.in-Some.is, refl, it.did, it.tells);
+  listed = it.listed;
+  length_is = it.length;
+}

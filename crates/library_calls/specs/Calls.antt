@@ -1,0 +1,235 @@
+-- What a call leaves in the room that a site lies in, and what it replies.
+use Rattle.std.specs.Prelude.{◌≡◌, ◌≢◌, ◌+◌, ◌*◌, ◌<◌, ◌⊎◌, ℕ, List, [], ◌∷◌, ◌++◌, codes, drop, length, take}
+use Rattle.attributes.specs.Event.{EventValue}
+use Rattle.event_json.specs.BatchText.{batch_text}
+use Rattle.coverage.specs.Digests.{Digests}
+use Rattle.coverage.specs.Refusals.{Refuses}
+use Rattle.coverage.specs.Summary.{IsSummary, Sources}
+use Rattle.coverage.specs.SummaryText.{summary_text}
+use Rattle.coverage.specs.declared.fault.SummaryFault.{SummaryFault}
+use Rattle.coverage.specs.declared.fault.SummaryFault.TheVariants as summary
+use Rattle.inbox.specs.KeyOrder.{key_cmp}
+use Rattle.inbox.specs.Ordered.{append_new}
+use Rattle.inbox.specs.Sets.{set_of}
+use Rattle.site.specs.Arrival.{LacksAt as LacksEvent}
+use Rattle.site.specs.Delta.{delta}
+use Rattle.site.specs.Page.{page}
+use Rattle.fault_lines.specs.Lines.{IsFaultText}
+use Rattle.file_reports.specs.Numbers.{fault_number}
+use Rattle.file_reports.specs.Reports.{IsRefusal, SpellAll}
+use Rattle.file_reports.specs.declared.refusal.Refused.{Refused}
+use Rattle.views.specs.Question.{IsAnswer}
+use Rattle.views.specs.declared.query.Query.{Query}
+use Rattle.views.specs.declared.query.Query.TheVariants as query
+use Rattle.library_calls.specs.declared.calls.Piece.{Piece}
+use Rattle.library_calls.specs.declared.calls.Reply.{Reply}
+use Rattle.library_calls.specs.declared.held.Held.{Held}
+
+-- ---- a site opened
+
+-- a site without events, and the empty text
+abbrev pub IsEmpty : Held → Type 0
+IsEmpty held = (held.site ≡ []) × (held.text ≡ [])
+
+-- ---- events taken
+
+-- a site of the arrivals A took all events of the batch, and has B
+abbrev pub TookAll : List EventValue → List EventValue → List EventValue → Reply → Type 0
+TookAll batch A B reply = (reply.status ≡ 0) × (B ≡ append_new key_cmp A batch)
+    × (length A + reply.fresh ≡ length B) × (reply.fresh + reply.repeated ≡ length batch)
+
+-- memory ran out at an event of the batch that wasn't there; those before it were taken
+abbrev pub TookFront : List EventValue → List EventValue → List EventValue → Reply → Type 0
+TookFront batch A B reply = (reply.status ≡ 1) × (length A + reply.fresh ≡ length B)
+    × (reply.repeated ≡ 0) × ((taken : ℕ) × (taken < length batch)
+    × (B ≡ append_new key_cmp A (take taken batch)) × LacksEvent B batch taken)
+
+-- the batch was taken, as far as memory went
+abbrev pub TookBatch : List EventValue → List EventValue → List EventValue → Reply → Type 0
+TookBatch batch A B reply = TookAll batch A B reply ⊎ TookFront batch A B reply
+
+-- nothing was taken, and this is why
+abbrev pub TookNone : Refused → List EventValue → List EventValue → Reply → Type 0
+TookNone refused A B reply = (reply.status ≡ fault_number refused.fault) × (B ≡ A)
+    × (reply.fresh ≡ 0) × (reply.repeated ≡ 0)
+
+-- the bytes spell events with numbers, which were taken; or they were refused, and nothing was
+abbrev pub TookBytes : List ℕ → List EventValue → List EventValue → Reply → Type 0
+TookBytes bytes A B reply =
+    ((batch : List EventValue) × SpellAll (bytes ∷ []) batch × TookBatch batch A B reply)
+    ⊎ ((refused : Refused) × IsRefusal (bytes ∷ []) refused × TookNone refused A B reply)
+
+-- the reply tells how many events the site has, and how many bytes the text
+abbrev pub TellsRoom : Held → Reply → Type 0
+TellsRoom kept reply = (reply.events ≡ length kept.site) × (reply.length ≡ length kept.text)
+
+-- what `jumbetai_site_take` leaves and replies; the answer's text stays
+abbrev pub Took : List ℕ → Held → Held → Reply → Type 0
+Took bytes held kept reply = TookBytes bytes held.site kept.site reply
+    × (kept.text ≡ held.text) × (reply.listed ≡ 0) × TellsRoom kept reply
+
+-- ---- texts answered
+
+-- the text is the one that was made, which has so many events as a page
+abbrev pub IsKept : List ℕ → ℕ → List ℕ → Reply → Type 0
+IsKept made listed text reply = (reply.status ≡ 0) × (text ≡ made) × (reply.listed ≡ listed)
+
+-- the text is that of before, and this is the status
+abbrev pub IsLeft : ℕ → List ℕ → List ℕ → Reply → Type 0
+IsLeft status was text reply = (reply.status ≡ status) × (text ≡ was) × (reply.listed ≡ 0)
+
+-- the reply tells of no events that were taken, how many there are, and how many bytes the text has
+abbrev pub TellsText : List EventValue → List ℕ → Reply → Type 0
+TellsText events text reply = (reply.fresh ≡ 0) × (reply.repeated ≡ 0)
+    × (reply.events ≡ length events) × (reply.length ≡ length text)
+
+-- the events stay, and none is said to have been taken
+abbrev pub TakesNone : Held → Held → Reply → Type 0
+TakesNone held kept reply = (kept.site ≡ held.site) × (reply.fresh ≡ 0) × (reply.repeated ≡ 0)
+
+-- the text is kept, which has so many events as a page
+abbrev pub KeepsText : List ℕ → ℕ → Held → Held → Reply → Type 0
+KeepsText text listed held kept reply = (reply.status ≡ 0) × (kept.text ≡ text)
+    × (reply.listed ≡ listed) × TakesNone held kept reply × TellsRoom kept reply
+
+-- a call answers with a text that has so many events as a page, or tells by its status why there
+-- is none; then the text of before stays. The events stay.
+abbrev pub Answers : (List ℕ → ℕ → Type 0) → (ℕ → Type 0) → Held → Held → Reply → Type 0
+Answers made refused held kept reply =
+    (((reply.status ≡ 0) × made kept.text reply.listed)
+    ⊎ (refused reply.status × (kept.text ≡ held.text) × (reply.listed ≡ 0)))
+    × TakesNone held kept reply × TellsRoom kept reply
+
+-- the status of want of memory
+abbrev pub IsWant : ℕ → Type 0
+IsWant status = status ≡ 1
+
+-- ---- questions asked
+
+-- the number of a question, from 1
+abbrev pub question_number : Query → ℕ
+question_number query.Cover = 1
+question_number query.Shown = 2
+question_number query.Conflicts = 3
+question_number query.Latest = 4
+question_number query.Kinds = 5
+question_number query.Days = 6
+question_number query.Gaps = 7
+
+-- the text answers the question of this number about the set E, and is no page
+abbrev pub AnswersAt : ℕ → List EventValue → List ℕ → ℕ → Type 0
+AnswersAt number E text listed =
+    ((query : Query) × (number ≡ question_number query) × IsAnswer query E text) × (listed ≡ 0)
+
+-- memory ran out, which it doesn't where there are neither events nor lines
+abbrev pub WantsMemoryAt : ℕ → List EventValue → Type 0
+WantsMemoryAt number E = (query : Query) × (number ≡ question_number query)
+    × (IsAnswer query E [] → E ≢ [])
+
+-- no question has this number
+abbrev pub IsNoQuestion : ℕ → Type 0
+IsNoQuestion number = (query : Query) → number ≢ question_number query
+
+-- why the question of this number about the set E has no answer
+abbrev pub IsUnanswered : ℕ → List EventValue → ℕ → Type 0
+IsUnanswered number E status =
+    (IsWant status × WantsMemoryAt number E) ⊎ ((status ≡ 4) × IsNoQuestion number)
+
+-- what `jumbetai_site_ask` leaves and replies
+abbrev pub Asked : ℕ → Held → Held → Reply → Type 0
+Asked number held kept reply = Answers (AnswersAt number (set_of held.site))
+    (IsUnanswered number (set_of held.site)) held kept reply
+
+-- ---- the summary
+
+-- the line of the summary that digests the set E, version 2
+abbrev pub IsSummaryLine : List EventValue → List ℕ → Type 0
+IsSummaryLine E text = (s : Sources) × Digests E s × (text ≡ summary_text s ++ 10 ∷ [])
+
+-- what `jumbetai_site_summary` leaves and replies
+abbrev pub Summed : Held → Held → Reply → Type 0
+Summed held kept reply = Answers
+    (λ text listed. IsSummaryLine (set_of held.site) text × (listed ≡ 0)) IsWant held kept reply
+
+-- ---- pages
+
+-- the text is the rest of these bytes before one LF at their end, or all of them where none is
+-- there
+abbrev pub WithoutLineEnd : List ℕ → List ℕ → Type 0
+WithoutLineEnd bytes text = (bytes ≡ text ++ 10 ∷ [])
+    ⊎ ((bytes ≡ text) × ((front : List ℕ) → bytes ≢ front ++ 10 ∷ []))
+
+-- the bytes are the summary's text, or its line
+abbrev pub IsPeer : List ℕ → Sources → Type 0
+IsPeer bytes s = IsSummary s × WithoutLineEnd bytes (summary_text s)
+
+-- the status of a refusal of a summary's text
+abbrev pub summary_status : SummaryFault → ℕ
+summary_status summary.OutOfMemory = 1
+summary_status summary.NotJson = 5
+summary_status summary.Shape = 6
+summary_status summary.Version = 7
+summary_status summary.NotCanonical = 8
+
+-- why the bytes give no page: they are no summary's text, or memory ran out
+abbrev pub IsRefusedPeer : List ℕ → ℕ → Type 0
+IsRefusedPeer bytes status = (text : List ℕ) × WithoutLineEnd bytes text
+    × ((why : SummaryFault) × (status ≡ summary_status why) × Refuses text why)
+
+-- a batch of events, as one line
+abbrev pub batch_line : List EventValue → List ℕ
+batch_line events = batch_text events ++ 10 ∷ []
+
+-- the text is the line of these events, and so many they are
+abbrev pub IsPageLine : List EventValue → List ℕ → ℕ → Type 0
+IsPageLine events text listed = (text ≡ batch_line events) × (listed ≡ length events)
+
+-- the text is the page from this place on of what the peer of the bytes lacks of the set E, at most
+-- 100 events
+abbrev pub LacksAt : List ℕ → ℕ → List EventValue → List ℕ → ℕ → Type 0
+LacksAt bytes from E text listed =
+    (s : Sources) × IsPeer bytes s × IsPageLine (page (delta E s) from 100) text listed
+
+-- what `jumbetai_site_delta` leaves and replies
+abbrev pub Lacked : List ℕ → ℕ → Held → Held → Reply → Type 0
+Lacked bytes from held kept reply = Answers (LacksAt bytes from (set_of held.site))
+    (IsRefusedPeer bytes) held kept reply
+
+-- what `jumbetai_site_page` leaves and replies: the page from this place of key order on, at most
+-- 100 events
+abbrev pub Paged : ℕ → Held → Held → Reply → Type 0
+Paged from held kept reply = Answers (IsPageLine (page (set_of held.site) from 100))
+    IsWant held kept reply
+
+-- ---- what is wrong with bytes
+
+-- what `jumbetai_site_check` leaves and replies: the lines that tell of a file `-` what is wrong
+-- with it
+abbrev pub Checked : List ℕ → Held → Held → Reply → Type 0
+Checked bytes held kept reply = Answers
+    (λ text listed. IsFaultText (codes "-") bytes text × (listed ≡ 0)) IsWant held kept reply
+
+-- ---- views kept
+
+-- the call was done, or memory ran out
+abbrev pub IsDoneOrWant : ℕ → Type 0
+IsDoneOrWant status = (status ≡ 0) ⊎ IsWant status
+
+-- what `jumbetai_site_keep_views` leaves and replies: the events and the text stay
+abbrev pub Viewed : Held → Held → Reply → Type 0
+Viewed held kept reply = IsDoneOrWant reply.status × (kept.text ≡ held.text)
+    × (reply.listed ≡ 0) × TakesNone held kept reply × TellsRoom kept reply
+
+-- ---- pieces read
+
+-- the piece of a text with this number, from 0; behind the text's end a piece has no bytes
+abbrev pub piece_of : ℕ → List ℕ → List ℕ
+piece_of number text = take 4096 (drop (number * 4096) text)
+
+-- what `jumbetai_site_read` leaves and copies: the piece, and how many bytes it has; the room behind
+-- it stays
+abbrev pub HasRead : ℕ → Held → Held → Piece → Piece → Type 0
+HasRead number held kept was piece = (kept ≡ held)
+    × (piece.length ≡ length (piece_of number held.text))
+    × (take piece.length piece.bytes ≡ piece_of number held.text)
+    × (drop piece.length piece.bytes ≡ drop piece.length was.bytes)

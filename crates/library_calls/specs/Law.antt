@@ -1,0 +1,22 @@
+-- What holds of a site in a caller's room, whatever was done.
+use denote.Param.Send.{IsSend}
+use Rattle.library_calls.specs.contracts.file_held.FileHeld as file_held
+use Rattle.library_calls.specs.contracts.held.Held as held
+use Rattle.library_calls.specs.contracts.numbers_held.NumbersHeld as numbers_held
+use Rattle.library_calls.specs.contracts.outbox_held.OutboxHeld as outbox_held
+
+-- a site may go to another thread
+abbrev pub SitesMayGo : Type 0
+SitesMayGo = IsSend held.the_row
+
+-- so may a site over files
+abbrev pub FileSitesMayGo : Type 0
+FileSitesMayGo = IsSend file_held.the_row
+
+-- so may an outbox over files
+abbrev pub OutboxesMayGo : Type 0
+OutboxesMayGo = IsSend outbox_held.the_row
+
+-- so may a numberer over files
+abbrev pub NumberersMayGo : Type 0
+NumberersMayGo = IsSend numbers_held.the_row

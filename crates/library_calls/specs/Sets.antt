@@ -1,0 +1,150 @@
+-- What a service asks of a site, beside the calls of `Calls`.
+use Rattle.std.specs.Prelude.{◌≡◌, ◌≢◌, ◌<◌, ◌≤◌, ◌==◌, ◌⊎◌, ℕ, List, [], ◌∷◌, length, min, if◌then◌else◌, IsUtf8}
+use Rattle.attributes.specs.Event.{EventValue}
+use Rattle.coverage.specs.Digests.{Digests}
+use Rattle.coverage.specs.Summary.{Sources, entries_of, version_of}
+use Rattle.coverage.specs.SummaryText.{summary_text}
+use Rattle.file_reports.specs.Numbers.{fault_number}
+use Rattle.file_reports.specs.Reports.{IsRefusal, SpellAll}
+use Rattle.file_reports.specs.declared.refusal.Refused.{Refused}
+use Rattle.inbox.specs.Sets.{set_of}
+use Rattle.sha2.specs.Sha256.{sha256}
+use Rattle.lag.specs.Blocks.{differing}
+use Rattle.lag.specs.Lacking.{Lacks}
+use Rattle.site.specs.Delta.{delta}
+use Rattle.site.specs.Key.{with_key}
+use Rattle.site.specs.Page.{page}
+use Rattle.views.specs.Line.{event_lines}
+use Rattle.library_calls.specs.Calls.{Answers, IsPageLine, IsPeer, IsRefusedPeer, IsWant, KeepsText}
+use Rattle.library_calls.specs.declared.calls.Reply.{Reply}
+use Rattle.library_calls.specs.declared.held.Held.{Held}
+use Rattle.library_calls.specs.declared.set_calls.Lag.{Lag}
+use Rattle.library_calls.specs.declared.set_calls.Name.{Name}
+
+-- ---- arrivals
+
+-- the events that came as the (after+1)st and on, at most 100, as a page
+abbrev pub Arrived : ℕ → Held → Held → Reply → Type 0
+Arrived after held kept reply =
+    Answers (IsPageLine (page held.site after 100)) IsWant held kept reply
+
+-- ---- events by their source and id
+
+-- both are texts, UTF-8, as every source and id is
+abbrev pub AreTexts : List ℕ → List ℕ → Type 0
+AreTexts source id = IsUtf8 source × IsUtf8 id
+
+-- the events of the set E that have this source and this id, the shown one first; bytes that are no
+-- text name none
+pub record IsNamed (source id : List ℕ) (E events : List EventValue) : Type 0 where
+  pub all : AreTexts source id → events ≡ with_key source id E
+  pub none : (AreTexts source id → ⊥) → events ≡ []
+
+-- the text has their canonical texts, a line each, and so many they are
+abbrev pub IsFound : List ℕ → List ℕ → List EventValue → List ℕ → ℕ → Type 0
+IsFound source id E text listed = (events : List EventValue) × IsNamed source id E events
+    × (text ≡ event_lines events) × (listed ≡ length events)
+
+-- memory ran out, which it doesn't where there is none
+abbrev pub WantsFound : List ℕ → List ℕ → List EventValue → ℕ → Type 0
+WantsFound source id E status = IsWant status × (with_key source id E ≢ [])
+
+-- what `jumbetai_site_get` leaves and replies
+abbrev pub Found : List ℕ → List ℕ → Held → Held → Reply → Type 0
+Found source id held kept reply = Answers (IsFound source id (set_of held.site))
+    (WantsFound source id (set_of held.site)) held kept reply
+
+-- ---- a text let go
+
+-- the text is empty
+abbrev pub Released : Held → Held → Reply → Type 0
+Released held kept reply = KeepsText [] 0 held kept reply
+
+-- ---- copies
+
+-- what `jumbetai_site_copy` leaves: the site as it was, and another one with the same events, come in
+-- the same order, and no text; or, where there are events, memory ran out, and that one has none
+abbrev pub Copied : Held → Held → Held → Type 0
+Copied held kept copy = (kept ≡ held) × (copy.text ≡ [])
+    × ((copy.site ≡ held.site) ⊎ ((copy.site ≡ []) × (held.site ≢ [])))
+
+-- ---- the name of a set
+
+-- the SHA-256 of the text of the summary that digests the set E, without a line end
+abbrev pub IsNameOf : List EventValue → List ℕ → Type 0
+IsNameOf E bytes = (s : Sources) × Digests E s × (bytes ≡ sha256 (summary_text s))
+
+-- the name of the set E is told, or memory ran out
+abbrev pub TellsName : List EventValue → Name → Name → Type 0
+TellsName E was name = ((name.status ≡ 0) × IsNameOf E name.bytes)
+    ⊎ (IsWant name.status × (name.bytes ≡ was.bytes))
+
+-- so is that of the site's set; site and text stay
+abbrev pub Named : Held → Held → Name → Name → Type 0
+Named held kept was name = (kept.site ≡ held.site) × (kept.text ≡ held.text)
+    × TellsName (set_of held.site) was name
+
+-- ---- how far a peer is apart
+
+-- the first summary lacks so many numbers of the second, the second so many of the first, and so
+-- many blocks differ, where both tell of blocks
+pub record IsApart (own peer : Sources) (lag : Lag) : Type 0 where
+  pub done : lag.status ≡ 0
+  pub lacking : lag.lacking < 18446744073709551615 → Lacks own (entries_of peer) lag.lacking
+  pub ahead : lag.ahead < 18446744073709551615 → Lacks peer (entries_of own) lag.ahead
+  pub untold : version_of peer ≡ 1 → lag.blocks ≡ 0
+  pub blocks : version_of own ≡ 2 → version_of peer ≡ 2 → lag.blocks < 18446744073709551615
+      → lag.blocks ≡ differing own peer
+
+-- so far are the peer of the bytes and the set E apart
+abbrev pub IsLag : List ℕ → List EventValue → Lag → Type 0
+IsLag bytes E lag = (peer : Sources) × IsPeer bytes peer
+    × ((own : Sources) × Digests E own × IsApart own peer lag)
+
+-- it is told how far they are apart, or why it isn't
+abbrev pub TellsLag : List ℕ → List EventValue → Lag → Type 0
+TellsLag bytes E lag = IsLag bytes E lag
+    ⊎ (IsRefusedPeer bytes lag.status × (lag.lacking ≡ 0) × (lag.ahead ≡ 0) × (lag.blocks ≡ 0))
+
+-- so it is told of the site's set; site and text stay
+abbrev pub Compared : List ℕ → Held → Held → Lag → Type 0
+Compared bytes held kept lag = (kept.site ≡ held.site) × (kept.text ≡ held.text)
+    × TellsLag bytes (set_of held.site) lag
+
+-- ---- parts of what a peer lacks
+
+-- how many events a part has at most, where so many are asked for: 0 asks for a page
+abbrev pub part_limit : ℕ → ℕ
+part_limit most = if most == 0 then 100 else min most 2000
+
+-- these are the next events from a place of a list on: as many as are asked for, or, where bytes
+-- are bounded, at least the first page of them
+pub record IsPart (lacking : List EventValue) (from most size : ℕ) (events : List EventValue)
+    : Type 0 where
+  pub next : events ≡ page lacking from (length events)
+  pub few : length events ≤ part_limit most
+  pub whole : size ≡ 0 → events ≡ page lacking from (part_limit most)
+  pub some : min 100 (length (page lacking from (part_limit most))) ≤ length events
+
+-- the text is the part from this place on of what the peer of the bytes lacks of the set E
+abbrev pub LacksPart : List ℕ → ℕ → ℕ → ℕ → List EventValue → List ℕ → ℕ → Type 0
+LacksPart bytes from most size E text listed = (s : Sources) × IsPeer bytes s
+    × ((events : List EventValue) × IsPart (delta E s) from most size events
+    × IsPageLine events text listed)
+
+-- what `jumbetai_site_part` leaves and replies
+abbrev pub PartLacked : List ℕ → ℕ → ℕ → ℕ → Held → Held → Reply → Type 0
+PartLacked bytes from most size held kept reply =
+    Answers (LacksPart bytes from most size (set_of held.site)) (IsRefusedPeer bytes)
+    held kept reply
+
+-- ---- bytes tested
+
+-- the reply tells how many events the bytes spell, or why a site would take none of them
+abbrev pub Tested : List ℕ → Reply → Type 0
+Tested bytes reply = (reply.fresh ≡ 0) × (reply.repeated ≡ 0) × (reply.events ≡ 0)
+    × (reply.length ≡ 0)
+    × (((batch : List EventValue) × SpellAll (bytes ∷ []) batch × (reply.status ≡ 0)
+    × (reply.listed ≡ length batch))
+    ⊎ ((refused : Refused) × IsRefusal (bytes ∷ []) refused × (reply.listed ≡ 0)
+    × (reply.status ≡ fault_number refused.fault)))

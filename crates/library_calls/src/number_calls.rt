@@ -1,0 +1,203 @@
+//! What each call does to the numberer over a file that lies in the room.
+
+ghost use Rattle.std.specs.Prelude.{◌≡◌, ℕ, [], length, IfErr, IfOk, Result};
+ghost use Rattle.sqlite.specs.Held.{state};
+ghost use Rattle.event_json.specs.Reading.{Reads};
+ghost use Rattle.library_calls.specs.declared.calls.Answered.{Answered as Made};
+ghost use Rattle.library_calls.specs.Numbers.{FindsNumbers, HasReadNumbers, IsNoEvents, KeepsMade, LetsGoNumbers, Numbered, Numbers, NumbersBytes, OpenedNumbers, ServesNumbers, number_status};
+
+use crate::calls::{Answered, DONE, OUT_OF_MEMORY, Piece, Reply, copied, page_line};
+use crate::file_calls::{NOT_OPEN, open_status, tell_nothing};
+use crate::numbers_held::{FileNumberer, NumbersHeld};
+use attributes::{Events, Text};
+use durable_site::{GivenFiles, Unknown, close, connect};
+use event_json::{ReadFault, read_events};
+use number_table::{Numberer, NumbererFault};
+use sqlite::{Alter, Connection};
+use std::alloc::Global;
+
+const NO_EVENTS: u32 = 2;
+
+const HAS_SEQUENCE: u32 = 30;
+
+const TOO_LARGE: u32 = 31;
+
+/// The status of a refusal of a numberer.
+fn number_status(fault: NumbererFault) -> u32
+    ensures { result ≡ number_status fault }
+{
+    match fault {
+        NumbererFault::OutOfMemory => OUT_OF_MEMORY,
+        NumbererFault::HasSequence { .. } => HAS_SEQUENCE,
+        NumbererFault::TooLarge { .. } => TOO_LARGE,
+        NumbererFault::Full { .. } => 24,
+        NumbererFault::Store => 18,
+        NumbererFault::Foreign => 19,
+    }
+}
+
+/// The numberer of a database, made where there is none, or the status.
+fn numberer_of<S: Alter + Drop>(
+    alloc: Global,
+    conn: Connection<S>,
+    base: u64,
+) -> Result<Numberer<S>, u32>
+    ensures { FindsNumbers S.Store base (state S.Store conn) result }
+{
+    match Numberer::open(alloc, conn, base) {
+        Ok(numberer) => Ok(numberer),
+        Err(refused) => Err(number_status(refused.fault)),
+    }
+}
+
+/// The numberer of the database that the files hold, made where there is none, or the status.
+fn served(alloc: Global, given: GivenFiles, base: u64) -> Result<FileNumberer, u32>
+    ensures { ServesNumbers base result }
+{
+    let conn = match connect(alloc, given, Unknown) {
+        Ok(conn) => conn,
+        Err(fault) => return Err(open_status(fault)),
+    };
+    numberer_of(alloc, conn, base)
+}
+
+/// Opens a numberer over the files.
+pub fn numbers_open(
+    alloc: Global,
+    given: GivenFiles,
+    base: u64,
+    reply: &mut Reply,
+) -> NumbersHeld
+    ensures { OpenedNumbers base result reply.new }
+{
+    let text = Text::from_string(String::new(alloc));
+    match served(alloc, given, base) {
+        Ok(numberer) => {
+            tell_nothing(DONE, 0, reply);
+            reply.events = numberer.table.rows();
+            NumbersHeld {
+                numberer: Some(numberer),
+                text,
+                alloc,
+            }
+        }
+        Err(status) => {
+            tell_nothing(status, 0, reply);
+            NumbersHeld {
+                numberer: None,
+                text,
+                alloc,
+            }
+        }
+    }
+}
+
+/// The events that the bytes spell, or the status.
+fn events_in(alloc: Global, bytes: &[u8]) -> Result<Events, u32>
+    ensures ok { IfOk result (Reads bytes.now) }
+    ensures err { IfErr result (IsNoEvents bytes.now) }
+{
+    match read_events(alloc, bytes) {
+        Ok(events) => Ok(events),
+        Err(ReadFault::OutOfMemory) => Err(OUT_OF_MEMORY),
+        Err(_) => Err(NO_EVENTS),
+    }
+}
+
+/// Has a numberer number events: the line of them with their numbers, or the status.
+fn number_line<S: Alter + Drop>(
+    numberer: &mut Numberer<S>,
+    alloc: Global,
+    events: &Events,
+) -> Result<Answered, u32>
+    ensures { Numbers S.Store events.now numberer.old numberer.new result }
+{
+    match numberer.number(events) {
+        Ok(batch) => page_line(alloc, Ok(batch)),
+        Err(fault) => Err(number_status(fault)),
+    }
+}
+
+/// Has a numberer number the events that bytes spell: their line, or the status.
+fn number_bytes<S: Alter + Drop>(
+    numberer: &mut Numberer<S>,
+    alloc: Global,
+    bytes: &[u8],
+) -> Result<Answered, u32>
+    ensures { NumbersBytes S.Store bytes.now numberer.old numberer.new result }
+{
+    match events_in(alloc, bytes) {
+        Ok(events) => number_line(numberer, alloc, &events),
+        Err(status) => Err(status),
+    }
+}
+
+/// Keeps the text that was made in place of the last one, or tells why there is none.
+fn keep_text(made: Result<Answered, u32>, text: &mut Text, reply: &mut Reply)
+    ensures keeps { KeepsMade made text.old text.new reply.new }
+    ensures length { reply.new.length ≡ length text.new }
+{
+    tell_nothing(DONE, 0, reply);
+    match made {
+        Ok(answered) => {
+            reply.listed = answered.listed;
+            *text = answered.text;
+        }
+        Err(status) => reply.status = status,
+    }
+    reply.length = text.as_str().len() as u64;
+}
+
+/// Has a numberer number the events that bytes spell, keeps their line, and tells how many it
+/// numbered.
+fn number_and_tell<S: Alter + Drop>(
+    numberer: &mut Numberer<S>,
+    alloc: Global,
+    text: &mut Text,
+    bytes: &[u8],
+    reply: &mut Reply,
+)
+    ensures did { (made : Result Made ℕ)
+        × NumbersBytes S.Store bytes.now numberer.old numberer.new made
+        × KeepsMade made text.old text.new reply.new }
+    ensures events { reply.new.events ≡ numberer.new.table.rows }
+    ensures length { reply.new.length ≡ length text.new }
+{
+    let made = number_bytes(numberer, alloc, bytes);
+    keep_text(made, text, reply);
+    reply.events = numberer.table.rows();
+}
+
+/// Numbers the events that the bytes spell.
+pub fn numbers_number(mut held: NumbersHeld, bytes: &[u8], reply: &mut Reply) -> NumbersHeld
+    ensures { Numbered bytes.now held result reply.new }
+{
+    let Some(numberer) = &mut held.numberer else {
+        tell_nothing(NOT_OPEN, held.text.as_str().len() as u64, reply);
+        return held;
+    };
+    number_and_tell(numberer, held.alloc, &mut held.text, bytes, reply);
+    held
+}
+
+/// Copies a piece of the answer's text, counted from 0; a piece behind the text's end has no bytes.
+pub fn numbers_read(held: NumbersHeld, piece: u32, out: &mut Piece) -> NumbersHeld
+    ensures { HasReadNumbers piece held result out.old out.new }
+{
+    out.length = copied(held.text.as_str().as_bytes(), piece, &mut out.bytes);
+    held
+}
+
+/// Copies the log into the file, and lets the numberer go.
+pub fn numbers_close(held: NumbersHeld)
+    ensures { LetsGoNumbers held }
+{
+    let NumbersHeld {
+        numberer,
+        text: _,
+        alloc: _,
+    } = held;
+    if let Some(numberer) = numberer {
+        close(numberer.table.into_connection());
+    }
+}

@@ -1,0 +1,406 @@
+//! What a service asks of the site that lies in the room, beside the calls of `calls`.
+
+ghost use Rattle.std.specs.Prelude.{◌≡◌, ◌≢◌, ◌≤◌, ◌⊎◌, ◌++◌, [], ◌∷◌, IfErr, IfOk, IsTrue, OnErr, length};
+ghost use Rattle.coverage.specs.Digests.{Digests};
+ghost use Rattle.coverage.specs.Summary.{Sources};
+ghost use Rattle.file_reports.specs.Reports.{IsRefusal, SpellAll};
+ghost use Rattle.inbox.specs.Sets.{set_of};
+ghost use Rattle.site.specs.Delta.{delta};
+ghost use Rattle.site.specs.Key.{with_key};
+ghost use Rattle.library_calls.specs.Calls.{IsPeer, IsRefusedPeer};
+ghost use Rattle.library_calls.specs.Sets.{Arrived, Compared, Copied, Found, IsApart, IsFound, IsNamed, IsLag, IsNameOf, IsPart, LacksPart, Named, PartLacked, Released, TellsLag, TellsName, Tested, WantsFound, part_limit};
+
+use crate::calls::{
+    Answered, DONE, MAX_PAGE, OUT_OF_MEMORY, Reply, batch_of, keep, page_line, peer_of,
+};
+use crate::held::Held;
+use attributes::{Batch, Text};
+use coverage::Summary;
+use lag::{differing, lacking};
+use sha2::{Digest, Sha256};
+use site::Site;
+use std::alloc::{AllocError, Global};
+use views::{Answer, print};
+
+/// The name of a set of events.
+#[repr(C)]
+#[derive(Drop)]
+pub struct Name {
+    /// 0: done. 1: out of memory. 11: the site wasn't opened.
+    pub status: u32,
+    /// The SHA-256 of the text of the set's summary.
+    pub bytes: [u8; 32],
+}
+
+/// How far a site and a peer are apart.
+#[repr(C)]
+#[derive(Drop)]
+pub struct Lag {
+    /// 0: done. 1, 5 to 8: why not, as of a page of what a peer lacks; the rest is 0 then. 11: the
+    /// site wasn't opened.
+    pub status: u32,
+    /// How many numbers the peer has that the site lacks.
+    pub lacking: u64,
+    /// How many the site has that the peer lacks.
+    pub ahead: u64,
+    /// How many blocks differ, or are on one side alone; 0 of a summary of version 1.
+    pub blocks: u64,
+}
+
+/// The most events of a part of what a peer lacks.
+const MAX_PART: u64 = 2_000;
+
+/// The most pages of a part.
+const PART_PAGES: u64 = 20;
+
+/// Keeps the page of a site's events in the order in which they came, behind so many.
+pub(crate) fn show_arrivals(
+    site: &Site,
+    alloc: Global,
+    text: &mut Text,
+    after: u64,
+    reply: &mut Reply,
+)
+    ensures { Arrived after (record { site = site.now; text = text.old; alloc = alloc })
+        (record { site = site.now; text = text.new; alloc = alloc }) reply.new }
+{
+    let page = site.arrivals_after(after, MAX_PAGE);
+    let made = page_line(alloc, page);
+    keep(site, text, made, reply);
+}
+
+/// Lets the text of the last answer go.
+pub(crate) fn release(site: &Site, alloc: Global, text: &mut Text, reply: &mut Reply)
+    ensures { Released (record { site = site.now; text = text.old; alloc = alloc })
+        (record { site = site.now; text = text.new; alloc = alloc }) reply.new }
+{
+    let empty = Text::from_string(String::new(alloc));
+    let made = Ok(Answered {
+        text: empty,
+        listed: 0,
+    });
+    keep(site, text, made, reply);
+}
+
+/// The name of a site's set.
+fn name_of(site: &mut Site) -> Result<[u8; 32], AllocError>
+    ensures same { site.new ≡ site.old }
+    ensures ok { IfOk result (IsNameOf (set_of site.old)) }
+{
+    let text = site.summary()?.to_text()?;
+    Ok(Sha256::digest(text.as_str()))
+}
+
+/// Tells the name of a site's set.
+pub(crate) fn tell_name(site: &mut Site, name: &mut Name)
+    ensures same { site.new ≡ site.old }
+    ensures tells { TellsName (set_of site.old) name.old name.new }
+{
+    match name_of(site) {
+        Ok(bytes) => {
+            name.status = DONE;
+            name.bytes = bytes;
+        }
+        Err(_) => name.status = OUT_OF_MEMORY,
+    }
+}
+
+/// Tells the name of the set of the site that lies in the room.
+pub fn site_name(mut held: Held, name: &mut Name) -> Held
+    ensures { Named held result name.old name.new }
+{
+    tell_name(&mut held.site, name);
+    held
+}
+
+/// How far two summaries are apart.
+fn apart(own: &Summary, peer: &Summary) -> Result<Lag, AllocError>
+    ensures { IfOk result (IsApart own.now peer.now) }
+{
+    Ok(Lag {
+        status: DONE,
+        lacking: lacking(own, peer)?,
+        ahead: lacking(peer, own)?,
+        blocks: differing(own, peer)?,
+    })
+}
+
+/// How far a site and a peer are apart.
+fn lag_to(site: &mut Site, peer: &Summary) -> Result<Lag, AllocError>
+    ensures same { site.new ≡ site.old }
+    ensures ok { IfOk result (λ lag. (own : Sources) × Digests (set_of site.old) own
+        × IsApart own peer.now lag) }
+{
+    let own = site.summary()?;
+    apart(&own, peer)
+}
+
+/// How far a site and the peer of the bytes are apart, or the status.
+fn lag_of(alloc: Global, site: &mut Site, peer: &[u8]) -> Result<Lag, u32>
+    ensures same { site.new ≡ site.old }
+    ensures ok { IfOk result (IsLag peer.now (set_of site.old)) }
+    ensures err { IfErr result (IsRefusedPeer peer.now) }
+{
+    let peer = peer_of(alloc, peer)?;
+    match lag_to(site, &peer) {
+        Ok(lag) => Ok(lag),
+        Err(_) => Err(OUT_OF_MEMORY),
+    }
+}
+
+/// A lag that tells why there is none.
+pub(crate) fn no_lag(status: u32) -> Lag
+    ensures { result ≡ record { status = status; lacking = 0; ahead = 0; blocks = 0 } }
+{
+    Lag {
+        status,
+        lacking: 0,
+        ahead: 0,
+        blocks: 0,
+    }
+}
+
+/// Tells how far a site and the peer of the bytes are apart.
+pub(crate) fn compare(site: &mut Site, alloc: Global, peer: &[u8], lag: &mut Lag)
+    ensures same { site.new ≡ site.old }
+    ensures tells { TellsLag peer.now (set_of site.old) lag.new }
+{
+    *lag = match lag_of(alloc, site, peer) {
+        Ok(found) => found,
+        Err(status) => no_lag(status),
+    };
+}
+
+/// Tells how far the site that lies in the room and the peer of the bytes are apart.
+pub fn site_compare(mut held: Held, peer: &[u8], lag: &mut Lag) -> Held
+    ensures { Compared peer.now held result lag.new }
+{
+    compare(&mut held.site, held.alloc, peer, lag);
+    held
+}
+
+/// How many events a part has at most.
+fn part_limit(most: u64) -> u64
+    ensures limit { result ≡ part_limit most }
+    ensures high { result ≤ 2000 }
+{
+    if most == 0 {
+        return MAX_PAGE;
+    }
+    most.min(MAX_PART)
+}
+
+/// Moves the events of a page behind those of a part, and answers how many bytes their texts have.
+fn append(part: &mut Batch, mut page: Batch) -> Result<u64, AllocError>
+    ensures { IfOk result (λ _. part.new ≡ part.old ++ page) }
+{
+    let mut bytes = 0u64;
+    for i in 0..page.len() {
+        if let Some(event) = page.take_front() {
+            bytes = bytes.saturating_add(event.event().text().len() as u64);
+            part.push(event)?;
+        }
+    }
+    Ok(bytes)
+}
+
+/// Whether so many bytes are as many as are asked for, where that isn't 0.
+fn is_large(bytes: u64, size: u64) -> bool
+    ensures { IsTrue result → (size ≢ 0) × (bytes ≢ 0) }
+{
+    size > 0 && bytes >= size
+}
+
+/// The part from a place on of what a peer lacks: at most so many events, and the page with which
+/// their texts have so many bytes, where that isn't 0, is the last.
+fn part_of(
+    alloc: Global,
+    site: &mut Site,
+    peer: &Summary,
+    from: u64,
+    most: u64,
+    size: u64,
+) -> Result<Batch, AllocError>
+    ensures same { site.new ≡ site.old }
+    ensures part { IfOk result
+        (λ events. IsPart (delta (set_of site.old) peer.now) from most size events) }
+{
+    let limit = part_limit(most);
+    let mut part = Batch::empty(alloc);
+    let mut bytes = 0u64;
+    for i in 0..PART_PAGES {
+        let count = part.len();
+        if count >= limit {
+            return Ok(part);
+        }
+        if is_large(bytes, size) {
+            return Ok(part);
+        }
+        // No more events lack than there are, which bounds the sum below.
+        let _len = site.len();
+        let at = from.saturating_add(count);
+        let page = site.next_delta_page(peer, at, (limit - count).min(MAX_PAGE))?;
+        if page.is_empty() {
+            return Ok(part);
+        }
+        bytes = bytes.saturating_add(append(&mut part, page)?);
+    }
+    Ok(part)
+}
+
+/// The line of the part of what a peer lacks, from a place on, or the status.
+fn part_at(
+    alloc: Global,
+    site: &mut Site,
+    peer: &[u8],
+    from: u64,
+    most: u64,
+    size: u64,
+) -> Result<Answered, u32>
+    ensures same { site.new ≡ site.old }
+    ensures ok { IfOk result
+        (λ m. LacksPart peer.now from most size (set_of site.old) m.text m.listed) }
+    ensures err { IfErr result (IsRefusedPeer peer.now) }
+{
+    let peer = peer_of(alloc, peer)?;
+    let part = part_of(alloc, site, &peer, from, most, size);
+    page_line(alloc, part)
+}
+
+/// Keeps the part of what a peer lacks of a site, from a place on.
+pub(crate) fn show_part(
+    site: &mut Site,
+    alloc: Global,
+    text: &mut Text,
+    peer: &[u8],
+    from: u64,
+    most: u64,
+    size: u64,
+    reply: &mut Reply,
+)
+    ensures { PartLacked peer.now from most size
+        (record { site = site.old; text = text.old; alloc = alloc })
+        (record { site = site.new; text = text.new; alloc = alloc }) reply.new }
+{
+    let made = part_at(alloc, site, peer, from, most, size);
+    keep(site, text, made, reply);
+}
+
+/// Shows a part of what a peer lacks of the site that lies in the room, as [`show_part`] does.
+pub fn site_part(
+    mut held: Held,
+    peer: &[u8],
+    from: u64,
+    most: u64,
+    size: u64,
+    reply: &mut Reply,
+) -> Held
+    ensures { PartLacked peer.now from most size held result reply.new }
+{
+    let alloc = held.alloc;
+    show_part(
+        &mut held.site,
+        alloc,
+        &mut held.text,
+        peer,
+        from,
+        most,
+        size,
+        reply,
+    );
+    held
+}
+
+/// A site in memory with the same events; one without events where memory runs out.
+pub(crate) fn copy_of(site: &Site, alloc: Global) -> Site
+    ensures { (result ≡ site.now) ⊎ ((result ≡ []) × (site.now ≢ [])) }
+{
+    match site.copy() {
+        Ok(copy) => copy,
+        Err(_) => Site::empty(alloc),
+    }
+}
+
+/// The same of the site that lies in a room, with no text.
+pub fn site_copy(held: &mut Held) -> Held
+    ensures { Copied held.old held.new result }
+{
+    Held {
+        site: copy_of(&held.site, held.alloc),
+        text: Text::from_string(String::new(held.alloc)),
+        alloc: held.alloc,
+    }
+}
+
+/// The events of a source and an id; none where either is no text.
+fn events_of_key(alloc: Global, site: &Site, source: &[u8], id: &[u8]) -> Result<Batch, AllocError>
+    ensures ok { IfOk result (IsNamed source.now id.now (set_of site.now)) }
+    ensures err { OnErr result (with_key source.now id.now (set_of site.now) ≢ []) }
+{
+    let Ok(source) = str::from_utf8(source) else {
+        return Ok(Batch::empty(alloc));
+    };
+    let Ok(id) = str::from_utf8(id) else {
+        return Ok(Batch::empty(alloc));
+    };
+    site.get(source, id)
+}
+
+/// The lines of the events of a source and an id, or the status.
+fn found_at(alloc: Global, site: &Site, source: &[u8], id: &[u8]) -> Result<Answered, u32>
+    ensures ok { IfOk result
+        (λ m. IsFound source.now id.now (set_of site.now) m.text m.listed) }
+    ensures err { IfErr result (WantsFound source.now id.now (set_of site.now)) }
+{
+    let Ok(events) = events_of_key(alloc, site, source, id) else {
+        return Err(OUT_OF_MEMORY);
+    };
+    let listed = events.len();
+    match print(alloc, &Answer::Shown(events)) {
+        Ok(text) => Ok(Answered { text, listed }),
+        Err(_) => Err(OUT_OF_MEMORY),
+    }
+}
+
+/// Keeps the lines of the events of a source and an id.
+pub(crate) fn find(
+    site: &Site,
+    alloc: Global,
+    text: &mut Text,
+    source: &[u8],
+    id: &[u8],
+    reply: &mut Reply,
+)
+    ensures { Found source.now id.now (record { site = site.now; text = text.old; alloc = alloc })
+        (record { site = site.now; text = text.new; alloc = alloc }) reply.new }
+{
+    let made = found_at(alloc, site, source, id);
+    keep(site, text, made, reply);
+}
+
+/// Finds events in the site that lies in the room, as [`find`] does.
+pub fn site_get(mut held: Held, source: &[u8], id: &[u8], reply: &mut Reply) -> Held
+    ensures { Found source.now id.now held result reply.new }
+{
+    let room = &mut held;
+    find(&room.site, room.alloc, &mut room.text, source, id, reply);
+    held
+}
+
+/// Tells what taking bytes would come to, and how many events they spell.
+pub fn bytes_test(alloc: Global, bytes: &[u8], reply: &mut Reply)
+    ensures { Tested bytes.now reply.new }
+{
+    reply.fresh = 0;
+    reply.repeated = 0;
+    reply.listed = 0;
+    reply.events = 0;
+    reply.length = 0;
+    match batch_of(alloc, bytes) {
+        Ok(batch) => {
+            reply.status = DONE;
+            reply.listed = batch.len();
+        }
+        Err(refused) => reply.status = refused.fault.number() as u32,
+    }
+}

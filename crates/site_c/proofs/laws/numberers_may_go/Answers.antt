@@ -1,7 +1,0 @@
-use denote.Param.Send.{sendable}
-use Rattle.std.proofs.Crossing as heap
-use Rattle.site_c.proofs.Crossing.{file_numberer_send, text_send}
-use Rattle.site_c.proofs.laws.numberers_may_go.Goals as goal
-
-pub returns : goal.returns
-returns c = search (file_numberer_send, text_send, heap.crosses, sendable) depth 20

@@ -1,5 +1,0 @@
-use Rattle.site_c.proofs.NumberLemmas.{serves_numbers}
-use Rattle.site_c.proofs.number_calls.served.Goals as goal
-
-pub returns : goal.returns
-returns c = serves_numbers c.args.base c.in-Ok.conn c.numberer_of.result c.in-Ok.ensures.over c.numberer_of.ensures

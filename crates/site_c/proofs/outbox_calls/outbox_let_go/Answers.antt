@@ -1,7 +1,0 @@
-use Rattle.std.specs.Prelude.{MatchOption, ⊤}
-use Rattle.std.proofs.Common.{subst, sym}
-use Rattle.durable_site.specs.Files.{Closes}
-use Rattle.site_c.proofs.outbox_calls.outbox_let_go.Goals as goal
-
-pub returns-in-Some : goal.returns-in-Some
-returns-in-Some c = subst (λ o. MatchOption o ⊤ (λ d. Closes d.conn)) (sym c.in-Some.is) (subst (λ z. Closes z) c.into_connection.ensures c.close.ensures)
