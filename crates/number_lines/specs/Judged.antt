@@ -1,5 +1,5 @@
 -- Which events lines have that are to be numbered, and why they have none.
-use Rattle.std.specs.Prelude.{◌≡◌, ◌⊎◌, ◌<◌, ℕ, suc, codes, ◌+◌, List, [], ◌∷◌, length, count_by, is_some, Option, None, Some}
+use Rattle.std.specs.Prelude.{◌≡◌, ◌≢◌, ◌⊎◌, ℕ, suc, codes, ◌+◌, List, [], ◌∷◌, length, take, slice_get, count_by, is_some, Option, None, Some}
 use Rattle.attributes.specs.Event.{EventValue, attribute_of}
 use Rattle.event_json.specs.Reading.{Reads, Refuses}
 use Rattle.line_intake.specs.Judged.{TakesLines}
@@ -22,9 +22,23 @@ AreOwn aside [] [] = Unit {0}
 AreOwn aside (e ∷ given) (x ∷ events) = IsOwn aside e x × AreOwn aside given events
 AreOwn aside _ _ = ⊥
 
+-- the events before the one at this place have no number or have it by the name, and the one there
+-- has one, which can't go by it
+pub record IsFirstNotAside (name : List ℕ) (given : List EventValue) (index : ℕ) : Type 0 where
+  pub before : List EventValue
+  pub own : AreOwn (Some name) (take index given) before
+  pub event : EventValue
+  pub is : slice_get given index ≡ Some event
+  pub has : attribute_of (codes "sequence") event ≢ None
+
+-- the same where a name is given; no number goes by another name where none is
+abbrev pub StopsAside : Option (List ℕ) → List EventValue → ℕ → Type 0
+StopsAside None given index = ⊥
+StopsAside (Some name) given index = IsFirstNotAside name given index
+
 -- the line spells events, and these are they as they are numbered, none with a number and each with
 -- room for one; or this is why nothing of it is numbered: it spells none, this is the first that
--- can't be numbered, or the number of the one at this place can't be set aside
+-- can't be numbered, or the first whose own number can't go by the name for it
 abbrev pub IsJudged : Option (List ℕ) → List ℕ → Option LineRefusal → List EventValue → Type 0
 IsJudged aside line None L =
     (given : List EventValue) × Reads line given × AreOwn aside given L × AreBare L
@@ -32,7 +46,7 @@ IsJudged aside line (Some (refusal.Read why)) L = Refuses line why × (L ≡ [])
 IsJudged aside line (Some (refusal.Number why)) L = (given events : List EventValue)
     × Reads line given × AreOwn aside given events × (refusal_from 0 events ≡ Some why) × (L ≡ [])
 IsJudged aside line (Some (refusal.Aside index)) L =
-    (given : List EventValue) × Reads line given × (index < length given) × (L ≡ [])
+    (given : List EventValue) × Reads line given × StopsAside aside given index × (L ≡ [])
 
 -- these lines come behind so many others; each but the empty ones is told with its place, counted
 -- from 1, and with its events

@@ -1,8 +1,8 @@
 //! The lines of an input whose events are numbered in one transaction.
 
-ghost use Rattle.std.specs.Prelude.{◌≡◌, ◌↔◌, ◌≤◌, ◌<◌, ◌+◌, ◌^◌, ℕ, List, Option, [], ◌++◌, ◌∷◌, IfOk, IfSome, IsTrue, OnOk, Some};
+ghost use Rattle.std.specs.Prelude.{◌≡◌, ◌≢◌, ◌↔◌, ◌≤◌, ◌<◌, ◌+◌, ◌^◌, ℕ, List, Option, [], ◌++◌, ◌∷◌, IfNone, IfOk, IfSome, IsTrue, None, OnOk, Some, codes};
 ghost use Rattle.std.specs.Io.KnownBytes.{IsAtEnd, prepend_known};
-ghost use Rattle.attributes.specs.Event.{EventValue};
+ghost use Rattle.attributes.specs.Event.{EventValue, attribute_of};
 ghost use Rattle.line_intake.specs.Lines.{IsNext};
 ghost use Rattle.number_lines.specs.Judged.{IsGathered, IsJudged, IsOwn, faults_in};
 ghost use Rattle.number_lines.specs.steps.Owned.{AreOwned};
@@ -60,7 +60,8 @@ enum Owned {
 
 /// The event as it is numbered, with its own `sequence`, where it has one, by the name.
 fn own(alloc: Global, event: &Event, name: &str) -> Result<Option<Event>, AllocError>
-    ensures { IfOk result (λ o. IfSome o (IsOwn (Some name.now) event.now)) }
+    ensures own { IfOk result (λ o. IfSome o (IsOwn (Some name.now) event.now)) }
+    ensures has { IfOk result (λ o. IfNone o (attribute_of (codes "sequence") event.now ≢ None)) }
 {
     if event.attribute("sequence").is_none() {
         return Ok(Some(event.copy()?));

@@ -12,4 +12,4 @@ loop-i-preserved c =
     let e = c.at.result.now in
     let x = c.in-Some.event in
     let X = c.loop-i.events in
-    subst (AreOwn (Some name) (take (i + 1) given)) (sym c.in_ok-push-in-Some.ensures.ok) (subst (λ l. AreOwn (Some name) l (X ++ x ∷ [])) (sym (take_next given i e c.at.ensures)) (own_more (Some name) (take i given) X e x c.loop-i.invariant (subst (λ o. IfSome o (IsOwn (Some name) e)) c.in-Some.is c.in_ok-event.ensures)))
+    subst (AreOwn (Some name) (take (i + 1) given)) (sym c.in_ok-push-in-Some.ensures.ok) (subst (λ l. AreOwn (Some name) l (X ++ x ∷ [])) (sym (take_next given i e c.at.ensures)) (own_more (Some name) (take i given) X e x c.loop-i.invariant (subst (λ o. IfSome o (IsOwn (Some name) e)) c.in-Some.is c.in_ok-event.ensures.own)))
