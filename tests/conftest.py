@@ -9,12 +9,22 @@ from shell import TOP, Room, Stage
 
 def pytest_addoption(parser: pytest.Parser) -> None:
     parser.addoption("--program", default=f"{TOP}/crates/site_cli/out/site_cli", help="the built program")
+    parser.addoption("--service", default=f"{TOP}/out/service/jumbetaid", help="the built service")
+    parser.addoption("--of", type=int, default=100, help="what the sizes on pages are divided by")
 
 
 @pytest.fixture(scope="session")
 def program(pytestconfig: pytest.Config) -> str:
     found = os.path.realpath(str(pytestconfig.getoption("--program")))
     assert os.access(found, os.X_OK), f"no program at {found}"
+    return found
+
+
+@pytest.fixture(scope="session")
+def service(pytestconfig: pytest.Config) -> str:
+    found = os.path.realpath(str(pytestconfig.getoption("--service")))
+    if not os.access(found, os.X_OK):
+        pytest.skip("the service isn't built: tools/service.py")
     return found
 
 

@@ -67,7 +67,7 @@ echo "end try_edits" >>FOLDER/order
 exit $status
 """
 SCRIPTS = ["try_bindings.py", "try_release.py", "try_refusals.py", "try_rows.py", "run_tests.py -m not alone"]
-SCRIPTS += ["try_papers.py", "run_guide.py"]
+SCRIPTS += ["try_papers.py"]
 SCRIPTS += ["run_tests.py -m alone", "try_service.py", "try_partition.py"]
 ALONE = SCRIPTS[-3:]
 FIRST = ["lint.py"]

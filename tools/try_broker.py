@@ -4,7 +4,7 @@
     tools/try_broker.py [--program FILE] [--orders N]
 
 The lines are those of docs/GUIDE.md, of the parts 'Over a broker' and 'Over ssh', but for the broker's address and the
-first number of `relay`; for `ssh` there is the stand-in of tools/run_guide.py. The services of two regions publish the
+first number of `relay`; for `ssh` there is the stand-in of tools/pages.py. The services of two regions publish the
 events of their orders, each under a topic of its own, and two sites follow both topics. In the middle the broker is
 stopped and started, and its subscribers come back by themselves; it is killed and started; the south's subscriber is
 killed, together with its `follow`, and misses what comes; and one service sends everything twice. Then the south has to
@@ -29,7 +29,7 @@ from typing import Optional
 sys.dont_write_bytecode = True
 TOP = os.path.dirname(os.path.dirname(os.path.realpath(__file__)))
 sys.path.insert(0, f"{TOP}/tools")
-from run_guide import blocks, room, steps  # noqa: E402
+from pages import blocks, room, steps  # noqa: E402
 
 GUIDE = "docs/GUIDE.md"
 QUESTIONS = ("cover", "gaps", "shown", "latest", "kinds", "days", "conflicts")

@@ -28,7 +28,7 @@ sys.path.insert(0, f"{TOP}/tools")
 import debian  # noqa: E402
 from harness import Counts  # noqa: E402
 from kept import file_sum  # noqa: E402
-from run_guide import blocks, of_console, typed  # noqa: E402
+from pages import blocks, of_console, typed  # noqa: E402
 from version import version  # noqa: E402
 
 SETTINGS = "etc/jumbetai/jumbetaid.toml"

@@ -5,7 +5,7 @@
 
 Of each page of the repository: each link leads to a file, and to a heading where it names one; a pipe in a block of a
 shell stands behind `set -o pipefail` or within a bash that has it; a `console` block stands in a page that
-tools/run_guide.py runs, and a block of such a page that isn't run wants what a gate's machine may not have; no date
+tests/test_guide.py runs, and a block of such a page that isn't run wants what a gate's machine may not have; no date
 stands outside PAGES_WITH_DATES, but in code; no path of a machine; and no more lines and words than LIMITS says. The
 contracts that docs/GUARANTEES.md names stand in the crates. The last line is 'N of M checks of pages were right'.
 """
@@ -19,7 +19,7 @@ from typing import Iterator, Optional
 sys.dont_write_bytecode = True
 TOP = os.path.dirname(os.path.dirname(os.path.realpath(__file__)))
 sys.path.insert(0, f"{TOP}/tools")
-from run_guide import PAGES, blocks  # noqa: E402
+from pages import PAGES, blocks  # noqa: E402
 
 # The most lines, where that matters, and the most words. A reason stands behind a limit that is above its neighbours'.
 LIMITS = {
@@ -107,7 +107,7 @@ def runs(page: str) -> Iterator[str]:
     for _, mark, lines in blocks(page):
         text = "\n".join(lines)
         if page not in PAGES and mark[:1] == ["console"]:
-            yield f"a block that tools/run_guide.py doesn't run: {lines[0]}"
+            yield f"a block that tests/test_guide.py doesn't run: {lines[0]}"
         elif page in PAGES and mark[:1] == ["sh"] and len(mark) == 1 and not any(it in text for it in WANTED):
             yield f"a block that could be run: {lines[0]}"
 

@@ -3,7 +3,7 @@
 
     tools/try_regions.py [--program FILE] [--events N] [--by follow|take|ssh]
 
-The lines are those of the part 'Two regions of 100,000 events', which tools/run_guide.py runs at a hundredth of that
+The lines are those of the part 'Two regions of 100,000 events', which tests/test_guide.py runs at a hundredth of that
 size. With --events each region has N events, a multiple of 200, and what a line prints has to go by that. By `take`,
 what the other region sends is kept by one `take` of the files that `split` makes of it. By `ssh`, the regions come
 together by the three lines of the part 'Over ssh', through a real `ssh` to a server that is started here, on the
@@ -28,7 +28,7 @@ from typing import Iterator, Optional
 sys.dont_write_bytecode = True
 TOP = os.path.dirname(os.path.dirname(os.path.realpath(__file__)))
 sys.path.insert(0, f"{TOP}/tools")
-from run_guide import SSH, gone_to, room, steps  # noqa: E402
+from pages import SSH, gone_to, room, steps  # noqa: E402
 
 GUIDE, AT_SIZE, OVER_SSH = "docs/GUIDE.md", "Two regions of 100,000 events", "Over ssh"
 QUESTIONS = ("cover", "gaps", "shown", "latest", "kinds", "days", "conflicts")

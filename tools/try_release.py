@@ -27,7 +27,7 @@ import library  # noqa: E402
 import service  # noqa: E402
 from archive_pages import LINK, STRAY  # noqa: E402
 from harness import Counts  # noqa: E402
-from run_guide import steps  # noqa: E402
+from pages import steps  # noqa: E402
 from version import version  # noqa: E402
 
 PART = "Orders, and the events that tell of them"

@@ -1527,7 +1527,8 @@ def built(folder: str, given: argparse.Namespace, tries: Tries) -> Any:
     ran = service.cargo(["test", "--release", "--features", FEATURES], given.library, f"{folder}/cargo", capture_output=True, text=True)
     passed = re.search(r"test result: ok\. (\d+) passed; 0 failed", ran.stdout)
     tries.judge("tests in Rust", passed and int(passed[1]) > 20, ran.stdout + ran.stderr)
-    ran = subprocess.run([f"{TOP}/tools/run_guide.py", "docs/SERVICE.md"], capture_output=True, text=True, timeout=150, check=False)
+    words = [f"{TOP}/tools/run_tests.py", "tests/test_guide.py", "-k", "SERVICE", f"--service={program}"]
+    ran = subprocess.run(words, capture_output=True, text=True, timeout=150, check=False)
     tries.judge("docs/SERVICE.md", ran.returncode == 0, ran.stdout + ran.stderr)
     return program
 
