@@ -109,7 +109,7 @@ def main() -> int:
         tries.judge("it opens again with what it had", site.get("/shown").body == shown)
         site.stop()
     print(f"{sum(counts.values())} requests, {len(shown.splitlines())} events kept; answers {counts}")
-    return tries.tell("of mutated requests")
+    return tries.tell()
 
 
 if __name__ == "__main__":

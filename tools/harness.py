@@ -10,22 +10,25 @@ class Counts:
 
     def __init__(self) -> None:
         self.right = self.all = 0
+        self.wrong: list[str] = []
+        self.skipped: list[str] = []
 
     def judge(self, what: str, is_right: object, why: object = "") -> bool:
         """Whether something is right; says what it is, and why it isn't, where it isn't."""
         self.right, self.all = self.right + bool(is_right), self.all + 1
         if not is_right:
-            print(f"wrong: {self.what and f'{self.what}: '}{what}: {str(why)[-2000:]}", flush=True)
+            self.wrong.append(f"wrong: {self.what and f'{self.what}: '}{what}: {str(why)[-2000:]}")
+            print(self.wrong[-1], flush=True)
         return bool(is_right)
 
-    @staticmethod
-    def skip(what: str, why: str) -> None:
+    def skip(self, what: str, why: str) -> None:
         """Says that something isn't tried, since what it wants isn't there."""
-        print(f"skipped: {what}, since {why}", flush=True)
+        self.skipped.append(f"skipped: {what}, since {why}")
+        print(self.skipped[-1], flush=True)
 
-    def tell(self, of: str) -> int:
-        """Prints the last line, 'N of M tries OF were right', and answers the status."""
-        print(f"{self.right} of {self.all} tries {of} were right")
+    def tell(self) -> int:
+        """Prints the last line, 'N passed, M failed', and answers the status."""
+        print(f"{self.right} passed, {self.all - self.right} failed")
         return 0 if self.right == self.all else 1
 
 

@@ -284,7 +284,7 @@ def main() -> int:
     words.add_argument("--seconds", type=float, default=float("inf"), help="of each command")
     words.add_argument("kinds", nargs="*", choices=["take", "order", "run", "follow", []])
     asked = words.parse_args()
-    program, failed = os.path.abspath(asked.program), 0
+    program, passed, failed = os.path.abspath(asked.program), 0, 0
     for name in asked.kinds or ["take", "order", "run", "follow"]:
         draw = random.Random(asked.seed)
         kind = {"take": Take, "order": Place, "run": Run}[name]() if name != "follow" else Follow(draw)
@@ -296,7 +296,8 @@ def main() -> int:
         print(f"{name}: {killed + ended} rounds: {killed} killed, {ended} ended before; {len(wrong)} wrong", flush=True)
         for line in wrong[:10]:
             print(f"wrong: {line}")
-        failed += len(wrong)
+        passed, failed = passed + max(killed + ended - len(wrong), 0), failed + len(wrong)
+    print(f"{passed} passed, {failed} failed")
     return 1 if failed else 0
 
 

@@ -7,7 +7,7 @@ In each round a process opens the file and lets eight threads offer bodies, of 1
 at fault; one thread takes all that wait by `take_each`, in one transaction, and each caller writes down what it was
 answered once it is answered. The process is killed at a moment of chance, in the middle of a transaction mostly. Then
 the file is opened again: it has each body that was answered, each body whole or not at all, no event twice, the bodies
-of one caller in their order, and what came before at the same numbers. The last line is 'N of M rounds were right'; a file
+of one caller in their order, and what came before at the same numbers. The last line is 'N passed, M failed'; a file
 at fault is kept, and told.
 """
 import argparse
@@ -167,7 +167,7 @@ def main() -> int:
                 shutil.copy(path, kept)
                 print(f"wrong: round {at} of seed {seed}, kept in {kept}: {'; '.join(wrong[:5])}", flush=True)
         print(f"{answered} bodies were answered")
-        print(f"{right} of {given.rounds} rounds were right")
+        print(f"{right} passed, {given.rounds - right} failed")
         return 0 if right == given.rounds and answered else 1
 
 

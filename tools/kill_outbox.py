@@ -8,7 +8,7 @@ open for several rounds. A service reads them (`[postgres]`), and in each tenth 
 contrib/postgresql says. Meanwhile one of these is ended: the service by a signal, the database without a word, the
 writers, psql or `site`. At the end both sites have to hold each event that was committed, once, and no other, and the
 numbers of each source have to be 1, 2, 3 .. without a gap. It wants PostgreSQL, `jumbetaid` with the feature postgres, and
-`site`. The last line is 'N of M tries of an outbox were right'; without PostgreSQL nothing is tried. The service's tests
+`site`. The last line is 'N passed, M failed'; without PostgreSQL nothing is tried. The service's tests
 in the gate do 20 rounds.
 """
 import argparse
@@ -166,7 +166,7 @@ def main() -> int:
             kill(tries, given.rounds, given.seed)
         finally:
             tries.end()
-    return tries.tell("of an outbox")
+    return tries.tell()
 
 
 if __name__ == "__main__":

@@ -86,7 +86,8 @@ def main() -> int:
         held = 2 * asked.events * (number + 1)
     print(f"{asked.rounds} rounds: {killed} killed, {ended} ended before; {len(wrong)} wrong")
     for line in wrong[:10]:
-        print(line)
+        print(f"wrong: {line}")
+    print(f"{max(asked.rounds - len(wrong), 0)} passed, {len(wrong)} failed")
     return 1 if wrong else 0
 
 

@@ -413,7 +413,7 @@ def main() -> int:
         if not is_right:
             print(text)
     right = sum(is_right for is_right, _ in answers)
-    print(f"{right} of {len(answers)} edits of the script's own tests were right")
+    print(f"{right} passed, {len(answers) - right} failed")
     return 0 if right == len(answers) else 1
 
 

@@ -697,7 +697,7 @@ def main() -> int:
     times = f"{took:.0f} s by the clock, {spent:.0f} s of processor time"
     each = f"10,000 files take {took / count * 10000:.0f} s, {spent / count * 10000:.0f} s of processor time"
     print(f"\n{len(TRIAL.every) - count} left out for time; {times}; {each}")
-    print(f"{right} of {count} damaged files were right")
+    print(f"{right} passed, {count - right} failed")
     return 0 if right == count else 1
 
 

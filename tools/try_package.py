@@ -7,7 +7,7 @@ Two packages are made that differ in their revision. Their bytes are the same wh
 error; systemd-analyze takes the unit. In a root of debootstrap the first is installed; its program, its service, its library
 and its settings are used there, docs/SERVICE.md is typed in, and the page shows both regions; then it is upgraded with
 changed settings and events in its database, removed, installed again, and purged. --root keeps the fresh root's files
-for later runs. The last line is 'N of M tries of the package were right'.
+for later runs. The last line is 'N passed, M failed'.
 """
 import argparse
 import contextlib
@@ -227,7 +227,7 @@ def main() -> int:
         # Devices are copied as devices.
         subprocess.run(["cp", "-a", at, f"{folder}/fresh"], check=True)
         try_life(tries, Root(tries, f"{folder}/fresh"), first, second)
-    return tries.tell("of the package")
+    return tries.tell()
 
 
 if __name__ == "__main__":

@@ -6,7 +6,7 @@
 The program is by default out/service/jumbetaid. Each case serves a site and looks at what the page shows, as it stands in
 the document; CASE names some of them. With --pictures it also makes those of docs/. Where Chromium isn't there (Debian's
 package chromium) nothing is tried, and that is told. tools/try_service.py runs all of it as one of its tries. The last
-line is 'N of M tries of the page were right'.
+line is 'N passed, M failed'.
 """
 import argparse
 import base64
@@ -528,7 +528,7 @@ def main() -> int:
             try_all(tries, given.cases, given.pictures)
         finally:
             tries.end()
-    return tries.tell("of the page")
+    return tries.tell()
 
 
 if __name__ == "__main__":

@@ -7,7 +7,7 @@ Of each page of the repository: each link leads to a file, and to a heading wher
 shell stands behind `set -o pipefail` or within a bash that has it; a `console` block stands in a page that
 tests/test_guide.py runs, and a block of such a page that isn't run wants what a gate's machine may not have; no date
 stands outside PAGES_WITH_DATES, but in code; no path of a machine; and no more lines and words than LIMITS says. The
-contracts that docs/GUARANTEES.md names stand in the crates. The last line is 'N of M checks of pages were right'.
+contracts that docs/GUARANTEES.md names stand in the crates. The last line is 'N passed, M failed'.
 """
 import argparse
 import os
@@ -179,7 +179,7 @@ def main() -> int:
         right += 1
     else:
         print(f"wrong: all pages have {total} words, and at most {ALL_WORDS} are allowed")
-    print(f"{right} of {every} checks of pages were right")
+    print(f"{right} passed, {every - right} failed")
     return 0 if right == every else 1
 
 

@@ -11,7 +11,7 @@ most so many, which are then given again, so that the regions stop growing; with
 Each second memory and descriptors of each region are looked at, and how they grow is told: by the events, in the last
 half beside the first one, by the hour once no event is new, and what is left of both at rest; and how many events were
 acknowledged a second in each region, repeated ones too. It wants `ip`, `tc`, curl and namespaces, and the built
-service: what isn't there is told, and nothing is tried. The last line is 'N of M tries of regions that part were right'.
+service: what isn't there is told, and nothing is tried. The last line is 'N passed, M failed'.
 """
 import argparse
 import contextlib
@@ -302,7 +302,7 @@ def main() -> int:
     given = words.parse_args()
     why = lacks(given.program)
     if why:
-        print(f"skipped: regions that part, since {why}\n0 of 0 tries of regions that part were right")
+        print(f"skipped: regions that part, since {why}\n0 passed, 0 failed")
         return 0
     dice = random.Random(given.seed)
     did: dict[str, int] = {}
@@ -375,7 +375,7 @@ def main() -> int:
                 answers.append(not re.search("panicked|can't go on", log.read()))
     print(f"{given.regions} regions for {given.seconds:.0f} s, seed {given.seed}: {did}")
     print(f"{len(acked)} events were acknowledged, with {conflicts} conflicts; all the same {took:.1f} s behind the last")
-    print(f"{sum(map(bool, answers))} of {len(answers)} tries of regions that part were right")
+    print(f"{sum(map(bool, answers))} passed, {len(answers) - sum(map(bool, answers))} failed")
     return 0 if all(answers) else 1
 
 

@@ -7,7 +7,7 @@ The program is by default crates/site_cli/out/site_cli, the library is made (too
 (tools/service.py), where Debian's crates and dpkg-deb are; else no Debian package is tried, and that is told. Both archives
 have to be the same bytes, and both packages; each file in them has the sum that SHA256SUMS tells; the program runs through the guide's first part in
 a root folder where nothing but the C library is, where the machine lets one be made, and without an environment; the
-example in C is linked with what was unpacked, and the wheel installed. The last line is 'N of M tries of the archive were right'.
+example in C is linked with what was unpacked, and the wheel installed. The last line is 'N passed, M failed'.
 """
 import argparse
 import glob
@@ -208,7 +208,7 @@ def main() -> int:
     given = words.parse_args()
     compiler = library.compiler()
     if not compiler:
-        print("skipped: all, since no C compiler is here\n0 of 0 tries of the archive were right")
+        print("skipped: all, since no C compiler is here\n0 passed, 0 failed")
         return 0
     tries = Tries()
     with tempfile.TemporaryDirectory(prefix="try-release-") as folder:
@@ -252,7 +252,7 @@ def main() -> int:
             orders = (["./orders", "place", "7", time, "ours.db"], ["bin/site", "order", "--db", "theirs.db", "--at", time, "place", "7"])
             said = [subprocess.run(it, cwd=unpacked, capture_output=True).stdout for it in orders]
             tries.judge("the example in C of orders says what the program says", said[0] == said[1] != b"", said)
-    return tries.tell("of the archive")
+    return tries.tell()
 
 
 if __name__ == "__main__":

@@ -6,7 +6,7 @@
 Without --program it is built, over the library of FOLDER or over one that is made; its tests in Rust and docs/SERVICE.md
 are run. The program `site`, by default crates/site_cli/out/site_cli, has to answer the same about the files that it
 leaves. TRY names some of the tries below. Each takes below ten seconds. What is left out since a tool or a right isn't
-there is told. The last line is 'N of M tries of the service were right'.
+there is told. The last line is 'N passed, M failed'.
 """
 import argparse
 import base64
@@ -1545,7 +1545,7 @@ def main() -> int:
         if tries.program is None:
             if not service.has_crates() or not shutil.which("cargo"):
                 print("skipped: the service, since the crates that it stands on aren't there: tools/service.py --install", flush=True)
-                print("0 of 0 tries of the service were right")
+                print("0 passed, 0 failed")
                 return 0
             os.makedirs(f"{TOP}/out/service", exist_ok=True)
             tries.program = built(f"{TOP}/out/service", given, tries)
@@ -1558,7 +1558,7 @@ def main() -> int:
             finally:
                 tries.end()
             print(f"{name}: {time.monotonic() - began:.1f} s", flush=True)
-    return tries.tell("of the service") or int(not tries.all)
+    return tries.tell() or int(not tries.all)
 
 
 if __name__ == "__main__":
