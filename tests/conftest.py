@@ -4,7 +4,11 @@ import tempfile
 from typing import Iterator
 
 import pytest
+from harness import Counts
 from shell import TOP, Room, Stage
+
+# How many checks the tests made by `checks`, and what these left out.
+CHECKS, SKIPPED = pytest.StashKey[int](), pytest.StashKey[list[str]]()
 
 
 def pytest_addoption(parser: pytest.Parser) -> None:
@@ -40,10 +44,37 @@ def room(stage: Stage) -> Room:
     return stage.room()
 
 
+@pytest.fixture
+def checks() -> Counts:
+    """What a test counts that looks at many things: it goes on behind what is wrong, and fails in the end."""
+    return Counts()
+
+
+def counts_of(item: pytest.Item) -> list[Counts]:
+    return [it for it in getattr(item, "funcargs", {}).values() if isinstance(it, Counts)]
+
+
+@pytest.hookimpl(trylast=True)
+def pytest_runtest_call(item: pytest.Item) -> None:
+    """Fails a test of which a check was wrong, once it has come to its end."""
+    wrong = [line for it in counts_of(item) for line in it.wrong]
+    if wrong:
+        pytest.fail("\n".join(wrong), pytrace=False)
+
+
+def pytest_runtest_teardown(item: pytest.Item) -> None:
+    stash = item.config.stash
+    for it in counts_of(item):
+        stash[CHECKS] = stash.get(CHECKS, 0) + it.all
+        stash[SKIPPED] = stash.get(SKIPPED, []) + it.skipped
+
+
 def pytest_unconfigure(config: pytest.Config) -> None:
-    """Prints a line for each test that is wrong, and at last 'N passed, M failed'."""
+    """Prints what tests left out, how much they checked, a line for each test that is wrong, and at last 'N passed, M failed'."""
     reporter = config.pluginmanager.get_plugin("terminalreporter")
     if reporter and not config.getoption("--collect-only"):
+        print(*(f"{it}\n" for it in config.stash.get(SKIPPED, [])), sep="", end="")
+        print(f"{config.stash.get(CHECKS, 0)} checks within tests")
         wrong = [it for kind in ("failed", "error") for it in reporter.stats.get(kind, ())]
         print(*(f"wrong: {it.nodeid}\n" for it in wrong), sep="", end="")
         print(f"{len(reporter.stats.get('passed', ()))} passed, {len(wrong)} failed")

@@ -67,7 +67,6 @@ echo "end try_edits" >>FOLDER/order
 exit $status
 """
 SCRIPTS = ["try_bindings.py", "try_release.py", "try_refusals.py", "try_rows.py", "run_tests.py -m not alone"]
-SCRIPTS += ["try_papers.py"]
 SCRIPTS += ["run_tests.py -m alone", "try_service.py", "try_partition.py"]
 ALONE = SCRIPTS[-3:]
 FIRST = ["lint.py"]
@@ -174,8 +173,8 @@ def rows_of_pytest(folder: str) -> Iterator[tuple[bool, str]]:
     for name, text, wanted, counts in (("wrong", OF_PYTEST, 1, (1, 2)), ("unread", NO_TESTS, 2, (0, 1))):
         if python:
             os.mkdir(f"{folder}/{name}")
-            for it in ("conftest.py", "shell.py"):
-                shutil.copy(f"{TOP}/tests/{it}", f"{folder}/{name}/{it}")
+            for it in ("tests/conftest.py", "tests/shell.py", "tools/harness.py"):
+                shutil.copy(f"{TOP}/{it}", f"{folder}/{name}/{os.path.basename(it)}")
             with open(f"{folder}/{name}/test_it.py", "w", encoding="ascii") as file:
                 file.write(text)
             ran = subprocess.run([python, "-B", "-m", "pytest", "-q", "-p", "no:cacheprovider"], cwd=f"{folder}/{name}", capture_output=True, text=True)
