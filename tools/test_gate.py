@@ -67,8 +67,8 @@ echo "end try_edits" >>FOLDER/order
 exit $status
 """
 SCRIPTS = ["try_bindings.py", "try_release.py", "try_refusals.py", "try_rows.py", "run_tests.py -m not alone"]
-SCRIPTS += ["run_tests.py -m alone", "try_service.py", "try_partition.py"]
-ALONE = SCRIPTS[-3:]
+SCRIPTS += ["try_service.py", "run_tests.py -m alone"]
+ALONE = SCRIPTS[-2:]
 FIRST = ["lint.py"]
 TESTS = ["test_gate.py", "test_build.py", "test_try_rows.py", "test_try_edits.py", "test_prometheus.py"]
 
@@ -110,7 +110,7 @@ def rows(folder: str) -> Iterator[tuple[bool, str]]:
     behind = [order.index(f"begin {it}") > order.index("end try_edits") for it in ALONE]
     yield all(behind), f"scripts alone behind them: {order}"
     turns = [it for it in order if "try_edits" not in it]
-    for lane in (FIRST, SCRIPTS[:2], SCRIPTS[2:-3], ALONE):
+    for lane in (FIRST, SCRIPTS[:2], SCRIPTS[2:-2], ALONE):
         own = [it for it in turns if it.partition(" ")[2] in lane]
         yield own == [f"{what} {it}" for it in lane for what in ("begin", "end")], f"each script of a lane in turn: {order}"
     yield turns[-2 * len(ALONE)] == f"begin {ALONE[0]}", f"nothing beside those that run alone: {order}"

@@ -1,9 +1,9 @@
 #!/usr/bin/env python3
 """Tries regions of jumbetaid that lose one another: each in a network namespace of its own, as root.
 
-    tools/try_partition.py [--program FILE] [--regions N] [--seconds N] [--seed N] [--rate N] [--events N] [--spare N]
+    tools/soak_partition.py [--program FILE] [--regions N] [--seconds N] [--seed N] [--rate N] [--events N] [--spare N]
 
-By default it is 3 regions for 60 seconds, with 270 events a second each. Writers give events to each region, and note
+By default it is 3 regions for 60 seconds, with 270 events a second each, as in tests/test_partition.py. Writers give events to each region, and note
 what was acknowledged, while regions are cut off, cut off one way, slowed down, made to lose packets, stopped and
 killed. Behind it all regions have to come to the same summary, which has each event that was acknowledged, and none
 that nobody gave. Some sources are written by two regions, so that there are conflicts. With --events a source has at
@@ -31,6 +31,9 @@ from typing import Any, Callable, Optional
 
 sys.dont_write_bytecode = True
 TOP = os.path.dirname(os.path.dirname(os.path.realpath(__file__)))
+sys.path.insert(0, f"{TOP}/tools")
+from harness import Counts  # noqa: E402
+
 PORT = 8087
 # The process of a region, its events, its memory in KiB, and its descriptors.
 Row = tuple[int, int, int, int]
@@ -111,7 +114,8 @@ class Region:
     def start(self) -> None:
         with open(f"{self.net.folder}/{self.name}.log", "ab") as log:
             self.ran = self.started(self.net.program, "--config", f"{self.net.folder}/{self.name}.toml", stdout=log, stderr=log)
-        self.net.until(lambda: self.get("/readyz", 1) is not None, self.net.patience, f"{self.name} is ready")
+        if not self.net.until(lambda: self.get("/readyz", 1) is not None, self.net.patience):
+            print(f"wrong: {self.name} isn't ready within {self.net.patience} s", flush=True)
 
     def get(self, path: str, seconds: int = 10, body: Optional[str] = None) -> Optional[bytes]:
         words = ["curl", "-sf", "--max-time", str(seconds), f"http://{self.address}:{PORT}{path}"]
@@ -175,11 +179,11 @@ class Net:
             run("ip", "netns", "del", space, check=False)
 
     @staticmethod
-    def until(ready: Callable[[], bool], seconds: int, what: str) -> bool:
+    def until(ready: Callable[[], bool], seconds: int) -> bool:
+        """Whether something comes to be so within the time."""
         end = time.monotonic() + seconds
         while not ready():
             if time.monotonic() > end:
-                print(f"wrong: within {seconds} s: {what}", flush=True)
                 return False
             time.sleep(0.05)
         return True
@@ -290,7 +294,7 @@ def lacks(program: str) -> Optional[str]:
     return None
 
 
-def main() -> int:
+def options() -> argparse.ArgumentParser:
     words = argparse.ArgumentParser(description=__doc__, formatter_class=argparse.RawDescriptionHelpFormatter)
     words.add_argument("--program", default=f"{TOP}/out/service/jumbetaid")
     words.add_argument("--regions", type=int, default=3)
@@ -299,14 +303,13 @@ def main() -> int:
     words.add_argument("--rate", type=int, default=270, help="events a second in each region")
     words.add_argument("--events", type=int, default=1 << 40, help="how many events a source has at most")
     words.add_argument("--spare", type=int, default=0, help="how many regions aren't killed")
-    given = words.parse_args()
-    why = lacks(given.program)
-    if why:
-        print(f"skipped: regions that part, since {why}\n0 passed, 0 failed")
-        return 0
+    return words
+
+
+def soak(given: argparse.Namespace, counts: Counts) -> None:
+    """Lets regions lose one another, and judges what they then have."""
     dice = random.Random(given.seed)
     did: dict[str, int] = {}
-    answers: list[bool] = []
     with tempfile.TemporaryDirectory() as folder, contextlib.ExitStack() as end:
         # A start reads each event anew.
         net = Net(folder, os.path.abspath(given.program), given.regions, 20 if given.events > 1 << 30 else 90)
@@ -337,14 +340,14 @@ def main() -> int:
             ran.wait(30)
         watch.is_over.set()
         watch.join()
-        answers.append(watch.tell())
+        counts.judge("memory and descriptors stay", watch.tell())
         began = time.monotonic()
 
         def same() -> bool:
             texts = {it.get("/summary") for it in net.regions}
             return len(texts) == 1 and None not in texts
 
-        answers.append(net.until(same, 60, "all summaries are the same"))
+        counts.judge("all summaries are the same within 60 s", net.until(same, 60))
         took = time.monotonic() - began
         acked: set[tuple[str, ...]] = set()
         rates: dict[str, int] = {}
@@ -355,28 +358,35 @@ def main() -> int:
         for it in net.regions:
             print(f"{it.name}: {rates[it.name] / gave:.0f} events a second were acknowledged, of {given.rate} asked for")
             has = it.events()
-            answers.append(acked <= has)
+            counts.judge(f"{it.name} has each event that was acknowledged", acked <= has, f"it lacks {len(acked - has)}")
             # What was given and whose answer was lost may be there: of each source the event, or the batch, behind the last.
-            answers.append(len(has - acked) <= 12 * len(writers))
-            if not answers[-2]:
-                print(f"wrong: {it.name} lacks {len(acked - has)} events that were acknowledged", flush=True)
+            counts.judge(f"{it.name} has no other", len(has - acked) <= 12 * len(writers), f"it has {len(has - acked)} more")
         for question in QUESTIONS:
-            answers.append(len({it.get(f"/{question}", 30) for it in net.regions}) == 1)
+            counts.judge(f"{question} is the same everywhere", len({it.get(f"/{question}", 30) for it in net.regions}) == 1)
         time.sleep(3)
         for it in net.regions:
             memory, descriptors = held(it)
             print(f"{it.name} at rest: {memory >> 10} MiB, {descriptors} descriptors")
         conflicts = len((net.regions[0].get("/conflicts", 30) or b"").splitlines())
-        answers.append(conflicts > 0)
+        counts.judge("there are conflicts", conflicts > 0)
         for it in net.regions:
             it.ran.terminate()
-            answers.append(it.ran.wait(20) == 0)
+            counts.judge(f"{it.name} ends well", it.ran.wait(20) == 0)
             with open(f"{folder}/{it.name}.log", encoding="utf-8") as log:
-                answers.append(not re.search("panicked|can't go on", log.read()))
+                text = log.read()
+            counts.judge(f"{it.name} never panics", not re.search("panicked|can't go on", text), text[-1000:])
     print(f"{given.regions} regions for {given.seconds:.0f} s, seed {given.seed}: {did}")
     print(f"{len(acked)} events were acknowledged, with {conflicts} conflicts; all the same {took:.1f} s behind the last")
-    print(f"{sum(map(bool, answers))} passed, {len(answers) - sum(map(bool, answers))} failed")
-    return 0 if all(answers) else 1
+
+
+def main() -> int:
+    given, counts = options().parse_args(), Counts()
+    why = lacks(given.program)
+    if why:
+        counts.skip("regions that part", why)
+    else:
+        soak(given, counts)
+    return counts.tell()
 
 
 if __name__ == "__main__":
