@@ -1,5 +1,4 @@
 """What scripts that try something have in common: what they count, and their last line."""
-from typing import Iterable
 
 
 class Counts:
@@ -30,14 +29,3 @@ class Counts:
         """Prints the last line, 'N passed, M failed', and answers the status."""
         print(f"{self.right} passed, {self.all - self.right} failed")
         return 0 if self.right == self.all else 1
-
-
-def tell(answers: Iterable[tuple[bool, str]]) -> int:
-    """Says what is wrong of answers, each whether it is right and what it is; then 'N passed, M failed'. Answers the status."""
-    every = [*answers]
-    for is_right, text in every:
-        if not is_right:
-            print(f"wrong: {text}")
-    right = sum(is_right for is_right, _ in every)
-    print(f"{right} passed, {len(every) - right} failed")
-    return 0 if right == len(every) else 1

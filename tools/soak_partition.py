@@ -3,15 +3,16 @@
 
     tools/soak_partition.py [--program FILE] [--regions N] [--seconds N] [--seed N] [--rate N] [--events N] [--spare N]
 
-By default it is 3 regions for 60 seconds, with 270 events a second each, as in tests/test_partition.py. Writers give events to each region, and note
-what was acknowledged, while regions are cut off, cut off one way, slowed down, made to lose packets, stopped and
-killed. Behind it all regions have to come to the same summary, which has each event that was acknowledged, and none
-that nobody gave. Some sources are written by two regions, so that there are conflicts. With --events a source has at
-most so many, which are then given again, so that the regions stop growing; with --spare the last N regions aren't killed.
-Each second memory and descriptors of each region are looked at, and how they grow is told: by the events, in the last
-half beside the first one, by the hour once no event is new, and what is left of both at rest; and how many events were
-acknowledged a second in each region, repeated ones too. It wants `ip`, `tc`, curl and namespaces, and the built
-service: what isn't there is told, and nothing is tried. The last line is 'N passed, M failed'.
+By default it is 3 regions for 60 seconds, with 270 events a second each, as in tests/test_partition.py. Writers give
+events to each region, and note what was acknowledged, while regions are cut off, cut off one way, slowed down, made
+to lose packets, stopped and killed. Behind it all regions have to come to the same summary, which has each event that
+was acknowledged, and none that nobody gave. Some sources are written by two regions, so that there are conflicts.
+With --events a source has at most so many, which are then given again, so that the regions stop growing; with --spare
+the last N regions aren't killed. Each second memory and descriptors of each region are looked at, and how they grow
+is told: by the events, in the last half beside the first one, by the hour once no event is new, and what is left of
+both at rest; and how many events were acknowledged a second in each region, repeated ones too. It wants `ip`, `tc`,
+curl and namespaces, and the built service: what isn't there is told, and nothing is tried. The last line is 'N
+passed, M failed'.
 """
 import argparse
 import contextlib

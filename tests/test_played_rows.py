@@ -1,14 +1,14 @@
-#!/usr/bin/env python3
-"""Tests tools/try_rows.py with a driver in C that asks memory for each call, once before it and once in it: what it tells
-of good rows and of bad ones. The last line is 'N passed, M failed'.
-"""
-
+"""How rows of drivers are played, by tools/try_rows.py with a driver in C that asks memory for each call, once before it and once in it:
+what it tells of good rows and of bad ones."""
 import os
 import subprocess
-import sys
 import tempfile
+from typing import Iterator
 
-TOP = os.path.dirname(os.path.dirname(os.path.realpath(__file__)))
+import pytest
+from shell import TOP
+
+pytestmark = pytest.mark.scripts
 # `put N` adds to a sum that `sum` tells, N times one, and asks memory at each but the first; what is left where it is
 # refused is added then. `PUTS_AGAIN` makes it forget that some were added before.
 DRIVER = r"""
@@ -84,18 +84,14 @@ def told(folder: str, text: str, forgets: int) -> tuple[int, str]:
     return ran.returncode, ran.stdout + ran.stderr
 
 
-def main() -> int:
-    right = 0
+@pytest.fixture(scope="module")
+def folder() -> Iterator[str]:
     with tempfile.TemporaryDirectory(prefix="rows-tried-") as folder:
-        for name, (text, forgets, wanted, line) in ROWS.items():
-            status, said = told(folder, text, forgets)
-            is_right = status == wanted and line in said
-            right += is_right
-            if not is_right:
-                print(f"wrong: {name}: {status} {said}")
-    print(f"{right} passed, {len(ROWS) - right} failed")
-    return 0 if right == len(ROWS) else 1
+        yield folder
 
 
-if __name__ == "__main__":
-    sys.exit(main())
+@pytest.mark.parametrize("name", ROWS)
+def test_rows(name: str, folder: str) -> None:
+    text, forgets, wanted, line = ROWS[name]
+    status, said = told(folder, text, forgets)
+    assert (status, line in said) == (wanted, True), said
