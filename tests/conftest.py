@@ -14,6 +14,7 @@ CHECKS, SKIPPED = pytest.StashKey[int](), pytest.StashKey[list[str]]()
 def pytest_addoption(parser: pytest.Parser) -> None:
     parser.addoption("--program", default=f"{TOP}/crates/site_cli/out/site_cli", help="the built program")
     parser.addoption("--service", default=f"{TOP}/out/service/jumbetaid", help="the built service")
+    parser.addoption("--jobs", type=int, default=len(os.sched_getaffinity(0)), help="how many runs with a refused allocation there are at once")
     parser.addoption("--of", type=int, default=100, help="what the sizes on pages are divided by")
 
 
@@ -30,6 +31,11 @@ def service(pytestconfig: pytest.Config) -> str:
     if not os.access(found, os.X_OK):
         pytest.skip("the service isn't built: tools/service.py")
     return found
+
+
+@pytest.fixture(scope="session")
+def jobs(pytestconfig: pytest.Config) -> int:
+    return int(pytestconfig.getoption("--jobs"))
 
 
 @pytest.fixture(scope="session")

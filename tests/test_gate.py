@@ -59,7 +59,7 @@ echo "end try_edits" >>FOLDER/order
 exit $status
 """
 OF_LIBRARY = ["try_bindings.py", "try_release.py"]
-OF_PROGRAM = ["try_refusals.py", "try_rows.py", "run_tests.py -m not alone and not library and not scripts"]
+OF_PROGRAM = ["try_refusals.py", "run_tests.py -m not alone and not library and not scripts"]
 ALONE = ["try_service.py", "run_tests.py -m alone"]
 FIRST = ["lint.py"]
 OF_SCRIPTS = "run_tests.py -m scripts"

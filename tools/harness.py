@@ -20,6 +20,11 @@ class Counts:
             print(self.wrong[-1], flush=True)
         return bool(is_right)
 
+    def add(self, count: int, wrong: list[str]) -> None:
+        """Counts so many things, of which these are wrong."""
+        self.right, self.all = self.right + count - len(wrong), self.all + count
+        self.wrong += [f"wrong: {it}" for it in wrong]
+
     def skip(self, what: str, why: str) -> None:
         """Says that something isn't tried, since what it wants isn't there."""
         self.skipped.append(f"skipped: {what}, since {why}")

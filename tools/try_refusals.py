@@ -13,7 +13,7 @@ holds after the run that meets no refusal. So nothing that was refused was half 
 refused for good.
 
 Tests of libraries that hold whichever allocation is refused run so too, where the gate has built them; rows of drivers
-are tried by tools/try_rows.py. The last line is 'N passed, M failed', of the refused allocations.
+are tried by tests/test_rows.py. The last line is 'N passed, M failed', of the refused allocations.
 """
 import argparse
 import contextlib
@@ -135,7 +135,7 @@ ROWS_OF_ALL = [
 ]
 
 
-# Tests that have to pass whichever allocation is refused, by their crate. Rows of drivers are tried by try_rows.py.
+# Tests that have to pass whichever allocation is refused, by their crate. Rows of drivers are tried by tests/test_rows.py.
 TESTS = {
     "worker_checks": [
         "refused::a_caller_takes_a_batch_or_its_front",
