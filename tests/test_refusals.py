@@ -1,21 +1,16 @@
-#!/usr/bin/env python3
-"""Runs every command of the built program with its first, second, .. allocation refused, until a run meets no refusal.
+"""Every command of the built program with its first, second, .. allocation refused, until a run meets no refusal.
 
-    tools/try_refusals.py [--program FILE] [--jobs N] [COMMAND..|TEST..]
+Each run has to end with the answer of the run that meets no refusal, or with status 1, `site: out of memory` and nothing on standard
+output (`run` with `site: no thread` too, where a thread's start was refused; `relay` of one page with `site: route failed`, since its
+route goes into memory and fails for want of that alone; `follow` and `number` with a front of their lines on standard output, and
+`delta` and `scrub` of all pages with those before the refusal, which has to come behind each but the last). A command that writes is
+given once more after each refused run, with memory: it then has to answer as it does the first time, or as it does when it was done
+already, and its database to hold what it holds after the run that meets no refusal. So nothing that was refused was half done, and
+nothing that was done is refused for good.
 
-Each run has to end with the answer of the run that meets no refusal, or with status 1, `site: out of memory` and
-nothing on standard output (`run` with `site: no thread` too, where a thread's start was refused; `relay` of one page
-with `site: route failed`, since its route goes into memory and fails for want of that alone; `follow` and `number` with a
-front of their lines on standard output, and `delta` and `scrub` of all pages with those before the refusal, which has
-to come behind each but the last). A command that writes is given once more after each refused run, with memory: it
-then has to answer as it does the first time, or as it does when it was done already, and its database to hold what it
-holds after the run that meets no refusal. So nothing that was refused was half done, and nothing that was done is
-refused for good.
-
-Tests of libraries that hold whichever allocation is refused run so too, where the gate has built them; rows of drivers
-are tried by tests/test_rows.py. The last line is 'N passed, M failed', of the refused allocations.
+Tests of libraries that hold whichever allocation is refused run so too, where the gate has built them; rows of drivers are played by
+tests/test_rows.py.
 """
-import argparse
 import contextlib
 import itertools
 import json
@@ -23,14 +18,17 @@ import os
 import shutil
 import sqlite3
 import subprocess
-import sys
 import tempfile
 import threading
 from typing import Any, Callable, Iterator, NamedTuple, Optional, Sequence, Union
 
+import pytest
+from harness import Counts
 from refuse_allocations import Refuser
+from shell import TOP
 
-TOP = os.path.dirname(os.path.dirname(os.path.realpath(__file__)))
+pytestmark = pytest.mark.slow
+
 # A status, and what was written to both streams.
 Said = tuple[int, bytes, bytes]
 REFUSED: Said = (1, b"", b"site: out of memory\n")
@@ -89,6 +87,11 @@ class Row(NamedTuple):
     again: Optional[bytes] = None
     pages: Optional[int] = None
     ends: Optional[tuple[int, int]] = None
+
+    @property
+    def name(self) -> str:
+        of_pages, behind = ", of two pages" if self.pages else "", f", behind {len(self.before)}" if self.before else ""
+        return f"{' '.join(self.words)}{of_pages}{behind}"
 
 
 ROWS_OF_ALL = [
@@ -261,17 +264,7 @@ class Trial:
         return self.met
 
 
-def tests_built() -> Iterator[tuple[str, str]]:
-    """The built tests of TESTS; whoever gives no gate's folder has none."""
-    for crate, tests in TESTS.items():
-        program = f"{TOP}/crates/{crate}/out/{crate}_tests"
-        if not os.path.exists(program):
-            print(f"{crate}: its tests aren't built here, so they are left out", flush=True)
-            continue
-        yield from ((program, test) for test in tests)
-
-
-class TestTrial:
+class LibraryTrial:
     """One test, its allocations refused in turn."""
 
     def __init__(self, program: str, test: str, refuser: Refuser) -> None:
@@ -289,35 +282,24 @@ class TestTrial:
             at += 1
 
 
-def main() -> int:
-    words = argparse.ArgumentParser(description=__doc__, formatter_class=argparse.RawDescriptionHelpFormatter)
-    words.add_argument("--program", default=f"{TOP}/crates/site_cli/out/site_cli")
-    words.add_argument("--jobs", type=int, default=len(os.sched_getaffinity(0)))
-    words.add_argument("commands", nargs="*")
-    given = words.parse_args()
-    passed = failed = 0
+@pytest.fixture(scope="module")
+def refuser() -> Iterator[Refuser]:
     with Refuser() as refuser:
-        for row in ROWS_OF_ALL:
-            if given.commands and row.words[0] not in given.commands:
-                continue
-            trial = Trial(os.path.abspath(given.program), row, refuser)
-            every = trial.run(given.jobs)
-            passed, failed = passed + every - len(trial.wrong), failed + len(trial.wrong)
-            print(f"{' '.join(row.words)}: {every} allocations, {trial.refused} refusals told, {len(trial.wrong)} wrong", flush=True)
-            for line in trial.wrong[:5]:
-                print(f"wrong: {line}")
-        for program, test in tests_built():
-            if given.commands and test not in given.commands:
-                continue
-            of_test = TestTrial(program, test, refuser)
-            every = of_test.run()
-            passed, failed = passed + every - len(of_test.wrong), failed + len(of_test.wrong)
-            print(f"{test}: {every} allocations, {len(of_test.wrong)} wrong", flush=True)
-            for line in of_test.wrong[:5]:
-                print(f"wrong: {line}")
-    print(f"{passed} passed, {failed} failed")
-    return 1 if failed else 0
+        yield refuser
 
 
-if __name__ == "__main__":
-    sys.exit(main())
+@pytest.mark.parametrize("row", ROWS_OF_ALL, ids=[it.name for it in ROWS_OF_ALL])
+def test_command(row: Row, program: str, refuser: Refuser, jobs: int, checks: Counts) -> None:
+    trial = Trial(program, row, refuser)
+    every = trial.run(jobs)
+    print(f"{every} allocations, {trial.refused} refusals told")
+    checks.add(every, trial.wrong)
+
+
+@pytest.mark.parametrize(("crate", "test"), [pytest.param(crate, test, id=f"{crate}: {test}") for crate, tests in TESTS.items() for test in tests])
+def test_of_library(crate: str, test: str, refuser: Refuser, checks: Counts) -> None:
+    built = f"{TOP}/crates/{crate}/out/{crate}_tests"
+    if not os.path.exists(built):
+        pytest.skip(f"the tests of {crate} aren't built here")
+    trial = LibraryTrial(built, test, refuser)
+    checks.add(trial.run(), trial.wrong)
