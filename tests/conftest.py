@@ -1,21 +1,41 @@
-"""The program that is tried, folders to try it in, and the last line that the gate reads."""
+"""What is tried (the program, the library, the service), folders to try it in, what is tried by hand alone, and the last line, which
+the gate reads."""
+import contextlib
+import io
 import os
+import shutil
 import tempfile
-from typing import Iterator
+from typing import TYPE_CHECKING, Iterator
 
 import pytest
 from harness import Counts
 from shell import TOP, Room, Stage
 
-# How many checks the tests made by `checks`, and what these left out.
-CHECKS, SKIPPED = pytest.StashKey[int](), pytest.StashKey[list[str]]()
+if TYPE_CHECKING:
+    from serving import Tries
+
+# How many checks the tests made that count them, what these left out, and what was told of what is kept.
+CHECKS, SKIPPED, KEPT = pytest.StashKey[int](), pytest.StashKey[list[str]](), pytest.StashKey[list[str]]()
 
 
 def pytest_addoption(parser: pytest.Parser) -> None:
     parser.addoption("--program", default=f"{TOP}/crates/site_cli/out/site_cli", help="the built program")
-    parser.addoption("--service", default=f"{TOP}/out/service/jumbetaid", help="the built service")
+    parser.addoption("--library", metavar="FOLDER", help="the library in C, where it isn't to be made")
+    parser.addoption("--service", metavar="FILE", help="the built service, where it isn't to be built")
+    parser.addoption("--anew", action="store_true", help="build the library, though it is kept")
+    parser.addoption("--by-hand", action="store_true", help="the tests that no gate runs too")
     parser.addoption("--jobs", type=int, default=len(os.sched_getaffinity(0)), help="how many runs with a refused allocation there are at once")
     parser.addoption("--of", type=int, default=100, help="what the sizes on pages are divided by")
+    parser.addoption("--pictures", metavar="FOLDER", help="make the pictures of the service's page")
+
+
+def pytest_collection_modifyitems(config: pytest.Config, items: list[pytest.Item]) -> None:
+    """Leaves out what is tried by hand, where it isn't asked for."""
+    if not config.getoption("--by-hand"):
+        left = [it for it in items if it.get_closest_marker("by_hand")]
+        if left:
+            config.hook.pytest_deselected(items=left)
+            items[:] = [it for it in items if it not in left]
 
 
 @pytest.fixture(scope="session")
@@ -26,11 +46,44 @@ def program(pytestconfig: pytest.Config) -> str:
 
 
 @pytest.fixture(scope="session")
-def service(pytestconfig: pytest.Config) -> str:
-    found = os.path.realpath(str(pytestconfig.getoption("--service")))
-    if not os.access(found, os.X_OK):
-        pytest.skip("the service isn't built: tools/service.py")
-    return found
+def library(pytestconfig: pytest.Config) -> str:
+    """The folder of the library in C."""
+    import library as maker
+
+    given, folder = pytestconfig.getoption("--library"), f"{TOP}/out/tests/library"
+    if given:
+        return os.path.abspath(str(given))
+    if not maker.compiler():
+        pytest.skip("no C compiler is here")
+    with contextlib.redirect_stdout(io.StringIO()) as said:
+        maker.make(folder, maker.proved_part(bool(pytestconfig.getoption("--anew"))))
+    pytestconfig.stash[KEPT] = said.getvalue().splitlines()
+    return folder
+
+
+@pytest.fixture(scope="session")
+def service(pytestconfig: pytest.Config, request: pytest.FixtureRequest) -> str:
+    """The service, with all that can be built into it."""
+    import service as maker
+
+    given = pytestconfig.getoption("--service")
+    if given:
+        return os.path.realpath(str(given))
+    if not maker.has_crates() or not shutil.which("cargo"):
+        pytest.skip("the crates that the service stands on aren't there: tools/service.py --install")
+    return maker.make(f"{TOP}/out/service", request.getfixturevalue("library"), maker.FEATURES)
+
+
+@pytest.fixture
+def tries(pytestconfig: pytest.Config, request: pytest.FixtureRequest, service: str) -> Iterator["Tries"]:
+    """What a test counts that starts services, which end with it; their folders."""
+    from serving import Tries
+
+    with tempfile.TemporaryDirectory() as folder, contextlib.ExitStack() as end:
+        tries = Tries(folder, service, os.path.realpath(str(pytestconfig.getoption("--program"))))
+        tries.what = request.node.name.removeprefix("test_")
+        end.callback(tries.end)
+        yield tries
 
 
 @pytest.fixture(scope="session")
@@ -79,7 +132,7 @@ def pytest_unconfigure(config: pytest.Config) -> None:
     """Prints what tests left out, how much they checked, a line for each test that is wrong, and at last 'N passed, M failed'."""
     reporter = config.pluginmanager.get_plugin("terminalreporter")
     if reporter and not config.getoption("--collect-only"):
-        print(*(f"{it}\n" for it in config.stash.get(SKIPPED, [])), sep="", end="")
+        print(*(f"{it}\n" for it in (*config.stash.get(KEPT, []), *config.stash.get(SKIPPED, []))), sep="", end="")
         print(f"{config.stash.get(CHECKS, 0)} checks within tests")
         wrong = [it for kind in ("failed", "error") for it in reporter.stats.get(kind, ())]
         print(*(f"wrong: {it.nodeid}\n" for it in wrong), sep="", end="")

@@ -60,7 +60,7 @@ exit $status
 """
 OF_LIBRARY = ["try_bindings.py", "try_release.py"]
 OF_PROGRAM = ["run_tests.py -m not alone and not library and not scripts"]
-ALONE = ["try_service.py", "run_tests.py -m alone"]
+ALONE = ["run_tests.py -m alone"]
 FIRST = ["lint.py"]
 OF_SCRIPTS = "run_tests.py -m scripts"
 SCRIPTS = [*FIRST, *OF_LIBRARY, *OF_PROGRAM, *ALONE, OF_SCRIPTS]
@@ -233,7 +233,7 @@ def test_edit_that_is_let_through(copy: Tried) -> None:
     assert ran.end == (1, f"{COUNTS - 1} passed, 1 failed"), ran.said
 
 
-@pytest.mark.parametrize("script", [*OF_PROGRAM, "run_tests.py -m alone", OF_SCRIPTS])
+@pytest.mark.parametrize("script", [*OF_PROGRAM, *ALONE, OF_SCRIPTS])
 def test_script_that_fails(script: str, copy: Tried) -> None:
     copy.write("bad_script", f"{script}\n")
     ran = copy.gate()

@@ -21,7 +21,7 @@ from typing import Any, Union
 sys.dont_write_bytecode = True
 TOP = os.path.dirname(os.path.dirname(os.path.realpath(__file__)))
 sys.path.insert(0, f"{TOP}/tools")
-from try_service import MANY, ONE, Tries, event  # noqa: E402
+from serving import MANY, ONE, Tries, event  # noqa: E402
 
 EVENT = json.dumps(event(1, "/fuzz", data={"a": "x"})).encode()
 COVER = b'{"sources":{"/fuzz":[[1,2],[4,9]]},"version":1}'

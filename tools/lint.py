@@ -131,7 +131,7 @@ def clippy_of_service() -> Said:
     wanted("cargo-clippy")
     if not service.has_crates():
         raise Missing("the crates that it stands on aren't there: tools/service.py --install")
-    words = ["clippy", "--all-targets", "--features", "tls,postgres", "--", "-D", "warnings"]
+    words = ["clippy", "--all-targets", "--features", service.FEATURES, "--", "-D", "warnings"]
     ran = service.cargo(words, OUT, f"{OUT}/service", capture_output=True, text=True)
     return ran.stdout + ran.stderr if ran.returncode else None
 

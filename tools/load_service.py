@@ -38,7 +38,7 @@ from typing import Callable, Optional
 sys.dont_write_bytecode = True
 TOP = os.path.dirname(os.path.dirname(os.path.realpath(__file__)))
 sys.path.insert(0, f"{TOP}/tools")
-from try_service import Site, Tries, event  # noqa: E402
+from serving import Site, Tries, event  # noqa: E402
 
 # How many connections there are, and how many events a request has.
 Shape = tuple[int, int]

@@ -24,6 +24,8 @@ CRATES = (
     *("rustls-pemfile", "sd-notify", "serde", "serde-derive", "serde-json", "sha2", "socket2", "subtle", "tokio"),
     *("tokio-postgres", "tokio-rustls", "toml", "tracing", "tracing-subscriber"),
 )
+# What can be built into it.
+FEATURES = "tls,postgres"
 OFFLINE = [
     "--offline",
     *("--config", 'source.crates-io.replace-with="debian"'),

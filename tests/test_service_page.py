@@ -1,207 +1,51 @@
-#!/usr/bin/env python3
-"""Tries the service's page in a browser that has no window: Chromium, by its protocol for developers over a pipe.
+"""The service's page in a browser: each test serves a site and looks at what the page shows, as it stands in the document.
 
-    tools/try_page.py [--program FILE] [--pictures FOLDER] [CASE..]
-
-The program is by default out/service/jumbetaid. Each case serves a site and looks at what the page shows, as it stands in
-the document; CASE names some of them. With --pictures it also makes those of docs/. Where Chromium isn't there (Debian's
-package chromium) nothing is tried, and that is told. tools/try_service.py runs all of it as one of its tries. The last
-line is 'N passed, M failed'.
+With --pictures the pictures of docs/ are made too.
 """
-import argparse
-import base64
-import contextlib
-import fcntl
 import hashlib
 import json
-import os
 import random
-import select
 import shutil
 import signal
-import subprocess
-import sys
 import tempfile
 import time
-from typing import Any, Iterator, Optional, Sequence
+from typing import Any, Iterator, Optional
 
-sys.dont_write_bytecode = True
-TOP = os.path.dirname(os.path.dirname(os.path.realpath(__file__)))
-sys.path.insert(0, f"{TOP}/tools")
-from try_service import Site, Tries, event, serving  # noqa: E402
+import pytest
+from browser import Browser, shown
+from serving import Tries, event, serving
 
+pytestmark = [pytest.mark.library, pytest.mark.alone, pytest.mark.slow]
 LARGEST = 2**63 - 1
 MARKUP = '<img src=x onerror="window.pwned=1"><script>window.pwned=1</script><b>&amp;"\'${1}'
-FLAGS = (
-    *("--headless=new", "--no-sandbox", "--disable-gpu", "--disable-dev-shm-usage", "--hide-scrollbars", "--no-first-run"),
-    *("--disable-extensions", "--disable-background-networking", "--disable-component-update", "--force-color-profile=srgb"),
-    *("--disable-sync", "--remote-debugging-pipe"),
-)
 
 
-class Browser:
-    """A browser, and what it says of its pages."""
-
-    def __init__(self, folder: str) -> None:
-        ends = [fcntl.fcntl(it, fcntl.F_DUPFD_CLOEXEC, 20) for it in (*os.pipe(), *os.pipe())]
-        theirs, self.to, self.said, ours = ends
-
-        def at_three_and_four() -> None:
-            os.dup2(theirs, 3)
-            os.dup2(ours, 4)
-
-        words = ["chromium", *FLAGS, f"--user-data-dir={folder}/browser", "about:blank"]
-        environment = {**os.environ, "HOME": folder}
-        with open(f"{folder}/browser.log", "wb") as log:
-            self.ran = subprocess.Popen(
-                words, preexec_fn=at_three_and_four, pass_fds=(3, 4), stdin=subprocess.DEVNULL, stdout=log, stderr=log, env=environment, start_new_session=True
-            )
-        os.close(theirs)
-        os.close(ours)
-        self.number, self.rest = 0, b""
-        self.events: list[dict[str, Any]] = []
-
-    def message(self, end: float) -> Any:
-        while b"\0" not in self.rest:
-            if not select.select([self.said], [], [], max(0.0, end - time.monotonic()))[0]:
-                raise TimeoutError("the browser says nothing")
-            data = os.read(self.said, 1 << 20)
-            if not data:
-                raise OSError("the browser has ended")
-            self.rest += data
-        text, _, self.rest = self.rest.partition(b"\0")
-        return json.loads(text)
-
-    def call(self, method: str, session: Optional[str] = None, seconds: float = 15, **given: Any) -> Any:
-        self.number += 1
-        asked = {"id": self.number, "method": method, "params": given, **({"sessionId": session} if session else {})}
-        os.write(self.to, json.dumps(asked).encode() + b"\0")
-        end = time.monotonic() + seconds
-        while True:
-            told = self.message(end)
-            if told.get("id") == self.number:
-                if "error" in told:
-                    raise OSError(f"{method}: {told['error']}")
-                return told["result"]
-            if "method" in told:
-                self.events.append(told)
-
-    def page(self, url: str, width: int = 1280, height: int = 900, scheme: str = "light") -> "Page":
-        return Page(self, url, width, height, scheme)
-
-    def end(self) -> None:
-        with contextlib.suppress(OSError, TimeoutError):
-            self.call("Browser.close", seconds=3)
-        with contextlib.suppress(subprocess.TimeoutExpired):
-            self.ran.wait(3)
-        with contextlib.suppress(ProcessLookupError):
-            os.killpg(self.ran.pid, signal.SIGKILL)
-        self.ran.wait()
+@pytest.fixture(scope="module")
+def every_page() -> Iterator[Browser]:
+    """A browser for all tests here."""
+    if not shutil.which("chromium"):
+        pytest.skip("chromium isn't there")
+    with tempfile.TemporaryDirectory() as folder:
+        browser = Browser(folder)
+        yield browser
+        browser.end()
 
 
-class Page:
-    """A page of a browser, at an address."""
-
-    def __init__(self, browser: Browser, url: str, width: int, height: int, scheme: str) -> None:
-        self.browser, self.url = browser, url
-        self.context = browser.call("Target.createBrowserContext")["browserContextId"]
-        target = browser.call("Target.createTarget", url="about:blank", browserContextId=self.context)["targetId"]
-        self.session = browser.call("Target.attachToTarget", targetId=target, flatten=True)["sessionId"]
-        for it in ("Page", "Runtime", "Log", "Network"):
-            self.call(f"{it}.enable")
-        self.size(width, height)
-        self.call("Emulation.setEmulatedMedia", features=[{"name": "prefers-color-scheme", "value": scheme}])
-        self.call("Page.navigate", url=url)
-
-    def call(self, method: str, **given: Any) -> Any:
-        return self.browser.call(method, self.session, **given)
-
-    def size(self, width: int, height: int = 900) -> None:
-        self.call("Emulation.setDeviceMetricsOverride", width=width, height=height, deviceScaleFactor=1, mobile=False)
-
-    def ask(self, code: str) -> Any:
-        """The value of an expression in the page, or what it throws."""
-        told = self.call("Runtime.evaluate", expression=code, returnByValue=True, awaitPromise=True, allowUnsafeEvalBlockedByCSP=False)
-        if "exceptionDetails" in told:
-            return f"threw {told['exceptionDetails'].get('exception', {}).get('description', '')}"
-        return told["result"].get("value")
-
-    def waits(self, code: str, seconds: float = 8) -> bool:
-        end = time.monotonic() + seconds
-        while not (is_so := self.ask(code)) or str(is_so).startswith("threw"):
-            if time.monotonic() > end:
-                return False
-            time.sleep(0.05)
-        return True
-
-    def sees(self, code: str, seconds: float = 8) -> bool:
-        """Whether something comes to be so, where the page asks again and again."""
-        return self.waits(f"look().then(() => {code})", seconds)
-
-    def is_shown(self) -> bool:
-        return self.waits("document.body && document.body.dataset.state === 'shown'")
-
-    def text(self, where: str = "body") -> Any:
-        """What a reader sees of an element."""
-        return self.ask(f"document.querySelector({json.dumps(where)}).innerText")
-
-    def cells(self, table: str) -> Any:
-        """The texts of a table's cells, a list a row."""
-        return self.ask(f"[...document.querySelectorAll('#{table} tbody tr')].map(row => [...row.cells].map(it => it.textContent))")
-
-    def key(self, key: str, code: Optional[str] = None, text: Optional[str] = None) -> None:
-        for kind in ("keyDown", "keyUp"):
-            more = {"text": text} if text and kind == "keyDown" else {}
-            self.call("Input.dispatchKeyEvent", type=kind, key=key, code=code or key, windowsVirtualKeyCode={"Tab": 9, "Enter": 13}.get(key, 0), **more)
-
-    def overflow(self) -> Any:
-        """By how many pixels the page is wider than its window, and which elements are."""
-        return self.ask(
-            """(() => { const room = innerWidth, needed = document.documentElement.scrollWidth;
-            const wide = [...document.querySelectorAll('body *')].filter(it => it.getBoundingClientRect().right > room + 1 && !it.closest('thead'));
-            return needed > room || wide.length ? [needed, ...wide.map(it => it.tagName + '#' + it.id).slice(0, 5)] : []; })()"""
-        )
-
-    def picture(self, file: str, most: int) -> None:
-        """Keeps what the page looks like in a file, so many pixels of its height at most."""
-        height = min(most, self.ask("document.documentElement.scrollHeight"))
-        clip = {"x": 0, "y": 0, "width": self.ask("innerWidth"), "height": height, "scale": 1}
-        told = self.call("Page.captureScreenshot", format="webp", quality=80, captureBeyondViewport=True, clip=clip)
-        with open(file, "wb") as out:
-            out.write(base64.b64decode(told["data"]))
-
-    def faults(self) -> list[str]:
-        """What the page threw, was refused by its policy, or asked elsewhere."""
-        told = []
-        for it in self.browser.events:
-            if it.get("sessionId") == self.session:
-                given = it["params"]
-                if it["method"] == "Runtime.exceptionThrown":
-                    told.append(given["exceptionDetails"].get("exception", given)["description"])
-                elif it["method"] == "Log.entryAdded" and given["entry"]["level"] == "error" and given["entry"]["source"] != "network":
-                    told.append(given["entry"]["text"])
-                elif it["method"] == "Network.requestWillBeSent" and not given["request"]["url"].startswith(self.url):
-                    told.append(given["request"]["url"])
-        return told
-
-    def close(self) -> None:
-        self.browser.call("Target.disposeBrowserContext", browserContextId=self.context)
+@pytest.fixture
+def browser(every_page: Browser) -> Iterator[Browser]:
+    """The browser, which says nothing of the pages before."""
+    yield every_page
+    every_page.events.clear()
 
 
-@contextlib.contextmanager
-def shown(tries: Tries, browser: Browser, site: Site, width: int = 1280, scheme: str = "light") -> Iterator[Page]:
-    """The page of a site, which has to come up, to keep its policy and to need no more width than there is."""
-    page = browser.page(f"http://127.0.0.1:{site.port}/", width, scheme=scheme)
-    tries.judge("the page comes up", page.is_shown(), page.text())
-    yield page
-    for it in (width, 400):
-        page.size(it)
-        tries.judge(f"it fits {it} pixels", page.overflow() == [], page.overflow())
-    tries.judge("no fault", page.faults() == [], page.faults())
-    page.close()
+@pytest.fixture
+def pictures(pytestconfig: pytest.Config) -> Optional[str]:
+    """The folder for pictures, where they are asked for."""
+    found = pytestconfig.getoption("--pictures")
+    return None if found is None else str(found)
 
 
-def case_empty(tries: Tries, browser: Browser, pictures: Optional[str]) -> None:
+def test_empty(tries: Tries, browser: Browser) -> None:
     """A site without events and without peers."""
     with serving(tries, name="empty") as site, shown(tries, browser, site) as page:
         said = page.text()
@@ -233,7 +77,7 @@ def texts_of(conflict: Any) -> list[str]:
     return [json.dumps(it, ensure_ascii=False, separators=(",", ":"), sort_keys=True) for it in conflict["events"]]
 
 
-def case_business(tries: Tries, browser: Browser, pictures: Optional[str]) -> None:
+def test_business(tries: Tries, browser: Browser, pictures: Optional[str]) -> None:
     """Twenty sources, a peer that is up and one that is down: each figure is what the answers say."""
     with serving(tries, "[sync]\nevery_ms = 50\n", name="us-east") as south:
         all_of = business(20)
@@ -310,7 +154,7 @@ def case_business(tries: Tries, browser: Browser, pictures: Optional[str]) -> No
                 tries.judge("and it comes back", page.sees("document.body.dataset.state === 'shown'"), page.text("header"))
 
 
-def case_many(tries: Tries, browser: Browser, pictures: Optional[str]) -> None:
+def test_many(tries: Tries, browser: Browser) -> None:
     """2,000 sources: a part of them at a time, and each can be found."""
     with serving(tries, name="many") as site:
         site.give([event(number, f"/source/{it:04d}") for it in range(2000) for number in ((1, 3) if it % 500 == 7 else (1, 2))])
@@ -335,7 +179,7 @@ def case_many(tries: Tries, browser: Browser, pictures: Optional[str]) -> None:
             tries.judge("what is new comes by itself", page.waits("document.querySelector('#sources td.n').textContent === '3'"), page.cells("sources"))
 
 
-def case_large(tries: Tries, browser: Browser, pictures: Optional[str]) -> None:
+def test_large(tries: Tries, browser: Browser) -> None:
     """Numbers up to 2^63-1, to the last digit."""
     with serving(tries, name="large") as site:
         site.give([event(LARGEST, "/last"), event(1, "/both"), event(LARGEST, "/both"), event(9007199254740993, "/odd")])
@@ -384,7 +228,7 @@ def case_large(tries: Tries, browser: Browser, pictures: Optional[str]) -> None:
             tries.judge("bars are what their numbers are", not wrong, wrong[:1])
 
 
-def case_long(tries: Tries, browser: Browser, pictures: Optional[str]) -> None:
+def test_long(tries: Tries, browser: Browser) -> None:
     """Names of a thousand characters, and a text of 200 KB."""
     with serving(tries, name="long") as site:
         for letter in "ab":
@@ -408,7 +252,7 @@ def case_long(tries: Tries, browser: Browser, pictures: Optional[str]) -> None:
             )
 
 
-def case_markup(tries: Tries, browser: Browser, pictures: Optional[str]) -> None:
+def test_markup(tries: Tries, browser: Browser) -> None:
     """Markup in every text that may have it: it is shown as it stands, and nothing of it is done."""
     name = json.dumps(MARKUP)
     settings = f'[[peers]]\nname = {name}\nurl = "http://127.0.0.1:1"\n'
@@ -464,7 +308,7 @@ def case_markup(tries: Tries, browser: Browser, pictures: Optional[str]) -> None
             browser.events.clear()
 
 
-def case_tokens(tries: Tries, browser: Browser, pictures: Optional[str]) -> None:
+def test_tokens(tries: Tries, browser: Browser) -> None:
     """A site with tokens: the page asks for one by the keyboard alone, and keeps it for its tab."""
     tokens = "".join(f'[[tokens]]\nname = "{it}"\nroles = ["{it}"]\nsha256 = "{hashlib.sha256(it.encode()).hexdigest()}"\n' for it in ("read", "write"))
     with serving(tries, tokens, name="tokens") as site:
@@ -493,43 +337,3 @@ def case_tokens(tries: Tries, browser: Browser, pictures: Optional[str]) -> None
         tries.judge("it can be forgotten", page.waits("document.body && document.body.dataset.state === 'token'"), page.text())
         tries.judge("it is gone", page.ask("sessionStorage.length") == 0)
         page.close()
-
-
-CASES = {name.removeprefix("case_"): it for name, it in list(globals().items()) if name.startswith("case_")}
-
-
-def try_all(tries: Tries, names: Sequence[str] = (), pictures: Optional[str] = None) -> bool:
-    """Runs cases in one browser, each with its time; false where there is no browser."""
-    if not shutil.which("chromium"):
-        tries.skip("the page in a browser", "chromium isn't there")
-        return False
-    browser = Browser(tries.folder)
-    try:
-        for name in names or CASES:
-            began = time.monotonic()
-            tries.what = f"page-{name}"
-            CASES[name](tries, browser, pictures)
-            browser.events.clear()
-            print(f"page, {name}: {time.monotonic() - began:.1f} s", flush=True)
-    finally:
-        browser.end()
-    return True
-
-
-def main() -> int:
-    words = argparse.ArgumentParser(description=__doc__, formatter_class=argparse.RawDescriptionHelpFormatter)
-    words.add_argument("--program", default=f"{TOP}/out/service/jumbetaid")
-    words.add_argument("--pictures", metavar="FOLDER")
-    words.add_argument("cases", nargs="*", metavar="CASE", choices=[[], *CASES])
-    given = words.parse_args()
-    with tempfile.TemporaryDirectory() as folder:
-        tries = Tries(folder, os.path.abspath(given.program))
-        try:
-            try_all(tries, given.cases, given.pictures)
-        finally:
-            tries.end()
-    return tries.tell()
-
-
-if __name__ == "__main__":
-    sys.exit(main())

@@ -1,0 +1,200 @@
+"""The service jumbetaid, as its clients, its peers and its operator meet it: over loopback alone."""
+import contextlib
+import http.client
+import json
+import os
+import re
+import shutil
+import signal
+import socket
+import subprocess
+import sys
+import tempfile
+import time
+from typing import Any, Callable, Iterable, Iterator, Optional
+
+sys.dont_write_bytecode = True
+TOP = os.path.dirname(os.path.dirname(os.path.realpath(__file__)))
+sys.path.insert(0, f"{TOP}/tools")
+from harness import Counts  # noqa: E402
+
+ONE = {"Content-Type": "application/cloudevents+json"}
+MANY = {"Content-Type": "application/cloudevents-batch+json"}
+QUESTIONS = ("cover", "gaps", "shown", "latest", "kinds", "days", "conflicts")
+# The head of a request whose body is given by hand.
+HEAD = b"POST /events HTTP/1.1\r\nHost: localhost\r\nContent-Type: application/cloudevents+json\r\n"
+
+
+def event(number: int, source: str = "/a", **more: Any) -> dict[str, Any]:
+    return {"specversion": "1.0", "id": str(number), "source": source, "type": "t", "sequence": f"{number:020d}", **more}
+
+
+class Told:
+    """An answer: its status, its headers by their names in lower case, and its body."""
+
+    def __init__(self, status: int, headers: Iterable[tuple[str, str]], body: bytes) -> None:
+        self.status, self.body = status, body
+        self.headers = {name.lower(): value for name, value in headers}
+
+    @property
+    def json(self) -> Any:
+        return json.loads(self.body)
+
+    @property
+    def problem(self) -> Optional[str]:
+        """The name of a problem, and its status; none where the answer is no problem."""
+        if self.headers.get("content-type") != "application/problem+json":
+            return None
+        return str(self.json["type"]).rpartition(":")[2] if self.json["status"] == self.status else None
+
+    def __repr__(self) -> str:
+        return f"{self.status} {self.headers} {self.body[:300]!r}"
+
+
+class Site:
+    """A running service, with its folder for the database, the settings and the log."""
+
+    def __init__(self, tries: "Tries", name: str, settings: str = "", title: Optional[str] = None) -> None:
+        self.tries, self.name, self.title = tries, name, title or name
+        self.prefix: list[str] = []
+        self.folder = f"{tries.folder}/{name}"
+        os.makedirs(self.folder)
+        self.port, self.db = 0, f"{self.folder}/site.db"
+        self.ran: Any = None
+        self.set(settings)
+
+    def set(self, settings: str) -> None:
+        """Writes the settings; those of a table stand behind the others."""
+        with open(f"{self.folder}/settings.toml", "w", encoding="utf-8") as out:
+            out.write(f'name = {json.dumps(self.title)}\ndb = "{self.db}"\nlisten = "127.0.0.1:0"\n{settings}')
+
+    def start(self, seconds: float = 8) -> "Site":
+        """Starts it, where it was before if it was, and waits until it is ready."""
+        begin = os.path.getsize(f"{self.folder}/log") if os.path.exists(f"{self.folder}/log") else 0
+        with open(f"{self.folder}/log", "ab") as log:
+            words = [*self.prefix, str(self.tries.program), "--config", f"{self.folder}/settings.toml"]
+            words += [f"--listen=127.0.0.1:{self.port}"] * bool(self.port)
+            self.ran = subprocess.Popen(words, stdin=subprocess.DEVNULL, stdout=log, stderr=log)
+        self.tries.running.append(self.ran)
+        end = time.monotonic() + seconds
+        while time.monotonic() < end and self.ran.poll() is None:
+            for line in self.log(begin):
+                if line.get("message") == "ready":
+                    self.port = int(line["listen"].rpartition(":")[2])
+                    return self
+            time.sleep(0.01)
+        raise OSError(f"{self.name} isn't ready: {self.text_of_log()[-1000:]}")
+
+    def text_of_log(self) -> str:
+        with open(f"{self.folder}/log", encoding="utf-8") as log:
+            return log.read()
+
+    def log(self, begin: int = 0) -> list[dict[str, Any]]:
+        """The lines of the log that are whole."""
+        with open(f"{self.folder}/log", "rb") as log:
+            log.seek(begin)
+            lines = log.read().split(b"\n")[:-1]
+        return [json.loads(it) for it in lines if it.startswith(b"{")]
+
+    def stop(self, how: int = signal.SIGTERM, seconds: float = 12) -> int:
+        """Ends it, and answers its status."""
+        self.ran.send_signal(how)
+        return int(self.ran.wait(seconds))
+
+    def ask(self, method: str, path: str, body: Any = None, headers: Optional[dict[str, str]] = None, seconds: float = 20) -> Told:
+        connection = http.client.HTTPConnection("127.0.0.1", self.port, timeout=seconds)
+        with contextlib.closing(connection):
+            connection.request(method, path, body, headers or {})
+            answer = connection.getresponse()
+            return Told(answer.status, answer.getheaders(), answer.read())
+
+    def get(self, path: str, **headers: str) -> Told:
+        return self.ask("GET", path, headers={name.replace("_", "-"): value for name, value in headers.items()})
+
+    def give(self, what: Any, headers: Optional[dict[str, str]] = None) -> Told:
+        """Gives an event, or a list of them."""
+        body = what if isinstance(what, (str, bytes)) else json.dumps(what)
+        return self.ask("POST", "/events", body, headers or (MANY if isinstance(what, list) else ONE))
+
+    def raw(self, *parts: bytes, seconds: float = 8) -> tuple[bytes, Optional[float]]:
+        """What comes back of bytes, until the connection is closed or the time is over, and how long that took."""
+        began, said = time.monotonic(), b""
+        with socket.create_connection(("127.0.0.1", self.port), timeout=seconds) as it:
+            with contextlib.suppress(ConnectionError):
+                for part in parts:
+                    it.sendall(part)
+            try:
+                while data := it.recv(65536):
+                    said += data
+            except ConnectionError:
+                pass
+            except TimeoutError:
+                return said, None
+        return said, time.monotonic() - began
+
+    def cover(self) -> Any:
+        return self.get("/cover").json["sources"]
+
+    def measured(self, name: str) -> float:
+        """A figure of /metrics, by its name with its labels."""
+        line = re.search(rf"^{re.escape(name)} (\S+)$", self.get("/metrics").body.decode(), re.M)
+        return float(line[1]) if line else float("nan")
+
+    def waits_for(self, ready: Callable[[], object], seconds: float = 8) -> bool:
+        """Whether something is so within the time."""
+        end = time.monotonic() + seconds
+        while not ready():
+            if time.monotonic() > end:
+                return False
+            time.sleep(0.02)
+        return True
+
+
+class Tries(Counts):
+    def __init__(self, folder: str, program: Optional[str], site: str = "") -> None:
+        super().__init__()
+        self.folder, self.program, self.other = folder, program, site
+        self.running: list[Any] = []
+
+    def site(self, name: str, settings: str = "", title: Optional[str] = None) -> Site:
+        return Site(self, f"{self.what}-{name}", settings, title)
+
+    def end(self) -> None:
+        for it in self.running:
+            if it.poll() is None:
+                it.kill()
+            it.wait()
+
+
+@contextlib.contextmanager
+def serving(tries: Tries, settings: str = "", name: str = "site", prefix: Iterable[str] = (), title: Optional[str] = None) -> Iterator[Site]:
+    """A service that runs, and ends well behind the block unless it was ended there."""
+    site = tries.site(f"{name}{len(tries.running)}", settings, title)
+    site.prefix = list(prefix)
+    yield site.start()
+    if site.ran.poll() is None:
+        status = site.stop()
+        tries.judge(f"{name} ends well", status == 0, site.text_of_log()[-800:])
+    panics = [it for it in site.text_of_log().splitlines() if "panicked" in it]
+    tries.judge(f"{name} never panics", not panics, panics)
+
+
+@contextlib.contextmanager
+def database() -> Iterator[Any]:
+    """A PostgreSQL of its own with an outbox; none where there is no PostgreSQL."""
+    from load_service import Postgres
+
+    folder = tempfile.mkdtemp(dir="/tmp")
+    server = Postgres(folder)
+    if not server.is_there():
+        shutil.rmtree(folder)
+        yield None
+        return
+    try:
+        server.start()
+        server.sql("SELECT 1", "-f", f"{TOP}/contrib/postgresql/outbox.sql")
+        yield server
+    finally:
+        with contextlib.suppress(subprocess.SubprocessError):
+            server.stop()
+        shutil.rmtree(folder)
