@@ -12,6 +12,7 @@ from harness import Counts
 from shell import TOP, Room, Stage
 
 if TYPE_CHECKING:
+    from bindings import Bench
     from serving import Tries
 
 # How many checks the tests made that count them, what these left out, and what was told of what is kept.
@@ -26,6 +27,8 @@ def pytest_addoption(parser: pytest.Parser) -> None:
     parser.addoption("--by-hand", action="store_true", help="the tests that no gate runs too")
     parser.addoption("--jobs", type=int, default=len(os.sched_getaffinity(0)), help="how many runs with a refused allocation there are at once")
     parser.addoption("--of", type=int, default=100, help="what the sizes on pages are divided by")
+    parser.addoption("--events", type=int, default=120_000, help="how many events the bindings take")
+    parser.addoption("--orders", type=int, default=300, help="how many orders the bindings place")
     parser.addoption("--pictures", metavar="FOLDER", help="make the pictures of the service's page")
 
 
@@ -59,6 +62,35 @@ def library(pytestconfig: pytest.Config) -> str:
         maker.make(folder, maker.proved_part(bool(pytestconfig.getoption("--anew"))))
     pytestconfig.stash[KEPT] = said.getvalue().splitlines()
     return folder
+
+
+@pytest.fixture(scope="session")
+def bench(pytestconfig: pytest.Config, library: str) -> Iterator["Bench"]:
+    """The library as its users have it, and what is compiled over it."""
+    from bindings import Bench
+
+    with tempfile.TemporaryDirectory(prefix="bindings-") as folder:
+        yield Bench(folder, library, os.path.abspath(str(pytestconfig.getoption("--program"))))
+
+
+@pytest.fixture(scope="session")
+def batch(pytestconfig: pytest.Config, bench: "Bench") -> str:
+    """A file of many events."""
+    return bench.batch("batch.json", int(pytestconfig.getoption("--events")))
+
+
+@pytest.fixture(scope="session")
+def order_count(pytestconfig: pytest.Config) -> int:
+    return int(pytestconfig.getoption("--orders"))
+
+
+@pytest.fixture(scope="session")
+def may_be_full(bench: "Bench") -> Iterator[dict[str, str]]:
+    """What tells tests of the library where a disk is that gets full; nothing where none can be made."""
+    from bindings import small_disk
+
+    with small_disk(bench.at("full")) as folder:
+        yield {"JUMBETAI_FULL": folder} if folder else {}
 
 
 @pytest.fixture(scope="session")

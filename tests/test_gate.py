@@ -41,7 +41,7 @@ echo "2 passed, 0 failed"
 SCRIPT = """#!/bin/sh
 name="$(basename "$0")${1:+ $*}"
 echo "begin $name" >>FOLDER/order
-[ "$(basename "$0")" = try_bindings.py ] && {
+[ "$name" = "run_tests.py -m library and not alone" ] && {
     i=0
     while ! grep -q 'begin try_edits' FOLDER/order && [ $i -lt 300 ]; do i=$((i + 1)); sleep 0.1; done
     echo "library: 1 kept, 0 built anew"
@@ -58,7 +58,8 @@ status=$?
 echo "end try_edits" >>FOLDER/order
 exit $status
 """
-OF_LIBRARY = ["try_bindings.py", "try_release.py"]
+BUILDS = "run_tests.py -m library and not alone"
+OF_LIBRARY = [BUILDS, "try_release.py"]
 OF_PROGRAM = ["run_tests.py -m not alone and not library and not scripts"]
 ALONE = ["run_tests.py -m alone"]
 FIRST = ["lint.py"]
@@ -136,7 +137,7 @@ def test_what_a_first_run_took(run: Ran) -> None:
 
 
 def test_scripts_beside_the_edits(run: Ran) -> None:
-    assert run.order.index("begin try_edits") < run.order.index("end try_bindings.py"), run.order
+    assert run.order.index("begin try_edits") < run.order.index(f"end {BUILDS}"), run.order
 
 
 def test_tests_of_scripts_before_the_edits(run: Ran) -> None:

@@ -8,7 +8,7 @@ import re
 import secrets
 import signal
 import subprocess
-from typing import Callable, Optional
+from typing import Any, Callable, Optional
 
 import pytest
 from pages import PAGES, room, script, typed
@@ -26,7 +26,7 @@ def play(page: str, program: str, service: str, of: int) -> Printed:
     with room(program, service=service) as (folder, environment):
         with open(os.path.join(folder, f".{mark}"), "w", encoding="utf-8") as file:
             file.write("".join(typed(commands, mark)))
-        streams = {"stdin": subprocess.DEVNULL, "stdout": subprocess.PIPE, "stderr": subprocess.STDOUT}
+        streams: dict[str, Any] = {"stdin": subprocess.DEVNULL, "stdout": subprocess.PIPE, "stderr": subprocess.STDOUT}
         with subprocess.Popen(["bash", f".{mark}"], cwd=folder, env=environment, start_new_session=True, **streams) as ran:
             try:
                 said = ran.communicate(timeout=LONGEST * max(1, 100 // of))[0]
