@@ -59,7 +59,7 @@ echo "end try_edits" >>FOLDER/order
 exit $status
 """
 BUILDS = "run_tests.py -m library and not alone"
-OF_LIBRARY = [BUILDS, "try_release.py"]
+OF_LIBRARY = [BUILDS]
 OF_PROGRAM = ["run_tests.py -m not alone and not library and not scripts"]
 ALONE = ["run_tests.py -m alone"]
 FIRST = ["lint.py"]
