@@ -29,6 +29,7 @@ def pytest_addoption(parser: pytest.Parser) -> None:
     parser.addoption("--of", type=int, default=100, help="what the sizes on pages are divided by")
     parser.addoption("--events", type=int, default=120_000, help="how many events the bindings take")
     parser.addoption("--orders", type=int, default=300, help="how many orders the bindings place")
+    parser.addoption("--root", metavar="FOLDER", help="the fresh root of the Debian package, kept for later runs")
     parser.addoption("--pictures", metavar="FOLDER", help="make the pictures of the service's page")
 
 

@@ -1,60 +1,54 @@
-#!/usr/bin/env python3
-"""Tries the Debian package in a fresh root, as root and by hand: it takes minutes and wants Debian's archive.
+"""The Debian package in a fresh root, as root and by hand: it takes minutes and wants Debian's archive.
 
-    tools/try_package.py [--program FILE] [--service FILE] [--library FOLDER] [--root FOLDER]
+    tools/run_tests.py --by-hand tests/test_package.py [--root FOLDER]
 
-Two packages are made that differ in their revision. Their bytes are the same when they are made again; lintian finds no
-error; systemd-analyze takes the unit. In a root of debootstrap the first is installed; its program, its service, its library
-and its settings are used there, docs/SERVICE.md is typed in, and the page shows both regions; then it is upgraded with
-changed settings and events in its database, removed, installed again, and purged. --root keeps the fresh root's files
-for later runs. The last line is 'N passed, M failed'.
+Two packages are made that differ in their revision. Their bytes are the same when they are made again; lintian finds no error;
+systemd-analyze takes the unit. In a root of debootstrap the first is installed; its program, its service, its library and its settings
+are used there, docs/SERVICE.md is typed in, and the page shows both regions; then it is upgraded with changed settings and events in
+its database, removed, installed again, and purged. --root keeps the fresh root's files for later runs.
 """
-import argparse
 import contextlib
 import os
 import resource
 import secrets
 import shutil
 import subprocess
-import sys
 import tempfile
 import time
 import urllib.request
-from typing import Any, Optional
+from typing import Any, Iterator, Optional
 
-sys.dont_write_bytecode = True
-TOP = os.path.dirname(os.path.dirname(os.path.realpath(__file__)))
-sys.path.insert(0, f"{TOP}/tools")
-import debian  # noqa: E402
-from harness import Counts  # noqa: E402
-from kept import file_sum  # noqa: E402
-from pages import blocks, of_console, typed  # noqa: E402
-from version import version  # noqa: E402
+import debian
+import pytest
+from harness import Counts
+from kept import file_sum
+from pages import blocks, of_console, typed
+from version import version
 
+pytestmark = [pytest.mark.by_hand, pytest.mark.library, pytest.mark.alone, pytest.mark.slow]
 SETTINGS = "etc/jumbetai/jumbetaid.toml"
 # The most bytes of a file that anything here may write.
 MOST = 1 << 30
 EVENT = '{"specversion":"1.0","id":"%d","source":"/till","type":"sold","sequence":"%020d"}'
 
 
-class Tries(Counts):
-    def passes(self, what: str, words: list[str], **how: Any) -> str:
-        ran = subprocess.run(words, stdin=subprocess.DEVNULL, stdout=subprocess.PIPE, stderr=subprocess.STDOUT, text=True, check=False, **how)
-        self.judge(what, ran.returncode == 0, f"{ran.returncode}: {ran.stdout}")
-        return str(ran.stdout)
+def run_well(checks: Counts, what: str, words: list[str], **how: Any) -> str:
+    """What a command says that has to end well."""
+    ran = subprocess.run(words, stdin=subprocess.DEVNULL, stdout=subprocess.PIPE, stderr=subprocess.STDOUT, text=True, check=False, **how)
+    checks.judge(what, ran.returncode == 0, f"{ran.returncode}: {ran.stdout}")
+    return str(ran.stdout)
 
 
 class Root:
     """A fresh root, in which commands are run."""
 
-    def __init__(self, tries: Tries, folder: str) -> None:
-        self.tries, self.folder = tries, folder
+    def __init__(self, checks: Counts, folder: str) -> None:
+        self.checks, self.folder = checks, folder
 
     def does(self, what: str, *words: str, **how: Any) -> str:
         """What a command says that has to end well."""
-        return self.tries.passes(
-            what, ["chroot", self.folder, *words], env={"PATH": "/usr/sbin:/usr/bin:/sbin:/bin", "HOME": "/root", "DEBIAN_FRONTEND": "noninteractive"}, **how
-        )
+        environment = {"PATH": "/usr/sbin:/usr/bin:/sbin:/bin", "HOME": "/root", "DEBIAN_FRONTEND": "noninteractive"}
+        return run_well(self.checks, what, ["chroot", self.folder, *words], env=environment, **how)
 
     def has(self, path: str) -> bool:
         return os.path.lexists(f"{self.folder}/{path}")
@@ -65,7 +59,7 @@ class Root:
 
 
 @contextlib.contextmanager
-def running(root: Root, settings: str = SETTINGS) -> Any:
+def running(root: Root, settings: str = SETTINGS) -> Iterator["subprocess.Popen[bytes]"]:
     """The package's service in the root, as its own user, until the block ends."""
     words = ["chroot", "--userspec=jumbetai:jumbetai", root.folder, "/usr/bin/jumbetaid", "--config", f"/{settings}"]
     with tempfile.TemporaryFile() as log:
@@ -79,7 +73,7 @@ def running(root: Root, settings: str = SETTINGS) -> Any:
             ran.terminate()
             status = ran.wait(15)
             log.seek(0)
-            root.tries.judge("the service ends well", status == 0, log.read().decode()[-1000:])
+            root.checks.judge("the service ends well", status == 0, log.read().decode()[-1000:])
 
 
 def answer(path: str, body: Optional[str] = None, port: int = 8087) -> str:
@@ -94,20 +88,20 @@ def answer(path: str, body: Optional[str] = None, port: int = 8087) -> str:
         return f"no answer: {why}"
 
 
-def try_making(tries: Tries, given: argparse.Namespace, folder: str) -> tuple[str, str]:
-    """The packages, and what Debian's tools say of them."""
-    first, second, again = (debian.make(given.program, given.service, given.library, f"{folder}/{to}", it) for to, it in (("one", 1), ("one", 2), ("two", 1)))
+def make_packages(checks: Counts, program: str, service: str, library: str, folder: str) -> tuple[str, str]:
+    """Both packages, and what Debian's tools say of them."""
+    first, second, again = (debian.make(program, service, library, f"{folder}/{to}", it) for to, it in (("one", 1), ("one", 2), ("two", 1)))
     sums = [file_sum(it) for it in (first, second, again)]
-    tries.judge("the same bytes again", sums[0] == sums[2] != sums[1], sums)
+    checks.judge("the same bytes again", sums[0] == sums[2] != sums[1], sums)
     if shutil.which("lintian"):
-        said = tries.passes("lintian", ["lintian", "--fail-on", "error", "--allow-root", "--tag-display-limit", "0", first])
+        said = run_well(checks, "lintian", ["lintian", "--fail-on", "error", "--allow-root", "--tag-display-limit", "0", first])
         print("".join(f"lintian: {it}\n" for it in said.splitlines() if it.startswith(("E:", "W:"))), end="")
     else:
-        print("skipped: lintian isn't there")
+        checks.skip("the packages by lintian", "it isn't there")
     return first, second
 
 
-def try_page(tries: Tries, root: Root) -> None:
+def look_at_page(checks: Counts, root: Root) -> None:
     """What docs/SERVICE.md tells a newcomer to type, in an empty folder of the root; then the page of both."""
     began, mark, commands = time.monotonic(), f"mark-{secrets.token_hex(8)}", []
     for _, words, lines in blocks("docs/SERVICE.md"):
@@ -118,7 +112,7 @@ def try_page(tries: Tries, root: Root) -> None:
         out.write("".join(typed(commands, mark)))
     said = root.does("docs/SERVICE.md is typed in", "bash", "-c", "cd /root/new && bash typed").split(f"{mark}\n")
     for (command, want), got in zip(commands, said):
-        tries.judge(command, got == want, f"{got!r}, not {want!r}")
+        checks.judge(command, got == want, f"{got!r}, not {want!r}")
     print(f"docs/SERVICE.md: {len(commands)} commands in {time.monotonic() - began:.1f} s")
     # The same two regions again, which have their databases now; each page is asked for what it shows.
     names = {"north": 8087, "south": 8088}
@@ -143,11 +137,11 @@ def try_page(tries: Tries, root: Root) -> None:
             time.sleep(0.1)
         for (name, port), other in zip(names.items(), ("south", "north")):
             told = answer("/status", port=port)
-            tries.judge(f"{name} shows {other}", f'"{other}":{{' in told and '"equal":true' in told and "<!doctype html>" in answer("/", port=port), told)
+            checks.judge(f"{name} shows {other}", f'"{other}":{{' in told and '"equal":true' in told and "<!doctype html>" in answer("/", port=port), told)
             if shutil.which("chromium"):
                 words = ["chromium", "--headless=new", "--no-sandbox", "--disable-gpu", "--virtual-time-budget=4000", "--dump-dom", f"http://127.0.0.1:{port}/"]
                 page = subprocess.run(words, capture_output=True, text=True, timeout=60, check=False).stdout
-                tries.judge(f"the page of {name} in a browser", "1 of 1 had the same events" in page and f"<span>{other}</span>" in page, page[-800:])
+                checks.judge(f"the page of {name} in a browser", "1 of 1 had the same events" in page and f"<span>{other}</span>" in page, page[-800:])
     finally:
         for it in ran:
             it.terminate()
@@ -155,80 +149,68 @@ def try_page(tries: Tries, root: Root) -> None:
             it.wait(15)
 
 
-def try_life(tries: Tries, root: Root, first: str, second: str) -> None:
+def live(checks: Counts, root: Root, first: str, second: str) -> None:
     """The package's life in a root: installed, used, upgraded, removed, purged."""
     for it in (first, second):
         shutil.copy(it, f"{root.folder}/root/")
     first, second = (f"/root/{os.path.basename(it)}" for it in (first, second))
     root.does("dpkg installs it", "dpkg", "-i", first)
     root.does("dpkg -V finds each file", "dpkg", "-V", "jumbetai")
-    tries.judge("its user", "jumbetai" in root.read("etc/passwd") and root.does("its folder", "stat", "-c", "%U %a", "/var/lib/jumbetai") == "jumbetai 750\n")
-    tries.judge("site runs", "Usage:" in root.does("site --help", "sh", "-c", "site --help || [ $? = 2 ]"))
-    tries.judge("jumbetaid runs", root.does("jumbetaid --version", "jumbetaid", "--version") == f"jumbetaid {version()}\n")
+    checks.judge("its user", "jumbetai" in root.read("etc/passwd") and root.does("its folder", "stat", "-c", "%U %a", "/var/lib/jumbetai") == "jumbetai 750\n")
+    checks.judge("site runs", "Usage:" in root.does("site --help", "sh", "-c", "site --help || [ $? = 2 ]"))
+    checks.judge("jumbetaid runs", root.does("jumbetaid --version", "jumbetaid", "--version") == f"jumbetaid {version()}\n")
     root.does("its settings can be used", "jumbetaid", "--config", f"/{SETTINGS}", "--check")
-    tries.judge("the loader knows the library", "libjumbetai.so.0" in root.does("ldconfig", "sh", "-c", "ldconfig -p | grep jumbetai"))
+    checks.judge("the loader knows the library", "libjumbetai.so.0" in root.does("ldconfig", "sh", "-c", "ldconfig -p | grep jumbetai"))
     if shutil.which("systemd-analyze"):
         # The unit as it is, but for a program that this machine has.
         with tempfile.TemporaryDirectory() as at:
             with open(f"{at}/jumbetaid.service", "w", encoding="utf-8") as out:
                 out.write(root.read("lib/systemd/system/jumbetaid.service").replace("/usr/bin/jumbetaid", "/bin/true"))
-            said = tries.passes("systemd-analyze verify", ["systemd-analyze", "verify", "--man=no", f"{at}/jumbetaid.service"])
-            tries.judge("it says nothing of the unit", "jumbetaid" not in said, said)
-            said = tries.passes("systemd-analyze security", ["systemd-analyze", "security", "--offline=true", f"{at}/jumbetaid.service"])
+            said = run_well(checks, "systemd-analyze verify", ["systemd-analyze", "verify", "--man=no", f"{at}/jumbetaid.service"])
+            checks.judge("it says nothing of the unit", "jumbetaid" not in said, said)
+            said = run_well(checks, "systemd-analyze security", ["systemd-analyze", "security", "--offline=true", f"{at}/jumbetaid.service"])
             print(f"systemd-analyze security: {said.strip().splitlines()[-1]}")
-    try_page(tries, root)
+    look_at_page(checks, root)
     with running(root):
-        tries.judge("an event is taken", '"new":1' in answer("/events", EVENT % (1, 1)), answer("/status"))
-        tries.judge("a backup of it is made", "/var/lib/jumbetai/backups/" in answer("/backup", ""))
+        checks.judge("an event is taken", '"new":1' in answer("/events", EVENT % (1, 1)), answer("/status"))
+        checks.judge("a backup of it is made", "/var/lib/jumbetai/backups/" in answer("/backup", ""))
     text = root.read(SETTINGS).replace('name = "site" ', 'name = "north"')
     with open(f"{root.folder}/{SETTINGS}", "w", encoding="utf-8") as out:
         out.write(text)
     root.does("dpkg upgrades it", "dpkg", "-i", second)
-    tries.judge("settings that were changed stay", 'name = "north"' in root.read(SETTINGS) and not root.has(f"{SETTINGS}.dpkg-new"))
-    tries.judge("the other revision is there", root.does("dpkg-query", "dpkg-query", "-W", "-f", "${Version}", "jumbetai").endswith("-2"))
+    checks.judge("settings that were changed stay", 'name = "north"' in root.read(SETTINGS) and not root.has(f"{SETTINGS}.dpkg-new"))
+    checks.judge("the other revision is there", root.does("dpkg-query", "dpkg-query", "-W", "-f", "${Version}", "jumbetai").endswith("-2"))
     with running(root):
-        tries.judge("the event is there", '"name":"north"' in answer("/status") and '"events":1' in answer("/status"), answer("/status"))
-        tries.judge("and one more", '"new":1' in answer("/events", EVENT % (2, 2)))
+        checks.judge("the event is there", '"name":"north"' in answer("/status") and '"events":1' in answer("/status"), answer("/status"))
+        checks.judge("and one more", '"new":1' in answer("/events", EVENT % (2, 2)))
     root.does("dpkg removes it", "dpkg", "-r", "jumbetai")
     gone = [it for it in ("usr/bin/site", "usr/bin/jumbetaid", "lib/systemd/system/jumbetaid.service", "usr/include/jumbetai.h") if root.has(it)]
-    tries.judge("its programs are gone", not gone, gone)
-    tries.judge("settings and events stay", root.has(SETTINGS) and root.has("var/lib/jumbetai/site.db"))
+    checks.judge("its programs are gone", not gone, gone)
+    checks.judge("settings and events stay", root.has(SETTINGS) and root.has("var/lib/jumbetai/site.db"))
     root.does("dpkg installs it again", "dpkg", "-i", first)
     with running(root):
-        tries.judge("both events are there", '"events":2' in answer("/status"), answer("/status"))
+        checks.judge("both events are there", '"events":2' in answer("/status"), answer("/status"))
     said = root.does("dpkg purges it", "dpkg", "-P", "jumbetai")
-    tries.judge(
+    checks.judge(
         "settings are gone, events stay, and that is told", not root.has("etc/jumbetai") and root.has("var/lib/jumbetai/site.db") and "is left" in said, said
     )
     left = root.does("nothing else is left", "sh", "-c", "find /etc /usr /lib /var -name '*jumbetai*' ! -path '/var/lib/jumbetai*' ! -path '*/dpkg/*'")
-    tries.judge("nothing else of it is left", not left.strip(), left)
+    checks.judge("nothing else of it is left", not left.strip(), left)
     for it in (first, second):
         os.remove(f"{root.folder}{it}")
     shutil.rmtree(f"{root.folder}/var/lib/jumbetai")
 
 
-def main() -> int:
-    words = argparse.ArgumentParser(description=__doc__, formatter_class=argparse.RawDescriptionHelpFormatter)
-    words.add_argument("--program", default=f"{TOP}/crates/site_cli/out/site_cli")
-    words.add_argument("--service", default=f"{TOP}/out/service/jumbetaid")
-    words.add_argument("--library", default=f"{TOP}/out/library", metavar="FOLDER")
-    words.add_argument("--root", metavar="FOLDER")
-    given = words.parse_args()
+def test_package(program: str, service: str, library: str, pytestconfig: pytest.Config, checks: Counts) -> None:
     if os.geteuid() or not shutil.which("debootstrap"):
-        sys.exit("skipped: it wants root and debootstrap")
-    tries = Tries()
-    resource.setrlimit(resource.RLIMIT_FSIZE, (MOST, MOST))
-    with tempfile.TemporaryDirectory() as folder:
-        first, second = try_making(tries, given, folder)
-        at = os.path.abspath(given.root or f"{folder}/root")
+        pytest.skip("it wants root and debootstrap")
+    with tempfile.TemporaryDirectory() as folder, contextlib.ExitStack() as end:
+        end.callback(resource.setrlimit, resource.RLIMIT_FSIZE, resource.getrlimit(resource.RLIMIT_FSIZE))
+        resource.setrlimit(resource.RLIMIT_FSIZE, (MOST, resource.getrlimit(resource.RLIMIT_FSIZE)[1]))
+        first, second = make_packages(checks, program, service, library, folder)
+        at = os.path.abspath(str(pytestconfig.getoption("--root") or f"{folder}/root"))
         if not os.path.exists(f"{at}/usr/bin/dpkg"):
-            tries.passes("debootstrap", ["debootstrap", "--variant=minbase", "--include=adduser,curl", "bookworm", at])
+            run_well(checks, "debootstrap", ["debootstrap", "--variant=minbase", "--include=adduser,curl", "bookworm", at])
         # `cp -a` copies device files as such; to read /dev/full or /dev/zero would never end.
-        # Devices are copied as devices.
         subprocess.run(["cp", "-a", at, f"{folder}/fresh"], check=True)
-        try_life(tries, Root(tries, f"{folder}/fresh"), first, second)
-    return tries.tell()
-
-
-if __name__ == "__main__":
-    sys.exit(main())
+        live(checks, Root(checks, f"{folder}/fresh"), first, second)
