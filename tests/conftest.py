@@ -12,7 +12,7 @@ from harness import Counts
 from shell import TOP, Room, Stage
 
 if TYPE_CHECKING:
-    from bindings import Bench
+    from library_users import Bench
     from serving import Tries
 
 # How many checks the tests made that count them, what these left out, and what was told of what is kept.
@@ -68,7 +68,7 @@ def library(pytestconfig: pytest.Config) -> str:
 @pytest.fixture(scope="session")
 def bench(pytestconfig: pytest.Config, library: str) -> Iterator["Bench"]:
     """The library as its users have it, and what is compiled over it."""
-    from bindings import Bench
+    from library_users import Bench
 
     with tempfile.TemporaryDirectory(prefix="bindings-") as folder:
         yield Bench(folder, library, os.path.abspath(str(pytestconfig.getoption("--program"))))
@@ -88,7 +88,7 @@ def order_count(pytestconfig: pytest.Config) -> int:
 @pytest.fixture(scope="session")
 def may_be_full(bench: "Bench") -> Iterator[dict[str, str]]:
     """What tells tests of the library where a disk is that gets full; nothing where none can be made."""
-    from bindings import small_disk
+    from library_users import small_disk
 
     with small_disk(bench.at("full")) as folder:
         yield {"JUMBETAI_FULL": folder} if folder else {}

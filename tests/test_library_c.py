@@ -8,7 +8,7 @@ import os
 import library
 import pytest
 import version
-from bindings import ALONE, DONE, PROGRAMS, QUESTIONS, STRICT, Bench, is_apart, name_of, sources, worked_answers
+from library_users import ALONE, DONE, PROGRAMS, QUESTIONS, STRICT, Bench, is_apart, name_of, sources, worked_answers
 from shell import TOP
 
 pytestmark = [pytest.mark.library, pytest.mark.slow]

@@ -4,7 +4,7 @@ import re
 import shutil
 
 import pytest
-from bindings import Bench
+from library_users import Bench
 from shell import TOP
 from version import version
 

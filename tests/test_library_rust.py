@@ -8,7 +8,7 @@ import re
 from typing import Iterator
 
 import pytest
-from bindings import Bench
+from library_users import Bench
 from measure import held_lines
 from shell import TOP
 

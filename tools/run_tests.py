@@ -1,11 +1,13 @@
 #!/usr/bin/env python3
-"""Runs the tests of the built program, which stand in tests/, by pytest.
+"""Runs the tests of what is built, which stand in tests/, by pytest.
 
-    tools/run_tests.py [--program FILE] [WORD..]    words of pytest, as -k WORD, -m 'not slow', -m alone or tests/test_run.py
-    tools/run_tests.py --install                    Debian's package of pytest, as root, where it isn't there
+    tools/run_tests.py [WORD..]     words of pytest, as -k WORD, -m 'not slow', -m alone or tests/test_run.py
+    tools/run_tests.py --install    Debian's package of pytest, as root, where it isn't there
 
+Of the program, the library in C and the service each is what the gate left, or is built, unless --program FILE, --library
+FOLDER or --service FILE names another one. pyproject.toml says which marks there are, tests/conftest.py which words more.
 The package is for Debian's own python3, which needn't be the first one on the path. Where there is no pytest, that is a
-failure. The last line is 'N passed, M failed'.
+failure. Above the last line, 'N passed, M failed', stand the slowest tests, and what was left out since a tool isn't there.
 """
 import argparse
 import os
@@ -15,6 +17,8 @@ from typing import Optional
 
 TOP = os.path.dirname(os.path.dirname(os.path.realpath(__file__)))
 PACKAGE = "python3-pytest"
+# Words of tests/conftest.py that name a file or a folder.
+FILES = ("program", "library", "service", "root", "pictures")
 PYTHONS: tuple[str, ...] = ("/usr/bin/python3", "python3")
 
 
@@ -34,7 +38,8 @@ def install(*packages: str) -> int:
 def main() -> int:
     words = argparse.ArgumentParser(description=__doc__, formatter_class=argparse.RawDescriptionHelpFormatter)
     words.add_argument("--install", action="store_true")
-    words.add_argument("--program", default=f"{TOP}/crates/site_cli/out/site_cli")
+    for it in FILES:
+        words.add_argument(f"--{it}")
     given, rest = words.parse_known_args()
     python = python_with_pytest()
     if given.install:
@@ -42,9 +47,9 @@ def main() -> int:
     if not python:
         print("wrong: pytest isn't there: tools/run_tests.py --install\n0 passed, 1 failed")
         return 1
-    program = os.path.abspath(given.program)
+    files = [f"--{name}={os.path.abspath(it)}" for name, it in vars(given).items() if name in FILES and it]
     os.chdir(TOP)
-    os.execvp(python, [python, "-B", "-m", "pytest", "-q", f"--program={program}", *rest])
+    os.execvp(python, [python, "-B", "-m", "pytest", "-q", "--durations=12", *files, *rest])
 
 
 if __name__ == "__main__":
