@@ -33,6 +33,12 @@ def pytest_addoption(parser: pytest.Parser) -> None:
     parser.addoption("--pictures", metavar="FOLDER", help="make the pictures of the service's page")
 
 
+def pytest_configure(config: pytest.Config) -> None:
+    config.stash[CHECKS] = 0
+    config.stash[SKIPPED] = []
+    config.stash[KEPT] = []
+
+
 def pytest_collection_modifyitems(config: pytest.Config, items: list[pytest.Item]) -> None:
     """Leaves out what is tried by hand, where it isn't asked for."""
     if not config.getoption("--by-hand"):
@@ -146,7 +152,7 @@ def counts_of(item: pytest.Item) -> list[Counts]:
     return [it for it in getattr(item, "funcargs", {}).values() if isinstance(it, Counts)]
 
 
-@pytest.hookimpl(trylast=True)
+@pytest.hookimpl(trylast=True)  # type: ignore[misc]
 def pytest_runtest_call(item: pytest.Item) -> None:
     """Fails a test of which a check was wrong, once it has come to its end."""
     wrong = [line for it in counts_of(item) for line in it.wrong]
@@ -157,16 +163,16 @@ def pytest_runtest_call(item: pytest.Item) -> None:
 def pytest_runtest_teardown(item: pytest.Item) -> None:
     stash = item.config.stash
     for it in counts_of(item):
-        stash[CHECKS] = stash.get(CHECKS, 0) + it.all
-        stash[SKIPPED] = stash.get(SKIPPED, []) + it.skipped
+        stash[CHECKS] += it.all
+        stash[SKIPPED] += it.skipped
 
 
 def pytest_unconfigure(config: pytest.Config) -> None:
     """Prints what tests left out, how much they checked, a line for each test that is wrong, and at last 'N passed, M failed'."""
     reporter = config.pluginmanager.get_plugin("terminalreporter")
     if reporter and not config.getoption("--collect-only"):
-        print(*(f"{it}\n" for it in (*config.stash.get(KEPT, []), *config.stash.get(SKIPPED, []))), sep="", end="")
-        print(f"{config.stash.get(CHECKS, 0)} checks within tests")
+        print(*(f"{it}\n" for it in (*config.stash[KEPT], *config.stash[SKIPPED])), sep="", end="")
+        print(f"{config.stash[CHECKS]} checks within tests")
         wrong = [it for kind in ("failed", "error") for it in reporter.stats.get(kind, ())]
         print(*(f"wrong: {it.nodeid}\n" for it in wrong), sep="", end="")
         print(f"{len(reporter.stats.get('passed', ()))} passed, {len(wrong)} failed")

@@ -117,13 +117,11 @@ class Group:
 
 def groups_in(folder: str) -> list[tuple[str, str]]:
     """The groups of rows of a folder, each with its answers."""
-    found = []
-    for it in ("stdin", "stdout"):
-        with open(f"{folder}/{it}", encoding="utf-8") as file:
-            found.append(groups_of(file.read()))
-    if len(found[0]) != len(found[1]):
-        raise ValueError(f"{folder}: {len(found[0])} groups of rows, and {len(found[1])} of answers")
-    return [*zip(*found)]
+    with open(f"{folder}/stdin", encoding="utf-8") as rows, open(f"{folder}/stdout", encoding="utf-8") as answers:
+        asked, wanted = groups_of(rows.read()), groups_of(answers.read())
+    if len(asked) != len(wanted):
+        raise ValueError(f"{folder}: {len(asked)} groups of rows, and {len(wanted)} of answers")
+    return [*zip(asked, wanted)]
 
 
 class Driver:

@@ -4,7 +4,7 @@ import os
 import re
 import shutil
 import subprocess
-from typing import Any, Iterable, Iterator, Optional
+from typing import Any, Iterable, Iterator, Mapping, Optional
 
 import library
 import pytest
@@ -30,6 +30,7 @@ PROGRAMS: dict[str, list[str]] = {
     "examples/c/ask.c": [],
     "examples/c/orders.c": [],
 }
+NOTHING: dict[str, str] = {}
 DONE = re.compile(rb"(\d+) passed, 0 failed|([1-9]\d*) requests refused")
 
 
@@ -98,15 +99,15 @@ class Bench:
         if shutil.which(tool) is None or self.run([tool, "--version"])[0]:
             pytest.skip(f"{tool} isn't there")
 
-    def run(self, words: list[str], folder: Optional[str] = None, **more: str) -> tuple[int, bytes]:
-        """The status of a command, and what it said on either stream."""
+    def run(self, words: list[str], more: Mapping[str, str] = NOTHING, folder: Optional[str] = None) -> tuple[int, bytes]:
+        """The status of a command with more in its environment, and what it said on either stream."""
         how: dict[str, Any] = {"stdin": subprocess.DEVNULL, "stdout": subprocess.PIPE, "stderr": subprocess.STDOUT}
         ran = subprocess.run(words, cwd=folder or self.folder, env={**self.environment, **more}, check=False, **how)
         return ran.returncode, ran.stdout
 
-    def run_well(self, words: list[str], said: "Optional[re.Pattern[bytes]]" = None, folder: Optional[str] = None, **more: str) -> bytes:
+    def run_well(self, words: list[str], said: "Optional[re.Pattern[bytes]]" = None, more: Mapping[str, str] = NOTHING) -> bytes:
         """Runs a command that has to end with status 0, and to say what it has to."""
-        status, out = self.run(words, folder, **more)
+        status, out = self.run(words, more)
         assert status == 0 and (said is None or said.search(out)), f"{words}: status {status}: {out.decode(errors='replace')[-3000:]}"
         return out
 

@@ -6,6 +6,7 @@ import subprocess
 import sys
 import tempfile
 from importlib.machinery import SourceFileLoader
+from importlib.util import module_from_spec, spec_from_loader
 from typing import Iterator, NamedTuple, Optional
 
 import pytest
@@ -14,7 +15,10 @@ from copies import Copy, kept_files
 from shell import TOP
 
 pytestmark = pytest.mark.scripts
-of_gate = SourceFileLoader("gate", f"{TOP}/gate").load_module()
+GATE = spec_from_loader("gate", SourceFileLoader("gate", f"{TOP}/gate"))
+assert GATE and GATE.loader
+of_gate = module_from_spec(GATE)
+GATE.loader.exec_module(of_gate)
 # In the place of `rt`: `rt ci` leaves libraries, as old as those that it keeps, and the program, and says what a run says.
 RT = """#!/bin/sh
 [ "$1" = doc ] && { echo FOLDER/kit/START-HERE.md; exit; }

@@ -142,8 +142,8 @@ def test_exchange_of_the_program(word: str, typed: str, bench: Bench, small_site
 # The library below a prefix, as a package has it.
 
 
-def install(bench: Bench, prefix: str, **more: str) -> bytes:
-    return bench.run_well([f"{TOP}/tools/library.py", "--from", "library", "--install", prefix], **more)
+def install(bench: Bench, prefix: str, root: str = "") -> bytes:
+    return bench.run_well([f"{TOP}/tools/library.py", "--from", "library", "--install", prefix], more={"DESTDIR": root})
 
 
 @pytest.fixture(scope="module")
@@ -153,7 +153,7 @@ def prefix(bench: Bench) -> str:
 
 
 def test_library_that_is_packed(bench: Bench) -> None:
-    install(bench, "/opt/jumbetai", DESTDIR=bench.at("packed"))
+    install(bench, "/opt/jumbetai", bench.at("packed"))
     with open(bench.at("packed/opt/jumbetai/lib/pkgconfig/jumbetai.pc"), encoding="utf-8") as file:
         assert "prefix=/opt/jumbetai\n" in file.read()
 
@@ -179,7 +179,7 @@ def flags(prefix: str) -> list[str]:
 
 def test_flags_of_pkg_config(bench: Bench, prefix: str) -> None:
     bench.wants("pkg-config")
-    out = bench.run_well(["pkg-config", "--cflags", "--libs", "jumbetai"], PKG_CONFIG_PATH=f"{prefix}/lib/pkgconfig")
+    out = bench.run_well(["pkg-config", "--cflags", "--libs", "jumbetai"], more={"PKG_CONFIG_PATH": f"{prefix}/lib/pkgconfig"})
     assert out.decode().split() == flags(prefix)
 
 
@@ -188,7 +188,7 @@ def test_example_over_the_installed_library(how: str, bench: Bench, prefix: str)
     given = flags(prefix) if how == "shared" else ["-Wl,-Bstatic", *flags(prefix), "-Wl,-Bdynamic"]
     bench.run_well([library.compiler(), f"{TOP}/examples/c/ask.c", *given, "-o", f"ask-{how}"])
     words = [f"./ask-{how}", "kinds", f"{TOP}/examples/orders.json"]
-    out = bench.run_well(words, LD_LIBRARY_PATH=f"{prefix}/lib" if how == "shared" else "")
+    out = bench.run_well(words, more={"LD_LIBRARY_PATH": f"{prefix}/lib" if how == "shared" else ""})
     assert out.decode() == worked_answers()["kinds"]
 
 
@@ -263,4 +263,4 @@ def test_full_disk(bench: Bench, may_be_full: dict[str, str]) -> None:
     """Bodies of several callers on a disk that is full in the middle of their transaction; both bindings' own tests do so too."""
     if not may_be_full:
         pytest.skip("no file system can be mounted here")
-    bench.run_well([bench.compile("bindings/c/test_full.c")], DONE, **may_be_full)
+    bench.run_well([bench.compile("bindings/c/test_full.c")], DONE, may_be_full)

@@ -13,7 +13,8 @@ pytestmark = [pytest.mark.library, pytest.mark.slow]
 
 def test_tests_and_the_example_of_its_page(bench: Bench, batch: str, may_be_full: dict[str, str]) -> None:
     words = ["python3", "-m", "unittest", "-v", "test_jumbetai"]
-    status, out = bench.run(words, f"{TOP}/bindings/python", JUMBETAI_LIB=bench.at("shared/libjumbetai.so"), JUMBETAI_BATCH=batch, **may_be_full)
+    more = {"JUMBETAI_LIB": bench.at("shared/libjumbetai.so"), "JUMBETAI_BATCH": batch, **may_be_full}
+    status, out = bench.run(words, more, f"{TOP}/bindings/python")
     passed = len(re.findall(rb"\.\.\. ok$", out, re.M))
     assert status == 0 and passed >= 40, out.decode(errors="replace")[-3000:]
 
@@ -59,5 +60,5 @@ def test_pip_installs(what: str, bench: Bench, wheel: str, fresh: str) -> None:
     shutil.copytree(f"{TOP}/bindings/python", bench.at("package"), ignore=shutil.ignore_patterns("__pycache__"), dirs_exist_ok=True)
     given, more = (wheel, ALONE) if what == "the wheel" else ("package", {**ALONE, "JUMBETAI_LIB": bench.at("shared/libjumbetai.so")})
     bench.run_well(["env", *(f"{name}={it}" for name, it in more.items()), f"{fresh}/pip", "install", "-q", "--force-reinstall", f"./{given}"])
-    out = bench.run_well([f"{fresh}/python", "-I", "-c", CODE], **ALONE).decode()
+    out = bench.run_well([f"{fresh}/python", "-I", "-c", CODE], more=ALONE).decode()
     assert out.startswith(bench.at("fresh/")) and out.endswith(f" {version()}\n")

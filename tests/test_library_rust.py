@@ -16,15 +16,17 @@ pytestmark = [pytest.mark.library, pytest.mark.slow]
 MANIFEST = ["--offline", "--quiet", "--manifest-path", f"{TOP}/bindings/rust/Cargo.toml", "--workspace"]
 
 
-def cargo(bench: Bench, word: str, *more: str, **environment: str) -> tuple[int, bytes]:
+def cargo(bench: Bench, more: dict[str, str], *words: str) -> tuple[int, bytes]:
+    """The status of cargo over the crate with more in its environment, and what it said."""
     bench.wants("cargo")
-    return bench.run(["cargo", word, *MANIFEST, *more], f"{TOP}/bindings/rust", CARGO_TARGET_DIR=bench.at("cargo"), **environment)
+    word, *rest = words
+    return bench.run(["cargo", word, *MANIFEST, *rest], {**more, "CARGO_TARGET_DIR": bench.at("cargo")}, f"{TOP}/bindings/rust")
 
 
 @pytest.fixture(scope="module")
 def tested(bench: Bench, batch: str, order_count: int, may_be_full: dict[str, str]) -> Iterator[tuple[int, bytes]]:
     """What is said of the tests and of the examples of its page; it leaves the examples built."""
-    yield cargo(bench, "test", JUMBETAI_BATCH=batch, JUMBETAI_ORDERS=str(order_count), **may_be_full)
+    yield cargo(bench, {"JUMBETAI_BATCH": batch, "JUMBETAI_ORDERS": str(order_count), **may_be_full}, "test")
     with contextlib.suppress(FileNotFoundError):
         os.remove(f"{TOP}/bindings/rust/Cargo.lock")
 
@@ -37,7 +39,7 @@ def test_tests_and_the_examples_of_its_page(tested: tuple[int, bytes]) -> None:
 
 def test_rustdoc(bench: Bench, tested: tuple[int, bytes]) -> None:
     bench.wants("rustdoc")
-    status, out = cargo(bench, "doc", "--no-deps", RUSTDOCFLAGS="-D warnings")
+    status, out = cargo(bench, {"RUSTDOCFLAGS": "-D warnings"}, "doc", "--no-deps")
     assert status == 0, out.decode(errors="replace")[-3000:]
 
 

@@ -81,7 +81,7 @@ AT = "2024-02-29T10:00:00Z"
 def run_well(words: list[str], **how: Any) -> str:
     """What a command says that has to end with status 0."""
     ran = subprocess.run(words, stdin=subprocess.DEVNULL, stdout=subprocess.PIPE, stderr=subprocess.STDOUT, check=False, **how)
-    said = ran.stdout.decode(errors="replace")
+    said = str(ran.stdout.decode(errors="replace"))
     assert ran.returncode == 0, f"{words}: status {ran.returncode}: {said[-3000:]}"
     return said
 

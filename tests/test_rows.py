@@ -26,7 +26,8 @@ Plays = Callable[[str, int], tuple[Group, int]]
 @pytest.fixture(scope="module")
 def plays(request: pytest.FixtureRequest, jobs: int) -> Iterator[Plays]:
     """Plays the groups that are asked for side by side."""
-    asked = [it.callspec.params for it in request.session.items if isinstance(it, pytest.Function) and it.function is test_group]
+    items = [it for it in request.session.items if isinstance(it, pytest.Function) and it.function is test_group]
+    asked = [(str(it.callspec.params["driver"]), int(str(it.callspec.params["group"]))) for it in items]
     with contextlib.ExitStack() as end:
         refuser, pool = end.enter_context(Refuser()), ThreadPoolExecutor(jobs)
         end.callback(lambda: pool.shutdown(cancel_futures=True))
@@ -38,7 +39,7 @@ def plays(request: pytest.FixtureRequest, jobs: int) -> Iterator[Plays]:
                 driver = Driver(f"{TOP}/crates/{name}/out/{name}", f"{TOP}/crates/{name}", refuser)
                 driver.play(0)
                 drivers[name] = driver
-                begun.update({(name, it["group"]): pool.submit(driver.play, it["group"]) for it in asked if it["driver"] == name})
+                begun.update({it: pool.submit(driver.play, it[1]) for it in asked if it[0] == name})
             return drivers[name].groups[group], begun[name, group].result()
 
         yield play
