@@ -35,8 +35,8 @@ def pytest_addoption(parser: pytest.Parser) -> None:
 
 def pytest_configure(config: pytest.Config) -> None:
     config.stash[CHECKS] = 0
-    config.stash[SKIPPED] = []
-    config.stash[KEPT] = []
+    config.stash[SKIPPED] = list[str]()
+    config.stash[KEPT] = list[str]()
 
 
 def pytest_collection_modifyitems(config: pytest.Config, items: list[pytest.Item]) -> None:
