@@ -20,7 +20,7 @@ SERVICE = "docs/SERVICE.md"
 OF_SERVICE = (pytest.mark.library, pytest.mark.alone)
 
 
-def play(page: str, program: str, service: str, of: int) -> Printed:
+def play(page: str, program: str, service: Optional[str], of: int) -> Printed:
     """What each command of a page prints."""
     commands, mark = script(page, of)[0], f"mark-{secrets.token_hex(8)}"
     with room(program, service=service) as (folder, environment):
@@ -38,11 +38,11 @@ def play(page: str, program: str, service: str, of: int) -> Printed:
 
 
 @pytest.fixture(scope="session")
-def printed(pytestconfig: pytest.Config, program: str) -> Callable[[str, str], Printed]:
+def printed(pytestconfig: pytest.Config, program: str) -> Callable[[str, Optional[str]], Printed]:
     """What the commands of a page print, which is played once."""
     found: dict[str, Printed] = {}
 
-    def of_page(page: str, service: str) -> Printed:
+    def of_page(page: str, service: Optional[str]) -> Printed:
         if page not in found:
             found[page] = play(page, program, service, int(pytestconfig.getoption("--of")))
         return found[page]
@@ -67,8 +67,10 @@ def pytest_generate_tests(metafunc: pytest.Metafunc) -> None:
     metafunc.parametrize(("page", "command"), each)
 
 
-def test_command(page: str, command: int, printed: Callable[[str, str], Printed], pytestconfig: pytest.Config, request: pytest.FixtureRequest) -> None:
-    said = printed(page, request.getfixturevalue("service") if page == SERVICE else "")[command]
+def test_command(
+    page: str, command: int, printed: Callable[[str, Optional[str]], Printed], pytestconfig: pytest.Config, request: pytest.FixtureRequest
+) -> None:
+    said = printed(page, request.getfixturevalue("service") if page == SERVICE else None)[command]
     line, wanted = script(page, int(pytestconfig.getoption("--of")))[0][command]
     assert said == (wanted if line else "")
 

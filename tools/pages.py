@@ -106,13 +106,13 @@ def script(page: str, of: int) -> tuple[list[Step], set[str]]:
 
 
 @contextlib.contextmanager
-def room(program: str, ssh: str = SSH, service: str = SERVICE) -> Iterator[tuple[str, dict[str, str]]]:
+def room(program: str, ssh: str = SSH, service: Optional[str] = None) -> Iterator[tuple[str, dict[str, str]]]:
     """An empty folder, and an environment in which a shell finds what the guide names: the program as `site`, make_batch.py,
     the service, and a stand-in for ssh, which gives the command to a shell here."""
     with tempfile.TemporaryDirectory() as folder, tempfile.TemporaryDirectory() as path:
         os.symlink(os.path.realpath(program), os.path.join(path, "site"))
         os.symlink(os.path.join(HERE, "tools", "make_batch.py"), os.path.join(path, "make_batch.py"))
-        os.symlink(service, os.path.join(path, "jumbetaid"))
+        os.symlink(service or SERVICE, os.path.join(path, "jumbetaid"))
         with open(os.path.join(path, "ssh"), "w", encoding="utf-8") as file:
             file.write(ssh)
         os.chmod(os.path.join(path, "ssh"), 0o755)
