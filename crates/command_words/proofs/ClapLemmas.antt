@@ -11,7 +11,7 @@ use Rattle.command_words.specs.declared.fault.Faulty.TheVariants.{OutOfMemory, W
 use Rattle.command_words.specs.Commands.{app_for, word_of}
 use Rattle.command_words.specs.Plans.{Blames}
 use Rattle.command_words.specs.declared.command.Command.{Command}
-use Rattle.command_words.specs.declared.command.Command.TheVariants.{Arrivals, Ask, Check, Delta, Follow, Number, Order, Relay, Run, Scrub, Service, Summary, Take}
+use Rattle.command_words.specs.declared.command.Command.TheVariants.{Arrivals, Ask, Check, Combine, Delta, Follow, Number, Order, Part, Relay, Run, Scrub, Service, Summary, Take}
 use Rattle.views.specs.declared.query.Query.TheVariants.{Conflicts, Cover, Days, Gaps, Kinds, Latest, Shown}
 
 -- what a command that is b matched at the words
@@ -51,6 +51,8 @@ app_for-simple Service = refl
 app_for-simple Order = refl
 app_for-simple Relay = refl
 app_for-simple Number = refl
+app_for-simple Part = refl
+app_for-simple Combine = refl
 
 -- the command of a word, where it is one
 abbrev of_word : List ℕ → Command
@@ -66,7 +68,8 @@ of_word word =
     else if bytes_eq word (codes "service") then Service
     else if bytes_eq word (codes "order") then Order
     else if bytes_eq word (codes "run") then Run
-    else if bytes_eq word (codes "relay") then Relay else Number
+    else if bytes_eq word (codes "relay") then Relay else if bytes_eq word (codes "part") then Part
+    else if bytes_eq word (codes "combine") then Combine else Number
 
 of_word_back : (command : Command) → of_word (word_of command) ≡ command
 of_word_back (Ask Cover) = refl
@@ -88,6 +91,8 @@ of_word_back Service = refl
 of_word_back Order = refl
 of_word_back Relay = refl
 of_word_back Number = refl
+of_word_back Part = refl
+of_word_back Combine = refl
 
 -- commands of one word are one
 pub command_by_word : (a b : Command) → word_of a ≡ word_of b → a ≡ b

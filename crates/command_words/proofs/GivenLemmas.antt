@@ -1,5 +1,5 @@
 -- Where an argument's value came from, by the rows.
-use Rattle.std.proofs.Common.{◌≡◌, ℕ, List, [], ◌∷◌, Bool, true, false, map, refl, sym, ap, ◌∙◌}
+use Rattle.std.proofs.Common.{◌≡◌, ℕ, List, [], ◌∷◌, Bool, true, false, map, refl, sym, ap, subst, ◌∙◌}
 use Rattle.std.specs.Prelude.{Option, None, Some, find, option_and_then, option_map}
 use Rattle.std.specs.Str.{bytes_eq}
 use Rattle.clap.specs.Facts.{Entry}
@@ -8,7 +8,7 @@ use Rattle.clap.specs.Walk.{Row, Text, row_of, rows_of}
 use Rattle.clap.specs.declared.parser.matches.Found.{Found}
 use Rattle.clap.specs.declared.parser.matches.MatchedArg.{MatchedArg}
 use Rattle.clap.specs.declared.parser.matches.ValueSource.{ValueSource}
-use Rattle.command_words.specs.Plans.{IsBase, IsBaseNumber, is_given, is_of_words}
+use Rattle.command_words.specs.Plans.{IsBase, IsBaseNumber, IsPart, IsPartCount, IsPartNumber, is_given, is_of_words}
 
 find_row : (id : Text) (es : List Entry) → find (λ (r : Row). bytes_eq r.id id) (map row_of es) ≡ option_map row_of (find (λ (e : Entry). bytes_eq e.0.now id) es)
 find_row id [] = refl
@@ -34,3 +34,10 @@ given f id o is = ap is_of_words (is ∙ source-rows f id)
 pub no_base : (text : List ℕ) (base : Option ℕ) → ((n : ℕ) → IsBaseNumber text n → ⊥) → IsBase (Some text) base → ⊥
 no_base text (Some n) none has = none n has
 no_base text None none has = has
+
+-- a text that is the number of no part of so many names no part, however many they are said to be
+pub no_part : (of text : List ℕ) (count n : ℕ) (part : Option ℕ) → IsPartCount of count → ((i : ℕ) → IsPartNumber text count i → ⊥)
+    → IsPartCount of n → IsPart (Some text) n part → ⊥
+no_part of text count n (Some i) at none are has =
+    none i (subst (λ (k : ℕ). IsPartNumber text k i) (sym are.is_number.value ∙ at.is_number.value) has)
+no_part of text count n None at none are has = has

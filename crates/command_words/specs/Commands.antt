@@ -4,7 +4,7 @@ use Rattle.clap.specs.Words.{App, Rule, app_of, new_app, new_rule, with_rule}
 use Rattle.clap.specs.declared.builder.command.Command as clap
 use Rattle.clap.specs.declared.builder.action.ArgAction.TheVariants.{Append, SetTrue}
 use Rattle.command_words.specs.declared.command.Command.{Command}
-use Rattle.command_words.specs.declared.command.Command.TheVariants.{Arrivals, Ask, Check, Delta, Follow, Number, Order, Relay, Run, Scrub, Service, Summary, Take}
+use Rattle.command_words.specs.declared.command.Command.TheVariants.{Arrivals, Ask, Check, Combine, Delta, Follow, Number, Order, Part, Relay, Run, Scrub, Service, Summary, Take}
 use Rattle.views.specs.declared.query.Query.TheVariants.{Conflicts, Cover, Days, Gaps, Kinds, Latest, Shown}
 
 -- the word of a command
@@ -28,6 +28,8 @@ word_of Service = codes "service"
 word_of Order = codes "order"
 word_of Relay = codes "relay"
 word_of Number = codes "number"
+word_of Part = codes "part"
+word_of Combine = codes "combine"
 
 -- ---- the arguments
 
@@ -50,6 +52,10 @@ lines_rule = record (new_rule (codes "file")) { value_names = 1; defaults = code
 -- `--NAME VALUE`
 abbrev pub option_rule : List ℕ → Rule
 option_rule name = record (new_rule name) { long = Some name; value_names = 1 }
+
+-- `--cover FILE`, any number of times
+abbrev pub covers_rule : Rule
+covers_rule = record (option_rule (codes "cover")) { action = Some Append }
 
 -- `--NAME VALUE`, required
 abbrev pub needed_rule : List ℕ → Rule
@@ -112,6 +118,10 @@ own_app Relay =
     with_rule (with_rule (with_db Relay) (needed_rule (codes "after"))) (flag_rule (codes "all"))
 own_app Number = with_rule (with_rule (with_rule (with_db Number) (option_rule (codes "aside")))
     (default_rule (codes "base") (codes "0"))) lines_rule
+own_app Part = with_rule (with_rule (with_rule (with_rule (new_app (word_of Part))
+    (needed_rule (codes "of"))) (option_rule (codes "part"))) (flag_rule (codes "lines"))) files_rule
+own_app Combine = with_rule (with_rule (with_rule (new_app (word_of Combine)) covers_rule)
+    (place_rule (codes "question"))) files_rule
 
 -- a command's word and its arguments
 abbrev pub app_for : Command → App

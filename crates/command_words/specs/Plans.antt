@@ -37,6 +37,7 @@ once_of (once.Arrivals db after is_all) = command.Arrivals
 once_of (once.Service db source is_named base) = command.Service
 once_of (once.Order request) = command.Order
 once_of (once.Relay db after is_all) = command.Relay
+once_of (once.Part count part files has_lines) = command.Part
 
 -- the command of a plan
 abbrev pub command_of : Plan → Command
@@ -44,6 +45,7 @@ command_of (plan.Alone (alone.Once asked)) = once_of asked
 command_of (plan.Alone (alone.Follow lines)) = command.Follow
 command_of (plan.Alone (alone.Check judged)) = command.Check
 command_of (plan.Alone (alone.Number lines)) = command.Number
+command_of (plan.Alone (alone.Combine asked)) = command.Combine
 command_of (plan.Run files) = command.Run
 
 -- ---- values
@@ -70,6 +72,24 @@ pub record IsBaseNumber (text : List ℕ) (n : ℕ) : Type 0 where
 pub record IsWait (text : List ℕ) (n : ℕ) : Type 0 where
   pub is_number : IsNumber text n
   pub high : n ≤ 86400
+
+-- how many parts a region has
+pub record IsPartCount (text : List ℕ) (n : ℕ) : Type 0 where
+  pub is_number : IsNumber text n
+  pub low : 1 ≤ n
+  pub high : n ≤ 65536
+
+-- the number of one of so many parts, from 0
+pub record IsPartNumber (text : List ℕ) (count i : ℕ) : Type 0 where
+  pub is_number : IsNumber text i
+  pub below : i < count
+
+-- the part is the one of so many that the text writes; none where there is no text
+abbrev pub IsPart : Option (List ℕ) → ℕ → Option ℕ → Type 0
+IsPart (Some text) count (Some i) = IsPartNumber text count i
+IsPart None count None = Unit {0}
+IsPart (Some text) count None = ⊥
+IsPart None count (Some i) = ⊥
 
 -- the base is the number that the text writes; none where there is no text
 abbrev pub IsBase : Option (List ℕ) → Option ℕ → Type 0
@@ -162,6 +182,9 @@ HasTextsOnce rows (once.Service db source is_named base) = (db ≡ text_in rows 
 HasTextsOnce rows (once.Order request) = HasRequestOf rows request
 HasTextsOnce rows (once.Relay db after is_all) = (db ≡ text_in rows (codes "db"))
     × IsNumber (text_in rows (codes "after")) after × (is_all ≡ is_given rows (codes "all"))
+HasTextsOnce rows (once.Part count part files has_lines) =
+    IsPartCount (text_in rows (codes "of")) count × IsPart (first_of (codes "part") rows) count part
+    × (files ≡ texts_in rows (codes "file")) × (has_lines ≡ is_given rows (codes "lines"))
 
 -- and so has any plan
 abbrev pub HasTextsOf : List Row → Plan → Type 0
@@ -175,6 +198,9 @@ HasTextsOf rows (plan.Alone (alone.Check judged)) = (judged.db ≡ first_of (cod
 HasTextsOf rows (plan.Alone (alone.Number lines)) = (lines.db ≡ text_in rows (codes "db"))
     × (lines.aside ≡ first_of (codes "aside") rows) × (lines.file ≡ text_in rows (codes "file"))
     × IsBaseNumber (text_in rows (codes "base")) lines.base
+HasTextsOf rows (plan.Alone (alone.Combine asked)) =
+    (text_in rows (codes "question") ≡ word_of (command.Ask asked.query))
+    × (asked.covers ≡ texts_in rows (codes "cover")) × (asked.files ≡ texts_in rows (codes "file"))
 HasTextsOf rows (plan.Run files) =
     (files.db ≡ text_in rows (codes "db")) × (files.peer ≡ first_of (codes "peer") rows)
     × (files.files ≡ texts_in rows (codes "file"))

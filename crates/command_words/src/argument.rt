@@ -1,7 +1,7 @@
 //! The arguments of the commands, as clap declares them.
 ghost use Rattle.std.specs.Prelude.{◌≡◌, false, codes};
 ghost use Rattle.clap.specs.Words.{rule_of};
-ghost use Rattle.command_words.specs.Commands.{default_rule, files_rule, flag_rule, from_rule, lines_rule, needed_rule, option_rule, place_rule, question_files_rule, wait_rule};
+ghost use Rattle.command_words.specs.Commands.{covers_rule, default_rule, files_rule, flag_rule, from_rule, lines_rule, needed_rule, option_rule, place_rule, question_files_rule, wait_rule};
 
 use clap::{Arg, ArgAction};
 use std::alloc::Global;
@@ -311,6 +311,66 @@ pub fn numbers_base<'a>(alloc: Global) -> Arg<'a>
         .value_name("N")
         .help("The number before the first of each source; a file that is there must have it")
         .default_value("0")
+}
+
+/// `--cover FILE`, one a part.
+pub fn covers<'a>(alloc: Global) -> Arg<'a>
+    ensures rule { rule_of result ≡ covers_rule }
+    ensures local { result.global ≡ false }
+{
+    Arg::new(alloc, "cover")
+        .long("cover")
+        .value_name("FILE")
+        .help(
+            "A file with a part's answer to cover, given once a part in the order of the answers; beside cover and shown none is read",
+        )
+        .action(ArgAction::Append)
+}
+
+/// `QUESTION`
+pub fn question<'a>(alloc: Global) -> Arg<'a>
+    ensures rule { rule_of result ≡ place_rule (codes "question") }
+    ensures local { result.global ≡ false }
+{
+    Arg::new(alloc, "question")
+        .value_name("QUESTION")
+        .help("What the parts were asked: cover, gaps, shown, latest, kinds, days or conflicts")
+        .required(true)
+}
+
+/// `FILE..` of answers.
+pub fn answers<'a>(alloc: Global) -> Arg<'a>
+    ensures rule { rule_of result ≡ files_rule }
+    ensures local { result.global ≡ false }
+{
+    Arg::new(alloc, "file")
+        .value_name("FILE")
+        .help("Files with the answers of the parts, one a part; - is standard input")
+        .action(ArgAction::Append)
+        .required(true)
+}
+
+/// `--of N`
+pub fn part_count<'a>(alloc: Global) -> Arg<'a>
+    ensures rule { rule_of result ≡ needed_rule (codes "of") }
+    ensures local { result.global ≡ false }
+{
+    Arg::new(alloc, "of")
+        .long("of")
+        .value_name("N")
+        .help("How many parts there are, 1 to 65536")
+        .required(true)
+}
+
+/// `--part I`
+pub fn part<'a>(alloc: Global) -> Arg<'a>
+    ensures rule { rule_of result ≡ option_rule (codes "part") }
+    ensures local { result.global ≡ false }
+{
+    Arg::new(alloc, "part")
+        .long("part")
+        .value_name("I")
+        .help("The part whose events are printed as a batch, from 0")
 }
 
 /// `--wait SECONDS`

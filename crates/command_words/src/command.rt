@@ -5,9 +5,10 @@ ghost use Rattle.command_words.specs.Commands.{app_for, app_in, own_app, word_of
 ghost use Rattle.command_words.specs.declared.command.Command.{Command};
 
 use crate::argument::{
-    action, after, all, arrived, aside, at, base, by_line, checked_db, checked_files, db, files,
-    for_number, from, lines, numbered_files, numbers_base, numbers_db, order, paged_db, peer,
-    question_db, question_files, read_db, source, summary, wait,
+    action, after, all, answers, arrived, aside, at, base, by_line, checked_db, checked_files,
+    covers, db, files, for_number, from, lines, numbered_files, numbers_base, numbers_db, order,
+    paged_db, part, part_count, peer, question, question_db, question_files, read_db, source,
+    summary, wait,
 };
 use clap::Arg;
 use std::alloc::{AllocError, Global};
@@ -45,6 +46,10 @@ pub enum Command {
     Relay,
     /// `number --db NUMBERS [--aside NAME] [--base N] [FILE]`: gives each event of lines its number.
     Number,
+    /// `part --of N [--part I] [--lines] FILE..`: the part of each source, or the events of one part.
+    Part,
+    /// `combine [--cover FILE].. QUESTION FILE..`: the answer of a region from those of its parts.
+    Combine,
 }
 
 /// A row of the table, for as long as clap's command wants its texts.
@@ -60,7 +65,7 @@ pub struct Row<'a> {
 }
 
 /// The words of all commands, in the order in which help lists them.
-pub static WORDS: [&str; 19] = [
+pub static WORDS: [&str; 21] = [
     "cover",
     "gaps",
     "shown",
@@ -80,6 +85,8 @@ pub static WORDS: [&str; 19] = [
     "order",
     "relay",
     "number",
+    "part",
+    "combine",
 ];
 
 /// The table: the row of a word.
@@ -203,6 +210,18 @@ pub fn row_of<'a>(word: &str) -> Option<Row<'a>>
             full_name: "site number",
             about: "Gives each event of lines its number, for producers that send none, and prints it once it is kept",
         }),
+        "part" => Some(Row {
+            command: Command::Part,
+            word: "part",
+            full_name: "site part",
+            about: "Prints which part of a region each source falls to, or the events of one part",
+        }),
+        "combine" => Some(Row {
+            command: Command::Combine,
+            word: "combine",
+            full_name: "site combine",
+            about: "Prints the answer of a whole region, from the answers of its parts to a question",
+        }),
         _ => None,
     }
 }
@@ -270,6 +289,14 @@ impl<'a> Row<'a> {
             Command::Number => {
                 let begun = with(with(bare, numbers_db(alloc)), aside(alloc));
                 with(with(begun, numbers_base(alloc)), lines(alloc))
+            }
+            Command::Part => {
+                let begun = with(with(bare, part_count(alloc)), part(alloc));
+                with(with(begun, by_line(alloc)), numbered_files(alloc))
+            }
+            Command::Combine => {
+                let begun = with(with(bare, covers(alloc)), question(alloc));
+                with(begun, answers(alloc))
             }
         }
     }

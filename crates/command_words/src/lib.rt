@@ -14,6 +14,6 @@ pub use attributes::Texts;
 pub use command::Command;
 pub use fault::Faulty;
 pub use request::{
-    Action, Alone, Check, Follow, Invocation, Number, Once, Pages, Plan, Request, Run,
+    Action, Alone, Check, Combine, Follow, Invocation, Number, Once, Pages, Plan, Request, Run,
 };
 pub use words::invocation;

@@ -31,6 +31,8 @@ pub enum Alone {
     Check(Check),
     /// Lines whose events are given numbers as they come.
     Number(Number),
+    /// The answers of a region's parts as that of the whole.
+    Combine(Combine),
 }
 
 /// A command with one answer.
@@ -92,6 +94,16 @@ pub enum Once {
         after: u64,
         is_all: bool,
     },
+    /// The part of each source of the files' events, of so many, or the events of one part.
+    Part {
+        /// 1 to 65,536.
+        count: u64,
+        /// Below the count, where the words gave one.
+        part: Option<u64>,
+        files: Texts,
+        /// Whether each line of the files is an event or a batch.
+        has_lines: bool,
+    },
 }
 
 /// The lines of a file into a database, each acknowledged when it is kept.
@@ -124,6 +136,15 @@ pub struct Number {
     /// The number before the first of each source, at most 2^63-1.
     pub base: u64,
     pub file: Text,
+}
+
+/// The answers of a region's parts to a question, a file each, and beside them the parts' answers to
+/// `cover`, in the same order.
+#[derive(Drop)]
+pub struct Combine {
+    pub query: Query,
+    pub covers: Texts,
+    pub files: Texts,
 }
 
 /// Files taken side by side into a database, each by a thread of its own, and with them the events

@@ -1,12 +1,16 @@
 //! The values that texts of the command line write.
 ghost use Rattle.std.specs.Prelude.{◌≡◌, ◌≢◌, ℕ, true, IfErr, IfOk, IfSome, IsNone};
-ghost use Rattle.command_words.specs.Plans.{AreFew, Blames, IsBaseNumber, IsNumber, IsOrderNumber, IsServiceSource, IsTime, IsWait, action_word};
+ghost use Rattle.command_words.specs.Commands.{word_of};
+ghost use Rattle.command_words.specs.Plans.{AreFew, Blames, IsBaseNumber, IsNumber, IsOrderNumber, IsPartCount, IsPartNumber, IsServiceSource, IsTime, IsWait, action_word};
+ghost use Rattle.command_words.specs.declared.command.Command.TheVariants as command;
 ghost use Rattle.command_words.specs.declared.request.Action.{Action};
+ghost use Rattle.views.specs.declared.query.Query.{Query};
 
 use crate::fault::Faulty;
 use crate::request::Action;
 use attributes::{Fault, MAX_SEQUENCE, Moment, Text};
 use std::alloc::Global;
+use views::Query;
 
 /// The most digits of a number.
 const MAX_DIGITS: usize = 20;
@@ -16,6 +20,8 @@ const MAX_WORKERS: u64 = 16;
 const MAX_TIME: usize = 64;
 /// The most bytes of a service's source.
 const MAX_SOURCE: usize = 1_024;
+/// The most parts of a region.
+const MAX_PARTS: u64 = 65_536;
 /// The most seconds that a database is waited for: a day.
 const MAX_WAIT: u64 = 86_400;
 
@@ -128,6 +134,70 @@ pub fn action(alloc: Global, text: &str) -> Result<Action, Faulty>
         "cancel" => Ok(Action::Cancel),
         _ => Err(not_allowed(alloc, "<ACTION>", text, "place, ship or cancel")),
     }
+}
+
+/// What the parts of a region were asked.
+pub fn question(alloc: Global, text: &str) -> Result<Query, Faulty>
+    ensures ok { IfOk result (λ query. text.now ≡ word_of (command.Ask query)) }
+    ensures err { IfErr result (Blames ((query : Query) → text.now ≢ word_of (command.Ask query))) }
+{
+    match text {
+        "cover" => Ok(Query::Cover),
+        "gaps" => Ok(Query::Gaps),
+        "shown" => Ok(Query::Shown),
+        "latest" => Ok(Query::Latest),
+        "kinds" => Ok(Query::Kinds),
+        "days" => Ok(Query::Days),
+        "conflicts" => Ok(Query::Conflicts),
+        _ => Err(not_allowed(
+            alloc,
+            "<QUESTION>",
+            text,
+            "cover, gaps, shown, latest, kinds, days or conflicts",
+        )),
+    }
+}
+
+/// How many parts a region has.
+pub fn part_count(alloc: Global, text: &str) -> Result<u64, Faulty>
+    ensures ok { IfOk result (IsPartCount text.now) }
+    ensures err { IfErr result (Blames ((n : ℕ) → IsPartCount text.now n → ⊥)) }
+{
+    match number_of(text) {
+        Some(number) => {
+            if number == 0 || number > MAX_PARTS {
+                return Err(no_count(alloc, text));
+            }
+            Ok(number)
+        }
+        None => Err(no_count(alloc, text)),
+    }
+}
+
+/// What is said of a text that is no such count.
+fn no_count(alloc: Global, text: &str) -> Faulty {
+    not_allowed(alloc, "--of <N>", text, "a number from 1 to 65536")
+}
+
+/// The number of a part, of so many.
+pub fn part_number(alloc: Global, text: &str, count: u64) -> Result<u64, Faulty>
+    ensures ok { IfOk result (IsPartNumber text.now count) }
+    ensures err { IfErr result (Blames ((i : ℕ) → IsPartNumber text.now count i → ⊥)) }
+{
+    match number_of(text) {
+        Some(number) => {
+            if number >= count {
+                return Err(no_part(alloc, text));
+            }
+            Ok(number)
+        }
+        None => Err(no_part(alloc, text)),
+    }
+}
+
+/// What is said of a text that is the number of no part.
+fn no_part(alloc: Global, text: &str) -> Faulty {
+    not_allowed(alloc, "--part <I>", text, "a number from 0, below that of --of")
 }
 
 /// The time of a command.

@@ -2,7 +2,7 @@
 ghost use Rattle.std.specs.Prelude.{◌≡◌, ℕ, IfOk, IfErr, Option, codes, map};
 ghost use Rattle.clap.specs.Words.{first_of, found_of, rows_of};
 ghost use Rattle.command_words.specs.Commands.{word_of};
-ghost use Rattle.command_words.specs.Plans.{AreFaulty, AreSome, Blames, HasPages, HasRequestOf, HasTextsOf, HasValuesOf, HaveNoInvocation, HaveNoPlan, IsBase, IsInvocation, IsInvocationFor, command_of};
+ghost use Rattle.command_words.specs.Plans.{AreFaulty, AreSome, Blames, HasPages, HasRequestOf, HasTextsOf, HasValuesOf, HaveNoInvocation, HaveNoPlan, IsBase, IsInvocation, IsInvocationFor, IsPart, IsPartCount, command_of, text_in};
 ghost use Rattle.command_words.specs.declared.command.Command.TheVariants as command;
 ghost use Rattle.command_words.specs.declared.request.Invocation.{Invocation};
 ghost use Rattle.command_words.specs.declared.request.Pages.{Pages};
@@ -14,9 +14,12 @@ use crate::command::{Command, row_of};
 use crate::fault::Faulty;
 use crate::matched::{given_text_of, is_given, str_of, text_of, texts_of};
 use crate::program::{faulty_of, no_command};
-use crate::request::{Alone, Check, Follow, Invocation, Number, Once, Pages, Plan, Request, Run};
+use crate::request::{
+    Alone, Check, Combine, Follow, Invocation, Number, Once, Pages, Plan, Request, Run,
+};
 use crate::value::{
-    action, base, both_pages, no_events, number, order_number, source, time, wait, workers,
+    action, base, both_pages, no_events, number, order_number, part_count, part_number, question,
+    source, time, wait, workers,
 };
 use attributes::Text;
 use clap::ArgMatches;
@@ -176,6 +179,19 @@ fn matched(alloc: Global, command: Command, matches: &ArgMatches<'_>) -> Result<
                 Err(faulty) => Err(faulty),
             }
         }
+        Command::Part => part(alloc, matches),
+        Command::Combine => {
+            let covers = texts_of(alloc, matches, "cover")?;
+            let files = texts_of(alloc, matches, "file")?;
+            match question(alloc, str_of(matches, "question")) {
+                Ok(query) => Ok(Plan::Alone(Alone::Combine(Combine {
+                    query,
+                    covers,
+                    files,
+                }))),
+                Err(faulty) => Err(faulty),
+            }
+        }
     }
 }
 
@@ -257,6 +273,47 @@ fn given_base(alloc: Global, matches: &ArgMatches<'_>) -> Result<Option<u64>, Fa
 {
     match matches.get_str("base") {
         Some(text) => match base(alloc, text) {
+            Ok(number) => Ok(Some(number)),
+            Err(faulty) => Err(faulty),
+        },
+        None => Ok(None),
+    }
+}
+
+/// The plan of a region's parts. Its values are tested in this order: the count, the part.
+fn part(alloc: Global, matches: &ArgMatches<'_>) -> Result<Plan, Faulty>
+    ensures command { IfOk result (λ plan. command_of plan ≡ command.Part) }
+    ensures texts { IfOk result (HasTextsOf (rows_of (found_of matches.now))) }
+    ensures err { IfErr result (Blames (HaveNoPlan (rows_of (found_of matches.now)) command.Part)) }
+{
+    let files = texts_of(alloc, matches, "file")?;
+    let has_lines = is_given(matches, "lines");
+    let count = match part_count(alloc, str_of(matches, "of")) {
+        Ok(count) => count,
+        Err(faulty) => return Err(faulty),
+    };
+    match given_part(alloc, matches, count) {
+        Ok(part) => Ok(once(Once::Part {
+            count,
+            part,
+            files,
+            has_lines,
+        })),
+        Err(faulty) => Err(faulty),
+    }
+}
+
+/// The number of a part, of as many as the words say, where they gave one.
+fn given_part(alloc: Global, matches: &ArgMatches<'_>, count: u64) -> Result<Option<u64>, Faulty>
+    requires { IsPartCount (text_in (rows_of (found_of matches.now)) (codes "of")) count }
+    ensures ok { IfOk result
+        (IsPart (first_of (codes "part") (rows_of (found_of matches.now))) count) }
+    ensures err { IfErr result (Blames ((n : ℕ) (part : Option ℕ)
+        → IsPartCount (text_in (rows_of (found_of matches.now)) (codes "of")) n
+        → IsPart (first_of (codes "part") (rows_of (found_of matches.now))) n part → ⊥)) }
+{
+    match matches.get_str("part") {
+        Some(text) => match part_number(alloc, text, count) {
             Ok(number) => Ok(Some(number)),
             Err(faulty) => Err(faulty),
         },
