@@ -36,8 +36,8 @@ no_base text (Some n) none has = none n has
 no_base text None none has = has
 
 -- a text that is the number of no part of so many names no part, however many they are said to be
-pub no_part : (of text : List ℕ) (count n : ℕ) (part : Option ℕ) → IsPartCount of count → ((i : ℕ) → IsPartNumber text count i → ⊥)
-    → IsPartCount of n → IsPart (Some text) n part → ⊥
-no_part of text count n (Some i) at none are has =
+pub no_part : (word text : List ℕ) (count n : ℕ) (part : Option ℕ) → IsPartCount word count → ((i : ℕ) → IsPartNumber text count i → ⊥)
+    → IsPartCount word n → IsPart (Some text) n part → ⊥
+no_part word text count n (Some i) at none are has =
     none i (subst (λ (k : ℕ). IsPartNumber text k i) (sym are.is_number.value ∙ at.is_number.value) has)
-no_part of text count n None at none are has = has
+no_part word text count n None at none are has = has

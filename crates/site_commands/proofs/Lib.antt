@@ -1,4 +1,5 @@
 mod CheckLemmas
+mod CombineLemmas
 mod EndingLemmas
 mod FeedLemmas
 mod LineLemmas

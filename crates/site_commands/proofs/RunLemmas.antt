@@ -1,9 +1,9 @@
 -- What the status of a run says of its ending.
-use Rattle.std.proofs.Common.{◌≡◌, ◌≤◌, ℕ, Bool, List, inl, inr, arith, refl, sym, ap, subst, ◌∙◌, true, false}
+use Rattle.std.proofs.Common.{◌≡◌, ◌≤◌, ◌<◌, ℕ, Bool, List, inl, inr, arith, refl, sym, ap, subst, ◌∙◌, true, false}
 use Rattle.std.specs.Prelude.{IfSome, None, Option, Some, length}
 use Rattle.attributes.specs.Sequence.{max_sequence}
 use Rattle.std.specs.Option.{is_some}
-use Rattle.command_words.specs.Plans.{AreFaulty, AreFew, Blames, IsBase}
+use Rattle.command_words.specs.Plans.{AreFaulty, AreFew, Blames, IsBase, IsPart}
 use Rattle.command_words.specs.declared.fault.Faulty.{Faulty as FaultyWords}
 use Rattle.command_words.specs.declared.fault.Faulty.TheVariants as faulty
 use Rattle.file_reports.specs.declared.input.Unread.{Unread}
@@ -11,15 +11,17 @@ use Rattle.site_commands.specs.Endings.{Ends, EndsNumbers, EndsStream, SaysRefus
 use Rattle.site_commands.specs.Lines.{line_of, made_lines, memory_line}
 use Rattle.site_commands.specs.Names.{Names, of_follow, of_number, of_plan}
 use Rattle.site_commands.specs.Checks.{IsCheckEnding}
+use Rattle.site_commands.specs.Parts.{IsCombineEnding}
 use Rattle.site_commands.specs.Runs.{ComesTo, IsEnding, IsLine, IsTold, PrintsAnswer, RunsAlone, RunsBeside, RunsPlan, RunsWords, said}
 use Rattle.site_commands.specs.Answers.{AnswersPlan, IsAllowed, IsAllowedAlone, IsAllowedPlan, RefusesPlan}
 use Rattle.site_commands.specs.declared.ending.Ending.{Ending}
-use Rattle.site_commands.specs.declared.ending.Ending.TheVariants.{Answer, Told, Pages, Findings, Help, Faulty, Refused, NoMemory}
+use Rattle.site_commands.specs.declared.ending.Ending.TheVariants.{Answer, Told, Pages, Findings, Help, Faulty, Refused, Uncombined, NoMemory}
 use Rattle.database_commands.specs.Pages.{pages_text}
 use Rattle.site_commands.specs.declared.line.Refusal.{Refusal}
 use Rattle.command_words.specs.declared.request.Alone.{Alone}
 use Rattle.command_words.specs.declared.request.Alone.TheVariants as alone
 use Rattle.command_words.specs.declared.request.Check.{Check}
+use Rattle.command_words.specs.declared.request.Combine.{Combine}
 use Rattle.command_words.specs.declared.request.Follow.{Follow}
 use Rattle.command_words.specs.declared.request.Number.{Number}
 use Rattle.number_lines.specs.Texts.{numbered_text}
@@ -48,6 +50,7 @@ module _ (C : List ℕ → List ℕ → Type 0) (U : List ℕ → Unread → Typ
   status_within (Help text) h = written_within r 2 out out' text (omega arith) h.0
   status_within (Faulty text) h = written_within r 2 err err' text (omega arith) h.0
   status_within (Refused text hint) h = written_within r 1 err err' text (omega arith) h.0
+  status_within (Uncombined text hint) h = written_within r 1 err err' text (omega arith) h.0
   status_within NoMemory h = written_within r 1 err err' memory_line (omega arith) h.0
 
   pub answer_printed : (e : Ending) → IsEnding C U words e → Ends e r out out' err err' → r ≡ 0 → PrintsAnswer C words out out'
@@ -58,6 +61,7 @@ module _ (C : List ℕ → List ℕ → Type 0) (U : List ℕ → Unread → Typ
   answer_printed (Help text) i h done = never_ends r 2 0 out out' text _ h.0 (λ e. omega arith) (λ e. omega arith) done
   answer_printed (Faulty text) i h done = never_ends r 2 0 err err' text _ h.0 (λ e. omega arith) (λ e. omega arith) done
   answer_printed (Refused text hint) i h done = never_ends r 1 0 err err' text _ h.0 (λ e. omega arith) (λ e. omega arith) done
+  answer_printed (Uncombined text hint) i h done = never_ends r 1 0 err err' text _ h.0 (λ e. omega arith) (λ e. omega arith) done
   answer_printed NoMemory i h done = never_ends r 1 0 err err' memory_line _ h.0 (λ e. omega arith) (λ e. omega arith) done
 
   pub words_faulty : (e : Ending) → IsEnding C U words e → Ends e r out out' err err' → r ≡ 2 → AreFaulty words
@@ -68,6 +72,7 @@ module _ (C : List ℕ → List ℕ → Type 0) (U : List ℕ → Unread → Typ
   words_faulty (Help text) i h done = i
   words_faulty (Faulty text) i h done = i
   words_faulty (Refused text hint) i h done = never_ends r 1 2 err err' text _ h.0 (λ e. omega arith) (λ e. omega arith) done
+  words_faulty (Uncombined text hint) i h done = never_ends r 1 2 err err' text _ h.0 (λ e. omega arith) (λ e. omega arith) done
   words_faulty NoMemory i h done = never_ends r 1 2 err err' memory_line _ h.0 (λ e. omega arith) (λ e. omega arith) done
 
 -- ---- streams
@@ -157,6 +162,7 @@ refused_ending A R n refusal (Findings text) r line = absurd line
 refused_ending A R n refusal (Help text) r line = absurd line
 refused_ending A R n refusal (Faulty text) r line = absurd line
 refused_ending A R n refusal (Refused text hint) r line = (refusal, r, line)
+refused_ending A R n refusal (Uncombined text hint) r line = absurd line
 refused_ending A R n refusal NoMemory r line = tt
 
 pub named_ending : (A : List ℕ → Type 0) (R : Refusal → Type 0) (m n : Names) (refusal : Refusal) (e : Ending)
@@ -173,6 +179,7 @@ told_ending A R n m file service text (Findings printed) is a it = absurd it
 told_ending A R n m file service text (Help printed) is a it = absurd it
 told_ending A R n m file service text (Faulty printed) is a it = absurd it
 told_ending A R n m file service text (Refused printed hint) is a it = absurd it
+told_ending A R n m file service text (Uncombined printed hint) is a it = absurd it
 told_ending A R n m file service text NoMemory is a it = tt
 
 -- what the plan comes to, its words come to
@@ -185,6 +192,7 @@ planned_ending C U words plan (Findings text) p h = absurd h
 planned_ending C U words plan (Help text) p h = absurd h
 planned_ending C U words plan (Faulty text) p h = absurd h
 planned_ending C U words plan (Refused text hint) p h = record { plan = plan; planned = p; refusal = h.0; refused = h.1; is_line = h.2 }
+planned_ending C U words plan (Uncombined text hint) p h = absurd h
 planned_ending C U words plan NoMemory p h = tt
 
 -- what a check comes to, its words come to
@@ -197,7 +205,21 @@ checked_ending C U words judged (Findings text) p h = record { judged = judged; 
 checked_ending C U words judged (Help text) p h = absurd h
 checked_ending C U words judged (Faulty text) p h = absurd h
 checked_ending C U words judged (Refused text hint) p h = record { plan = plan.Alone (alone.Check judged); planned = p; refusal = h.0; refused = h.1; is_line = h.2 }
+checked_ending C U words judged (Uncombined text hint) p h = absurd h
 checked_ending C U words judged NoMemory p h = tt
+
+-- what answers of parts come to, their words come to
+combined_ending : (C : List ℕ → List ℕ → Type 0) (U : List ℕ → Unread → Type 0) (words : List (List ℕ)) (asked : Combine) (e : Ending)
+    → IsPlan words (plan.Alone (alone.Combine asked)) → IsCombineEnding C U asked e → IsEnding C U words e
+combined_ending C U words asked (Answer text) p h = record { plan = plan.Alone (alone.Combine asked); planned = p; answered = h }
+combined_ending C U words asked (Told text made) p h = absurd h
+combined_ending C U words asked (Pages events) p h = absurd h
+combined_ending C U words asked (Findings text) p h = absurd h
+combined_ending C U words asked (Help text) p h = absurd h
+combined_ending C U words asked (Faulty text) p h = absurd h
+combined_ending C U words asked (Refused text hint) p h = absurd h
+combined_ending C U words asked (Uncombined text hint) p h = record { asked = asked; planned = p; refused = h }
+combined_ending C U words asked NoMemory p h = tt
 
 -- a plan that one thread carried out is what its words come to
 pub planned_alone : (C : List ℕ → List ℕ → Type 0) (U : List ℕ → Unread → Type 0) (words : List (List ℕ)) (p : Alone) (r : ℕ) (out out' err err' : Option (List ℕ)) → IsPlan words (plan.Alone p) → RunsAlone C U p r out out' err err' → RunsWords C U words r out out' err err'
@@ -205,6 +227,7 @@ planned_alone C U words (alone.Once asked) r out out' err err' planned w = inl (
 planned_alone C U words (alone.Follow lines) r out out' err err' planned w = inr (inl (record { lines = lines; planned = planned; ends = w }))
 planned_alone C U words (alone.Number lines) r out out' err err' planned w = inr (inr (record { lines = lines; planned = planned; ends = w }))
 planned_alone C U words (alone.Check judged) r out out' err err' planned w = inl (record { ending = w.0; is_ending = checked_ending C U words judged w.0 planned w.1; ends = w.2 })
+planned_alone C U words (alone.Combine asked) r out out' err err' planned w = inl (record { ending = w.0; is_ending = combined_ending C U words asked w.0 planned w.1; ends = w.2 })
 
 -- and so is a run
 pub planned_run : (C : List ℕ → List ℕ → Type 0) (U : List ℕ → Unread → Type 0) (words : List (List ℕ)) (p : Run) (r : ℕ) (out out' err err' : Option (List ℕ)) → IsPlan words (plan.Run p) → RunsBeside C U p r out out' err err' → RunsWords C U words r out out' err err'
@@ -231,7 +254,14 @@ base_low None None h = tt
 base_low (Some text) None h = tt
 base_low None (Some n) h = absurd h
 
--- what the words ask for is within what a service allows
+-- a part that the words wrote is below their count
+part_below : (text : Option (List ℕ)) (count : ℕ) (place : Option ℕ) → IsPart text count place → IfSome place (λ i. i < count)
+part_below (Some text) count (Some i) h = h.below
+part_below None count None h = tt
+part_below (Some text) count None h = tt
+part_below None count (Some i) h = absurd h
+
+-- what the words ask for is within what is allowed
 once_allowed : (words : List (List ℕ)) (o : Once) → IsPlan words (plan.Alone (alone.Once o)) → IsAllowed o
 once_allowed words (once.Ask query db files has_lines) h = tt
 once_allowed words (once.Summary db) h = tt
@@ -248,12 +278,14 @@ once_allowed words (once.Order request) h = let r = h.1.texts in record {
   at = r.time.short;
 }
 once_allowed words (once.Relay db after is_all) h = tt
+once_allowed words (once.Part count place files has_lines) h = let t = h.1.texts in ((t.0.low, t.0.high), part_below _ count place t.1)
 
 pub alone_allowed : (words : List (List ℕ)) (p : Alone) → IsPlan words (plan.Alone p) → IsAllowedAlone p
 alone_allowed words (alone.Once o) h = once_allowed words o h
 alone_allowed words (alone.Follow lines) h = tt
 alone_allowed words (alone.Check judged) h = tt
 alone_allowed words (alone.Number lines) h = tt
+alone_allowed words (alone.Combine asked) h = tt
 
 -- and so many files are few
 pub run_allowed : (words : List (List ℕ)) (p : Run) → IsPlan words (plan.Run p) → AreFew (is_some p.peer) (length p.files)

@@ -1,6 +1,6 @@
 -- What the plans of the program are answered with, and why they are refused. C says what a name is
 -- read as, U why a name isn't read.
-use Rattle.std.specs.Prelude.{◌≡◌, ◌≤◌, Bool, IfSome, List, ℕ, length, false, true, Option, None, Some}
+use Rattle.std.specs.Prelude.{◌≡◌, ◌≤◌, ◌<◌, Bool, IfSome, List, ℕ, length, false, true, Option, None, Some}
 use Rattle.std.specs.Option.{is_some}
 use Rattle.attributes.specs.Character.{is_filled}
 use Rattle.attributes.specs.Event.{EventValue}
@@ -29,10 +29,12 @@ use Rattle.command_words.specs.declared.request.Once.TheVariants as once
 use Rattle.file_reports.specs.Shelves.{AreContents, IsUnreadAt}
 use Rattle.file_reports.specs.Reports.{EachReads, IsReport, IsReportWith, SpellAll}
 use Rattle.file_reports.specs.declared.input.Unread.{Unread}
+use Rattle.parts.specs.Part.{IsCount}
 use Rattle.views.specs.declared.query.Query.{Query}
 use Rattle.site_commands.specs.Jobs.{AnswersJobs, RefusesJobs}
 use Rattle.site_commands.specs.Names.{files_of_run}
 use Rattle.site_commands.specs.Numbers.{AnswersNumber}
+use Rattle.site_commands.specs.Parts.{AnswersCombine, AnswersPart}
 use Rattle.site_commands.specs.Pieces.{IsRefused, pieces_of}
 use Rattle.site_commands.specs.Streams.{AnswersFollow}
 use Rattle.site_commands.specs.Checks.{FindsNone, RefusesCheck}
@@ -183,6 +185,8 @@ AnswersOnce C (once.Arrivals db after is_all) text = SaysArrived after is_all te
 AnswersOnce C (once.Service db source is_named base) text = SaysService is_named source base text
 AnswersOnce C (once.Order request) text = AnswersOrder request text
 AnswersOnce C (once.Relay db after is_all) text = SaysRelay after is_all text
+AnswersOnce C (once.Part count place files has_lines) text =
+    AnswersPart C count place has_lines files text
 
 -- the text is the answer to the plan
 abbrev pub AnswersPlan : (List ℕ → List ℕ → Type 0) → Plan → List ℕ → Type 0
@@ -190,6 +194,7 @@ AnswersPlan C (plan.Alone (alone.Once asked)) text = AnswersOnce C asked text
 AnswersPlan C (plan.Alone (alone.Follow lines)) text = AnswersFollow C lines.file text
 AnswersPlan C (plan.Alone (alone.Check judged)) text = FindsNone C judged text
 AnswersPlan C (plan.Alone (alone.Number lines)) text = AnswersNumber C lines text
+AnswersPlan C (plan.Alone (alone.Combine asked)) text = AnswersCombine C asked text
 AnswersPlan C (plan.Run run) text = AnswersRun C run.peer run.files run.has_lines text
 
 -- this is why the plan, which would have one answer, has none
@@ -206,17 +211,21 @@ RefusesOnce C U (once.Arrivals db after is_all) refusal = IsOfDatabase refusal
 RefusesOnce C U (once.Service db source is_named base) refusal = IsOfDatabase refusal
 RefusesOnce C U (once.Order request) refusal = IsOfDatabase refusal
 RefusesOnce C U (once.Relay db after is_all) refusal = IsOfDatabase refusal
+RefusesOnce C U (once.Part count place files has_lines) refusal =
+    RefusesQuery C U has_lines None files refusal
 
--- this is why the plan has no answer; a stream says how it ended by itself
+-- this is why the plan has no answer; a stream says how it ended by itself, and so do answers of
+-- parts
 abbrev pub RefusesPlan : (List ℕ → List ℕ → Type 0) → (List ℕ → Unread → Type 0)
     → Plan → Refusal → Type 0
 RefusesPlan C U (plan.Alone (alone.Once asked)) refusal = RefusesOnce C U asked refusal
 RefusesPlan C U (plan.Alone (alone.Follow lines)) refusal = ⊥
 RefusesPlan C U (plan.Alone (alone.Check judged)) refusal = RefusesCheck C U judged.files refusal
 RefusesPlan C U (plan.Alone (alone.Number lines)) refusal = ⊥
+RefusesPlan C U (plan.Alone (alone.Combine asked)) refusal = ⊥
 RefusesPlan C U (plan.Run run) refusal = RefusesRun C U run.peer run.files run.has_lines refusal
 
--- what is asked of a service or an order is within what a service allows
+-- what is asked of a service, an order or parts is within what is allowed
 abbrev pub IsAllowed : Once → Type 0
 IsAllowed (once.Ask query db files has_lines) = Unit {0}
 IsAllowed (once.Summary db) = Unit {0}
@@ -228,6 +237,7 @@ IsAllowed (once.Service db source is_named base) = (is_filled source ≡ true)
     × (length source ≤ 1024) × IfSome base (λ n. n ≤ max_sequence)
 IsAllowed (once.Order request) = IsAllowedRequest request
 IsAllowed (once.Relay db after is_all) = Unit {0}
+IsAllowed (once.Part count place files has_lines) = IsCount count × IfSome place (λ i. i < count)
 
 -- what one thread is asked for is so
 abbrev pub IsAllowedAlone : Alone → Type 0
@@ -235,6 +245,7 @@ IsAllowedAlone (alone.Once asked) = IsAllowed asked
 IsAllowedAlone (alone.Follow lines) = Unit {0}
 IsAllowedAlone (alone.Check judged) = Unit {0}
 IsAllowedAlone (alone.Number lines) = Unit {0}
+IsAllowedAlone (alone.Combine asked) = Unit {0}
 
 -- and what a plan is
 abbrev pub IsAllowedPlan : Plan → Type 0

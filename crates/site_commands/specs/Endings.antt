@@ -48,6 +48,8 @@ Ends (ending.Findings text) result out out' err err' =
 Ends (ending.Help text) result out out' err err' = Writes result 2 out out' text × Keeps err err'
 Ends (ending.Faulty text) result out out' err err' = Writes result 2 err err' text × Keeps out out'
 Ends (ending.Refused text hint) result out out' err err' = Writes result 1 err err' text × Keeps out out'
+Ends (ending.Uncombined text hint) result out out' err err' =
+    Writes result 1 err err' text × Keeps out out'
 Ends ending.NoMemory result out out' err err' =
     Writes result 1 err err' memory_line × Keeps out out'
 

@@ -6,6 +6,7 @@ pub mod Inputs
 pub mod Streams
 pub mod Numbers
 pub mod Checks
+pub mod Parts
 pub mod Answers
 pub mod Printed
 pub mod Endings

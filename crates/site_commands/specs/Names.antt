@@ -3,6 +3,7 @@ use Rattle.std.specs.Prelude.{ℕ, List, [], ◌∷◌, Option, None, Some, unwr
 use Rattle.std.specs.Borrow.{Bor}
 use Rattle.command_words.specs.declared.request.Alone.TheVariants as alone
 use Rattle.command_words.specs.declared.request.Check.{Check}
+use Rattle.command_words.specs.declared.request.Combine.{Combine}
 use Rattle.command_words.specs.declared.request.Follow.{Follow}
 use Rattle.command_words.specs.declared.request.Number.{Number}
 use Rattle.command_words.specs.declared.request.Once.{Once}
@@ -34,6 +35,7 @@ of_once (once.Arrivals db after is_all) = record { db = db; order = 0; files = [
 of_once (once.Service db source is_named base) = record { db = db; order = 0; files = [] }
 of_once (once.Order request) = record { db = request.db; order = request.order; files = [] }
 of_once (once.Relay db after is_all) = record { db = db; order = 0; files = [] }
+of_once (once.Part count place files has_lines) = record { db = []; order = 0; files = files }
 
 -- what a stream names
 abbrev pub of_follow : Follow → Names
@@ -47,6 +49,10 @@ of_number lines = record { db = lines.db; order = 0; files = lines.file ∷ [] }
 abbrev pub of_check : Check → Names
 of_check judged = record { db = []; order = 0; files = judged.files }
 
+-- what the answers of parts name
+abbrev pub of_combine : Combine → Names
+of_combine asked = record { db = []; order = 0; files = asked.files }
+
 -- what a run names, its peer's file first
 abbrev pub of_run : Run → Names
 of_run run = record { db = run.db; order = 0; files = files_of_run run.peer run.files }
@@ -57,6 +63,7 @@ of_plan (plan.Alone (alone.Once asked)) = of_once asked
 of_plan (plan.Alone (alone.Follow lines)) = of_follow lines
 of_plan (plan.Alone (alone.Check judged)) = of_check judged
 of_plan (plan.Alone (alone.Number lines)) = of_number lines
+of_plan (plan.Alone (alone.Combine asked)) = of_combine asked
 of_plan (plan.Run run) = of_run run
 
 -- the files, one of them before the others where there is one

@@ -7,6 +7,7 @@ use Rattle.command_words.specs.declared.fault.Faulty.TheVariants as faulty
 use Rattle.command_words.specs.declared.request.Alone.{Alone}
 use Rattle.command_words.specs.declared.request.Alone.TheVariants as alone
 use Rattle.command_words.specs.declared.request.Check.{Check}
+use Rattle.command_words.specs.declared.request.Combine.{Combine}
 use Rattle.command_words.specs.declared.request.Follow.{Follow}
 use Rattle.command_words.specs.declared.request.Number.{Number}
 use Rattle.command_words.specs.declared.request.Plan.{Plan}
@@ -20,6 +21,7 @@ use Rattle.site_commands.specs.Checks.{FindsSome, IsCheckEnding}
 use Rattle.site_commands.specs.Endings.{Ends, EndsNumbers, EndsStream}
 use Rattle.site_commands.specs.Lines.{arguments_line, line_of, made_lines}
 use Rattle.site_commands.specs.Names.{Names, of_once, of_plan, of_run}
+use Rattle.site_commands.specs.Parts.{IsCombineEnding, RefusesCombine}
 use Rattle.site_commands.specs.declared.ending.Ending.{Ending}
 use Rattle.site_commands.specs.declared.ending.Ending.TheVariants as ending
 use Rattle.site_commands.specs.declared.line.Refusal.{Refusal}
@@ -58,6 +60,13 @@ pub record FindsWords (C : List ℕ → List ℕ → Type 0) (words : List (List
   pub judged : Check
   pub planned : IsPlan words (plan.Alone (alone.Check judged))
   pub found : FindsSome C judged text
+
+-- the words ask for the answers of parts as one, and the text is the line that says why there is none
+pub record UncombinedWords (C : List ℕ → List ℕ → Type 0) (U : List ℕ → Unread → Type 0)
+    (words : List (List ℕ)) (text : List ℕ) : Type 0 where
+  pub asked : Combine
+  pub planned : IsPlan words (plan.Alone (alone.Combine asked))
+  pub refused : RefusesCombine C U asked text
 
 -- the line of a refusal of a plan that names these, or want of memory for it
 abbrev pub IsLine : Names → Refusal → Ending → Type 0
@@ -107,6 +116,7 @@ IsEnding C U words (ending.Findings text) = FindsWords C words text
 IsEnding C U words (ending.Help text) = AreFaulty words
 IsEnding C U words (ending.Faulty text) = AreFaulty words
 IsEnding C U words (ending.Refused text hint) = RefusesWords C U words text
+IsEnding C U words (ending.Uncombined text hint) = UncombinedWords C U words text
 IsEnding C U words ending.NoMemory = Unit {0}
 
 -- what is said of faulty words
@@ -126,6 +136,8 @@ RunsAlone C U (alone.Number lines) status out out' err err' =
     EndsNumbers C U lines status out out' err err'
 RunsAlone C U (alone.Check judged) status out out' err err' =
     (ending : Ending) × IsCheckEnding C U judged ending × Ends ending status out out' err err'
+RunsAlone C U (alone.Combine asked) status out out' err err' =
+    (ending : Ending) × IsCombineEnding C U asked ending × Ends ending status out out' err err'
 
 -- the run comes to an ending, and it is written
 abbrev pub RunsBeside : (List ℕ → List ℕ → Type 0) → (List ℕ → Unread → Type 0) → Run → ℕ

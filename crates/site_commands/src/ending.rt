@@ -48,6 +48,9 @@ pub enum Ending {
     /// Why there is no answer, one line for standard error: status 1. Who looks on gets the hint
     /// too, where there is one.
     Refused { line: Text, hint: Option<Hint> },
+    /// Why the answers of parts make none of the whole, one line for standard error: status 1. Who
+    /// looks on gets the hint too, where there is one.
+    Uncombined { line: Text, hint: Option<Hint> },
     /// Memory ran out, which a line on standard error says: status 1.
     NoMemory,
 }
@@ -85,6 +88,7 @@ pub fn finish<O: Write, E: Write, P: Progress>(
         Ending::Help(text) => print(out, text.as_str(), FAULTY),
         Ending::Faulty(text) => print(err, text.as_str(), FAULTY),
         Ending::Refused { line, hint } => refuse(err, line.as_str(), hint, progress),
+        Ending::Uncombined { line, hint } => refuse(err, line.as_str(), hint, progress),
         Ending::NoMemory => print(err, NO_MEMORY, REFUSED),
     }
 }

@@ -4,6 +4,7 @@
 
 mod batches;
 mod check;
+mod combine;
 mod database;
 mod ending;
 mod files;
@@ -12,6 +13,7 @@ mod line;
 mod look;
 mod names;
 mod number;
+mod part;
 mod pieces;
 mod printed;
 mod progress;

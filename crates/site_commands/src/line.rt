@@ -194,7 +194,7 @@ fn order_line(alloc: Global, number: u64, name: &str) -> Result<Text, AllocError
 }
 
 /// `site: FILE: WORDS`, ended with LF.
-fn file_line(alloc: Global, name: &str, words: &str) -> Result<Text, AllocError>
+pub fn file_line(alloc: Global, name: &str, words: &str) -> Result<Text, AllocError>
     ensures { IfOk result (λ text. text ≡ file_line name.now words.now) }
 {
     let mut line = String::new(alloc);
@@ -207,7 +207,7 @@ fn file_line(alloc: Global, name: &str, words: &str) -> Result<Text, AllocError>
 }
 
 /// Appends a name, its control characters as in a JSON string.
-fn push_name(line: &mut String, name: &str) -> Result<(), AllocError>
+pub fn push_name(line: &mut String, name: &str) -> Result<(), AllocError>
     ensures { OnOk result (string_bytes line.new
         ≡ string_bytes line.old ++ printed_name name.now) }
 {

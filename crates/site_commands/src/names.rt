@@ -31,6 +31,18 @@ impl<'a> Names<'a> {
         }
     }
 
+    /// Files alone.
+    pub fn of_files(files: &'a [Text]) -> Names<'a>
+        ensures { lent result ≡ record { db = []; order = 0; files = files.now } }
+    {
+        Names {
+            db: "",
+            order: 0,
+            first: None,
+            files,
+        }
+    }
+
     /// What a plan with one answer names.
     pub fn of_once(plan: &'a Once) -> Names<'a>
         ensures { lent result ≡ of_once plan.now }
@@ -65,6 +77,7 @@ impl<'a> Names<'a> {
                 files: &[],
             },
             Once::Relay { db, .. } => Names::of_db(db.as_str()),
+            Once::Part { files, .. } => Names::of_files(files.as_slice()),
         }
     }
 

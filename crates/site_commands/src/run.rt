@@ -10,6 +10,7 @@ ghost use Rattle.site_commands.specs.declared.printed.Printed.TheVariants as Pri
 ghost use Rattle.site_commands.specs.Runs.{EndsUnheard, IsOnceEnding, IsRunEnding, IsUnheard, PrintsAnswer, RunsAlone, RunsBeside, RunsPlan, RunsWords, said};
 
 use crate::check::ending_of_check;
+use crate::combine::ending_of_combine;
 use crate::database::{arrivals, delta, order, relay, scrub, service, summary, take};
 use crate::ending::{Ending, answered, finish, refused};
 use crate::files::{Looks, SystemFiles};
@@ -17,6 +18,7 @@ use crate::hint::hint_of;
 use crate::line::Refusal;
 use crate::names::Names;
 use crate::number::number;
+use crate::part::part;
 use crate::printed::Printed;
 use crate::progress::Progress;
 use crate::query::ask;
@@ -202,6 +204,12 @@ fn perform_with<
         Alone::Number(plan) => {
             let shelf = SystemFiles::new(rt, progress, 0);
             number(rt.alloc(), &shelf, databases, plan, out, err, progress)
+        }
+        Alone::Combine(plan) => {
+            let shelf = SystemFiles::new(rt, progress, 0);
+            let ending = ending_of_combine(rt.alloc(), &shelf, databases, plan, progress);
+            progress.over();
+            finish(ending, out, err, progress)
         }
     }
 }
@@ -389,6 +397,20 @@ fn carried_out<S: Shelf, F: EventReader, D: Databases, P: Progress>(
         Once::Relay { db, after, is_all } => {
             relay(alloc, databases, db.as_str(), *after, *is_all)
         }
+        Once::Part {
+            count,
+            part: place,
+            files,
+            has_lines,
+        } => lined(part(
+            alloc,
+            shelf,
+            reader,
+            *count,
+            *place,
+            files.as_slice(),
+            *has_lines,
+        )),
     }
 }
 

@@ -1,0 +1,56 @@
+-- What the contents of parts' answers come to, the files that were read come to.
+use Rattle.std.proofs.Common.{◌≡◌, ℕ, List, inl, inr}
+use Rattle.command_words.specs.declared.request.Combine.{Combine}
+use Rattle.file_reports.specs.Shelves.{AreContents, IsUnreadAt}
+use Rattle.file_reports.specs.declared.input.Unread.{Unread}
+use Rattle.file_reports.specs.declared.shelf.UnreadAt.{UnreadAt}
+use Rattle.site_commands.specs.Lines.{name_at, unread_line}
+use Rattle.site_commands.specs.Parts.{IsCombineEnding, covers_beside}
+use Rattle.site_commands.specs.steps.Combines.{IsContentsEnding, IsRefusalLine}
+use Rattle.site_commands.specs.declared.ending.Ending.{Ending}
+use Rattle.site_commands.specs.declared.ending.Ending.TheVariants.{Answer, Told, Pages, Findings, Help, Faulty, Refused, Uncombined, NoMemory}
+
+module _ (C : List ℕ → List ℕ → Type 0) (U : List ℕ → Unread → Type 0) (asked : Combine) where
+  -- an answer wasn't read
+  pub answer_unread : (at : UnreadAt) (e : Ending) → IsUnreadAt C U asked.files at
+      → IsRefusalLine (unread_line (name_at asked.files at.file) at.why) e → IsCombineEnding C U asked e
+  answer_unread at (Answer text) unread h = absurd h
+  answer_unread at (Told text made) unread h = absurd h
+  answer_unread at (Pages events) unread h = absurd h
+  answer_unread at (Findings text) unread h = absurd h
+  answer_unread at (Help text) unread h = absurd h
+  answer_unread at (Faulty text) unread h = absurd h
+  answer_unread at (Refused text hint) unread h = absurd h
+  answer_unread at (Uncombined text hint) unread h = inl (record { at = at; unread = unread; is_line = h })
+  answer_unread at NoMemory unread h = tt
+
+  -- a cover wasn't read
+  pub cover_unread : (answers : List (List ℕ)) (at : UnreadAt) (e : Ending) → AreContents C asked.files answers
+      → IsUnreadAt C U (covers_beside asked.query asked.covers) at
+      → IsRefusalLine (unread_line (name_at (covers_beside asked.query asked.covers) at.file) at.why) e → IsCombineEnding C U asked e
+  cover_unread answers at (Answer text) read unread h = absurd h
+  cover_unread answers at (Told text made) read unread h = absurd h
+  cover_unread answers at (Pages events) read unread h = absurd h
+  cover_unread answers at (Findings text) read unread h = absurd h
+  cover_unread answers at (Help text) read unread h = absurd h
+  cover_unread answers at (Faulty text) read unread h = absurd h
+  cover_unread answers at (Refused text hint) read unread h = absurd h
+  cover_unread answers at (Uncombined text hint) read unread h =
+      inr (inl (record { answers = answers; answers_read = read; told = record { at = at; unread = unread; is_line = h } }))
+  cover_unread answers at NoMemory read unread h = tt
+
+  -- all files were read
+  pub contents_ending : (answers covers : List (List ℕ)) (e : Ending) → AreContents C asked.files answers
+      → AreContents C (covers_beside asked.query asked.covers) covers
+      → IsContentsEnding asked.query asked.files (covers_beside asked.query asked.covers) answers covers e → IsCombineEnding C U asked e
+  contents_ending answers covers (Answer text) read beside h =
+      record { answers = answers; covers = covers; answers_read = read; covers_read = beside; whole = h }
+  contents_ending answers covers (Told text made) read beside h = absurd h
+  contents_ending answers covers (Pages events) read beside h = absurd h
+  contents_ending answers covers (Findings text) read beside h = absurd h
+  contents_ending answers covers (Help text) read beside h = absurd h
+  contents_ending answers covers (Faulty text) read beside h = absurd h
+  contents_ending answers covers (Refused text hint) read beside h = absurd h
+  contents_ending answers covers (Uncombined text hint) read beside h =
+      inr (inr (record { answers = answers; covers = covers; answers_read = read; covers_read = beside; told = h }))
+  contents_ending answers covers NoMemory read beside h = tt
