@@ -8,7 +8,8 @@ from typing import Iterator
 import pytest
 from shell import TOP, Room, Said, Stage, text_of
 
-COMMANDS = "cover gaps shown latest kinds days conflicts check take follow summary delta scrub arrivals run service order relay number".split()
+OVER_DATABASES = "cover gaps shown latest kinds days conflicts check take follow summary delta scrub arrivals run service order relay number".split()
+COMMANDS = [*OVER_DATABASES, "part", "combine"]
 KINDS = {"bash": "site.bash", "zsh": "_site", "fish": "site.fish", "man": "site.1"}
 # Asks bash's completion what it makes of the words that it is given.
 ASK = """. shells/site.bash
@@ -137,7 +138,7 @@ def test_commands_of_help(room: Room) -> None:
 
 def test_variable_of_the_cache(room: Room) -> None:
     """Each command over a database says which variable limits its cache."""
-    assert [it for it, text in helps(room).items() if re.search(r"--db <[A-Z]*>.*SITE_CACHE_MIB", text)] == COMMANDS
+    assert [it for it, text in helps(room).items() if re.search(r"--db <[A-Z]*>.*SITE_CACHE_MIB", text)] == OVER_DATABASES
 
 
 def test_options_of_delta(names: list[str]) -> None:
@@ -189,6 +190,9 @@ def test_exit_statuses_of_the_man_page(shells: tuple[Room, Said]) -> None:
         ("help d", "days delta"),
         ("order ''", "--at --db --help --source --wait -h cancel place ship"),
         ("order --db x ca", "cancel"),
+        ("combine --cover si", "site.1 site.bash site.fish"),
+        ("combine ki", "kinds"),
+        ("part --of ''", ""),
         ("take --db si", "site.1 site.bash site.fish"),
         ("delta si", "site.1 site.bash site.fish"),
         ("scrub --from ''", ""),

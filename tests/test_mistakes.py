@@ -106,6 +106,11 @@ test_words = rows(
     faulty(f"order --db orders.db --at {AT} place A7", "invalid value 'A7'", "a number from 1 to"),
     faulty("number", "required arguments were not provided", "--db <NUMBERS>"),
     faulty("number --db n.db --base ten good.json", "invalid value 'ten' for '--base <N>'", "a number from 0 to"),
+    faulty("part good.json", "required arguments were not provided", "--of <N>"),
+    faulty("part --of 0 good.json", "invalid value '0' for '--of <N>'", "a number from 1 to 65536"),
+    faulty("part --of 4 --part 4 good.json", "invalid value '4' for '--part <I>'", "a number from 0, below that of --of"),
+    faulty("combine good.json", "required arguments were not provided", "<FILE>..."),
+    faulty("combine good.json count", "invalid value 'good.json' for '<QUESTION>'", "cover, gaps, shown,"),
     faulty("take --db n.db --wait good.json", "required arguments were not provided", "<FILE>..."),
     faulty("take --db n.db --wait 1.5 good.json", "invalid value '1.5' for '--wait <SECONDS>'", "a number from 0 to 86400"),
     faulty("take --db n.db --wait 10s good.json", "invalid value '10s' for '--wait <SECONDS>'", "a number from 0 to 86400"),
@@ -187,6 +192,20 @@ test_files = rows(
     *refused("delta --db north.db touched.summary", "touched.summary: NotCanonical", "as site summary prints it"),
     *refused("delta --db north.db later.summary", "later.summary: Version", "version 1 and 2"),
     lacks("refused files make no database", "n.db"),
+)
+
+
+# Answers of parts that make none.
+test_answers_of_parts = rows(
+    FILES,
+    "site cover good.json >good.cover",
+    "site kinds good.json >good.kinds",
+    *refused("combine cover nothere.cover", "nothere.cover: cannot read", "there is no file of that name"),
+    *refused("combine --cover folder kinds good.kinds", "folder: cannot read", "it is a folder"),
+    *refused("combine cover good.json", "good.json: NotACover", "what site cover prints"),
+    *refused("combine shown good.json", "good.json: NotAnAnswer", "what site QUESTION prints"),
+    *refused("combine kinds good.kinds", "0 covers beside 1 answers: CoverCount", "--cover FILE, in the same order"),
+    *refused("combine cover good.cover good.cover", "good.cover: Overlap with good.cover: /orders", "site part --of N FILE says"),
 )
 
 

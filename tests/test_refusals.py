@@ -73,6 +73,36 @@ def foreign(room: str) -> None:
         base.execute("CREATE TABLE inbox (place INTEGER PRIMARY KEY, body TEXT)")
 
 
+# The covers of two parts, the first of which has a gap, a conflict and a day, beside their answers.
+COVERS = ["--cover", "one.cover", "--cover", "other.cover"]
+
+
+def answers_of_parts(room: str) -> None:
+    """Writes what two parts of a region answer."""
+    north, shown, last = (event(*it, source="/north") for it in [("a1", 1, "t.a", "x"), ("a1", 1, "t.b", "x"), ("a3", 3, "t.a", "y")])
+    south = {**E1, "source": "/south", "time": AT}
+    texts = [json.dumps(it, separators=(",", ":"), sort_keys=True) for it in (north, {**shown, "time": AT}, last, south)]
+    answers = {
+        "one.cover": ['{"sources":{"/north":[[1,1],[3,3]]},"version":1}'],
+        "one.gaps": ['["/north",[[2,2]]]'],
+        "one.shown": texts[1:3],
+        "one.latest": texts[1:3],
+        "one.kinds": ['["t.a",1]', '["t.b",1]'],
+        "one.days": [f'["t.b","{AT[:10]}",1]'],
+        "one.conflicts": [f'{{"events":[{texts[1]},{texts[0]}],"id":"a1","source":"/north"}}'],
+        "other.cover": ['{"sources":{"/south":[[1,1]]},"version":1}'],
+        "other.gaps": [],
+        "other.shown": texts[3:],
+        "other.latest": texts[3:],
+        "other.kinds": ['["t.a",1]'],
+        "other.days": [f'["t.a","{AT[:10]}",1]'],
+        "other.conflicts": [],
+    }
+    for name, lines in answers.items():
+        with open(f"{room}/{name}", "w", encoding="utf-8") as it:
+            it.writelines(f"{line}\n" for line in lines)
+
+
 # What is said of lines that are there.
 ACKNOWLEDGED = b"".join(b'{"line":%d,"new":0,"repeated":%d}\n' % it for it in ((1, 1), (2, 1), (3, 2)))
 
@@ -96,6 +126,12 @@ class Row(NamedTuple):
 
 ROWS_OF_ALL = [
     *[Row([it, "asked.json"]) for it in ("cover", "gaps", "shown", "latest", "kinds", "days", "conflicts")],
+    Row(["part", "--of", "2", "asked.json"]),
+    Row(["part", "--of", "1", "--part", "0", "--lines", "lines"]),
+    *[Row(["combine", it, f"one.{it}", f"other.{it}"], [answers_of_parts]) for it in ("cover", "shown")],
+    *[Row(["combine", *COVERS, it, f"one.{it}", f"other.{it}"], [answers_of_parts]) for it in ("gaps", "latest", "kinds", "days", "conflicts")],
+    Row(["combine", "cover", "one.cover", "one.cover"], [answers_of_parts]),
+    Row(["combine", *COVERS, "latest", "one.latest", "one.latest"], [answers_of_parts]),
     Row(["check", "asked.json"]),
     Row(["check", "faulty.json", "asked.json"]),
     *[Row([it, "--lines", "lines"]) for it in ("cover", "shown")],

@@ -30,6 +30,8 @@ FILES = {
     "bad.json": "3",
     "lines": lines(*EVENTS),
     "one.summary": '{"sources":{"/orders":[[1,1]]},"version":1}',
+    "one.cover": '{"sources":{"/orders":[[1,1]]},"version":1}\n',
+    "one.kinds": '["t.a",1]\n',
 }
 # Databases, among them a service with two pages of rows.
 MADE = (
@@ -59,6 +61,11 @@ READS = {
     "site delta --db s.db --all - <one.summary": "one.summary",
     "site run --db s.db two.json three.json": "two.json",
     "site run --db s.db --peer three.json two.json": "three.json",
+    "site part --of 2 two.json": "two.json",
+    "site part --of 1 --part 0 - <two.json": "two.json",
+    "site combine cover one.cover": "one.cover",
+    "site combine --cover one.cover kinds one.kinds": "one.cover",
+    "site combine --cover one.cover kinds - <one.kinds": "one.kinds",
 }
 FOLLOWS = {"site follow --db n.db lines": "lines", "site follow --db n.db <lines": "-"}
 
@@ -91,6 +98,10 @@ WRITES = (
     Write("site relay --db o.db --after 0"),
     Write("site relay --db o.db --after 0 --all"),
     Write("site run --db n.db two.json"),
+    Write("site part --of 2 two.json"),
+    Write("site part --of 1 --part 0 two.json"),
+    Write("site combine --cover one.cover kinds one.kinds"),
+    Write("site combine kinds one.kinds", 2),
     Write("site --help"),
     Write("site --version"),
     Write("site cover bad.json", 2),

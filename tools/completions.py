@@ -25,7 +25,7 @@ CHOICE = re.compile(r": ((?:\w+, )*\w+ or \w+)$")
 STATUS = re.compile(r"^\| (\d) \| (.*?) \|", re.M)
 # The values that are files, and those that aren't.
 FILES = {"DB", "FILE", "NUMBERS", "SUMMARY"}
-NO_FILES = {"ACTION", "NAME", "N", "ORDER", "S", "SECONDS", "TIME"}
+NO_FILES = {"ACTION", "I", "NAME", "N", "ORDER", "QUESTION", "S", "SECONDS", "TIME"}
 
 
 # Its short word or none, its long one, its value or none, and what it is for.

@@ -6,7 +6,7 @@ usage: tools/shapes.py PROGRAM [--size BYTES] [--runs N] [--limit RATIO] [--only
 
 The commands are `cover` and `shown` where none is named; `all` means every one. `take`, `run` and `follow` bring the
 file into a new database, `follow` its events one a line; `summary`, `scrub` and `delta` of the empty summary read what
-a `take` left, all pages at once. `relay`, `order` and `service` have shapes of their own: databases of orders that SQLite
+a `take` left, all pages at once; `combine` what `shown` printed. `relay`, `order` and `service` have shapes of their own: databases of orders that SQLite
 of Python made. The exit status is 1 where a shape costs more than RATIO times its friendly file. The shapes are the same
 for everybody.
 """
@@ -244,6 +244,8 @@ def make_service(path: str, base: int, rows: list[tuple[int, int, str]]) -> None
 QUESTIONS = ["cover", "shown", "gaps", "latest", "kinds", "days", "conflicts", "check"]
 # Commands that bring a file into a new database, and those over what a `take` leaves.
 WRITERS = ["take", "run", "follow"]
+# Commands over the parts of a region, with their words before the file.
+PARTS = {"part": ["--of", "4"], "combine": ["shown"]}
 READERS: dict[str, list[str]] = {"summary": [], "scrub": ["--all"], "delta": ["--all", "empty.summary"]}
 OF_ORDERS: dict[str, list[str]] = {
     "relay": ["--after", "0", "--all"],
@@ -260,6 +262,8 @@ def words(command: str, path: str) -> list[str]:
         return [command, "--db", f"{path}.db", path]
     if command in QUESTIONS:
         return [command, path]
+    if command in PARTS:
+        return [command, *PARTS[command], f"{path}.shown" if command == "combine" else path]
     return [command, "--db", f"{path}.db", *{**READERS, **OF_ORDERS}[command]]
 
 
@@ -273,6 +277,8 @@ def forget(path: str) -> None:
 def write(path: str, text: str) -> None:
     """A file as a batch, and its events one a line."""
     forget(path)
+    if os.path.exists(f"{path}.shown"):
+        os.remove(f"{path}.shown")
     for name, content in ((path, text), (f"{path}.lines", text[1:-1].replace(",\n", "\n"))):
         with open(name, "w", encoding="utf-8") as file:
             file.write(content)
@@ -286,6 +292,9 @@ def seconds(program: str, command: str, path: str, wanted: int = 0) -> float:
         forget(path)
     elif command in READERS and not os.path.exists(f"{path}.db"):
         subprocess.run([program, *words("take", path)], check=True, **how)
+    elif command == "combine" and not os.path.exists(f"{path}.shown"):
+        with open(f"{path}.shown", "wb") as answer:
+            subprocess.run([program, "shown", path], check=True, **{**how, "stdout": answer})
     kept = f"{path}.kept"
     if command == "order":
         shutil.copy(f"{path}.db", kept)
@@ -348,7 +357,7 @@ def main() -> int:
     parser.add_argument("--commands", nargs="+", default=["cover", "shown"])
     options = parser.parse_args()
     options.program = os.path.abspath(options.program)
-    every = [*QUESTIONS, *WRITERS, *READERS, *OF_ORDERS]
+    every = [*QUESTIONS, *PARTS, *WRITERS, *READERS, *OF_ORDERS]
     asked = every if "all" in options.commands else options.commands
     with tempfile.TemporaryDirectory() as folder:
         with open(f"{folder}/empty.summary", "w", encoding="utf-8") as file:

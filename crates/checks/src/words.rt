@@ -42,6 +42,10 @@ enum Wanted<'a> {
     /// The numbers of the lines of this file, set aside under that name, if one is named, and the
     /// base.
     Number(&'a str, &'a str, u64),
+    /// The parts of these files' sources, or the events of one, of so many, or those of their lines.
+    Part(u64, Option<u64>, &'a [&'a str], bool),
+    /// The answers in these files, with these covers beside them.
+    Combine(Query, &'a [&'a str], &'a [&'a str]),
     /// None: the words are at fault.
     Fault,
 }
@@ -110,6 +114,20 @@ fn is_once(once: &Once, wanted: Wanted<'_>) -> bool {
                 && *is_source_named == is_named
                 && *base == held
         }
+        (
+            Once::Part {
+                count,
+                part,
+                files,
+                has_lines,
+            },
+            Wanted::Part(all, one, names, by_line),
+        ) => {
+            *count == all
+                && *part == one
+                && are(files.as_slice(), names)
+                && *has_lines == by_line
+        }
         _ => false,
     }
 }
@@ -139,6 +157,11 @@ fn is_plan(plan: &Plan, wanted: Wanted<'_>) -> bool {
                 && is_given(&lines.aside, aside)
                 && lines.base == base
         }
+        (Plan::Alone(Alone::Combine(asked)), Wanted::Combine(query, covers, names)) => {
+            asked.query == query
+                && are(asked.covers.as_slice(), covers)
+                && are(asked.files.as_slice(), names)
+        }
         _ => false,
     }
 }
@@ -166,7 +189,7 @@ fn asks(alloc: Global, words: &[&str], wanted: Wanted<'_>, wait: u64) -> bool {
 }
 
 /// Words, and what they come to.
-static WORDS: [(&[&str], Wanted<'static>); 33] = [
+static WORDS: [(&[&str], Wanted<'static>); 43] = [
     (
         &["shown", "f", "-", "--", "-g"],
         Wanted::Ask(Query::Shown, "", &["f", "-", "-g"], false),
@@ -255,6 +278,33 @@ static WORDS: [(&[&str], Wanted<'static>); 33] = [
     ),
     (&["take", "--db", "d", "f", "--numbers"], Wanted::Fault),
     (&["check", "f"], Wanted::Check(&["f"], false, false)),
+    // The parts of a region, and one of them.
+    (
+        &["part", "f", "--of", "65536", "g"],
+        Wanted::Part(65_536, None, &["f", "g"], false),
+    ),
+    (
+        &["part", "--lines", "--part", "0", "--of", "1", "-"],
+        Wanted::Part(1, Some(0), &["-"], true),
+    ),
+    (&["part", "--of", "4", "--part", "4", "f"], Wanted::Fault),
+    (&["part", "--of", "65537", "f"], Wanted::Fault),
+    (&["part", "--part", "0", "f"], Wanted::Fault),
+    // Answers of parts, and the covers beside them.
+    (
+        &["combine", "cover", "f", "g"],
+        Wanted::Combine(Query::Cover, &[], &["f", "g"]),
+    ),
+    (
+        &["combine", "--cover", "c", "gaps", "f", "--cover", "d"],
+        Wanted::Combine(Query::Gaps, &["c", "d"], &["f"]),
+    ),
+    (
+        &["combine", "--cover=c", "latest", "kinds"],
+        Wanted::Combine(Query::Latest, &["c"], &["kinds"]),
+    ),
+    (&["combine", "count", "f"], Wanted::Fault),
+    (&["combine", "kinds"], Wanted::Fault),
 ];
 
 /// Seconds as a word, of which there are as many; none is allowed where it is 0.
