@@ -1,11 +1,14 @@
 -- What the contents of parts' answers come to, the files that were read come to.
-use Rattle.std.proofs.Common.{◌≡◌, ℕ, List, inl, inr}
+use Rattle.std.proofs.Common.{◌≡◌, ◌∙◌, ℕ, Bool, List, ap, inl, inr}
+use Rattle.std.specs.Prelude.{if◌then◌else◌}
 use Rattle.command_words.specs.declared.request.Combine.{Combine}
 use Rattle.file_reports.specs.Shelves.{AreContents, IsUnreadAt}
 use Rattle.file_reports.specs.declared.input.Unread.{Unread}
 use Rattle.file_reports.specs.declared.shelf.UnreadAt.{UnreadAt}
 use Rattle.site_commands.specs.Lines.{name_at, unread_line}
-use Rattle.site_commands.specs.Parts.{IsCombineEnding, covers_beside}
+use Rattle.parts.specs.declared.fault.CombineFault.{CombineFault}
+use Rattle.views.specs.declared.query.Query.{Query}
+use Rattle.site_commands.specs.Parts.{IsCombineEnding, IsOfCovers, RefusesContents, combine_line, covers_beside}
 use Rattle.site_commands.specs.steps.Combines.{IsContentsEnding, IsRefusalLine}
 use Rattle.site_commands.specs.declared.ending.Ending.{Ending}
 use Rattle.site_commands.specs.declared.ending.Ending.TheVariants.{Answer, Told, Pages, Findings, Help, Faulty, Refused, Uncombined, NoMemory}
@@ -54,3 +57,18 @@ module _ (C : List ℕ → List ℕ → Type 0) (U : List ℕ → Unread → Typ
   contents_ending answers covers (Uncombined text hint) read beside h =
       inr (inr (record { answers = answers; covers = covers; answers_read = read; covers_read = beside; told = h }))
   contents_ending answers covers NoMemory read beside h = tt
+
+-- the line of a fault of the files that are to blame
+pub fault_ending : (q : Query) (files cover_files answers covers blamed : List (List ℕ)) (f : CombineFault) (is_of_covers : Bool) (e : Ending)
+    → blamed ≡ (if is_of_covers then cover_files else files) → RefusesContents q answers covers f → IsOfCovers q covers f is_of_covers
+    → IsRefusalLine (combine_line blamed f) e → IsContentsEnding q files cover_files answers covers e
+fault_ending q files cover_files answers covers blamed f is_of_covers (Answer text) is refused of_covers h = absurd h
+fault_ending q files cover_files answers covers blamed f is_of_covers (Told text made) is refused of_covers h = absurd h
+fault_ending q files cover_files answers covers blamed f is_of_covers (Pages events) is refused of_covers h = absurd h
+fault_ending q files cover_files answers covers blamed f is_of_covers (Findings text) is refused of_covers h = absurd h
+fault_ending q files cover_files answers covers blamed f is_of_covers (Help text) is refused of_covers h = absurd h
+fault_ending q files cover_files answers covers blamed f is_of_covers (Faulty text) is refused of_covers h = absurd h
+fault_ending q files cover_files answers covers blamed f is_of_covers (Refused text hint) is refused of_covers h = absurd h
+fault_ending q files cover_files answers covers blamed f is_of_covers (Uncombined text hint) is refused of_covers h =
+    record { fault = f; refused = refused; is_of_covers = is_of_covers; blamed = of_covers; is_line = h ∙ ap (λ l. combine_line l f) is }
+fault_ending q files cover_files answers covers blamed f is_of_covers NoMemory is refused of_covers h = tt

@@ -16,7 +16,7 @@ use command_words::Combine;
 use database_commands::Databases;
 use file_reports::{UnreadAt, contents_of};
 use parts::{CombineFault, combine};
-use std::alloc::{AllocError, Global};
+use std::alloc::{AllocError, AllocFailed, Global};
 use views::Query;
 
 /// Why contents of files aren't texts.
@@ -27,13 +27,13 @@ enum TextFault {
     NoText(u64),
 }
 
-impl From<AllocError> for TextFault {
+impl<T: Drop> From<AllocFailed<T>> for TextFault {
     ghost use Rattle.std.specs.Prelude.{◌≡◌};
     ghost use Rattle.site_commands.specs.declared.combine.TextFault.TheVariants.{OutOfMemory};
 
     ghost from_gives = { λ _ fault. fault ≡ OutOfMemory };
 
-    fn from(_error: AllocError) -> TextFault {
+    fn from(_refused: AllocFailed<T>) -> TextFault {
         TextFault::OutOfMemory
     }
 }
