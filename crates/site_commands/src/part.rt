@@ -113,8 +113,8 @@ fn part_line(alloc: Global, events: Batch, count: u64, place: u64) -> Result<Tex
     requires below { place < count }
     ensures { IfOk result (λ text. text ≡ batch_line (part (part_of count) place events)) }
 {
-    let parts = split(alloc, events, count)?;
-    let mut line = write_sequenced(alloc, &parts[place as usize])?.into_string();
+    let batches = split(alloc, events, count)?;
+    let mut line = write_sequenced(alloc, &batches[place as usize])?.into_string();
     line.push_str("\n")?;
     Ok(Text::from_string(line))
 }
