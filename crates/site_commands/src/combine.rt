@@ -138,11 +138,7 @@ fn ending_of_contents<P: Progress>(
 }
 
 /// The files that are to blame.
-fn blamed_files<'a>(
-    files: &'a [Text],
-    cover_files: &'a [Text],
-    is_of_covers: bool,
-) -> &'a [Text]
+fn blamed_files<'a>(files: &'a [Text], cover_files: &'a [Text], is_of_covers: bool) -> &'a [Text]
     ensures { result.now ≡ (if is_of_covers then cover_files.now else files.now) }
 {
     if is_of_covers { cover_files } else { files }

@@ -148,10 +148,7 @@ fn placed(alloc: Global, summary: &Summary, count: u64) -> Result<Kinds, AllocEr
     let mut rows = Kinds::empty(alloc);
     for i in 0..summary.len() {
         let source = summary.source_at(i);
-        rows.push((
-            Text::of(alloc, source)?,
-            part_of(source.as_bytes(), count),
-        ))?;
+        rows.push((Text::of(alloc, source)?, part_of(source.as_bytes(), count)))?;
     }
     Ok(rows)
 }
