@@ -2,3 +2,4 @@ pub mod CrashLemmas
 pub mod OpenLemmas
 pub mod ListLemmas
 pub mod ServiceLemmas
+pub mod CallLemmas

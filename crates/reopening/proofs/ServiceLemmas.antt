@@ -2,13 +2,13 @@
 use Rattle.std.proofs.Common.{◌≡◌, ◌≢◌, ◌⊎◌, ◌∙◌, ℕ, List, [], ◌∷◌, ◌++◌, true, IsTrue, sym, ap, subst, inl, inr, arith}
 use Rattle.sqlite_disk.specs.declared.Disk.{Ghosts}
 use Rattle.sqlite_store.specs.declared.store.FileStore.{FileStore}
-use Rattle.sqlite.specs.Effect.{Database}
+use Rattle.sqlite.specs.Effect.{Database, IsDatabase}
 use Rattle.sqlite.specs.Files.{file_state}
 use Rattle.sqlite.specs.Held.{Held}
 use Rattle.sqlite.specs.State.{HasCleanDisk, State}
 use Rattle.database_layout.specs.Law.{TreesTellTables}
 use Rattle.database_layout.specs.Layout.{lacks_name}
-use Rattle.outbox.specs.Call.{Leaves, MayAccept}
+use Rattle.outbox.specs.Call.{IsSettled, Leaves, MayAccept}
 use Rattle.outbox.specs.Law.{StopsLeaveAService}
 use Rattle.outbox.specs.Order.{Accepted}
 use Rattle.outbox.specs.Service.{IsService}
@@ -35,7 +35,7 @@ service_made : TreesTellTables → (old stopped again : State) → IsReopened st
     → (again.now ≡ old.now) ⊎ IsService again.now source base []
 service_made tell old stopped again re source base had until =
     let shown = ap (λ (d : Database). d.trees) re.opens.clean in
-    elim (until.crash re.clean again.committed.trees re.found) [
+    elim (until re.clean again.committed.trees re.found) [
       | inl before ↦ inl (tell old.now again.now had.sound re.sound (shown ∙ had.settled had.is_open again.committed.trees before))
       | inr after ↦ inr (subst (λ (d : Database). IsService d source base []) (sym (tell after.db again.now after.sound re.sound (shown ∙ after.are))) after.founded.service)
     ]
@@ -43,7 +43,7 @@ service_made tell old stopped again re source base had until =
 module _ {D : Type 0} {g : Ghosts D} (law : StopsLeaveAService) (c again : Held (FileStore D g)) (new : State)
     (opened : HasCleanDisk (file_state again) → IsReopened (file_state c) (file_state again))
     (left : Leaves (file_state again) new) (clean : HasCleanDisk new) where
-  is_reopened : IsReopened (file_state c) (file_state again)
+  pub is_reopened : IsReopened (file_state c) (file_state again)
   is_reopened = opened (omega (arith, left.clean, clean))
 
   kept_in : (old : Held (FileStore D g)) (source : List ℕ) (base : ℕ) (commands : List Accepted) (a : Accepted)
@@ -90,15 +90,20 @@ pub service_found : {D : Type 0} {g : Ghosts D} → StopsLeaveAService → Trees
     → (HasCleanDisk (file_state again) → IsReopened (file_state c) (file_state again))
     → Leaves (file_state again) (file_state s.conn) → (HasCleanDisk (file_state s.conn) → IsTrue (file_state s.conn).is_open)
     → (HasCleanDisk (file_state s.conn) → HasNoOther (file_state again).now s.source s.base)
+    → (HasCleanDisk (file_state s.conn) → IsSettled (file_state s.conn))
     → (lacks_name (file_state again).now.schema ≡ true → ⊥)
     → HasCleanDisk (file_state s.conn) → FindsService c s
-service_found law tell c again s opened left on only there clean =
+service_found law tell c again s opened left on only settled there clean =
     let made = made_in law c again (file_state s.conn) opened left clean tell there in
     let same = sym (left.same clean (on clean)) in
+    let re = is_reopened law c again (file_state s.conn) opened left clean in
     record {
+      clean = re.clean;
       accepted = accepted_found law c again (file_state s.conn) opened left clean (on clean);
       named = named_found law c again (file_state s.conn) opened left clean s.source s.base (only clean);
       founded = λ old source base had until. subst (λ (d : Database). IsService d source base []) same (made old source base had until);
       given = λ old source base had until. only clean source base [] (made old source base had until);
       is_open = on clean;
+      sound = subst IsDatabase same re.sound;
+      settled = settled clean;
     }

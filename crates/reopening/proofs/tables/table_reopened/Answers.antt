@@ -13,4 +13,4 @@ pub returns-in-Err-adopt_and_load-clause-refused :
 returns-in-Err-adopt_and_load-clause-refused g c clean =
     let it = c.in-Err-adopt_and_load in
     list_known c.stops_leave_a_list.ensures c.args.conn c.in-Ok.again (file_state it.refused.conn) c.in-Ok.ensures.opened it.ensures.crash_refused clean
-    it.refused.fault it.ensures.rejects
+    it.refused.fault it.ensures.rejects c.trees_tell_tables.ensures
