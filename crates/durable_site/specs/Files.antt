@@ -66,6 +66,19 @@ module _ {D : Type 0} {g : disk.Ghosts D} where
     -- to be made
     pub crash : Survives (file_state first) (file_state d.table.conn) (MayOpen (file_state first).now)
 
+  -- ---- files closed
+
+  -- why the log wasn't copied into the database file, while the disk gives back what was written
+  abbrev pub FailsToCopy : Held (FileStore D g) → FileStore D g → Type 0
+  FailsToCopy c last = (e : Error) × (IsClean (view last) → FailsToClose c last e)
+
+  -- the files of a connection were closed: a crash leaves nothing of them that it couldn't leave
+  -- before; and the last commit is in the database file alone, or stays in the log, for an error
+  abbrev pub Closes : Held (FileStore D g) → Type 0
+  Closes c = (last : FileStore D g) × IsClosed c last
+      × (((files : Files D) × (AreClean g files.log files.db → IsCopied c files))
+      ⊎ FailsToCopy c last)
+
 -- ---- openings that are refused
 
 module _ (D : Type 0) (g : disk.Ghosts D) where
@@ -85,7 +98,8 @@ module _ (D : Type 0) (g : disk.Ghosts D) where
   IsUnopened image fault =
       IsOfSystem fault ⊎ ((e : Error) × (fault ≡ error_fault e) × LeavesImage image e)
 
-  -- one was opened, and no table was found or made there, for this fault: the database is as it was
+  -- one was opened, and no table was found or made there, for this fault: the database is as it was,
+  -- and its files were closed so
   pub record RefusesTable (image : Image) (fault : OpenFault) : Type 0 where
     pub first : Held (FileStore D g)
     pub last : Held (FileStore D g)
@@ -95,6 +109,7 @@ module _ (D : Type 0) (g : disk.Ghosts D) where
     pub rejects : RejectsOpening (file_state first) (file_state last) why
     -- a crash leaves it so, or with the table that was to be made
     pub crash : Survives (file_state first) (file_state last) (MayOpen (file_state first).now)
+    pub closes : Closes last
 
 module _ {D : Type 0} {g : disk.Ghosts D} where
   -- a connection is refused
@@ -105,16 +120,3 @@ module _ {D : Type 0} {g : disk.Ghosts D} where
   abbrev pub RefusesSite : Image → Result (DurableSite (FileStore D g)) OpenFault → Type 0
   RefusesSite image result =
       IfErr result (λ fault. IsUnopened D g image fault ⊎ RefusesTable D g image fault)
-
-  -- ---- files closed
-
-  -- why the log wasn't copied into the database file, while the disk gives back what was written
-  abbrev pub FailsToCopy : Held (FileStore D g) → FileStore D g → Type 0
-  FailsToCopy c last = (e : Error) × (IsClean (view last) → FailsToClose c last e)
-
-  -- the files of a connection were closed: a crash leaves nothing of them that it couldn't leave
-  -- before; and the last commit is in the database file alone, or stays in the log, for an error
-  abbrev pub Closes : Held (FileStore D g) → Type 0
-  Closes c = (last : FileStore D g) × IsClosed c last
-      × (((files : Files D) × (AreClean g files.log files.db → IsCopied c files))
-      ⊎ FailsToCopy c last)

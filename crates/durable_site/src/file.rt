@@ -67,11 +67,13 @@ pub fn open_files<T: Start>(
     }
 }
 
-/// Why no site was made of a connection, which is let go.
+/// Why no site was made of a connection, whose files are closed as they are.
 fn fault_of<T: Start>(refused: NotMade<FileStore<FileFrom<T>>>) -> OpenFault
-    ensures { result ≡ table_fault refused.fault }
+    ensures fault { result ≡ table_fault refused.fault }
+    ensures closes { Closes refused.conn }
 {
-    let NotMade { conn: _, fault } = refused;
+    let NotMade { conn, fault } = refused;
+    close(conn);
     of_table(fault)
 }
 

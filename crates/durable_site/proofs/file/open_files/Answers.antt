@@ -10,7 +10,8 @@ returns-in-Err-open-clause-refused g c = inr (record {
   last = c.in-Err-open.refused.conn;
   over = c.in-Ok.ensures.over;
   why = c.in-Err-open.refused.fault;
-  is = c.fault_of.ensures;
+  is = c.fault_of.ensures.fault;
   rejects = c.in-Err-open.ensures.rejects;
   crash = c.in-Err-open.ensures.crash_refused;
+  closes = c.fault_of.ensures.closes;
 })
