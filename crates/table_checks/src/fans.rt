@@ -88,20 +88,22 @@ impl Gate for Ruled {
     }
 }
 
-/// Knows of two workers the calls that were let through and those that were made, and whether any
-/// was of another worker or out of order.
+/// Tells the calls of two workers to their counts, and counts those of any other worker.
 #[derive(Drop)]
-struct Heard {
-    first: Calls,
-    second: Calls,
+struct Heard<'a> {
+    first: &'a Calls,
+    second: &'a Calls,
     strange: AtomicU64,
 }
 
-/// The number of the last call that a worker asked for, and of the last that it made.
+/// How many calls a worker asked for, how many sends its route got, of how many the gate was told,
+/// and how often one of these was out of order.
 #[derive(Drop)]
 struct Calls {
     asked: AtomicU64,
+    sent: AtomicU64,
     made: AtomicU64,
+    strange: AtomicU64,
 }
 
 impl Calls {
@@ -109,32 +111,61 @@ impl Calls {
     fn none() -> Calls {
         Calls {
             asked: AtomicU64::new(0),
+            sent: AtomicU64::new(0),
             made: AtomicU64::new(0),
+            strange: AtomicU64::new(0),
         }
+    }
+
+    /// Counts it where a worker hasn't come to just these calls.
+    fn expect(&self, asked: u64, sent: u64, made: u64) {
+        let is_so = self.asked.load(Ordering::SeqCst) == asked
+            && self.sent.load(Ordering::SeqCst) == sent
+            && self.made.load(Ordering::SeqCst) == made;
+        if !is_so {
+            self.strange.fetch_add(1, Ordering::SeqCst);
+        }
+    }
+
+    /// A call is asked for: all before it were made.
+    fn ask(&self, call: u64) {
+        let before = call.wrapping_sub(1);
+        self.expect(before, before, before);
+        self.asked.fetch_add(1, Ordering::SeqCst);
+    }
+
+    /// The route gets a send: its call was let through, and nothing is told of it.
+    fn send(&self) {
+        let before = self.sent.load(Ordering::SeqCst);
+        self.expect(before.wrapping_add(1), before, before);
+        self.sent.fetch_add(1, Ordering::SeqCst);
+    }
+
+    /// A call is told: the route got its send.
+    fn tell(&self, call: u64) {
+        self.expect(call, call, call.wrapping_sub(1));
+        self.made.fetch_add(1, Ordering::SeqCst);
+    }
+
+    /// Whether so many were made, all of them in order.
+    fn are(&self, count: u64) -> bool {
+        self.expect(count, count, count);
+        self.strange.load(Ordering::SeqCst) == 0
     }
 }
 
-impl Heard {
+impl<'a> Heard<'a> {
     /// The calls of a worker; none of a worker that isn't there.
-    fn of(&self, worker: u64) -> Option<&Calls> {
+    fn of(&self, worker: u64) -> Option<&'a Calls> {
         match worker {
-            0 => Some(&self.first),
-            1 => Some(&self.second),
+            0 => Some(self.first),
+            1 => Some(self.second),
             _ => None,
         }
     }
-
-    /// Whether the workers made so many calls, and none was strange.
-    fn has_made(&self, first: u64, second: u64) -> bool {
-        if self.strange.load(Ordering::SeqCst) != 0 {
-            return false;
-        }
-        self.first.made.load(Ordering::SeqCst) == first
-            && self.second.made.load(Ordering::SeqCst) == second
-    }
 }
 
-impl Gate for Heard {
+impl<'a> Gate for Heard<'a> {
     ghost use Rattle.std.specs.Prelude.{⊤};
 
     ghost lets = { λ _ _ _. ⊤ };
@@ -144,39 +175,35 @@ impl Gate for Heard {
     ghost heard = { λ _ _ _. ⊤ };
 
     fn before(&self, worker: u64, call: u64) -> Result<(), GateShut> {
-        let Some(calls) = self.of(worker) else {
-            self.strange.fetch_add(1, Ordering::SeqCst);
-            return Ok(());
-        };
-        // The last call was made, and this is the next.
-        let made = calls.made.load(Ordering::SeqCst);
-        let asked = calls.asked.fetch_add(1, Ordering::SeqCst);
-        if asked != made || asked.checked_add(1) != Some(call) {
-            self.strange.fetch_add(1, Ordering::SeqCst);
+        match self.of(worker) {
+            Some(calls) => calls.ask(call),
+            None => {
+                self.strange.fetch_add(1, Ordering::SeqCst);
+            }
         }
         Ok(())
     }
 
     fn after(&self, worker: u64, call: u64) {
-        let Some(calls) = self.of(worker) else {
-            self.strange.fetch_add(1, Ordering::SeqCst);
-            return;
-        };
-        calls.made.fetch_add(1, Ordering::SeqCst);
-        if calls.asked.load(Ordering::SeqCst) != call || calls.made.load(Ordering::SeqCst) != call {
-            self.strange.fetch_add(1, Ordering::SeqCst);
+        match self.of(worker) {
+            Some(calls) => calls.tell(call),
+            None => {
+                self.strange.fetch_add(1, Ordering::SeqCst);
+            }
         }
     }
 }
 
-/// A route that fails at the send with this number from 1 on, or never if it is 0.
+/// A route that fails at the send with this number from 1 on, or never if it is 0. It notes what it
+/// is sent among the calls of its worker, where these are known.
 #[derive(Drop)]
-struct FailsOnce {
+struct FailsOnce<'a> {
     route: MemoryRoute,
     send: u64,
+    calls: Option<&'a Calls>,
 }
 
-impl Route for FailsOnce {
+impl<'a> Route for FailsOnce<'a> {
     ghost use Rattle.std.specs.Prelude.{◌≡◌, ◌⊎◌, ◌++◌};
     ghost use Rattle.relay.specs.Route.{CountRises};
 
@@ -189,6 +216,9 @@ impl Route for FailsOnce {
         new.route ≡ record old.route { events = old.route.events ++ batch } };
 
     fn send(&mut self, batch: &Batch) -> Result<(), RouteFailed> {
+        if let Some(calls) = self.calls {
+            calls.send();
+        }
         if self.send != 1 {
             self.send = self.send.saturating_sub(1);
             return self.route.send(batch);
@@ -199,7 +229,7 @@ impl Route for FailsOnce {
 }
 
 /// Whether a fan-out ended so: the ends, and the marks and accepted rows after it.
-fn is_ended(out: &FanOut<FailsOnce>, relays: &[Relay], want: &[(End, u64, u64)]) -> bool {
+fn is_ended(out: &FanOut<FailsOnce<'_>>, relays: &[Relay], want: &[(End, u64, u64)]) -> bool {
     if out.ends.len() != want.len()
         || relays.len() != want.len()
         || out.routes.len() != want.len()
@@ -227,15 +257,20 @@ fn add_relays(relays: &mut Vec<Relay>, from: &[(u64, u64)]) -> bool {
 }
 
 /// Adds a route that fails at that send, and answers whether it did.
-fn add_route(alloc: Global, routes: &mut Vec<FailsOnce>, send: u64) -> bool {
+fn add_route<'a>(
+    alloc: Global,
+    routes: &mut Vec<FailsOnce<'a>>,
+    send: u64,
+    calls: Option<&'a Calls>,
+) -> bool {
     let route = MemoryRoute::empty(alloc);
-    routes.push(FailsOnce { route, send }).is_ok()
+    routes.push(FailsOnce { route, send, calls }).is_ok()
 }
 
 /// Adds routes that fail at the sends of these, and answers whether it did.
-fn add_routes(alloc: Global, routes: &mut Vec<FailsOnce>, from: &[(u64, u64)]) -> bool {
+fn add_routes(alloc: Global, routes: &mut Vec<FailsOnce<'_>>, from: &[(u64, u64)]) -> bool {
     for (_, send) in from {
-        if !add_route(alloc, routes, *send) {
+        if !add_route(alloc, routes, *send, None) {
             return false;
         }
     }
@@ -248,7 +283,7 @@ fn relays_end_as<R: AllocGlobal + Threads + Wait + Sync, G: Gate + Sync>(
     service: &mut Service<MemStore>,
     gate: &G,
     relays: &mut Vec<Relay>,
-    routes: Vec<FailsOnce>,
+    routes: Vec<FailsOnce<'_>>,
     want: &[(End, u64, u64)],
 ) -> bool {
     if routes.is_empty() || routes.len() > 16 || relays.len() != routes.len() {
@@ -322,18 +357,39 @@ fn goes_past_a_shut<R: AllocGlobal + Threads + Wait + Sync>(
         && gate.counted.load(Ordering::SeqCst) == 4
 }
 
-/// Whether a gate is told of three calls of one worker, and of one of the other.
+/// Whether two routes are sent to, the second of which fails at its second send, past a gate that
+/// hears of no other worker.
+fn goes_past_one_that_hears<R: AllocGlobal + Threads + Wait + Sync>(
+    rt: &R,
+    service: &mut Service<MemStore>,
+    first: &Calls,
+    second: &Calls,
+) -> bool {
+    let gate = Heard {
+        first,
+        second,
+        strange: AtomicU64::new(0),
+    };
+    let mut relays = Vec::new(rt.alloc());
+    let mut routes = Vec::new(rt.alloc());
+    let failed = End::Failed(RelayFault::RouteFailed);
+    let want = [(End::Done, 250, 250), (failed, 110, 100)];
+    add_relays(&mut relays, &[(0, 0), (10, 0)])
+        && add_route(rt.alloc(), &mut routes, 0, Some(first))
+        && add_route(rt.alloc(), &mut routes, 2, Some(second))
+        && relays_end_as(rt, service, &gate, &mut relays, routes, &want)
+        && gate.strange.load(Ordering::SeqCst) == 0
+}
+
+/// Whether a gate is asked before each send of a route and told behind it: three of one worker, and
+/// two of the other.
 fn tells_each_call<R: AllocGlobal + Threads + Wait + Sync>(
     rt: &R,
     service: &mut Service<MemStore>,
 ) -> bool {
-    let gate = Heard {
-        first: Calls::none(),
-        second: Calls::none(),
-        strange: AtomicU64::new(0),
-    };
-    let want = [(End::Done, 250, 250), (End::Done, 250, 100)];
-    ends_as(rt, service, &gate, &[(0, 0), (150, 0)], &want) && gate.has_made(3, 1)
+    let first = Calls::none();
+    let second = Calls::none();
+    goes_past_one_that_hears(rt, service, &first, &second) && first.are(3) && second.are(2)
 }
 
 /// Whether marks at and behind the one row of a service with the base 5 are done.
@@ -426,9 +482,9 @@ fn the_others_go_on_where_one_stops(rt: HostRuntime) {
     assert!(rt; is_done(&rt, 0, 250, Task::GoPastOthers));
 }
 
-// A gate of the test notes what threads tell it.
+// A gate of the test notes what threads ask and tell it, and what their routes are sent.
 #[test]
-fn the_gate_is_told_each_call_of_each_worker(rt: HostRuntime) {
+fn the_gate_is_asked_before_each_send_and_told_behind_it(rt: HostRuntime) {
     assert!(rt; is_done(&rt, 0, 250, Task::TellEachCall));
 }
 
