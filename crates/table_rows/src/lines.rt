@@ -56,10 +56,11 @@ impl Read for Broken {
     }
 }
 
-/// A writer that takes so many writes, and keeps their bytes.
+/// A writer that takes so many writes, and keeps their bytes once it is flushed.
 #[derive(Drop)]
 struct Few {
     left: u64,
+    behind: Vec<u8>,
     bytes: Vec<u8>,
 }
 
@@ -69,14 +70,20 @@ impl Write for Few {
             return Err(io::Error::from(io::ErrorKind::BrokenPipe));
         }
         self.left -= 1;
-        match self.bytes.extend_from_slice(buf) {
+        match self.behind.extend_from_slice(buf) {
             Ok(()) => Ok(buf.len()),
             Err(_) => Err(io::Error::from(io::ErrorKind::OutOfMemory)),
         }
     }
 
     fn flush(&mut self) -> io::Result<()> {
-        Ok(())
+        match self.bytes.extend_from_slice(self.behind.as_slice()) {
+            Ok(()) => {
+                self.behind.clear();
+                Ok(())
+            }
+            Err(_) => Err(io::Error::from(io::ErrorKind::OutOfMemory)),
+        }
     }
 }
 
@@ -308,6 +315,7 @@ pub fn followed<S: Alter>(
     };
     let mut written = Few {
         left,
+        behind: Vec::new(alloc),
         bytes: Vec::new(alloc),
     };
     let ended = follow(alloc, table, &mut input, &mut written);
