@@ -39,10 +39,14 @@ test_foreign_files = rows(
     refuses("a folder", "site scrub --db folder.db", "folder.db: Store"),
     refuses("a folder that is not there", "site scrub --db none/s.db", "none/s.db: Store"),
     refuses("tables of another program", "site take --db strange.db three.json", "strange.db: Store", keeps="strange.db"),
+    refuses("tables of another program, for a run", "site run --db strange.db three.json", "strange.db: Store", keeps="strange.db"),
     refuses("tables of another program, for lines", "site follow --db strange.db two.lines", "strange.db: Store", keeps="strange.db"),
     refuses("orders beside them", f"site order --db strange.db --at {AT} place 1", "strange.db: Store", keeps="strange.db"),
     refuses("a table of the name and another form", "site scrub --db loose.db", "loose.db: Foreign", keeps="loose.db"),
     refuses("a row that breaks a rule", "site delta --db wrong.db nothing.json", "wrong.db: Foreign", keeps="wrong.db"),
+    refuses("a row that breaks a rule, for a batch", "site take --db wrong.db three.json", "wrong.db: Foreign", keeps="wrong.db"),
+    refuses("a row that breaks a rule, for a run", "site run --db wrong.db three.json", "wrong.db: Foreign", keeps="wrong.db"),
+    refuses("a row that breaks a rule, for lines", "site follow --db wrong.db two.lines", "wrong.db: Foreign", keeps="wrong.db"),
     refuses("an outbox with a gap", "site relay --db gap.db --after 0", "gap.db: Foreign", keeps="gap.db"),
 )
 
