@@ -3,16 +3,21 @@ use Rattle.std.proofs.Common.{◌≡◌, ◌∙◌, ℕ, List, [], length, Bool,
 use Rattle.std.specs.Result.{IfOk, OnErr, OnOk}
 use Rattle.sqlite_trees.specs.Tree.{Trees}
 use Rattle.sqlite.specs.Effect.{Database}
-use Rattle.sqlite.specs.State.{State}
+use Rattle.sqlite.specs.State.{State, HasCleanDisk}
 use Rattle.attributes.specs.Event.{EventValue}
 use Rattle.inbox.specs.KeyOrder.{key_cmp}
 use Rattle.inbox.specs.Ordered.{append_new}
 use Rattle.database_layout.specs.Layout.{has_inbox}
 use Rattle.inbox_table.specs.Calls.{Adopts, IsTold, MayMake, MayTake, MayUpgrade}
-use Rattle.inbox_table.specs.Opening.{MayOpen, Opens}
+use Rattle.inbox_table.specs.Opening.{MayOpen, Opens, RejectsOpening}
 use Rattle.inbox_table.specs.Rows.{IsAnyInbox, IsInbox, IsOldInbox}
+use Rattle.inbox_table.specs.Fault.{IsOfStore}
+use Rattle.inbox_table.specs.declared.fault.TableFault.{TableFault}
+use Rattle.inbox_table.specs.declared.fault.TableFault.TheVariants as table
 use Rattle.inbox_table.proofs.UpgradeLemmas.{any_named}
-use Rattle.database_commands.specs.Held.{Holds, KeepsRows, MayHold, MayHoldMore, TellsUpgrade}
+use Rattle.database_commands.specs.Fault.{of_table}
+use Rattle.database_commands.specs.declared.fault.CommandFault.TheVariants as command
+use Rattle.database_commands.specs.Held.{Holds, IsNoInbox, KeepsRows, MayHold, MayHoldMore, TellsUpgrade}
 use Rattle.database_commands.proofs.BesideLemmas.{service_gained, service_kept, service_over, service_same, service_upgraded}
 
 -- where there was no table, the one that was made has what the database held
@@ -163,3 +168,19 @@ either_way (Err y) P one other = other
 pub at_okay : {T E : Type 0} (r : Result T E) (x : T) (P : Type 0) → r ≡ Ok x → OnOk r P → P
 at_okay (Ok y) x P is p = p
 at_okay (Err y) x P is p = absurd (cc)
+
+-- ---- what was refused
+
+-- a table that is opened is `Foreign` only where it is none of an inbox
+pub no_inbox : (old new : State) (fault : TableFault) → RejectsOpening old new fault → fault ≡ table.Foreign → HasCleanDisk new → IsNoInbox old.now
+no_inbox old new fault it is clean events box = (it.rejects (it.foreign is)).foreign clean is events box
+
+pub table_foreign : (fault : TableFault) → of_table fault ≡ command.Foreign → fault ≡ table.Foreign
+table_foreign table.OutOfMemory is = absurd (cc)
+table_foreign table.Store is = absurd (cc)
+table_foreign table.Foreign is = refl
+
+-- keeping is never refused so
+pub store_known : (fault : TableFault) → IsOfStore fault → of_table fault ≡ command.Foreign → ⊥
+store_known fault (inl is) told = let e : table.OutOfMemory ≡ table.Foreign = sym is ∙ table_foreign fault told in cc
+store_known fault (inr is) told = let e : table.Store ≡ table.Foreign = sym is ∙ table_foreign fault told in cc

@@ -7,17 +7,19 @@ use Rattle.sqlite.specs.Effect.{Database}
 use Rattle.sqlite.specs.State.{State, HasCleanDisk}
 use Rattle.attributes.specs.Event.{EventValue}
 use Rattle.database_layout.specs.Layout.{has_name}
-use Rattle.outbox.specs.Call.{IsSame, ShowsAfter}
+use Rattle.outbox.specs.Call.{IsSame, Leaves, LeavesAsBefore, ShowsAfter}
+use Rattle.outbox.specs.Layout.{schema_in}
 use Rattle.outbox.specs.Order.{Accepted}
 use Rattle.outbox.specs.Row.{rows_of}
 use Rattle.outbox.specs.Service.{IsService}
-use Rattle.outbox.specs.Shown.{HasNoOther}
+use Rattle.outbox.specs.Shown.{HasNoOther, StandsFor}
 use Rattle.outbox.proofs.FoundLemmas.{has_all}
 use Rattle.relay.proofs.ReadLemmas.{same_none, same_then, service_then}
-use Rattle.database_commands.specs.Held.{ForAllRows, IsBehind, KeepsRows, ShowsAllRows}
+use Rattle.database_commands.specs.Held.{ForAllRows, IsBehind, ShowsAllRows}
 use Rattle.database_commands.specs.Pages.{max_page, pages_below, pages_text}
 use Rattle.database_commands.specs.Print.{batch_line}
 use Rattle.database_commands.specs.steps.Left.{IsNextPage}
+use Rattle.database_commands.specs.steps.Served.{LeavesRead}
 use Rattle.database_commands.proofs.PageLemmas.{all_pages}
 
 -- ---- the texts of pages
@@ -209,11 +211,33 @@ shown_all old mid source base after text events only is lines all s b commands b
 pub no_service : (db : Database) (source : List ℕ) (base : ℕ) (commands : List Accepted) (A : Type 0) → has_name db.schema ≡ false → IsService db source base commands → A
 no_service db source base commands A lacks box = absurd (let e : ◌≡◌ {A = Bool} true false = sym (ap has_name box.schema ∙ has_all box.layout) ∙ lacks in cc)
 
--- a database that is as it was
-pub rows_kept : (old new : Database) → new ≡ old → KeepsRows old new
-rows_kept old new is source base commands box = subst (λ db. IsService db source base commands) (sym is) box
+-- ---- what a crash leaves of a service that is read
 
--- one that was only read
-pub rows_read : (old : Database) (mid new : State) → mid.now ≡ old → IsSame mid new → HasCleanDisk new → IsTrue new.is_open → KeepsRows old new.now
-rows_read old mid new is same clean still source base commands box =
-    service_then mid new source base commands same clean still (subst (λ db. IsService db source base commands) (sym is) box)
+-- the service stays open as it is read on
+abbrev pub StaysOpen : State → State → Type 0
+StaysOpen old new = HasCleanDisk new → IsTrue old.is_open → IsTrue new.is_open
+
+pub read_none : (a : State) → LeavesRead a a
+read_none a clean is_open layout has db may = may
+
+pub read_on : (start now new : State) → IsSame start now → StaysOpen start now → LeavesRead start now → IsSame now new → LeavesAsBefore now new → LeavesRead start new
+read_on start now new same still left later crash clean is_open layout has db may =
+    let early : HasCleanDisk now = omega (arith, later.clean, clean) in
+    let there : now.now.schema ≡ schema_in layout = ap (λ (d : Database). d.schema) (same.same early (still early is_open) layout has).0 ∙ has in
+    left early is_open layout has db (crash clean layout there db may)
+
+-- of one that was taken over
+pub read_leaves : (old mid new : State) (source : List ℕ) (base last : ℕ) → Leaves old mid → (HasCleanDisk mid → IsTrue mid.is_open) → StandsFor mid source base last → IsSame mid new → LeavesRead mid new → Leaves old new
+read_leaves old mid new source base last left opened stands later crash =
+    let early : HasCleanDisk new → HasCleanDisk mid = λ clean. omega (arith, later.clean, clean) in
+    record {
+      clean = omega (arith, left.clean, later.clean);
+      same = λ clean still.
+          let there = opened (early clean) in
+          let table = (stands.stands (early clean) there).table in
+          (later.same clean still table.layout table.schema).0 ∙ left.same (early clean) there;
+      crash = λ clean db may.
+          let there = opened (early clean) in
+          let table = (stands.stands (early clean) there).table in
+          left.crash (early clean) db (crash clean there table.layout table.schema db may);
+    }

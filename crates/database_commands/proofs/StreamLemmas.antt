@@ -1,5 +1,5 @@
 -- What is said of a stream over a table, said of the database and the outcome of its command.
-use Rattle.std.proofs.Common.{◌≡◌, ◌⊎◌, ◌++◌, ℕ, List, [], ◌∷◌, Ok, Err, Result, IfOk, IsTrue, MatchResult, inl, inr, refl, sym, ap, subst}
+use Rattle.std.proofs.Common.{◌≡◌, ◌⊎◌, ◌++◌, ℕ, List, [], ◌∷◌, true, Ok, Err, Result, IfOk, IsTrue, MatchResult, inl, inr, refl, sym, ap, subst}
 use Rattle.std.specs.Prelude.{Option, None, Some}
 use Rattle.std.specs.Result.{IfErr, OnOk}
 use Rattle.std.specs.Io.KnownBytes.{Consumes, Keeps}
@@ -8,9 +8,10 @@ use Rattle.sqlite.specs.Effect.{Database}
 use Rattle.sqlite.specs.State.{State, HasCleanDisk}
 use Rattle.attributes.specs.Event.{EventValue}
 use Rattle.inbox_table.specs.Beside.{KeepsService}
-use Rattle.inbox_table.specs.Calls.{IsAsItWas, IsSettled}
+use Rattle.inbox_table.specs.Calls.{IsAsItWas, IsSettled, has_both}
 use Rattle.inbox_table.specs.Rows.{IsInbox}
 use Rattle.inbox_table.specs.declared.fault.TableFault.{TableFault}
+use Rattle.inbox_table.specs.declared.fault.TableFault.TheVariants.{Foreign}
 use Rattle.line_intake.specs.Acknowledged.{AreTold, TellsAll, TellsPart, TellsSome, TellsUntil}
 use Rattle.line_intake.specs.Follow.{IsFollowed, KeepsTurns, Place, StopsStream, Turn}
 use Rattle.line_intake.specs.Judged.{TakesLines}
@@ -19,7 +20,7 @@ use Rattle.line_intake.specs.declared.answer.Told.{Told}
 use Rattle.line_intake.specs.declared.step.FollowFault.{FollowFault}
 use Rattle.line_intake.specs.declared.step.FollowFault.TheVariants.{Input, Table, Unwritten}
 use Rattle.database_commands.specs.Fault.{of_follow, of_table}
-use Rattle.database_commands.specs.Held.{Holds, KeepsRows}
+use Rattle.database_commands.specs.Held.{Holds, IsNoInbox, KeepsRows}
 use Rattle.database_commands.specs.Streams.{AcknowledgesUntil, HoldsTurns, StaysUnread, StopsInto}
 use Rattle.database_commands.specs.declared.fault.CommandFault.{CommandFault}
 use Rattle.database_commands.specs.declared.stream.StreamFault.{StreamFault}
@@ -107,8 +108,17 @@ tells_none left out = record {
   written = Appends-nil out;
 }
 
-pub stays_unread : (left out : Option (List ℕ)) (old new : State) (why : TableFault) (f : CommandFault) → f ≡ of_table why → IsAsItWas old new → StaysUnread left left out out old new (stream.Database f)
-stays_unread left out old new why f is same = record { why = why; is = ap (λ x. stream.Database x) is; unread = Keeps-refl left; unwritten = Keeps-refl out; same = same }
+pub stays_unread : (left out : Option (List ℕ)) (old new : State) (why : TableFault) (f : CommandFault) → f ≡ of_table why → IsAsItWas old new
+    → (why ≡ Foreign → HasCleanDisk new → IsNoInbox old.now) → (has_both old.now.schema ≡ true → why ≡ Foreign) → StaysUnread left left out out old new (stream.Database f)
+stays_unread left out old new why f is same foreign both = record {
+  why = why;
+  is = ap (λ x. stream.Database x) is;
+  unread = Keeps-refl left;
+  unwritten = Keeps-refl out;
+  same = same;
+  foreign = foreign;
+  both = both;
+}
 
 -- whatever is left of what wasn't read
 pub unread_or_stops : (left left' out out' : Option (List ℕ)) (old new : State) (f : StreamFault)

@@ -1,18 +1,18 @@
 -- What a command does to a database, where it answers and where it is refused. `old` is the
 -- connection before the command and `new` the one behind it; `outcome` is what it answers or its
 -- fault.
-use Rattle.std.specs.Prelude.{◌≡◌, ◌≢◌, ◌⊎◌, ℕ, List, [], length, Bool, Option, unwrap_or, true, false, Result, Ok, IfErr, IfOk, IsOk, IsTrue, OnErr, OnOk}
+use Rattle.std.specs.Prelude.{◌≡◌, ◌≢◌, ◌⊎◌, ℕ, List, [], length, Bool, Option, unwrap_or, true, false, Result, Ok, IfErr, IfOk, IsErrOf, IsOk, IsTrue, OnErr, OnOk}
 use Rattle.sqlite.specs.Effect.{Database}
 use Rattle.sqlite.specs.State.{State, HasCleanDisk, Survives}
 use Rattle.attributes.specs.Event.{EventValue}
 use Rattle.database_layout.specs.Layout.{has_inbox, has_name}
-use Rattle.inbox_table.specs.Calls.{IsTold}
+use Rattle.inbox_table.specs.Calls.{IsTold, has_both}
 use Rattle.inbox_table.specs.Rows.{IsAnyInbox}
 use Rattle.outbox.specs.Call.{IsAsItWas, IsFounded, IsSettled, Leaves}
 use Rattle.outbox.specs.Order.{Accepted}
 use Rattle.outbox.specs.Shown.{IsNoService}
 use Rattle.database_commands.specs.Described.{Describes}
-use Rattle.database_commands.specs.Held.{HasAnother, IsMeant, IsNoOrders, IsUntold, KeepsEvents, KeepsOrTakes, KeepsRows, KeepsService, LeavesOrOrders, MayHold, MayHoldMore, Orders, RefusesOrder, ShowsAllRows, ShowsEvents, ShowsRows, TakesInto, TellsUpgrade}
+use Rattle.database_commands.specs.Held.{HasAnother, IsMeant, IsNoInbox, IsNoOrders, IsUntold, KeepsEvents, KeepsOrTakes, KeepsRows, KeepsService, LeavesOrOrders, MayHold, MayHoldMore, Orders, RefusesOrder, ShowsAllRows, ShowsEvents, ShowsRows, TakesInto, TellsUpgrade}
 use Rattle.database_commands.specs.Service.{HasOtherBase, LeavesOrFounds, TellsOrFounds}
 use Rattle.database_commands.specs.Service as service
 use Rattle.database_commands.specs.declared.fault.CommandFault.{CommandFault}
@@ -37,6 +37,10 @@ pub record TakeEffect (tells : ℕ → ℕ → Type 0) (events : List EventValue
   -- whatever came of it, no fault of the disk is forgotten, and a crash leaves what it could leave
   -- before, or the events that were held, with those that were taken or without
   pub crash : Survives old new (MayHoldMore events old.now)
+  -- `Foreign` comes only of tables that aren't those of an inbox, and always where both versions
+  -- are there
+  pub foreign : IfErr outcome (λ f. f ≡ command.Foreign → HasCleanDisk new → IsNoInbox old.now)
+  pub both : has_both old.now.schema ≡ true → IsErrOf outcome command.Foreign
 
 -- a page was asked for, by `delta` or `scrub`
 pub record PageEffect (Shows : Database → List ℕ → Type 0)
@@ -67,6 +71,9 @@ pub record HeldEffect (outcome : Result (List EventValue) CommandFault) (old new
   pub look : LookEffect ShowsEvents outcome old new
   -- where there is no inbox there are none, and nothing refuses that
   pub none : has_inbox old.now.schema ≡ false → IfOk outcome (λ es. es ≡ []) × IsOk outcome
+  -- `Foreign` comes as of `take`
+  pub foreign : IfErr outcome (λ f. f ≡ command.Foreign → HasCleanDisk new → IsNoInbox old.now)
+  pub both : has_both old.now.schema ≡ true → IsErrOf outcome command.Foreign
 
 -- it was asked what the database of this name is
 pub record DescribeEffect (name : List ℕ) (outcome : Result (List ℕ) CommandFault)
@@ -153,9 +160,8 @@ pub record RelayEffect (given : List ℕ) (after : ℕ) (outcome : Result (List 
 pub record RelayAllEffect (after : ℕ) (outcome : Result (List ℕ) CommandFault) (old new : State)
     : Type 0 where
   pub shown : HasCleanDisk new → IfOk outcome (ShowsAllRows after old.now)
-  -- whatever came of it, a service has its rows, and no fault of the disk is forgotten
-  pub kept : HasCleanDisk new → IsTrue new.is_open → KeepsRows old.now new.now
-  pub clean : HasCleanDisk new → HasCleanDisk old
+  -- whatever came of it, the database is as it was, and a crash leaves what it could leave before
+  pub left : Leaves old new
   -- where there is none, nothing is printed, and the database is as it was, whatever the disk does
   pub without : has_name old.now.schema ≡ false → (new.now ≡ old.now) × (outcome ≡ Ok [])
   pub fault : IfErr outcome (λ f. f ≢ command.AnotherSource)

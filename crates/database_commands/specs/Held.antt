@@ -33,6 +33,10 @@ pub record Holds (db : Database) (events : List EventValue) : Type 0 where
   pub there : has_inbox db.schema ≡ true → IsAnyInbox db events
   pub none : has_inbox db.schema ≡ false → events ≡ []
 
+-- its tables aren't those of an inbox, of either version
+abbrev pub IsNoInbox : Database → Type 0
+IsNoInbox db = (events : List EventValue) → IsAnyInbox db events → ⊥
+
 -- whatever events it held, it holds
 abbrev pub KeepsEvents : Database → Database → Type 0
 KeepsEvents old new = (held : List EventValue) → Holds old held → Holds new held

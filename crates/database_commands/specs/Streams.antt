@@ -1,17 +1,18 @@
 -- A stream of lines into a database.
-use Rattle.std.specs.Prelude.{◌≡◌, ◌⊎◌, ℕ, List, Option, Result, IfErr, IfOk, IsTrue, OnOk}
+use Rattle.std.specs.Prelude.{◌≡◌, ◌⊎◌, ℕ, List, Option, Result, IfErr, IfOk, IsTrue, OnOk, true}
 use Rattle.std.specs.Io.KnownBytes.{Keeps}
 use Rattle.sqlite.specs.Effect.{Database}
 use Rattle.sqlite.specs.State.{State, HasCleanDisk}
 use Rattle.attributes.specs.Event.{EventValue}
-use Rattle.inbox_table.specs.Calls.{IsAsItWas, IsSettled}
+use Rattle.inbox_table.specs.Calls.{IsAsItWas, IsSettled, has_both}
 use Rattle.inbox_table.specs.Rows.{IsInbox}
 use Rattle.inbox_table.specs.declared.fault.TableFault.{TableFault}
+use Rattle.inbox_table.specs.declared.fault.TableFault.TheVariants.{Foreign}
 use Rattle.line_intake.specs.Acknowledged.{TellsPart, TellsSome}
 use Rattle.line_intake.specs.Follow.{AreKept, IsFollowed, Place, StopsStream, Turn}
 use Rattle.line_intake.specs.declared.step.FollowFault.{FollowFault}
 use Rattle.database_commands.specs.Fault.{of_follow, of_table}
-use Rattle.database_commands.specs.Held.{Holds, KeepsRows}
+use Rattle.database_commands.specs.Held.{Holds, IsNoInbox, KeepsRows}
 use Rattle.database_commands.specs.declared.stream.StreamFault.{StreamFault}
 use Rattle.database_commands.specs.declared.stream.StreamFault.TheVariants as stream
 
@@ -29,6 +30,10 @@ pub record StaysUnread (left left' out out' : Option (List ℕ)) (old new : Stat
   pub unread : Keeps left left'
   pub unwritten : Keeps out out'
   pub same : IsAsItWas old new
+  -- `Foreign` comes only of tables that aren't those of an inbox, and always where both versions
+  -- are there
+  pub foreign : why ≡ Foreign → HasCleanDisk new → IsNoInbox old.now
+  pub both : has_both old.now.schema ≡ true → why ≡ Foreign
 
 -- the stream stopped for this fault: what the turns before it brought is in behind what the
 -- database held

@@ -1,12 +1,13 @@
 //! The inbox of a database: its table, and taking events into it.
-ghost use Rattle.std.specs.Prelude.{◌≡◌, ◌⊎◌, ℕ, List, length, IfErr, IfOk, IsTrue, OnOk};
+ghost use Rattle.std.specs.Prelude.{◌≡◌, ◌≢◌, ◌⊎◌, ℕ, List, length, true, IfErr, IfOk, IsErrAnd, IsErrOf, IsTrue, OnOk};
 ghost use Rattle.sqlite.specs.Held.{state};
 ghost use Rattle.sqlite.specs.State.{HasCleanDisk, Survives};
 ghost use Rattle.attributes.specs.Event.{EventValue};
-ghost use Rattle.inbox_table.specs.Calls.{IsAsItWas, IsSettled, IsTold, MayTake, Takes};
+ghost use Rattle.inbox_table.specs.Calls.{IsAsItWas, IsSettled, IsTold, MayTake, Takes, has_both};
 ghost use Rattle.inbox_table.specs.Rows.{IsInbox};
-ghost use Rattle.database_commands.specs.declared.fault.CommandFault.TheVariants.{OutOfMemory};
-ghost use Rattle.database_commands.specs.Held.{Holds, IsTaken, KeepsOrTakes, KeepsRows, MayHold, MayHoldMore, TakesInto, TellsUpgrade};
+ghost use Rattle.inbox_table.specs.declared.fault.TableFault.TheVariants as TableFault;
+ghost use Rattle.database_commands.specs.declared.fault.CommandFault.TheVariants.{Foreign, OutOfMemory};
+ghost use Rattle.database_commands.specs.Held.{Holds, IsNoInbox, IsTaken, KeepsOrTakes, KeepsRows, MayHold, MayHoldMore, TakesInto, TellsUpgrade};
 ghost use Rattle.database_commands.specs.Print.{counts_line};
 
 use crate::command::CommandEnd;
@@ -38,6 +39,10 @@ pub fn loaded<S: Alter + Drop>(alloc: Global, conn: Connection<S>) -> Result<Loa
         (state S.Store n.conn) (MayHold (state S.Store conn).now)) }
     ensures beside { IfOk result (λ l. HasCleanDisk (state S.Store l.table.conn)
         → KeepsRows (state S.Store conn).now (state S.Store l.table.conn).now) }
+    ensures foreign { IfErr result (λ n. n.fault ≡ TableFault.Foreign
+        → HasCleanDisk (state S.Store n.conn) → IsNoInbox (state S.Store conn).now) }
+    ensures both { has_both (state S.Store conn).now.schema ≡ true
+        → IsErrAnd result (λ n. n.fault ≡ TableFault.Foreign) }
 {
     Table::open_and_load(alloc, conn, &Unwatched)
 }
@@ -73,6 +78,10 @@ pub fn take<S: Alter + Drop, W: Watch>(
         → OnOk result.outcome (IsSettled (state S.Store result.conn)) }
     ensures crash { Survives (state S.Store conn) (state S.Store result.conn)
         (MayHoldMore events.now (state S.Store conn).now) }
+    ensures foreign { IfErr result.outcome (λ f. f ≡ Foreign
+        → HasCleanDisk (state S.Store result.conn) → IsNoInbox (state S.Store conn).now) }
+    ensures both { has_both (state S.Store conn).now.schema ≡ true
+        → IsErrOf result.outcome Foreign }
 {
     match adopted(alloc, conn, watch) {
         Ok(mut table) => {
@@ -111,6 +120,10 @@ pub(crate) fn adopted<S: Alter + Drop, W: Watch>(
         (MayHold (state S.Store conn).now)) }
     ensures crash_refused { IfErr result (λ n. Survives (state S.Store conn)
         (state S.Store n.conn) (MayHold (state S.Store conn).now)) }
+    ensures foreign { IfErr result (λ n. n.fault ≡ TableFault.Foreign
+        → HasCleanDisk (state S.Store n.conn) → IsNoInbox (state S.Store conn).now) }
+    ensures both { has_both (state S.Store conn).now.schema ≡ true
+        → IsErrAnd result (λ n. n.fault ≡ TableFault.Foreign) }
 {
     Table::open(alloc, conn, watch)
 }
@@ -145,6 +158,7 @@ fn kept<S: Alter + Drop, W: Watch>(
     ensures crash { Survives (state S.Store table.old.conn) (state S.Store table.new.conn)
         (λ trees. IsTrue (state S.Store table.old.conn).is_open
         → MayTake events.now (state S.Store table.old.conn).now trees) }
+    ensures known { IfErr result (λ f. f ≢ Foreign) }
 {
     match table.keep_watched(events, watch) {
         Ok(fresh) => said(alloc, events.len(), fresh),

@@ -1,5 +1,5 @@
 //! Pages of the events that a database holds.
-ghost use Rattle.std.specs.Prelude.{◌≡◌, [], drop, false, IfOk, IsOk};
+ghost use Rattle.std.specs.Prelude.{◌≡◌, [], drop, false, true, IfErr, IfOk, IsErrOf, IsOk};
 ghost use Rattle.sqlite.specs.Held.{state};
 ghost use Rattle.sqlite.specs.State.{HasCleanDisk};
 ghost use Rattle.inbox.specs.KeyOrder.{key_cmp};
@@ -8,9 +8,11 @@ ghost use Rattle.inbox.specs.Sets.{set_of};
 ghost use Rattle.site.specs.Delta.{delta};
 ghost use Rattle.site.specs.Page.{max_page, page};
 ghost use Rattle.database_layout.specs.Layout.{has_inbox};
+ghost use Rattle.inbox_table.specs.Calls.{has_both};
 ghost use Rattle.outbox.specs.Call.{Leaves};
 ghost use Rattle.database_commands.specs.Effect.{LookEffect, PageEffect};
-ghost use Rattle.database_commands.specs.Held.{HasArrived, HasDelta, HasEvents, SaysArrivals, SaysDelta, SaysPage, SaysSummary, SaysSummaryOf, ShowsArrivals, ShowsArrived, ShowsDelta, ShowsEvents, ShowsLacking, ShowsPage, ShowsSet, ShowsSummary};
+ghost use Rattle.database_commands.specs.declared.fault.CommandFault.TheVariants.{Foreign};
+ghost use Rattle.database_commands.specs.Held.{HasArrived, HasDelta, HasEvents, IsNoInbox, SaysArrivals, SaysDelta, SaysPage, SaysSummary, SaysSummaryOf, ShowsArrivals, ShowsArrived, ShowsDelta, ShowsEvents, ShowsLacking, ShowsPage, ShowsSet, ShowsSummary};
 ghost use Rattle.database_commands.specs.Print.{batch_line};
 ghost use Rattle.database_commands.specs.steps.Made.{ContentsEffect, IsMadeOf};
 
@@ -59,6 +61,10 @@ pub fn held<S: Alter + Drop>(alloc: Global, conn: Connection<S>) -> CommandEnd<S
     ensures without { has_inbox (state S.Store conn).now.schema ≡ false
         → ((state S.Store result.conn).now ≡ (state S.Store conn).now)
         × IfOk result.outcome (λ es. es ≡ []) × IsOk result.outcome }
+    ensures foreign { IfErr result.outcome (λ f. f ≡ Foreign
+        → HasCleanDisk (state S.Store result.conn) → IsNoInbox (state S.Store conn).now) }
+    ensures both { has_both (state S.Store conn).now.schema ≡ true
+        → IsErrOf result.outcome Foreign }
 {
     let mut conn = conn;
     if !has_inbox(conn.schema()) {

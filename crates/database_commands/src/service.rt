@@ -6,7 +6,7 @@ ghost use Rattle.sqlite.specs.State.{HasCleanDisk};
 ghost use Rattle.attributes.specs.Character.{is_filled};
 ghost use Rattle.attributes.specs.Event.{EventValue};
 ghost use Rattle.attributes.specs.Sequence.{max_sequence};
-ghost use Rattle.outbox.specs.Call.{Accepts, IsAsItWas, IsSame, IsSettled, LeavesAsBefore, Refuses, ShowsAfter};
+ghost use Rattle.outbox.specs.Call.{Accepts, IsAsItWas, IsSame, IsSettled, Leaves, LeavesAsBefore, Refuses, ShowsAfter};
 ghost use Rattle.outbox.specs.Opening.{LeavesOrMakes};
 ghost use Rattle.outbox.specs.Row.{row_event};
 ghost use Rattle.outbox.specs.Shown.{Stands};
@@ -18,12 +18,12 @@ ghost use Rattle.relay.specs.Relay.{ForNextRows};
 ghost use Rattle.database_commands.specs.declared.fault.CommandFault.TheVariants as command;
 ghost use Rattle.database_commands.specs.Fault.{of_outbox};
 ghost use Rattle.database_commands.specs.Effect.{OrderEffect};
-ghost use Rattle.database_commands.specs.Held.{ForAllRows, HasAnother, IsBehind, IsNoOrders, IsServed, KeepsEvents, KeepsRows, KeepsService, SaysAllRows, SaysOrder, SaysRows, ShowsAllRows, ShowsRows};
+ghost use Rattle.database_commands.specs.Held.{ForAllRows, HasAnother, IsBehind, IsNoOrders, IsServed, KeepsEvents, KeepsService, SaysAllRows, SaysOrder, SaysRows, ShowsAllRows, ShowsRows};
 ghost use Rattle.database_commands.specs.Pages.{max_page, pages_text};
 ghost use Rattle.database_commands.specs.Print.{batch_line, event_line};
 ghost use Rattle.database_commands.specs.Service.{LeavesOrFounds};
 ghost use Rattle.database_commands.specs.steps.Left.{IsNextPage};
-ghost use Rattle.database_commands.specs.steps.Served.{LeavesOrAccepts};
+ghost use Rattle.database_commands.specs.steps.Served.{LeavesOrAccepts, LeavesRead};
 
 use crate::command::CommandEnd;
 use crate::fault::{CommandFault, of_outbox, of_relay};
@@ -362,10 +362,7 @@ pub fn relay_all<S: Alter + Drop>(
 ) -> CommandEnd<S, Text>
     ensures shown { HasCleanDisk (state S.Store result.conn) → IfOk result.outcome
         (ShowsAllRows after (state S.Store conn).now) }
-    ensures kept { HasCleanDisk (state S.Store result.conn)
-        → IsTrue (state S.Store result.conn).is_open
-        → KeepsRows (state S.Store conn).now (state S.Store result.conn).now }
-    ensures clean { HasCleanDisk (state S.Store result.conn) → HasCleanDisk (state S.Store conn) }
+    ensures left { Leaves (state S.Store conn) (state S.Store result.conn) }
     ensures without { has_name (state S.Store conn).now.schema ≡ false
         → ((state S.Store result.conn).now ≡ (state S.Store conn).now)
         × (result.outcome ≡ Ok []) }
@@ -389,10 +386,7 @@ fn found_rows<S: Alter + Drop>(
 ) -> CommandEnd<S, Text>
     ensures shown { HasCleanDisk (state S.Store result.conn) → IfOk result.outcome
         (ShowsAllRows after (state S.Store conn).now) }
-    ensures kept { HasCleanDisk (state S.Store result.conn)
-        → IsTrue (state S.Store result.conn).is_open
-        → KeepsRows (state S.Store conn).now (state S.Store result.conn).now }
-    ensures clean { HasCleanDisk (state S.Store result.conn) → HasCleanDisk (state S.Store conn) }
+    ensures left { Leaves (state S.Store conn) (state S.Store result.conn) }
     ensures fault { IfErr result.outcome (λ f. f ≢ command.AnotherSource) }
     ensures line { IfOk result.outcome (SaysAllRows after) }
 {
@@ -429,6 +423,7 @@ fn row_lines<S: Alter>(
         × (HasCleanDisk (state S.Store service.new.conn) → ForAllRows service.old.source
         service.old.base after (state S.Store service.old.conn).now (λ rows. events ≡ rows))) }
     ensures same { IsSame (state S.Store service.old.conn) (state S.Store service.new.conn) }
+    ensures crash { LeavesRead (state S.Store service.old.conn) (state S.Store service.new.conn) }
     ensures fault { IfErr result (λ f. f ≢ command.AnotherSource) }
 {
     let mut lines = String::new(alloc);
@@ -457,9 +452,13 @@ fn next_page<S: Alter>(
         service.old.base mark max_page (state S.Store service.old.conn).now rows))) }
     ensures open { HasCleanDisk (state S.Store service.new.conn)
         → OnOk result (IsTrue (state S.Store service.old.conn).is_open) }
+    ensures stays_open { HasCleanDisk (state S.Store service.new.conn)
+        → OnOk result (IsTrue (state S.Store service.new.conn).is_open) }
     ensures kept { (service.new.source ≡ service.old.source)
         × (service.new.base ≡ service.old.base) }
     ensures same { IsSame (state S.Store service.old.conn) (state S.Store service.new.conn) }
+    ensures crash { LeavesAsBefore (state S.Store service.old.conn)
+        (state S.Store service.new.conn) }
     ensures fault { IfErr result (λ f. f ≢ command.AnotherSource) }
 {
     let rows = match service.rows_after(mark, MAX_PAGE) {

@@ -1,15 +1,15 @@
 -- What a run leaves, whatever it came to.
-use Rattle.std.specs.Prelude.{◌≡◌, ◌⊎◌, ℕ, List, [], ◌∷◌, ◌++◌, length, take, Option, None, Some, Result, Ok, Err, IfOk, IsOk, IsTrue}
+use Rattle.std.specs.Prelude.{◌≡◌, ◌⊎◌, ℕ, true, List, [], ◌∷◌, ◌++◌, length, take, Option, None, Some, Result, Ok, Err, IfOk, IsOk, IsTrue}
 use Rattle.std.specs.Option.{option_or}
 use Rattle.sqlite_trees.specs.Tree.{Trees}
 use Rattle.sqlite.specs.Effect.{Database, IsDatabase}
 use Rattle.sqlite.specs.State.{State, HasCleanDisk}
 use Rattle.attributes.specs.Event.{EventValue}
-use Rattle.inbox_table.specs.Calls.{IsSettled}
+use Rattle.inbox_table.specs.Calls.{IsSettled, has_both}
 use Rattle.inbox_table.specs.Rows.{IsInbox}
 use Rattle.database_commands.specs.Held as database
 use Rattle.database_commands.specs.declared.fault.CommandFault.{CommandFault}
-use Rattle.database_commands.specs.declared.fault.CommandFault.TheVariants.{OutOfMemory}
+use Rattle.database_commands.specs.declared.fault.CommandFault.TheVariants.{Foreign, OutOfMemory}
 use Rattle.feeds.specs.declared.report.Report.{Report}
 use Rattle.feeds.specs.declared.serving.ServeFault.{ServeFault}
 use Rattle.keeper.specs.declared.fault.KeepFault.{KeepFault}
@@ -90,6 +90,10 @@ pub record IsUnbegun (old new : State) (stopped : Option KeepFault)
   pub told : outcome ≡ Err (run.Database why)
   pub unstopped : stopped ≡ None
   pub same : HasCleanDisk new → IsTrue new.is_open → database.KeepsEvents old.now new.now
+  -- `Foreign` comes only of tables that aren't those of an inbox, and always where both versions
+  -- are there
+  pub foreign : why ≡ Foreign → HasCleanDisk new → database.IsNoInbox old.now
+  pub both : has_both old.now.schema ≡ true → why ≡ Foreign
 
 -- these are the events that the database held
 abbrev pub WasHeld : Database → List EventValue → Type 0

@@ -3,7 +3,7 @@ use Rattle.std.proofs.lemmas.Result.{IfErr-weaker, IfOk-weaker}
 use Rattle.sqlite.specs.Held.{state}
 use Rattle.sqlite.proofs.StateLemmas.{survives_weaker}
 use Rattle.inbox_table.specs.Rows.{IsInbox}
-use Rattle.database_commands.proofs.HeldLemmas.{opened_events, opened_holds, opened_may_hold, opened_rows, opened_tells}
+use Rattle.database_commands.proofs.HeldLemmas.{no_inbox, opened_events, opened_holds, opened_may_hold, opened_rows, opened_tells}
 use Rattle.database_commands.proofs.intake.adopted.Goals as goal
 
 pub returns-clause-held : goal.returns-clause-held
@@ -34,3 +34,6 @@ returns-clause-crash g c =
 pub returns-clause-crash_refused : goal.returns-clause-crash_refused
 returns-clause-crash_refused g c =
     IfErr-weaker c.open.result _ _ (λ n crash. survives_weaker _ _ _ _ (λ clean trees may. opened_may_hold _ trees may) crash) c.open.ensures.crash_refused
+
+pub returns-clause-foreign : goal.returns-clause-foreign
+returns-clause-foreign g c = IfErr-weaker c.open.result _ _ (λ n rejects. no_inbox _ _ n.fault rejects) c.open.ensures.rejects

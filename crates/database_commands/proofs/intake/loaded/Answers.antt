@@ -1,6 +1,6 @@
 use Rattle.std.proofs.lemmas.Result.{IfErr-weaker, IfOk-weaker}
 use Rattle.sqlite.proofs.StateLemmas.{survives_weaker}
-use Rattle.database_commands.proofs.HeldLemmas.{opened_events, opened_holds, opened_may_hold, opened_rows}
+use Rattle.database_commands.proofs.HeldLemmas.{no_inbox, opened_events, opened_holds, opened_may_hold, opened_rows}
 use Rattle.database_commands.proofs.intake.loaded.Goals as goal
 
 pub returns : goal.returns
@@ -16,4 +16,6 @@ returns g c =
       crash = IfOk-weaker c.open_and_load.result _ _ (λ l crash. survives_weaker _ _ _ _ (λ clean trees may. opened_may_hold _ trees may) crash) c.open_and_load.ensures.crash;
       crash_refused = IfErr-weaker c.open_and_load.result _ _ (λ n crash. survives_weaker _ _ _ _ (λ clean trees may. opened_may_hold _ trees may) crash) c.open_and_load.ensures.crash_refused;
       beside = IfOk-weaker c.open_and_load.result _ _ (λ l opens clean. opened_rows _ _ _ l.events (opens clean)) c.open_and_load.ensures.opens;
+      foreign = IfErr-weaker c.open_and_load.result _ _ (λ n rejects. no_inbox _ _ n.fault rejects) c.open_and_load.ensures.rejects;
+      both = c.open_and_load.ensures.both;
     }

@@ -1,13 +1,14 @@
-use Rattle.std.proofs.Common.{IsTrue, inl, inr, subst, sym}
+use Rattle.std.proofs.Common.{◌∙◌, Err, IsTrue, ap, inl, inr, subst, sym}
 use Rattle.std.proofs.lemmas.Result.{IfErr-weaker, IfOk-weaker}
 use Rattle.sqlite.specs.Held.{state}
 use Rattle.sqlite.specs.State.{HasCleanDisk, Survives}
 use Rattle.sqlite.proofs.StateLemmas.{survives_then, survives_weaker}
 use Rattle.inbox_table.specs.Calls.{IsSettled}
 use Rattle.inbox_table.specs.Rows.{IsInbox}
+use Rattle.database_commands.specs.Fault.{of_table}
 use Rattle.database_commands.specs.Held.{Holds, IsTaken, KeepsOrTakes, KeepsRows, MayHoldMore}
 use Rattle.database_commands.proofs.BesideLemmas.{service_over, service_same}
-use Rattle.database_commands.proofs.HeldLemmas.{held_may_more, inbox_holds, on_ok, on_okay, took_may_more}
+use Rattle.database_commands.proofs.HeldLemmas.{held_may_more, inbox_holds, on_ok, on_okay, table_foreign, took_may_more}
 use Rattle.database_commands.proofs.intake.take.Goals as goal
 
 pub returns-in-Ok-clause-left : goal.returns-in-Ok-clause-left
@@ -79,3 +80,15 @@ returns-in-Ok-clause-taken g c clean =
     IfOk-weaker c.kept-outcome.result _ _
     (λ text taken held holds. subst (λ h. IsTaken c.args.events.now held (state g.S.Store h).now text) (sym c.into_connection-conn.ensures) (taken held (c.in-Ok.ensures.held early held holds)))
     (c.kept-outcome.ensures.taken late)
+
+pub returns-in-Ok-clause-foreign : goal.returns-in-Ok-clause-foreign
+returns-in-Ok-clause-foreign g c = IfErr-weaker c.kept-outcome.result _ _ (λ f known is clean. absurd (known is)) c.kept-outcome.ensures.known
+
+pub returns-in-Ok-clause-both : goal.returns-in-Ok-clause-both
+returns-in-Ok-clause-both g c both = absurd (c.in-Ok.ensures.both both)
+
+pub returns-in-Err-clause-foreign : goal.returns-in-Err-clause-foreign
+returns-in-Err-clause-foreign g c is clean = c.in-Err.ensures.foreign (table_foreign c.in-Err.refused.fault (sym c.of_table.ensures ∙ is)) clean
+
+pub returns-in-Err-clause-both : goal.returns-in-Err-clause-both
+returns-in-Err-clause-both g c both = ap Err (c.of_table.ensures ∙ ap of_table (c.in-Err.ensures.both both))

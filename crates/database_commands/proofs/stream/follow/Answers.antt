@@ -24,7 +24,7 @@ returns-in-Ok g c =
     }
 
 pub returns-in-Err-clause-stops : goal.returns-in-Err-clause-stops
-returns-in-Err-clause-stops g c = inl (stays_unread _ _ _ _ c.in-Err.refused.fault c.of_table.result c.of_table.ensures c.in-Err.ensures.back)
+returns-in-Err-clause-stops g c = inl (stays_unread _ _ _ _ c.in-Err.refused.fault c.of_table.result c.of_table.ensures c.in-Err.ensures.back c.in-Err.ensures.foreign c.in-Err.ensures.both)
 
 pub returns-in-Err-clause-until : goal.returns-in-Err-clause-until
 returns-in-Err-clause-until g c = tells_none _ _

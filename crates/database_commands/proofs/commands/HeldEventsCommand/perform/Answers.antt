@@ -5,6 +5,8 @@ pub returns-clause-did : goal.returns-clause-did
 returns-clause-did g c = let it = c.held.ensures in record {
   look = record { shown = it.events; left = it.left; without = λ absent. (it.without absent).0 };
   none = λ absent. let none = it.without absent in (none.1, none.2);
+  foreign = it.foreign;
+  both = it.both;
 }
 
 pub returns-clause-clean : goal.returns-clause-clean

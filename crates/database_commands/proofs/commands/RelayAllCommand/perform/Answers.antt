@@ -1,10 +1,13 @@
+use Rattle.std.proofs.Common.{arith}
 use Rattle.database_commands.proofs.commands.RelayAllCommand.perform.Goals as goal
 
 pub returns-clause-did : goal.returns-clause-did
 returns-clause-did g c = let it = c.relay_all.ensures in record {
   shown = it.shown;
-  kept = it.kept;
-  clean = it.clean;
+  left = it.left;
   without = it.without;
   fault = it.fault;
 }
+
+pub returns-clause-clean : goal.returns-clause-clean
+returns-clause-clean g c clean = omega (arith, c.relay_all.ensures.left.clean, clean)

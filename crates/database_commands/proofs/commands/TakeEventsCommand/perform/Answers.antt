@@ -11,6 +11,8 @@ returns-clause-did g c = let it = c.take.ensures in record {
   stays_open = it.stays_open;
   settled = it.settled;
   crash = it.crash;
+  foreign = it.foreign;
+  both = it.both;
 }
 
 pub returns-clause-clean : goal.returns-clause-clean

@@ -1,0 +1,20 @@
+use Rattle.std.proofs.Common.{◌≡◌, ◌∙◌, Err, ap, false, rules, sym}
+use Rattle.database_layout.specs.Layout.{has_inbox}
+use Rattle.inbox_table.proofs.OpenLemmas.{not_both}
+use Rattle.database_commands.specs.Fault.{of_table}
+use Rattle.database_commands.proofs.HeldLemmas.{table_foreign}
+use Rattle.database_commands.proofs.page.held.Goals as goal
+
+pub returns-then-not-has_inbox-clause-both : goal.returns-then-not-has_inbox-clause-both
+returns-then-not-has_inbox-clause-both g c both =
+    let none : has_inbox c.args.conn.schema ≡ false = search rules in
+    absurd (not_both c.args.conn.schema none both)
+
+pub returns-in-Ok-clause-both : goal.returns-in-Ok-clause-both
+returns-in-Ok-clause-both g c both = absurd (c.in-Ok.ensures.both both)
+
+pub returns-in-Err-clause-foreign : goal.returns-in-Err-clause-foreign
+returns-in-Err-clause-foreign g c is clean = c.in-Err.ensures.rejects.foreign clean (table_foreign c.in-Err.fault (sym c.of_table.ensures ∙ is))
+
+pub returns-in-Err-clause-both : goal.returns-in-Err-clause-both
+returns-in-Err-clause-both g c both = ap Err (c.of_table.ensures ∙ ap of_table (c.in-Err.ensures.both both))
