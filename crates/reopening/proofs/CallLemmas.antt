@@ -22,15 +22,15 @@ use Rattle.reopening.specs.Services.{CommandsUntil, GaveCommand, WasService}
 abbrev pub OpensTable : (ℕ → ℕ → Type 0) → State → State → ℕ → Type 0
 OpensTable tells old new rows = HasCleanDisk new → (events : List EventValue) × (rows ≡ length events) × Opens tells old new events
 
-module _ {S : Type 0} (state : Held S → State) (first one old last : Held S) (L : List EventValue) where
-  pub gave_events : (tells again : ℕ → ℕ → Type 0) (rows rows' : ℕ) → OpensTable tells (state first) (state one) rows → IsLive (state one)
+module _ {S : Type 0} (state : Held S → State) (first taken one old last : Held S) (L : List EventValue) where
+  pub gave_events : (tells again : ℕ → ℕ → Type 0) (rows rows' : ℕ) → one ≡ taken → OpensTable tells (state first) (state taken) rows → IsLive (state one)
       → OpensTable again (state one) (state old) rows' → Survives (state one) (state old) (MayOpen (state one).now)
       → Survives (state old) (state last) (λ trees. IsTrue (state old).is_open → MayTake L (state old).now trees)
       → HasCleanDisk (state last) → GaveEvents state first L last
-  gave_events tells again rows rows' opened live reopened crash kept clean =
+  gave_events tells again rows rows' back opened live reopened crash kept clean =
       let clean2 : HasCleanDisk (state old) = omega (arith, kept.clean, clean) in
       let clean1 : HasCleanDisk (state one) = omega (arith, crash.clean, clean2) in
-      let it = opened clean1 in
+      let it = subst (λ (h : Held S). OpensTable tells (state first) (state h) rows) (sym back) opened clean1 in
       let then = reopened clean2 in
       let box : IsInbox (state one).now it.0 = it.2.is in
       let taken = then.2.adopts (any_named (state one).now it.0 (inl box)) in
@@ -58,10 +58,12 @@ none_of base [] is = refl
 none_of base (c ∷ cs) is = absurd (let bad : base ≡ base + suc (length cs) = is in omega (arith, bad))
 
 module _ {S : Type 0} (state : Held S → State) (first last : Held S) (one two : Shown S) (given : List ℕ) (start : ℕ) (a : Accepted) where
-  pub gave_command : outbox.Opens given start (state first) one (state one.conn) → IsLive (state one.conn)
-      → outbox.Opens given start (state one.conn) two (state two.conn) → (HasCleanDisk (state last) → HasCleanDisk (state two.conn))
+  pub gave_command : (mid : Held S) → mid ≡ one.conn → outbox.Opens given start (state first) one (state one.conn) → IsLive (state mid)
+      → outbox.Opens given start (state mid) two (state two.conn) → (HasCleanDisk (state last) → HasCleanDisk (state two.conn))
       → CommandsUntil (state two.conn) two.source two.base a (state last) → HasCleanDisk (state last) → GaveCommand state first given start a last
-  gave_command opened live reopened before until clean =
+  gave_command mid back opened alive again before until clean =
+      let live : IsLive (state one.conn) = subst (λ (h : Held S). IsLive (state h)) back alive in
+      let reopened : outbox.Opens given start (state one.conn) two (state two.conn) = subst (λ (h : Held S). outbox.Opens given start (state h) two (state two.conn)) back again in
       let clean2 : HasCleanDisk (state two.conn) = before clean in
       let clean1 : HasCleanDisk (state one.conn) = (let c = reopened.clean in omega (arith, c, clean2)) in
       let stands = opened.stands clean1 in
