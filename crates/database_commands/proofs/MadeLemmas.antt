@@ -1,36 +1,47 @@
 -- What a command makes of the events that a database holds.
-use Rattle.std.proofs.Common.{◌≡◌, ◌∙◌, ℕ, List, [], false, Ok, Err, Result, MatchResult, IfOk, ap, subst, sym}
+use Rattle.std.proofs.Common.{◌≡◌, ◌∙◌, ℕ, List, [], true, false, Ok, Err, Result, MatchResult, IfErr, IfOk, ap, inl, inr, subst, sym}
 use Rattle.std.specs.Result.{OnOk}
-use Rattle.std.proofs.lemmas.Result.{IfOk-at_ok}
+use Rattle.std.proofs.lemmas.Result.{IfErr-at_err, IfOk-at_ok}
 use Rattle.sqlite.specs.Effect.{Database}
 use Rattle.sqlite.specs.State.{State, HasCleanDisk}
 use Rattle.attributes.specs.Event.{EventValue}
 use Rattle.inbox.specs.KeyOrder.{key_cmp}
 use Rattle.inbox.specs.Ordered.{append_new}
 use Rattle.database_layout.specs.Layout.{has_inbox}
+use Rattle.inbox_table.specs.Calls.{has_both}
 use Rattle.outbox.specs.Call.{Leaves}
 use Rattle.database_commands.specs.Effect.{LookEffect, PageEffect}
-use Rattle.database_commands.specs.Held.{Holds, ShowsEvents}
+use Rattle.database_commands.specs.Held.{Holds, IsNoInbox, ShowsEvents}
 use Rattle.database_commands.specs.declared.fault.CommandFault.{CommandFault}
+use Rattle.database_commands.specs.declared.fault.CommandFault.TheVariants as command
 use Rattle.database_commands.specs.steps.Made.{ContentsEffect, IsMadeOf}
 use Rattle.database_commands.proofs.HeldLemmas.{at_okay, held_once}
 
 -- what is said of all that was made is said of what was made
 pub made_says : {A B : Type 0} (given : Result A CommandFault) (made : Result B CommandFault) (Is : A → B → Type 0) (Says : B → Type 0)
     → ((a : A) (b : B) → Is a b → Says b) → IsMadeOf given Is made → IfOk made Says
-made_says given (Ok b) Is Says to it = to it.0 b it.2
+made_says given (Ok b) Is Says to it = to it.of.0 b it.of.2
 made_says given (Err f) Is Says to it = tt
 
 -- what was made was made of what was shown
 made_shows : {A B : Type 0} (given : Result A CommandFault) (made : Result B CommandFault) (Is : A → B → Type 0) (Shown : A → Type 0) (Says : B → Type 0)
     → IfOk given Shown → ((a : A) (b : B) → Is a b → Shown a → Says b) → IsMadeOf given Is made → IfOk made Says
-made_shows given (Ok b) Is Shown Says shown to it = to it.0 b it.2 (IfOk-at_ok Shown it.1 shown)
+made_shows given (Ok b) Is Shown Says shown to it = to it.of.0 b it.of.2 (IfOk-at_ok Shown it.of.1 shown)
 made_shows given (Err f) Is Shown Says shown to it = tt
 
 -- where it was made, what it is made of was to be had
 made_on : {A B : Type 0} (given : Result A CommandFault) (made : Result B CommandFault) (Is : A → B → Type 0) (P : Type 0) → OnOk given P → IsMadeOf given Is made → OnOk made P
-made_on given (Ok b) Is P p it = at_okay given it.0 P it.1 p
+made_on given (Ok b) Is P p it = at_okay given it.of.0 P it.of.1 p
 made_on given (Err f) Is P p it = tt
+
+-- what is foreign is what was given, since want of memory isn't
+made_foreign : {A B : Type 0} (given : Result A CommandFault) (made : Result B CommandFault) (Is : A → B → Type 0) (P : Type 0) → IfErr given (λ f. f ≡ command.Foreign → P) → IsMadeOf given Is made
+    → IfErr made (λ f. f ≡ command.Foreign → P)
+made_foreign given (Ok b) Is P p it = tt
+made_foreign given (Err f) Is P p it = λ is. elim it.why [
+  | inl same ↦ IfErr-at_err (λ e. e ≡ command.Foreign → P) same p is
+  | inr memory ↦ absurd (let e : command.OutOfMemory ≡ command.Foreign = sym memory ∙ is in cc)
+]
 
 -- events that a database holds stand there once each
 pub once_shown : (db : Database) (es held : List EventValue) → ShowsEvents db es → Holds db held → append_new key_cmp [] es ≡ held
@@ -39,11 +50,14 @@ once_shown db es held shows holds = ap (append_new key_cmp []) (shows held holds
 -- a command that only looks
 pub look_made : {B : Type 0} (old new : State) (events : Result (List EventValue) CommandFault) (made : Result B CommandFault) (Is : List EventValue → B → Type 0) (Shows : Database → B → Type 0)
     → (HasCleanDisk new → IfOk events (ShowsEvents old.now)) → Leaves old new → (has_inbox old.now.schema ≡ false → new.now ≡ old.now)
+    → IfErr events (λ f. f ≡ command.Foreign → HasCleanDisk new → IsNoInbox old.now) → (has_both old.now.schema ≡ true → events ≡ Err command.Foreign)
     → ((es : List EventValue) (b : B) → Is es b → ShowsEvents old.now es → Shows old.now b) → IsMadeOf events Is made → LookEffect Shows made old new
-look_made old new events made Is Shows shown left without to it = record {
+look_made old new events made Is Shows shown left without foreign both to it = record {
   shown = λ clean. made_shows events made Is (ShowsEvents old.now) (Shows old.now) (shown clean) to it;
   left = left;
   without = without;
+  foreign = made_foreign events made Is (HasCleanDisk new → IsNoInbox old.now) foreign it;
+  both = λ there. it.refused command.Foreign (both there);
 }
 
 -- and one that makes the table where there is none
@@ -56,6 +70,8 @@ page_made old new events made Is Shows own to it = record {
   stays_open = λ clean. made_on events made Is _ (own.stays_open clean) it;
   settled = λ clean. made_on events made Is _ (own.settled clean) it;
   crash = own.crash;
+  foreign = made_foreign events made Is (HasCleanDisk new → IsNoInbox old.now) own.foreign it;
+  both = λ there. it.refused command.Foreign (own.both there);
 }
 
 -- what a command that was carried out answers is of its form, also behind the closing

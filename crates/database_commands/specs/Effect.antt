@@ -55,6 +55,9 @@ pub record PageEffect (Shows : Database → List ℕ → Type 0)
   -- whatever came of it, no fault of the disk is forgotten, and a crash leaves what it could leave
   -- before, or the events that were held
   pub crash : Survives old new (MayHold old.now)
+  -- `Foreign` comes as of `take`
+  pub foreign : IfErr outcome (λ f. f ≡ command.Foreign → HasCleanDisk new → IsNoInbox old.now)
+  pub both : has_both old.now.schema ≡ true → IsErrOf outcome command.Foreign
 
 -- a command only looked at the inbox: `summary`, or all pages of `delta` or `scrub`
 pub record LookEffect {A : Type 0} (Shows : Database → A → Type 0)
@@ -64,6 +67,9 @@ pub record LookEffect {A : Type 0} (Shows : Database → A → Type 0)
   pub left : Leaves old new
   -- so it is where there is no inbox, whatever the disk does
   pub without : has_inbox old.now.schema ≡ false → new.now ≡ old.now
+  -- `Foreign` comes as of `take`
+  pub foreign : IfErr outcome (λ f. f ≡ command.Foreign → HasCleanDisk new → IsNoInbox old.now)
+  pub both : has_both old.now.schema ≡ true → IsErrOf outcome command.Foreign
 
 -- the events were asked for
 pub record HeldEffect (outcome : Result (List EventValue) CommandFault) (old new : State)
@@ -71,9 +77,6 @@ pub record HeldEffect (outcome : Result (List EventValue) CommandFault) (old new
   pub look : LookEffect ShowsEvents outcome old new
   -- where there is no inbox there are none, and nothing refuses that
   pub none : has_inbox old.now.schema ≡ false → IfOk outcome (λ es. es ≡ []) × IsOk outcome
-  -- `Foreign` comes as of `take`
-  pub foreign : IfErr outcome (λ f. f ≡ command.Foreign → HasCleanDisk new → IsNoInbox old.now)
-  pub both : has_both old.now.schema ≡ true → IsErrOf outcome command.Foreign
 
 -- it was asked what the database of this name is
 pub record DescribeEffect (name : List ℕ) (outcome : Result (List ℕ) CommandFault)

@@ -1,11 +1,12 @@
-use Rattle.std.proofs.Common.{IsTrue, Ok, subst, sym}
+use Rattle.std.proofs.Common.{◌∙◌, Err, IsTrue, Ok, ap, subst, sym}
 use Rattle.sqlite.specs.Held.{state}
 use Rattle.sqlite.specs.State.{HasCleanDisk}
 use Rattle.inbox_table.specs.Rows.{IsInbox}
+use Rattle.database_commands.specs.Fault.{of_table}
 use Rattle.database_commands.specs.Held.{Holds}
 use Rattle.database_commands.specs.steps.Made.{ContentsEffect}
 use Rattle.database_commands.proofs.BesideLemmas.{service_same}
-use Rattle.database_commands.proofs.HeldLemmas.{inbox_holds}
+use Rattle.database_commands.proofs.HeldLemmas.{inbox_holds, table_foreign}
 use Rattle.database_commands.proofs.page.own_contents.Goals as goal
 
 pub returns-in-Ok : goal.returns-in-Ok
@@ -19,6 +20,8 @@ returns-in-Ok g c =
       stays_open = λ clean. of.stays_open clean;
       settled = λ clean. of.settled clean;
       crash = of.crash;
+      foreign = tt;
+      both = λ both. absurd (of.both both);
     })
 
 pub returns-in-Err : goal.returns-in-Err
@@ -31,4 +34,6 @@ returns-in-Err g c =
       stays_open = λ clean. tt;
       settled = λ clean. tt;
       crash = of.crash_refused;
+      foreign = λ is clean. of.foreign (table_foreign c.in-Err.refused.fault (sym c.of_table.ensures ∙ is)) clean;
+      both = λ both. ap Err (c.of_table.ensures ∙ ap of_table (of.both both));
     }

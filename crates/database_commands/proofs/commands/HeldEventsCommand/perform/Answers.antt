@@ -3,10 +3,8 @@ use Rattle.database_commands.proofs.commands.HeldEventsCommand.perform.Goals as 
 
 pub returns-clause-did : goal.returns-clause-did
 returns-clause-did g c = let it = c.held.ensures in record {
-  look = record { shown = it.events; left = it.left; without = λ absent. (it.without absent).0 };
+  look = record { shown = it.events; left = it.left; without = λ absent. (it.without absent).0; foreign = it.foreign; both = it.both };
   none = λ absent. let none = it.without absent in (none.1, none.2);
-  foreign = it.foreign;
-  both = it.both;
 }
 
 pub returns-clause-clean : goal.returns-clause-clean
