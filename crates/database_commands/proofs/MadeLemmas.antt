@@ -23,6 +23,42 @@ pub made_says : {A B : Type 0} (given : Result A CommandFault) (made : Result B 
 made_says given (Ok b) Is Says to it = to it.of.0 b it.of.2
 made_says given (Err f) Is Says to it = tt
 
+-- ---- how it is made
+
+pub made_ok : {A B : Type 0} (given : Result A CommandFault) (Is : A → B → Type 0) (a : A) (b : B) → given ≡ Ok a → Is a b → IsMadeOf given Is (Ok b)
+made_ok {A} given Is a b is to = record {
+  of = (a, is, to);
+  refused = λ f bad. absurd (let e : ◌≡◌ {A = Result A CommandFault} (Ok a) (Err f) = sym is ∙ bad in cc);
+  why = tt;
+}
+
+-- memory was wanted
+pub made_want : {A B : Type 0} (given : Result A CommandFault) (Is : A → B → Type 0) (a : A) (f : CommandFault) → given ≡ Ok a → f ≡ command.OutOfMemory → IsMadeOf given Is (Err f)
+made_want {A} given Is a f is want = record {
+  of = tt;
+  refused = λ g bad. absurd (let e : ◌≡◌ {A = Result A CommandFault} (Ok a) (Err g) = sym is ∙ bad in cc);
+  why = inr want;
+}
+
+-- it wasn't to be had
+pub made_none : {A B : Type 0} (given : Result A CommandFault) (Is : A → B → Type 0) (f : CommandFault) → given ≡ Err f → IsMadeOf given Is (Err f)
+made_none {A} given Is f is = record {
+  of = tt;
+  refused = λ g same. let e : ◌≡◌ {A = Result A CommandFault} (Err f) (Err g) = sym is ∙ same in let at : f ≡ g = cc in ap Err at;
+  why = inl is;
+}
+
+-- nor was what is made of it first
+pub made_over : {A B C : Type 0} (given : Result A CommandFault) (mid : Result B CommandFault) (Is : A → B → Type 0) (Js : A → C → Type 0) (f : CommandFault)
+    → IsMadeOf given Is mid → mid ≡ Err f → IsMadeOf given Js (Err f)
+made_over {A} {B} given mid Is Js f it is =
+    let at : IsMadeOf given Is (Err f) = subst (IsMadeOf given Is) is it in
+    record {
+      of = tt;
+      refused = λ g same. let e : ◌≡◌ {A = Result B CommandFault} (Err f) (Err g) = at.refused g same in let here : f ≡ g = cc in ap Err here;
+      why = at.why;
+    }
+
 -- what was made was made of what was shown
 made_shows : {A B : Type 0} (given : Result A CommandFault) (made : Result B CommandFault) (Is : A → B → Type 0) (Shown : A → Type 0) (Says : B → Type 0)
     → IfOk given Shown → ((a : A) (b : B) → Is a b → Shown a → Says b) → IsMadeOf given Is made → IfOk made Says
