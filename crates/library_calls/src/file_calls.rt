@@ -245,13 +245,7 @@ pub(crate) fn answer(
 }
 
 /// Answers what is asked of the site that lies in the room, as [`answer`] does.
-pub fn site_tell(
-    mut held: Held,
-    what: u32,
-    bytes: &[u8],
-    from: u64,
-    reply: &mut Reply,
-) -> Held
+pub fn site_tell(mut held: Held, what: u32, bytes: &[u8], from: u64, reply: &mut Reply) -> Held
     ensures { Answered what bytes.now from held result reply.new }
 {
     answer(
@@ -440,12 +434,7 @@ pub fn file_part(
 }
 
 /// Keeps the lines of the events of a source and an id.
-pub fn file_get(
-    mut held: FileHeld,
-    source: &[u8],
-    id: &[u8],
-    reply: &mut Reply,
-) -> FileHeld
+pub fn file_get(mut held: FileHeld, source: &[u8], id: &[u8], reply: &mut Reply) -> FileHeld
     ensures { FoundFile source.now id.now held result reply.new }
 {
     held.offers.let_go(held.alloc);

@@ -62,12 +62,7 @@ fn served(alloc: Global, given: GivenFiles, base: u64) -> Result<FileNumberer, u
 }
 
 /// Opens a numberer over the files.
-pub fn numbers_open(
-    alloc: Global,
-    given: GivenFiles,
-    base: u64,
-    reply: &mut Reply,
-) -> NumbersHeld
+pub fn numbers_open(alloc: Global, given: GivenFiles, base: u64, reply: &mut Reply) -> NumbersHeld
     ensures { OpenedNumbers base result reply.new }
 {
     let text = Text::from_string(String::new(alloc));

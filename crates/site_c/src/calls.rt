@@ -63,13 +63,7 @@ pub(crate) fn site_keep_views(held: Held, seed: &[u8], reply: &mut Reply) -> Hel
     library_calls::site_keep_views(held, seed, reply)
 }
 
-pub(crate) fn site_tell(
-    held: Held,
-    what: u32,
-    bytes: &[u8],
-    from: u64,
-    reply: &mut Reply,
-) -> Held
+pub(crate) fn site_tell(held: Held, what: u32, bytes: &[u8], from: u64, reply: &mut Reply) -> Held
     ensures { Answered what bytes.now from held result reply.new }
 {
     library_calls::site_tell(held, what, bytes, from, reply)

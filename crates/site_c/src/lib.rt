@@ -149,7 +149,10 @@ pub unsafe extern "C" fn jumbetai_site_tell(
         ∗ ⌜ Answered what bytes.now from held kept reply.new ⌝ }
 {
     let to = at as *mut Held;
-    std::ptr::write(to, calls::site_tell(std::ptr::read(to), what, bytes, from, reply));
+    std::ptr::write(
+        to,
+        calls::site_tell(std::ptr::read(to), what, bytes, from, reply),
+    );
 }
 
 /// Asks for the part from a place on of what a peer lacks by its summary, as a batch: at most so
@@ -313,7 +316,10 @@ pub unsafe extern "C" fn jumbetai_file_tell(
         ∗ ⌜ Told what bytes.now from held kept reply.new ⌝ }
 {
     let to = at as *mut FileHeld;
-    std::ptr::write(to, calls::file_tell(std::ptr::read(to), what, bytes, from, reply));
+    std::ptr::write(
+        to,
+        calls::file_tell(std::ptr::read(to), what, bytes, from, reply),
+    );
 }
 
 /// Asks for a part of what a peer lacks, as `jumbetai_site_part` does.
