@@ -1,6 +1,7 @@
 -- What the contents of parts' answers come to, the files that were read come to.
-use Rattle.std.proofs.Common.{◌≡◌, ◌∙◌, ℕ, Bool, List, ap, inl, inr}
+use Rattle.std.proofs.Common.{◌≡◌, ◌∙◌, ℕ, Bool, List, Some, ap, inl, inr, slice_get, subst, sym}
 use Rattle.std.specs.Prelude.{if◌then◌else◌}
+use Rattle.std.specs.Str.{IsUtf8}
 use Rattle.command_words.specs.declared.request.Combine.{Combine}
 use Rattle.file_reports.specs.Shelves.{AreContents, IsUnreadAt}
 use Rattle.file_reports.specs.declared.input.Unread.{Unread}
@@ -8,8 +9,10 @@ use Rattle.file_reports.specs.declared.shelf.UnreadAt.{UnreadAt}
 use Rattle.site_commands.specs.Lines.{name_at, unread_line}
 use Rattle.parts.specs.declared.fault.CombineFault.{CombineFault}
 use Rattle.views.specs.declared.query.Query.{Query}
-use Rattle.site_commands.specs.Parts.{IsCombineEnding, IsOfCovers, RefusesContents, combine_line, covers_beside}
+use Rattle.site_commands.specs.Parts.{IsCombineEnding, IsNoText, IsOfCovers, RefusesContents, combine_line, covers_beside}
 use Rattle.site_commands.specs.steps.Combines.{IsContentsEnding, IsRefusalLine}
+use Rattle.site_commands.specs.declared.combine.TextFault.{TextFault}
+use Rattle.site_commands.specs.declared.combine.TextFault.TheVariants as text
 use Rattle.site_commands.specs.declared.ending.Ending.{Ending}
 use Rattle.site_commands.specs.declared.ending.Ending.TheVariants.{Answer, Told, Pages, Findings, Help, Faulty, Refused, Uncombined, NoMemory}
 
@@ -72,3 +75,14 @@ fault_ending q files cover_files answers covers blamed f is_of_covers (Refused t
 fault_ending q files cover_files answers covers blamed f is_of_covers (Uncombined text hint) is refused of_covers h =
     record { fault = f; refused = refused; is_of_covers = is_of_covers; blamed = of_covers; is_line = h ∙ ap (λ l. combine_line l f) is }
 fault_ending q files cover_files answers covers blamed f is_of_covers NoMemory is refused of_covers h = tt
+
+-- the place that a fault names
+place_of : TextFault → ℕ
+place_of text.OutOfMemory = 0
+place_of (text.NoText i) = i
+
+-- a content that isn't UTF-8 is no text
+pub no_text : (contents : List (List ℕ)) (at i : ℕ) (content bytes : List ℕ) → slice_get contents at ≡ Some content → bytes ≡ content
+    → (IsUtf8 bytes → ⊥) → text.NoText at ≡ text.NoText i → IsNoText contents i
+no_text contents at i content bytes there is odd same =
+    (bytes, subst (λ (k : ℕ). slice_get contents k ≡ Some bytes) (ap place_of same) (there ∙ ap Some (sym is)), odd)

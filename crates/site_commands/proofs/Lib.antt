@@ -3,6 +3,7 @@ mod CombineLemmas
 mod EndingLemmas
 mod FeedLemmas
 mod LineLemmas
+mod PartLemmas
 mod PieceLemmas
 mod RunLemmas
 mod StreamLemmas
