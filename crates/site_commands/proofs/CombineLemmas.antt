@@ -77,7 +77,7 @@ fault_ending q files cover_files answers covers blamed f is_of_covers (Uncombine
 fault_ending q files cover_files answers covers blamed f is_of_covers NoMemory is refused of_covers h = tt
 
 -- the place that a fault names
-place_of : TextFault → ℕ
+abbrev place_of : TextFault → ℕ
 place_of text.OutOfMemory = 0
 place_of (text.NoText i) = i
 
