@@ -1,4 +1,4 @@
-use Rattle.std.proofs.Common.{◌≡◌, ◌<◌, ◌++◌, ◌∷◌, [], ℕ, List, ap, ap₂, arith, length, sym, ◌∙◌}
+use Rattle.std.proofs.Common.{◌<◌, ◌++◌, ◌∷◌, [], ℕ, List, ap, ap₂, arith, length, sym, ◌∙◌}
 use Rattle.coverage.specs.Summary.{sources_of}
 use Rattle.parts.specs.Part.{part_of}
 use Rattle.site_commands.proofs.PartLemmas.{placed_more}
