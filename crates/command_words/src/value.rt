@@ -197,7 +197,12 @@ pub fn part_number(alloc: Global, text: &str, count: u64) -> Result<u64, Faulty>
 
 /// What is said of a text that is the number of no part.
 fn no_part(alloc: Global, text: &str) -> Faulty {
-    not_allowed(alloc, "--part <I>", text, "a number from 0, below that of --of")
+    not_allowed(
+        alloc,
+        "--part <I>",
+        text,
+        "a number from 0, below that of --of",
+    )
 }
 
 /// The time of a command.
