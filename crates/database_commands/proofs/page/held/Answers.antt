@@ -1,5 +1,6 @@
 use Rattle.std.proofs.Common.{◌≡◌, ◌∙◌, Err, ap, false, rules, sym}
 use Rattle.database_layout.specs.Layout.{has_inbox}
+use Rattle.inbox_table.specs.declared.fault.TableFault.TheVariants as table
 use Rattle.inbox_table.proofs.OpenLemmas.{not_both}
 use Rattle.database_commands.specs.Fault.{of_table}
 use Rattle.database_commands.proofs.HeldLemmas.{table_foreign}
@@ -11,10 +12,13 @@ returns-then-not-has_inbox-clause-both g c both =
     absurd (not_both c.args.conn.schema none both)
 
 pub returns-in-Ok-clause-both : goal.returns-in-Ok-clause-both
-returns-in-Ok-clause-both g c both = absurd (c.in-Ok.ensures.both both)
+returns-in-Ok-clause-both g c both = let bad = c.in-Ok.ensures.both both in cc
 
 pub returns-in-Err-clause-foreign : goal.returns-in-Err-clause-foreign
 returns-in-Err-clause-foreign g c is clean = c.in-Err.ensures.rejects.foreign clean (table_foreign c.in-Err.fault (sym c.of_table.ensures ∙ is))
 
 pub returns-in-Err-clause-both : goal.returns-in-Err-clause-both
-returns-in-Err-clause-both g c both = ap Err (c.of_table.ensures ∙ ap of_table (c.in-Err.ensures.both both))
+returns-in-Err-clause-both g c both =
+    let is = c.in-Err.ensures.both both in
+    let foreign : c.in-Err.fault ≡ table.Foreign = cc in
+    ap Err (c.of_table.ensures ∙ ap of_table foreign)
