@@ -10,6 +10,7 @@ use Rattle.sqlite.specs.Held.{Held}
 use Rattle.sqlite.specs.State.{State, HasCleanDisk, Survives}
 use Rattle.sqlite.proofs.StateLemmas.{survives_weaker}
 use Rattle.attributes.specs.Event.{EventValue}
+use Rattle.database_commands.specs.Fault.{of_table}
 use Rattle.database_commands.specs.declared.fault.CommandFault.TheVariants as command
 use Rattle.feeds.specs.declared.report.WorkerEnd.{WorkerEnd}
 use Rattle.feeds.specs.declared.report.WorkerEnd.TheVariants.{BadInput, Done, GateShut, OutOfMemory}
@@ -19,6 +20,8 @@ use Rattle.feeds.specs.declared.serving.ServeFault.TheVariants as serve
 use Rattle.feeds.specs.declared.serving.Served.{Served}
 use Rattle.inbox_table.specs.Calls.{IsSettled, Kept}
 use Rattle.inbox_table.specs.Rows.{IsInbox}
+use Rattle.inbox_table.specs.declared.fault.TableFault.{TableFault}
+use Rattle.inbox_table.specs.declared.fault.TableFault.TheVariants as table
 use Rattle.keeper.specs.Keep.{Grows, HasAll, HasFirst, KeepsUp, MayGrow}
 use Rattle.keeper.specs.steps.Flushes.{grows_none, grows_on, survives_none, survives_on}
 use Rattle.keeper.specs.declared.fault.KeepFault.{KeepFault}
@@ -378,3 +381,9 @@ ran_on old mid new events one held found opens grows = survives_on old mid new (
       more = all.0;
       is = inbox_holds m.db (events ++ all.0) all.1;
     }
+
+-- a refusal that is told as `Foreign` is that
+pub table_foreign : (fault : TableFault) → of_table fault ≡ command.Foreign → fault ≡ table.Foreign
+table_foreign table.OutOfMemory is = absurd (cc)
+table_foreign table.Store is = absurd (cc)
+table_foreign table.Foreign is = refl

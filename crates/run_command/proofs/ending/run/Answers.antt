@@ -6,9 +6,8 @@ use Rattle.inbox_table.specs.Rows.{IsInbox}
 use Rattle.database_commands.specs.Fault.{of_table}
 use Rattle.database_commands.specs.Held.{Holds, IsNoInbox, KeepsEvents}
 use Rattle.database_commands.specs.declared.fault.CommandFault.TheVariants as command
-use Rattle.database_commands.proofs.HeldLemmas.{table_foreign}
 use Rattle.run_command.specs.Outcome.{MayRun}
-use Rattle.run_command.proofs.EndLemmas.{inbox_holds, ran_on, unbegun_may}
+use Rattle.run_command.proofs.EndLemmas.{inbox_holds, ran_on, table_foreign, unbegun_may}
 use Rattle.run_command.proofs.ending.run.Goals as goal
 
 pub returns-in-Ok-clause-left : goal.returns-in-Ok-clause-left
