@@ -123,10 +123,7 @@ fn is_once(once: &Once, wanted: Wanted<'_>) -> bool {
             },
             Wanted::Part(all, one, names, by_line),
         ) => {
-            *count == all
-                && *part == one
-                && are(files.as_slice(), names)
-                && *has_lines == by_line
+            *count == all && *part == one && are(files.as_slice(), names) && *has_lines == by_line
         }
         _ => false,
     }

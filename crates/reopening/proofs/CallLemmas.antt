@@ -72,8 +72,8 @@ module _ {S : Type 0} (state : Held S → State) (first last : Held S) (one two 
       let left = reopened.left named in
       let same : (state two.conn).now ≡ (state one.conn).now = left.same clean2 (reopened.stays_open clean2) in
       let mine : IsService (state one.conn).now two.source two.base stands.commands =
-          subst (λ (z : List ℕ). IsService (state one.conn).now z two.base stands.commands) (sym own.0)
-          (subst (λ (z : ℕ). IsService (state one.conn).now one.source z stands.commands) (sym own.1) stands.table) in
+      subst (λ (z : List ℕ). IsService (state one.conn).now z two.base stands.commands) (sym own.0)
+      (subst (λ (z : ℕ). IsService (state one.conn).now one.source z stands.commands) (sym own.1) stands.table) in
       record {
         old = two.conn;
         source = two.source;

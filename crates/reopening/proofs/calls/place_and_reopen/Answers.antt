@@ -7,8 +7,7 @@ returns-in-Ok g c =
     IfOk-weaker c.service_reopened.result _ _
     (λ s found clean.
     let it = found clean in
-    let gave = c.in-Ok.ensures it.clean in
-    (
+    let gave = c.in-Ok.ensures it.clean in (
       gave.source,
       gave.base,
       gave.commands,
