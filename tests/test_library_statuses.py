@@ -65,7 +65,12 @@ CONSTANTS = tuple(f"library_calls/src/{it}.rt" for it in ("calls", "file_calls",
         pytest.param(["library_calls/specs/Outboxes.antt"], definition("outbox_status outbox"), {}, "", 3, id="the definition of outbox"),
         pytest.param(["library_calls/specs/Numbers.antt"], definition("number_status fault"), {}, "", 3, id="the definition of numbers"),
         pytest.param(
-            ["library_calls/specs/Calls.antt"], definition("summary_status summary"), {"OutOfMemory": "OutOfMemory"}, "Summary", 3, id="the definition of summaries"
+            ["library_calls/specs/Calls.antt"],
+            definition("summary_status summary"),
+            {"OutOfMemory": "OutOfMemory"},
+            "Summary",
+            3,
+            id="the definition of summaries",
         ),
         pytest.param(["file_reports/specs/Numbers.antt"], definition("fault_number fault"), OF_REPORTS, "", 3, id="the definition of reports"),
         pytest.param(["file_reports/src/refusal.rt"], r"ReportFault::(\w+).* => (\d),", OF_REPORTS, "", 3, id="the code's reports"),

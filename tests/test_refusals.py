@@ -82,7 +82,7 @@ def answers_of_parts(room: str) -> None:
     north, shown, last = (event(*it, source="/north") for it in [("a1", 1, "t.a", "x"), ("a1", 1, "t.b", "x"), ("a3", 3, "t.a", "y")])
     south = {**E1, "source": "/south", "time": AT}
     texts = [json.dumps(it, separators=(",", ":"), sort_keys=True) for it in (north, {**shown, "time": AT}, last, south)]
-    answers = {
+    answers: dict[str, list[str]] = {
         "one.cover": ['{"sources":{"/north":[[1,1],[3,3]]},"version":1}'],
         "one.gaps": ['["/north",[[2,2]]]'],
         "one.shown": texts[1:3],

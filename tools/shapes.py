@@ -294,7 +294,7 @@ def seconds(program: str, command: str, path: str, wanted: int = 0) -> float:
         subprocess.run([program, *words("take", path)], check=True, **how)
     elif command == "combine" and not os.path.exists(f"{path}.shown"):
         with open(f"{path}.shown", "wb") as answer:
-            subprocess.run([program, "shown", path], check=True, **{**how, "stdout": answer})
+            subprocess.run([program, "shown", path], check=True, cwd=where, stdout=answer, stderr=subprocess.DEVNULL)
     kept = f"{path}.kept"
     if command == "order":
         shutil.copy(f"{path}.db", kept)
