@@ -5,7 +5,7 @@ import io
 import os
 import shutil
 import tempfile
-from typing import TYPE_CHECKING, Iterator
+from typing import TYPE_CHECKING, Any, Iterator
 
 import pytest
 from harness import Counts
@@ -123,6 +123,17 @@ def tries(pytestconfig: pytest.Config, request: pytest.FixtureRequest, service: 
         tries.what = request.node.name.removeprefix("test_")
         end.callback(tries.end)
         yield tries
+
+
+@pytest.fixture
+def postgres() -> Iterator[Any]:
+    """A PostgreSQL of its own with an outbox."""
+    from serving import database
+
+    with database() as found:
+        if found is None:
+            pytest.skip("PostgreSQL isn't there (postgresql-15)")
+        yield found
 
 
 @pytest.fixture(scope="session")

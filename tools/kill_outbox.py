@@ -138,18 +138,14 @@ class Outbox:
         print(f"{sum(map(len, want.values()))} events of {len(want)} sources were committed; {self.did}", flush=True)
 
 
-def kill(tries: Any, rounds: int, seed: int) -> bool:
-    """Tries so many rounds; answers False where there is no PostgreSQL."""
-    with database() as db:
-        if db is None:
-            return False
-        settings = f'[postgres]\nurl = "host={db.folder} user=load dbname=postgres"\nevery_ms = 20\n'
-        with serving(tries, settings) as site:
-            outbox = Outbox(tries, db, site, random.Random(seed))
-            for at in range(rounds):
-                outbox.round(at)
-            outbox.judge()
-    return True
+def kill(tries: Any, db: Any, rounds: int, seed: int) -> None:
+    """Tries so many rounds."""
+    settings = f'[postgres]\nurl = "host={db.folder} user=load dbname=postgres"\nevery_ms = 20\n'
+    with serving(tries, settings) as site:
+        outbox = Outbox(tries, db, site, random.Random(seed))
+        for at in range(rounds):
+            outbox.round(at)
+        outbox.judge()
 
 
 def main() -> int:
@@ -162,11 +158,14 @@ def main() -> int:
     with tempfile.TemporaryDirectory() as folder:
         tries = Tries(folder, os.path.abspath(given.program), os.path.abspath(given.site))
         tries.what = "kills"
-        try:
-            if not kill(tries, given.rounds, given.seed):
-                tries.skip("an outbox in PostgreSQL", "it isn't there (postgresql-15)")
-        finally:
-            tries.end()
+        with database() as db:
+            try:
+                if db is None:
+                    tries.skip("an outbox in PostgreSQL", "it isn't there (postgresql-15)")
+                else:
+                    kill(tries, db, given.rounds, given.seed)
+            finally:
+                tries.end()
     return tries.tell()
 
 
