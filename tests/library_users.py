@@ -25,6 +25,7 @@ PROGRAMS: dict[str, list[str]] = {
     "bindings/c/test_service.c": [],
     "bindings/c/test_full.c": [],
     "bindings/c/test_numbers.c": [],
+    "bindings/c/test_division.c": [],
     "bindings/c/try_want.c": [],
     "bindings/c/try_want_outbox.c": ["-Wl,--wrap=malloc,--wrap=realloc"],
     "examples/c/ask.c": [],

@@ -15,6 +15,7 @@ CAMEL = {("".join(part.capitalize() for part in name.split("_")), number) for na
 # The names of the proved code and of its definitions for what the header has another name for.
 CALLED = {"NOT_OPEN": "NOT_OPEN", "NO_BODY": "BAD_ARGUMENT", "NO_TIME": "BAD_TIME", "NO_ORDER_NUMBER": "BAD_ORDER", "NO_SOURCE": "BAD_SOURCE"}
 OF_REPORTS = {"Read": "NoEvents", "Event": "NoNumber"}
+OF_PARTS = {"NotACover": "Not_A_Cover"}
 
 
 def read(file: str) -> str:
@@ -49,13 +50,13 @@ def header_name(name: str) -> str:
     return CALLED.get(name) or re.sub(r"(?<=[a-z])(?=[A-Z])", "_", name).upper()
 
 
-CONSTANTS = tuple(f"library_calls/src/{it}.rt" for it in ("calls", "file_calls", "number_calls", "offers", "outbox_calls"))
+CONSTANTS = tuple(f"library_calls/src/{it}.rt" for it in ("calls", "file_calls", "number_calls", "offers", "outbox_calls", "part_calls"))
 
 
 @pytest.mark.parametrize(
     ("files", "row", "names", "prefix", "least"),
     [
-        pytest.param(CONSTANTS, r"const ([A-Z_]+): u32 = (\d+);", {}, "", 14, id="the code's constants"),
+        pytest.param(CONSTANTS, r"const ([A-Z_]+): u32 = (\d+);", {}, "", 20, id="the code's constants"),
         pytest.param(["library_calls/src/file_calls.rt"], r"(?:Open|Table)Fault::(\w+) => (\d+),", {}, "", 7, id="the code's opening and table"),
         pytest.param(["library_calls/src/outbox_calls.rt"], r"OutboxFault::(\w+) => (\d+),", {}, "", 6, id="the code's outbox"),
         pytest.param(["library_calls/src/number_calls.rt"], r"NumbererFault::(\w+).* => (\d+),", {}, "", 3, id="the code's numbers"),
@@ -64,6 +65,7 @@ CONSTANTS = tuple(f"library_calls/src/{it}.rt" for it in ("calls", "file_calls",
         pytest.param(["library_calls/specs/Files.antt"], definition("table_status table"), {}, "", 3, id="the definition of table"),
         pytest.param(["library_calls/specs/Outboxes.antt"], definition("outbox_status outbox"), {}, "", 3, id="the definition of outbox"),
         pytest.param(["library_calls/specs/Numbers.antt"], definition("number_status fault"), {}, "", 3, id="the definition of numbers"),
+        pytest.param(["library_calls/specs/Parts.antt"], definition("combine_status fault"), OF_PARTS, "", 6, id="the definition of parts"),
         pytest.param(
             ["library_calls/specs/Calls.antt"],
             definition("summary_status summary"),

@@ -49,6 +49,8 @@ def seeds(folder: str, made: str) -> None:
         with open(f"{made}/{name}", "rb") as file:
             seed(b"\2", name, file.read())
     seed(b"\2", "none.db", b"")
+    seed(b"\3", "cover", b'{"sources":{"/a":[[1,5],[8,8]]},"version":1}\n')
+    seed(b"\3", "kinds", b'["a",1]\n["b",2]\n')
 
 
 def main() -> int:

@@ -30,7 +30,7 @@ from kept import Damaged, Kept, file_sum, sum_of  # noqa: E402
 CRATE = "site_c"
 # How many archives are kept.
 MOST = 4
-PARTS = ("site.c", "outbox.c", "numbers.c", "files.c", "heap.c", "errno.c")
+PARTS = ("site.c", "outbox.c", "numbers.c", "parts.c", "files.c", "heap.c", "errno.c")
 COMPILE = ["-std=c11", "-Wall", "-Wextra", "-Wconversion", "-O2", "-fPIC", "-fvisibility=hidden", "-ffunction-sections", "-c"]
 HEADER = f"{TOP}/bindings/c/jumbetai.h"
 PC = """prefix={prefix}

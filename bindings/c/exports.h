@@ -66,6 +66,31 @@ void jumbetai_site_copy(void *at, void *to);
 void jumbetai_site_read(void *at, uint32_t piece, struct jumbetai_piece *out);
 void jumbetai_site_close(void *at);
 
+/* The events of the bytes in so many parts by their sources, a line each, the batch of the part's
+ * events; `listed` is how many events there are. 32 where so many parts there can't be. */
+void jumbetai_site_split(void *at, const unsigned char *bytes, size_t length, uint64_t parts,
+                         struct jumbetai_reply *reply);
+
+/* status: that of the call. first, second: the part that is at fault, or two that have one source;
+ * how many answers and covers there are, where these differ; else 0. length: how many bytes the
+ * text has that lies there: the answer, or the source that stands in two parts, or that of before.
+ */
+struct jumbetai_combine_reply {
+    uint32_t status;
+    uint64_t first, second, length;
+};
+
+/* The answer of the whole to a question from texts of its parts, which lie one behind the other in
+ * the bytes, as many as there are lengths: so many answers, and behind them the covers. */
+void jumbetai_site_combine(void *at, uint32_t question, uint64_t answers,
+                           const unsigned char *bytes, size_t length, const uint64_t *lengths,
+                           size_t count, struct jumbetai_combine_reply *reply);
+
+/* Of so many parts the one that a source falls to, and 0; or 32 where so many there can't be. It
+ * asks for no memory. */
+uint32_t jumbetai_source_part(const unsigned char *source, size_t length, uint64_t parts,
+                              uint64_t *part);
+
 /* What taking bytes would come to, without a site; `listed` is how many events they spell. */
 void jumbetai_bytes_test(const unsigned char *bytes, size_t length, struct jumbetai_reply *reply);
 

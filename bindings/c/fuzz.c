@@ -1,7 +1,7 @@
-/* What libFuzzer calls with bytes of its own: `take`, `check` and `delta` of a site in memory, and
- * `open_file` of a file that has them. The first byte says which. Whatever the bytes are, each call
- * answers a status of its own and no two answers contradict each other. tools/fuzz_library.py
- * compiles and runs it. */
+/* What libFuzzer calls with bytes of its own: `take`, `check`, `split` and `delta` of a site in
+ * memory, `open_file` of a file that has them, and `combine`. The first byte says which. Whatever
+ * the bytes are, each call answers a status of its own and no two answers contradict each other.
+ * tools/fuzz_library.py compiles and runs it. */
 #define _DEFAULT_SOURCE /* unlink */
 #include "jumbetai.h"
 #include <stdio.h>
@@ -52,6 +52,52 @@ static void try_take(const unsigned char *bytes, size_t length) {
         jumbetai_free(&summary);
     }
     jumbetai_free(&told);
+    jumbetai_close(site);
+}
+
+/* What `take` takes, and nothing else, is split, into as many events. */
+static void try_split(const unsigned char *bytes, size_t length) {
+    jumbetai_text lines;
+    jumbetai_counts counts;
+    uint64_t events;
+    jumbetai_site *site = jumbetai_open();
+    must(site != NULL, "a site");
+    int status = jumbetai_split(site, bytes, length, 2, &lines);
+    must(jumbetai_test(bytes, length, &events) == status && lines.events == events, "a split");
+    must((status == JUMBETAI_DONE) == (lines.bytes != NULL), "its text");
+    if (!status) {
+        const char *second = strchr(lines.bytes, '\n') + 1;
+        size_t first = (size_t)(second - lines.bytes);
+        must(!jumbetai_take(site, lines.bytes, first, &counts), "the events of the first part");
+        uint64_t had = counts.fresh + counts.repeated;
+        must(!jumbetai_take(site, second, lines.length - first, &counts), "those of the second");
+        must(had + counts.fresh + counts.repeated == events, "the events of both");
+    }
+    jumbetai_free(&lines);
+    jumbetai_close(site);
+}
+
+/* Bytes as the answer of a part and its cover, alone and beside another part. */
+static void try_combine(const unsigned char *bytes, size_t length) {
+    static const int refused[] = {JUMBETAI_DONE,     JUMBETAI_NOT_A_COVER, JUMBETAI_NOT_AN_ANSWER,
+                                  JUMBETAI_TOO_MANY, JUMBETAI_OVERLAP,     -1};
+    static const char none[] = "{\"sources\":{},\"version\":1}\n";
+    jumbetai_site *site = jumbetai_open();
+    must(site != NULL, "a site");
+    for (int question = JUMBETAI_COVER; question <= JUMBETAI_GAPS; question++) {
+        int is_cover = question == JUMBETAI_COVER;
+        jumbetai_body given[] = {{bytes, length}, {none, is_cover ? sizeof none - 1 : 0}};
+        jumbetai_body covers[] = {{bytes, length}, {none, sizeof none - 1}};
+        jumbetai_text one, both;
+        int status = jumbetai_combine(site, question, given, 1, covers, 1, NULL, &one);
+        must(is_one_of(status, refused), "the status of one part");
+        must(jumbetai_combine(site, question, given, 2, covers, 2, NULL, &both) == status,
+             "the same beside a part without events");
+        must(one.length == both.length &&
+                 (!one.length || !memcmp(one.bytes, both.bytes, one.length)),
+             "the same text");
+        jumbetai_free(&one), jumbetai_free(&both);
+    }
     jumbetai_close(site);
 }
 
@@ -110,10 +156,14 @@ static void try_file(const unsigned char *bytes, size_t length) {
 
 int LLVMFuzzerTestOneInput(const unsigned char *bytes, size_t length) {
     if (!length) return 0;
-    switch (bytes[0] % 3) {
-    case 0: try_take(bytes + 1, length - 1); break;
+    switch (bytes[0] % 4) {
+    case 0:
+        try_take(bytes + 1, length - 1);
+        try_split(bytes + 1, length - 1);
+        break;
     case 1: try_delta(bytes + 1, length - 1); break;
-    default: try_file(bytes + 1, length - 1);
+    case 2: try_file(bytes + 1, length - 1); break;
+    default: try_combine(bytes + 1, length - 1);
     }
     return 0;
 }

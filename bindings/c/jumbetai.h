@@ -59,8 +59,14 @@ enum jumbetai_status {
     JUMBETAI_BAD_SOURCE = 27,     /* the source isn't one, or the base is above 2^63-1 */
     JUMBETAI_ANOTHER_SOURCE = 28, /* the outbox that is there has another source than was given */
     JUMBETAI_NO_SUCH_ACTION = 29,
-    JUMBETAI_HAS_SEQUENCE = 30, /* an event that is to be numbered has a sequence */
-    JUMBETAI_TOO_LARGE = 31     /* with a number its text would have more than 262,144 bytes */
+    JUMBETAI_HAS_SEQUENCE = 30,  /* an event that is to be numbered has a sequence */
+    JUMBETAI_TOO_LARGE = 31,     /* with a number its text would have more than 262,144 bytes */
+    JUMBETAI_BAD_PARTS = 32,     /* a region is in 1 to JUMBETAI_MAX_PARTS parts */
+    JUMBETAI_NOT_A_COVER = 33,   /* a text is no part's answer to JUMBETAI_COVER */
+    JUMBETAI_NOT_AN_ANSWER = 34, /* a text is no part's answer, or isn't of the cover beside it */
+    JUMBETAI_COVER_COUNT = 35,   /* there are more or fewer covers than answers */
+    JUMBETAI_TOO_MANY = 36,      /* a count of the whole is above 2^64-1 */
+    JUMBETAI_OVERLAP = 37        /* a source stands in two parts */
 };
 
 /* The seven questions, as `site` has them. */
@@ -117,8 +123,9 @@ typedef struct jumbetai_order_counts {
 
 /* A text of a site or an outbox: UTF-8, with a zero byte behind its last byte that `length` doesn't
  * count. It belongs to the caller, stays what it is whatever becomes of the other, and is given
- * back by jumbetai_free. `events` is how many events a page has, or the text of jumbetai_get, and 0
- * of other texts. Where a call isn't done, all three are 0. */
+ * back by jumbetai_free. `events` is how many events a page has, or the text of jumbetai_get or
+ * jumbetai_split, and 0 of other texts. Where a call isn't done, all three are 0, but for what
+ * jumbetai_combine says of JUMBETAI_OVERLAP. */
 typedef struct jumbetai_text {
     char *bytes;
     size_t length;
@@ -299,6 +306,43 @@ void jumbetai_close_numbers(jumbetai_numbers *numbers);
  * bytes may be given again. */
 int jumbetai_number(jumbetai_numbers *numbers, const void *bytes, size_t length,
                     jumbetai_text *text);
+
+/* The most parts of a region. */
+enum { JUMBETAI_MAX_PARTS = 65536 };
+
+/* Of so many parts of a region the one that a source falls to, counted from 0: the first eight
+ * bytes of its SHA-256 as a number, the greatest byte first, modulo `parts`; fixed for ever. It
+ * needs no site and no memory, and any thread may call it at any time. `*part` is 0 where it isn't
+ * done. Time in proportion to the source. */
+int jumbetai_part(const void *source, size_t length, uint64_t parts, uint64_t *part);
+
+/* The events that the bytes spell, one or a batch, in so many parts: `parts` lines, of each part
+ * the batch of its events, in their order, which jumbetai_take takes; [] where it has none.
+ * `events` is how many there are. Bytes are refused as by jumbetai_take, behind a count of parts
+ * that is none. Nothing is taken: the site is where the text is made. Time in proportion to the
+ * bytes and the parts. */
+int jumbetai_split(jumbetai_site *site, const void *bytes, size_t length, uint64_t parts,
+                   jumbetai_text *text);
+
+/* Of which parts a refusal of jumbetai_combine tells, counted from 0 in the order given: the one
+ * whose text is none, or the two in which a source stands; of JUMBETAI_COVER_COUNT, how many
+ * answers and covers there are. Else both are 0. */
+typedef struct jumbetai_parts {
+    uint64_t first;
+    uint64_t second;
+} jumbetai_parts;
+
+/* The answer to a question over a whole region, from the answers of its parts, in any order of the
+ * parts: the bytes that jumbetai_ask answers of a site with all events. Beside the answers to
+ * JUMBETAI_CONFLICTS, JUMBETAI_LATEST, JUMBETAI_KINDS, JUMBETAI_DAYS and JUMBETAI_GAPS stand the
+ * parts' answers to JUMBETAI_COVER, one each and in the same order, of the same moment; of the two
+ * others no covers are looked at. At JUMBETAI_OVERLAP the text is the source that stands in two
+ * parts, where memory is there for it, and is given back too. `parts` may be null. Nothing is
+ * taken, and the site isn't asked: it is where the text is made. Time in proportion to the texts,
+ * times a logarithm, and to the sources, times the parts; memory in proportion to the texts. */
+int jumbetai_combine(jumbetai_site *site, int question, const jumbetai_body *answers,
+                     size_t answer_count, const jumbetai_body *covers, size_t cover_count,
+                     jumbetai_parts *parts, jumbetai_text *text);
 
 /* Gives a text back, and sets it to no text. Texts of no bytes and a null pointer are let through.
  */

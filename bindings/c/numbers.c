@@ -43,12 +43,10 @@ void jumbetai_close_numbers(jumbetai_numbers *numbers) {
 int jumbetai_number(jumbetai_numbers *numbers, const void *bytes, size_t length,
                     jumbetai_text *text) {
     struct jumbetai_reply reply;
-    const unsigned char *given = bytes ? bytes : (const unsigned char *)"";
     if (text) *text = (jumbetai_text){0};
-    if (!numbers || !text || (!bytes && length) || length > PTRDIFF_MAX)
-        return JUMBETAI_BAD_ARGUMENT;
+    if (!numbers || !text || !jumbetai_is_range(bytes, length)) return JUMBETAI_BAD_ARGUMENT;
     jumbetai_begin();
-    jumbetai_numbers_number(numbers->room, given, length, &reply);
+    jumbetai_numbers_number(numbers->room, jumbetai_start_of(bytes), length, &reply);
     int status = jumbetai_end((int)reply.status);
     if (status) return status;
     return jumbetai_copy_text(numbers->room, jumbetai_numbers_read, reply.length, reply.listed,

@@ -7,23 +7,14 @@
 #include <string.h>
 #include <unistd.h>
 
-static int is_range(const void *bytes, size_t length) {
-    return (bytes || !length) && length <= PTRDIFF_MAX;
-}
-
-/* Where bytes lie, also those of an empty range that lies nowhere. */
-static const unsigned char *start_of(const void *bytes) {
-    return bytes ? bytes : (const unsigned char *)"";
-}
-
 /* What a site is asked by: the numbers of the questions, and these behind them. */
 enum { SUMMARY = 8, DELTA, PAGE, CHECK, KEEP_VIEWS, ARRIVALS, RELEASE };
 
 /* Asks a site. */
 static void tell(jumbetai_site *site, uint32_t what, const void *bytes, size_t length,
                  uint64_t from, struct jumbetai_reply *reply) {
-    (site->is_file ? jumbetai_file_tell : jumbetai_site_tell)(site->room, what, start_of(bytes),
-                                                              length, from, reply);
+    (site->is_file ? jumbetai_file_tell : jumbetai_site_tell)(
+        site->room, what, jumbetai_start_of(bytes), length, from, reply);
 }
 
 void jumbetai_write(void *room, void (*read)(void *, uint32_t, struct jumbetai_piece *),
@@ -113,12 +104,12 @@ uint64_t jumbetai_count(const jumbetai_site *site) { return site ? site->events 
 int jumbetai_take(jumbetai_site *site, const void *bytes, size_t length, jumbetai_counts *counts) {
     struct jumbetai_reply reply;
     if (counts) *counts = (jumbetai_counts){0, 0};
-    if (!site || !is_range(bytes, length)) return JUMBETAI_BAD_ARGUMENT;
+    if (!site || !jumbetai_is_range(bytes, length)) return JUMBETAI_BAD_ARGUMENT;
     jumbetai_begin();
     if (site->is_file)
-        jumbetai_file_take(site->room, start_of(bytes), length, &reply);
+        jumbetai_file_take(site->room, jumbetai_start_of(bytes), length, &reply);
     else
-        jumbetai_site_take(site->room, start_of(bytes), length, &reply);
+        jumbetai_site_take(site->room, jumbetai_start_of(bytes), length, &reply);
     site->events = reply.events;
     if (counts) *counts = (jumbetai_counts){reply.fresh, reply.repeated};
     return jumbetai_end((int)reply.status);
@@ -139,7 +130,8 @@ static int take_together(jumbetai_site *site, const jumbetai_body *bodies, size_
     struct jumbetai_reply reply;
     jumbetai_release(site); /* nothing is offered */
     for (size_t i = 0; i < count; i++) {
-        jumbetai_file_offer(site->room, start_of(bodies[i].bytes), bodies[i].length, &reply);
+        jumbetai_file_offer(site->room, jumbetai_start_of(bodies[i].bytes), bodies[i].length,
+                            &reply);
         answers[i].status = (int)reply.status;
         if (reply.status == JUMBETAI_OUT_OF_MEMORY) {
             refuse_all(answers, count, JUMBETAI_OUT_OF_MEMORY);
@@ -165,7 +157,7 @@ int jumbetai_take_each(jumbetai_site *site, const jumbetai_body *bodies, size_t 
         answers[i] = (jumbetai_answer){JUMBETAI_DONE, {0, 0}};
     int is_wrong = !site || (count && !bodies);
     for (size_t i = 0; i < count && !is_wrong; i++)
-        is_wrong = !is_range(bodies[i].bytes, bodies[i].length);
+        is_wrong = !jumbetai_is_range(bodies[i].bytes, bodies[i].length);
     if (is_wrong) {
         refuse_all(answers, count, JUMBETAI_BAD_ARGUMENT);
         return JUMBETAI_BAD_ARGUMENT;
@@ -185,8 +177,8 @@ int jumbetai_take_each(jumbetai_site *site, const jumbetai_body *bodies, size_t 
 int jumbetai_test(const void *bytes, size_t length, uint64_t *events) {
     struct jumbetai_reply reply;
     if (events) *events = 0;
-    if (!is_range(bytes, length)) return JUMBETAI_BAD_ARGUMENT;
-    jumbetai_bytes_test(start_of(bytes), length, &reply);
+    if (!jumbetai_is_range(bytes, length)) return JUMBETAI_BAD_ARGUMENT;
+    jumbetai_bytes_test(jumbetai_start_of(bytes), length, &reply);
     if (events) *events = reply.listed;
     return (int)reply.status;
 }
@@ -194,7 +186,7 @@ int jumbetai_test(const void *bytes, size_t length, uint64_t *events) {
 int jumbetai_check(jumbetai_site *site, const void *bytes, size_t length, jumbetai_text *text) {
     struct jumbetai_reply reply;
     if (text) *text = (jumbetai_text){0};
-    if (!site || !text || !is_range(bytes, length)) return JUMBETAI_BAD_ARGUMENT;
+    if (!site || !text || !jumbetai_is_range(bytes, length)) return JUMBETAI_BAD_ARGUMENT;
     tell(site, CHECK, bytes, length, 0, &reply);
     return copy_text(site, &reply, text);
 }
@@ -220,10 +212,12 @@ int jumbetai_get(jumbetai_site *site, const void *source, size_t source_length, 
                  size_t id_length, jumbetai_text *text) {
     struct jumbetai_reply reply;
     if (text) *text = (jumbetai_text){0};
-    if (!site || !text || !is_range(source, source_length) || !is_range(id, id_length))
+    if (!site || !text || !jumbetai_is_range(source, source_length) ||
+        !jumbetai_is_range(id, id_length))
         return JUMBETAI_BAD_ARGUMENT;
-    (site->is_file ? jumbetai_file_get : jumbetai_site_get)(
-        site->room, start_of(source), source_length, start_of(id), id_length, &reply);
+    (site->is_file ? jumbetai_file_get : jumbetai_site_get)(site->room, jumbetai_start_of(source),
+                                                            source_length, jumbetai_start_of(id),
+                                                            id_length, &reply);
     return copy_text(site, &reply, text);
 }
 
@@ -239,7 +233,7 @@ int jumbetai_delta(jumbetai_site *site, const void *summary, size_t length, uint
                    jumbetai_text *text) {
     struct jumbetai_reply reply;
     if (text) *text = (jumbetai_text){0};
-    if (!site || !text || !is_range(summary, length)) return JUMBETAI_BAD_ARGUMENT;
+    if (!site || !text || !jumbetai_is_range(summary, length)) return JUMBETAI_BAD_ARGUMENT;
     tell(site, DELTA, summary, length, from, &reply);
     return copy_text(site, &reply, text);
 }
@@ -264,9 +258,9 @@ int jumbetai_delta_part(jumbetai_site *site, const void *summary, size_t length,
                         uint64_t events, uint64_t bytes, jumbetai_text *text) {
     struct jumbetai_reply reply;
     if (text) *text = (jumbetai_text){0};
-    if (!site || !text || !is_range(summary, length)) return JUMBETAI_BAD_ARGUMENT;
-    (site->is_file ? jumbetai_file_part : jumbetai_site_part)(site->room, start_of(summary), length,
-                                                              from, events, bytes, &reply);
+    if (!site || !text || !jumbetai_is_range(summary, length)) return JUMBETAI_BAD_ARGUMENT;
+    (site->is_file ? jumbetai_file_part : jumbetai_site_part)(
+        site->room, jumbetai_start_of(summary), length, from, events, bytes, &reply);
     return copy_text(site, &reply, text);
 }
 
@@ -286,9 +280,9 @@ int jumbetai_name(jumbetai_site *site, unsigned char name[32]) {
 int jumbetai_compare(jumbetai_site *site, const void *summary, size_t length, jumbetai_lag *lag) {
     struct jumbetai_set_lag it = {0};
     if (lag) *lag = (jumbetai_lag){0, 0, 0};
-    if (!site || !lag || !is_range(summary, length)) return JUMBETAI_BAD_ARGUMENT;
-    (site->is_file ? jumbetai_file_compare : jumbetai_site_compare)(site->room, start_of(summary),
-                                                                    length, &it);
+    if (!site || !lag || !jumbetai_is_range(summary, length)) return JUMBETAI_BAD_ARGUMENT;
+    (site->is_file ? jumbetai_file_compare
+                   : jumbetai_site_compare)(site->room, jumbetai_start_of(summary), length, &it);
     *lag = (jumbetai_lag){it.lacking, it.ahead, it.blocks};
     return (int)it.status;
 }
@@ -356,6 +350,12 @@ const char *jumbetai_words(int status) {
         [JUMBETAI_NO_SUCH_ACTION] = "no such action",
         [JUMBETAI_HAS_SEQUENCE] = "an event that is to be numbered has a sequence",
         [JUMBETAI_TOO_LARGE] = "an event is too large for a number",
+        [JUMBETAI_BAD_PARTS] = "a region is in 1 to 65536 parts",
+        [JUMBETAI_NOT_A_COVER] = "a text is no part's answer to cover",
+        [JUMBETAI_NOT_AN_ANSWER] = "a text is no part's answer to the question",
+        [JUMBETAI_COVER_COUNT] = "there are more or fewer covers than answers",
+        [JUMBETAI_TOO_MANY] = "a count is above 18446744073709551615",
+        [JUMBETAI_OVERLAP] = "a source stands in two parts",
     };
     int count = (int)(sizeof words / sizeof *words);
     return status >= 0 && status < count ? words[status] : "no such status";

@@ -12,6 +12,16 @@ struct jumbetai_site {
     _Alignas(16) unsigned char room[];
 };
 
+/* Whether bytes may lie there, so many. */
+static inline int jumbetai_is_range(const void *bytes, size_t length) {
+    return (bytes || !length) && length <= PTRDIFF_MAX;
+}
+
+/* Where bytes lie, also those of an empty range that lies nowhere. */
+static inline const unsigned char *jumbetai_start_of(const void *bytes) {
+    return bytes ? bytes : (const unsigned char *)"";
+}
+
 /* A text of more bytes isn't left in the library beside the caller's copy. */
 enum { JUMBETAI_LARGE = 65536 };
 

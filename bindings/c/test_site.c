@@ -127,7 +127,7 @@ static void try_arguments(jumbetai_site *site) {
     must(!strcmp(jumbetai_version(), JUMBETAI_VERSION), "version");
     must(!strcmp(jumbetai_words(JUMBETAI_NO_EVENTS), "the bytes spell no events"),
          "words of a status");
-    must(!strcmp(jumbetai_words(JUMBETAI_TOO_LARGE + 1), "no such status") &&
+    must(!strcmp(jumbetai_words(JUMBETAI_OVERLAP + 1), "no such status") &&
              !strcmp(jumbetai_words(-1), "no such status"),
          "words of no status");
 }

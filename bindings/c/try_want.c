@@ -71,7 +71,29 @@ static bool try_take(jumbetai_site *site, long requests) {
 }
 
 /* The calls that answer a text: the questions, then these. */
-enum { SUMMARY = JUMBETAI_GAPS + 1, DELTA, PAGE, CHECK, VIEWS, PART, ARRIVALS, GET, CALLS };
+enum {
+    SUMMARY = JUMBETAI_GAPS + 1,
+    DELTA,
+    PAGE,
+    CHECK,
+    VIEWS,
+    PART,
+    ARRIVALS,
+    GET,
+    SPLIT,
+    COMBINE,
+    CALLS
+};
+
+/* An answer of two parts, each with the cover of its part. */
+static int combine(jumbetai_site *site, jumbetai_text *text) {
+    static const char kinds[] = "[\"t\",1]\n",
+                      *covers[] = {"{\"sources\":{\"/a\":[[1,1]]},\"version\":1}\n",
+                                   "{\"sources\":{\"/b\":[[1,1]]},\"version\":1}\n"};
+    jumbetai_body answers[] = {{kinds, sizeof kinds - 1}, {kinds, sizeof kinds - 1}};
+    jumbetai_body beside[] = {{covers[0], strlen(covers[0])}, {covers[1], strlen(covers[1])}};
+    return jumbetai_combine(site, JUMBETAI_KINDS, answers, 2, beside, 2, NULL, text);
+}
 
 static int call(jumbetai_site *site, int which, jumbetai_text *text) {
     int status;
@@ -82,6 +104,8 @@ static int call(jumbetai_site *site, int which, jumbetai_text *text) {
     case PART: return jumbetai_delta_part(site, nothing, sizeof nothing - 1, 0, 2000, 0, text);
     case ARRIVALS: return jumbetai_arrivals(site, 0, text);
     case GET: return jumbetai_get(site, "/shop", 5, "a", 1, text);
+    case SPLIT: return jumbetai_split(site, three, sizeof three - 1, 2, text);
+    case COMBINE: return combine(site, text);
     /* Views, and an answer that they give. */
     case VIEWS:
         *text = (jumbetai_text){0};
@@ -140,7 +164,9 @@ static bool try_others(jumbetai_site *site, long requests) {
     unsigned char name[32], want[32];
     jumbetai_lag lag;
     jumbetai_site *copy;
-    uint64_t events;
+    uint64_t events, part;
+    granted = 0;
+    must(!jumbetai_part("/shop", 5, 7, &part), "the part of a source, without memory", requests);
     granted = ENOUGH;
     must(!jumbetai_name(site, want), "a name with memory", requests);
     granted = requests;

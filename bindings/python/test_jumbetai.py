@@ -27,7 +27,22 @@ import unittest
 from http.server import BaseHTTPRequestHandler, HTTPServer
 
 import jumbetai
-from jumbetai import QUESTIONS, Error, Lag, OrderCounts, Outbox, Page, Site, Status, Taken, _c
+from jumbetai import (
+    MAX_PARTS,
+    QUESTIONS,
+    Error,
+    Lag,
+    OrderCounts,
+    Outbox,
+    Page,
+    Site,
+    Status,
+    Taken,
+    _c,
+    combine,
+    part_of,
+    split,
+)
 
 HERE = os.path.dirname(os.path.abspath(__file__))
 EXAMPLES = os.path.join(HERE, "../../examples/python")
@@ -1090,6 +1105,96 @@ class HandingOn(unittest.TestCase):
         self.assertEqual(self.hand_on()[::2], (1, "hand_on: 400 \n"))
         self.assertEqual(self.hand_on(), (0, "1\n", ""))
         self.assertEqual([int(it["sequence"]) for it in self.taken[150:]], [151])
+
+
+def own_part(source, parts):
+    """The first eight bytes of the SHA-256 of a source, the greatest byte first, modulo the count."""
+    return int.from_bytes(hashlib.sha256(source.encode()).digest()[:8], "big") % parts
+
+
+class Parts(unittest.TestCase):
+    SOURCES = ["/", "/north", "/süd", '/"quoted"\\', "urn:x:1", *(f"/shop/{it}" for it in range(6))]
+
+    def random_events(self, dice):
+        """Events of some sources: some share an id or a number, stand again, or have no subject or time."""
+        found = []
+        for _ in range(dice.randrange(40)):
+            more = {}
+            if dice.random() < 0.7:
+                more["subject"] = dice.choice(["x", "ä", '"'])
+            if dice.random() < 0.6:
+                more["time"] = f"2024-0{dice.randrange(1, 4)}-1{dice.randrange(3)}T0{dice.randrange(3)}:00:00+01:00"
+            kind, number = dice.choice(["sold", 'a"b', "ü"]), dice.randrange(1, 15)
+            found.append(event(number, dice.choice(self.SOURCES), id=f"e{dice.randrange(9)}", type=kind, **more))
+            if dice.random() < 0.2:
+                found.append(dice.choice(found))
+        return found
+
+    def test_answers_of_parts_are_those_of_the_whole(self):
+        for seed in range(1000):
+            dice = random.Random(seed)
+            events, parts = self.random_events(dice), dice.randrange(1, 9)
+            whole, each = Site(), [Site() for _ in range(parts)]
+            whole.take(batch(events))
+            found = split(batch(events), parts)
+            self.assertEqual(len(found), parts)
+            for site, part in zip(each, found):
+                site.take(part)
+            dice.shuffle(each)
+            covers = [site.cover() for site in each]
+            for question in QUESTIONS:
+                answers = [site.ask(question) for site in each]
+                self.assertEqual(combine(question, answers, covers), whole.ask(question), (seed, question))
+
+    def test_events_in_parts(self):
+        for seed in range(40):
+            dice = random.Random(seed)
+            events, parts = self.random_events(dice), dice.randrange(1, 9)
+            found = [[(it["source"], it["id"]) for it in json.loads(part)] for part in split(batch(events), parts)]
+            wanted = [[] for _ in range(parts)]
+            for it in events:
+                wanted[own_part(it["source"], parts)].append((it["source"], it["id"]))
+            self.assertEqual(found, wanted)
+        self.assertEqual(split(json.dumps(event(1)), 1)[0][:1], b"[")
+        self.assertEqual(split("[]", 3), [b"[]"] * 3)
+
+    def test_the_part_of_a_source(self):
+        for source in self.SOURCES:
+            for parts in (1, 2, 3, 1000, MAX_PARTS):
+                self.assertEqual(part_of(source, parts), own_part(source, parts))
+        self.assertEqual(part_of(bytearray(b"/a"), 2), own_part("/a", 2))
+
+    def refused(self, status, parts, call, *arguments):
+        with self.assertRaises(Error) as told:
+            call(*arguments)
+        self.assertEqual((told.exception.status, told.exception.parts), (status, parts))
+
+    def test_what_is_no_count(self):
+        for count in (0, -1, MAX_PARTS + 1, 2**64):
+            self.refused(Status.BAD_PARTS, (0, 0), part_of, "/a", count)
+            self.refused(Status.BAD_PARTS, (0, 0), split, "{}", count)
+        self.refused(Status.NO_EVENTS, (0, 0), split, "{}", 2)
+        self.refused(Status.NO_NUMBER, (0, 0), split, batch([{**event(1), "sequence": "1"}]), 2)
+
+    def test_what_is_no_whole(self):
+        one, most = '["t",1]\n', '["t",%d]\n' % (2**64 - 1)
+        a, b = ('{"sources":{"/%s":[[1,1]]},"version":1}\n' % it for it in "ab")
+        self.assertEqual(combine("kinds", [one, one.encode()], [a, b]), b'["t",2]\n')
+        self.assertEqual(combine("shown", []), b"")
+        for status, parts, answers, covers in (
+            (Status.NOT_AN_ANSWER, (1, 0), [one, "x"], [a, b]),
+            (Status.NOT_AN_ANSWER, (0, 0), [b"\xff", one], [a, b]),
+            (Status.NOT_A_COVER, (1, 0), [one, one], [a, one]),
+            (Status.NOT_A_COVER, (1, 0), [one, one], [a, b"\xff"]),
+            (Status.COVER_COUNT, (2, 1), [one, one], [a]),
+            (Status.COVER_COUNT, (1, 2), [one], [a, b]),
+            (Status.TOO_MANY, (0, 0), [one, most], [a, b]),
+            (Status.OVERLAP, (0, 2), [one, one, one], [a, b, a]),
+        ):
+            self.refused(status, parts, combine, "kinds", answers, covers)
+        self.refused(Status.OVERLAP, (1, 2), combine, "cover", [a, b, b])
+        with self.assertRaises(ValueError):
+            combine("all", [])
 
 
 class BesideTheProgram(unittest.TestCase):

@@ -2,7 +2,7 @@
 //!
 //! LINES has a hundred lines with one new event each, ten with a hundred each, ten with 64 each, and
 //! 640 with one each; SUMMARY is that of a peer. What is printed but the last six lines is what `hold`
-//! of tools/baseline_tables prints too.
+//! of bench/baseline_tables prints too.
 
 use jumbetai::{Question, Site};
 use std::error::Error;

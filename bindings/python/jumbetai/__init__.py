@@ -65,6 +65,7 @@ from typing import Any, Iterator, NamedTuple, Optional, Sequence, Type, TypeVar,
 from . import _c
 
 __all__ = [
+    "MAX_PARTS",
     "PAGE",
     "QUESTIONS",
     "Error",
@@ -77,6 +78,9 @@ __all__ = [
     "Site",
     "Status",
     "Taken",
+    "combine",
+    "part_of",
+    "split",
     "test",
     "version",
 ]
@@ -85,6 +89,8 @@ __all__ = [
 QUESTIONS = ("cover", "shown", "conflicts", "latest", "kinds", "days", "gaps")
 # The most events of a page.
 PAGE = 100
+# The most parts of a region.
+MAX_PARTS = 65536
 
 # What is taken for bytes: a text is its UTF-8.
 Given = Union[str, bytes, bytearray, memoryview]
@@ -164,12 +170,21 @@ class Status(enum.IntEnum):
     ANOTHER_SOURCE = 28  # the outbox that is there has another source than was given
     HAS_SEQUENCE = 30  # an event that is to be numbered has a sequence
     TOO_LARGE = 31  # with a number its text would have more than 262,144 bytes
+    BAD_PARTS = 32  # a region is in 1 to MAX_PARTS parts
+    NOT_A_COVER = 33  # a text is no part's answer to cover
+    NOT_AN_ANSWER = 34  # a text is no part's answer to the question, or isn't of the cover beside it
+    COVER_COUNT = 35  # there are more or fewer covers than answers
+    TOO_MANY = 36  # a count of the whole is above 2**64 - 1
+    OVERLAP = 37  # a source stands in two parts
 
 
 class Error(Exception):
     """A call that isn't done: its status, one of Status where it is known, and that in words. Of Status.STORE and
     Status.SYSTEM `errno` is the error of the system behind it, as errno.ENOSPC of a full disk; else 0, and where the
-    system refused nothing."""
+    system refused nothing. Of `combine` `parts` tells which parts they are, counted from 0: the one whose text is none,
+    and 0, or the two in which a source stands; of Status.COVER_COUNT how many answers and covers there are."""
+
+    parts = (0, 0)
 
     def __init__(self, status: int) -> None:
         super().__init__(_c.library().jumbetai_words(status).decode())
@@ -189,6 +204,47 @@ def test(given: Given) -> int:
     given, events = _bytes(given), ctypes.c_uint64()
     _judge(_c.library().jumbetai_test(given, len(given), ctypes.byref(events)))
     return events.value
+
+
+def part_of(source: Given, parts: int) -> int:
+    """Of so many parts of a region, 1 to MAX_PARTS, the one that a source falls to, counted from 0: the first eight
+    bytes of its SHA-256 as a number, the greatest byte first, modulo the count. Every release answers the same."""
+    source, part = _bytes(source), ctypes.c_uint64()
+    parts = _number(parts, Status.BAD_PARTS)
+    _judge(_c.library().jumbetai_part(source, len(source), parts, ctypes.byref(part)))
+    return part.value
+
+
+def split(given: Given, parts: int) -> "list[bytes]":
+    """An event, or a batch of events, in so many parts, 1 to MAX_PARTS: of each the batch of its events, in their
+    order, which `Site.take` takes, and `[]` of one that has none. What `Site.take` refuses is refused so. Nothing is
+    taken.
+
+    >>> split('{"specversion":"1.0","id":"1","source":"/a","type":"t","sequence":"%020d"}' % 1, 2)
+    [b'[]', b'[{"id":"1","sequence":"00000000000000000001","source":"/a","specversion":"1.0","type":"t"}]']
+    """
+    given, parts = _bytes(given), _number(parts, Status.BAD_PARTS)
+    with Site() as site:
+        return site._text("jumbetai_split", given, len(given), parts)[0].splitlines()
+
+
+def combine(question: str, answers: Sequence[Given], covers: Sequence[Given] = ()) -> bytes:
+    """The answer to one of QUESTIONS over a whole region, from the answers of its parts, in any order of the parts: the
+    very bytes that a site with all events answers. Beside answers to conflicts, latest, kinds, days and gaps stand the
+    parts' answers to cover, one each and in the same order; of cover and shown no covers are looked at. An answer and
+    its cover are of one moment: whoever asks a part that takes meanwhile asks again until two covers around the answer
+    are the same. Time in proportion to the texts, times a logarithm, and to the sources, times the parts."""
+    if question not in QUESTIONS:
+        raise ValueError(f"no such question: {question!r}")
+    texts, beside = [_bytes(it) for it in answers], [_bytes(it) for it in covers]
+    given = (_bodies(texts), len(texts), _bodies(beside), len(beside))
+    parts = _c.Parts()
+    with Site() as site:
+        try:
+            return site._text("jumbetai_combine", QUESTIONS.index(question) + 1, *given, ctypes.byref(parts))[0]
+        except Error as fault:
+            fault.parts = (parts.first, parts.second)
+            raise
 
 
 class _Open:
@@ -316,7 +372,7 @@ class Site(_Open):
         of their answers is why (Status.OWED where they are kept); a crash leaves all or none. In memory they are taken
         one by one, up to one that memory is refused to."""
         texts = [_bytes(body) for body in bodies]
-        given = (_c.Body * len(texts))(*(_c.Body(text, len(text)) for text in texts))
+        given = _bodies(texts)
         answers = (_c.Answer * len(texts))()
         status = self._call("jumbetai_take_each", given, len(texts), answers)
         if status == _BAD_ARGUMENT:
@@ -544,6 +600,11 @@ def _bytes(given: Given) -> bytes:
     if isinstance(given, str):
         return given.encode()
     return given if isinstance(given, bytes) else bytes(memoryview(given))
+
+
+def _bodies(texts: Sequence[bytes]) -> "ctypes.Array[_c.Body]":
+    """Texts as C has them, which have to live as long."""
+    return (_c.Body * len(texts))(*(_c.Body(text, len(text)) for text in texts))
 
 
 # A null pointer, or a length that no bytes have.

@@ -14,6 +14,10 @@ class Counts(ctypes.Structure):
     _fields_ = [("fresh", ctypes.c_uint64), ("repeated", ctypes.c_uint64)]
 
 
+class Parts(ctypes.Structure):
+    _fields_ = [("first", ctypes.c_uint64), ("second", ctypes.c_uint64)]
+
+
 class OrderCounts(ctypes.Structure):
     _fields_ = [("base", ctypes.c_uint64), ("last", ctypes.c_uint64), ("orders", ctypes.c_uint64)]
 
@@ -45,14 +49,14 @@ def library() -> Any:
     loaded = ctypes.CDLL(_where())
     raw, text, counts = ctypes.c_void_p, ctypes.POINTER(Text), ctypes.POINTER(Counts)
     given, size, number, status = ctypes.c_char_p, ctypes.c_size_t, ctypes.c_uint64, ctypes.c_int
-    made, order_counts = ctypes.POINTER(raw), ctypes.POINTER(OrderCounts)
+    made, order_counts, bodies = ctypes.POINTER(raw), ctypes.POINTER(OrderCounts), ctypes.POINTER(Body)
     calls: dict[str, tuple[Any, list[Any]]] = {
         "open": (raw, []),
         "open_file": (status, [given, ctypes.c_uint32, made]),
         "close": (None, [raw]),
         "count": (number, [raw]),
         "take": (status, [raw, given, size, counts]),
-        "take_each": (status, [raw, ctypes.POINTER(Body), size, ctypes.POINTER(Answer)]),
+        "take_each": (status, [raw, bodies, size, ctypes.POINTER(Answer)]),
         "test": (status, [given, size, ctypes.POINTER(number)]),
         "check": (status, [raw, given, size, text]),
         "keep_views": (status, [raw]),
@@ -76,6 +80,9 @@ def library() -> Any:
         "open_numbers": (status, [given, ctypes.c_uint32, number, made]),
         "close_numbers": (None, [raw]),
         "number": (status, [raw, given, size, text]),
+        "part": (status, [given, size, number, ctypes.POINTER(number)]),
+        "split": (status, [raw, given, size, number, text]),
+        "combine": (status, [raw, status, bodies, size, bodies, size, ctypes.POINTER(Parts), text]),
         "free": (None, [text]),
         "why": (status, []),
         "words": (ctypes.c_char_p, [status]),

@@ -96,9 +96,11 @@
 
 mod numbers;
 mod outbox;
+mod parts;
 
 pub use numbers::Numbers;
 pub use outbox::{OrderCounts, Outbox, RowPages, Rows};
+pub use parts::{combine, part_of, split, MAX_PARTS};
 
 use jumbetai_sys as ffi;
 use std::ffi::{c_int, CStr, CString};
@@ -172,6 +174,19 @@ pub enum Error {
     HasSequence,
     /// With a number the text of an event would have more than 262,144 bytes; nothing was numbered.
     TooLarge,
+    /// A region is in 1 to [`MAX_PARTS`] parts.
+    BadParts,
+    /// A text that [`combine`] was given for a part's answer to [`Question::Cover`] is none.
+    NotACover,
+    /// A text that [`combine`] was given answers the question over no set of events, or isn't that of the
+    /// cover beside it.
+    NotAnAnswer,
+    /// There are more or fewer covers than answers.
+    CoverCount,
+    /// A count of the whole is above 2^64-1.
+    TooMany,
+    /// A source stands in two of the parts.
+    Overlap,
     /// The library that is linked hasn't what this crate calls: [`version`] is before the crate's, or
     /// one that may have changed what a call means. Nothing was opened.
     Version,
@@ -211,6 +226,12 @@ impl Error {
             28 => Error::AnotherSource,
             30 => Error::HasSequence,
             31 => Error::TooLarge,
+            32 => Error::BadParts,
+            33 => Error::NotACover,
+            34 => Error::NotAnAnswer,
+            35 => Error::CoverCount,
+            36 => Error::TooMany,
+            37 => Error::Overlap,
             other => Error::Other(other),
         }
     }
@@ -245,6 +266,12 @@ impl Error {
             Error::AnotherSource => 28,
             Error::HasSequence => 30,
             Error::TooLarge => 31,
+            Error::BadParts => 32,
+            Error::NotACover => 33,
+            Error::NotAnAnswer => 34,
+            Error::CoverCount => 35,
+            Error::TooMany => 36,
+            Error::Overlap => 37,
             Error::Version | Error::NotUtf8 => -1,
             Error::Other(status) => status,
         }

@@ -596,6 +596,12 @@ fn each_error_has_its_status_and_its_words() {
         (28, Error::AnotherSource),
         (30, Error::HasSequence),
         (31, Error::TooLarge),
+        (32, Error::BadParts),
+        (33, Error::NotACover),
+        (34, Error::NotAnAnswer),
+        (35, Error::CoverCount),
+        (36, Error::TooMany),
+        (37, Error::Overlap),
     ];
     let unknown = Error::Other(1_000_000).to_string();
     let mut words: Vec<String> = all.iter().map(|(_, it)| it.to_string()).collect();

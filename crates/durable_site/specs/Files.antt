@@ -24,6 +24,15 @@ use Rattle.durable_site.specs.declared.durable.DurableSite.{DurableSite}
 use Rattle.durable_site.specs.declared.fault.OpenFault.{OpenFault}
 use Rattle.durable_site.specs.declared.fault.OpenFault.TheVariants as opening
 
+-- the number of each fault
+abbrev pub fault_number : OpenFault → ℕ
+fault_number opening.OutOfMemory = 1
+fault_number opening.System = 2
+fault_number opening.NoDatabase = 3
+fault_number opening.Damaged = 4
+fault_number opening.Store = 5
+fault_number opening.Foreign = 6
+
 -- what an error is that the database meets as it is opened
 abbrev pub error_fault : Error → OpenFault
 error_fault (SqliteFailure code.OutOfMemory) = opening.OutOfMemory

@@ -1,6 +1,6 @@
 //! Why a site isn't opened.
 ghost use Rattle.std.specs.Prelude.{◌≡◌};
-ghost use Rattle.durable_site.specs.Files.{IsOfSystem, error_fault, table_fault};
+ghost use Rattle.durable_site.specs.Files.{IsOfSystem, error_fault, fault_number, table_fault};
 
 use inbox_table::TableFault;
 use sqlite::ErrorCode;
@@ -31,7 +31,9 @@ pub enum OpenFault {
 
 impl OpenFault {
     /// The number that the refusal is known by, 1 to 6.
-    pub fn number(self) -> u8 {
+    pub fn number(self) -> u8
+        ensures { result ≡ fault_number self }
+    {
         match self {
             OpenFault::OutOfMemory => 1,
             OpenFault::System => 2,

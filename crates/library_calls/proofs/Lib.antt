@@ -1,4 +1,4 @@
 mod Crossing
 mod OutboxLemmas
 mod PartLemmas
-mod NumberLemmas
+mod CutLemmas

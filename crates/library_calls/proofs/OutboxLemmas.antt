@@ -1,5 +1,5 @@
 -- What a service that wasn't asked does, and the source of one that is made where none is given.
-use Rattle.std.proofs.Common.{◌≡◌, ◌≢◌, ◌⊎◌, ◌≤◌, ℕ, Bool, true, false, if◌then◌else◌, nat_eq, List, [], Err, Ok, Result, refl, ap, sym, ◌∙◌, arith, inl, inr}
+use Rattle.std.proofs.Common.{◌≡◌, ◌≢◌, ◌⊎◌, ◌≤◌, ℕ, Bool, true, false, if◌then◌else◌, nat_eq, List, [], Err, Ok, Result, refl, ap, subst, sym, ◌∙◌, arith, inl, inr}
 use Rattle.std.specs.Prelude.{codes}
 use Rattle.std.specs.Str.{chars, is_utf8}
 use Rattle.std.proofs.lemmas.Bool.Decides.{nat_tests}
@@ -15,9 +15,10 @@ use Rattle.outbox.specs.Order.{Accepted}
 use Rattle.outbox.specs.Shown.{IsAllowed, Shown}
 use Rattle.outbox.specs.declared.fault.OutboxFault.{OutboxFault}
 use Rattle.outbox.specs.declared.fault.OutboxFault.TheVariants.{OutOfMemory, Store}
-use Rattle.durable_site.specs.Files.{IsOver}
+use Rattle.durable_site.specs.Files.{Closes, IsOver}
 use Rattle.library_calls.specs.Files.{untold}
-use Rattle.library_calls.specs.Outboxes.{Carries, Finds, IsGiven, Serves, outbox_status, source_of}
+use Rattle.library_calls.specs.Outboxes.{Carries, Finds, FindsMeant, IsGiven, Serves, outbox_status, source_of}
+use Rattle.library_calls.specs.declared.outbox_calls.Unserved.{Unserved}
 
 module _ {S : Type 0} (g : Ghosts S) where
   -- a service that wasn't asked is as it was, and so is its database
@@ -71,30 +72,37 @@ named has_source source given =
 
 -- what was found in the database of the files is what is served
 module _ {D : Type 0} {g : disk.Ghosts D} where
-  pub serves : (has_source : ℕ) (source : List ℕ) (base : ℕ) (first : Held (FileStore D g))
-      (r : Result (Shown (FileStore D g)) ℕ) → IsGiven has_source source base → IsOver untold first
-      → Finds over_files has_source (source_of has_source source) base (file_state first) r
-      → Serves has_source source base r
-  serves has_source source base first (Ok s) given over found = record {
+  pub serves : (has_source : ℕ) (source : List ℕ) (base : ℕ) (first : Held (FileStore D g)) (s : Shown (FileStore D g))
+      → IsGiven has_source source base → IsOver untold first
+      → FindsMeant has_source (source_of has_source source) base (file_state first) s (file_state s.conn)
+      → Serves has_source source base (Ok s)
+  serves has_source source base first s given over found = record {
     given = given;
     first = first;
     over = over;
     opens = found.opens;
     meant = λ asked. found.meant asked ∙ named has_source source asked;
   }
-  serves has_source source base first (Err status) given over found = inr (inr (
+
+  -- where none is, the files were closed
+  pub serves_none : (has_source : ℕ) (source : List ℕ) (base : ℕ) (first : Held (FileStore D g)) (u : Unserved (FileStore D g)) (status : ℕ)
+      → IsGiven has_source source base → IsOver untold first
+      → Finds over_files has_source (source_of has_source source) base (file_state first) (Err u)
+      → status ≡ u.status → Closes u.conn → Serves {D = D} {g = g} has_source source base (Err status)
+  serves_none has_source source base first u status given over found told closes = inr (inr (
     given,
     inr (elim found [
-      | inl r ↦ inl (r.0, r.1, r.2, record { first = first; over = over; refused = r.3 })
+      | inl r ↦ inl (r.0, u.conn, told ∙ r.1, record { first = first; over = over; refused = r.2; closes = closes })
       | inr r ↦ inr (
         r.0,
-        r.1,
+        told ∙ r.1,
         record {
           first = first;
           over = over;
-          opens = r.2.opens;
-          is_given = r.2.is_given;
-          other = λ is. r.2.other (is ∙ sym (named has_source source r.2.is_given));
+          opens = r.3.opens;
+          is_given = r.3.is_given;
+          other = λ is. r.3.other (is ∙ sym (named has_source source r.3.is_given));
+          closes = subst Closes (sym r.2) closes;
         },
       )
     ]),

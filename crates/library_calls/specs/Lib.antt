@@ -6,3 +6,4 @@ pub mod FileSets
 pub mod Offers
 pub mod Outboxes
 pub mod Numbers
+pub mod Parts

@@ -4,15 +4,16 @@ use Rattle.sqlite_disk.specs.declared.Disk as disk
 use Rattle.sqlite_store.specs.declared.store.FileStore.{FileStore}
 use Rattle.sqlite.specs.Files.{file_state, over_files}
 use Rattle.sqlite.specs.Held.{Held, state}
-use Rattle.sqlite.specs.State.{HasCleanDisk, State, Survives}
+use Rattle.sqlite.specs.State.{HasCleanDisk, Survives}
 use Rattle.sqlite_trees.specs.declared.store.Store.{Ghosts}
 use Rattle.attributes.specs.Event.{EventValue}
 use Rattle.event_json.specs.Reading.{Reads, Refuses}
 use Rattle.event_json.specs.declared.fault.ReadFault.{ReadFault}
 use Rattle.inbox_table.specs.Opening.{MayOpen, Opens}
+use Rattle.inbox_table.specs.Rows.{IsAnyInbox}
 use Rattle.numbers.specs.Refusal.{refusal_from}
 use Rattle.numbers.specs.declared.fault.NumberFault.{NumberFault}
-use Rattle.number_table.specs.Calls.{LeavesNumbers, MayNumber, NumberEffect, RejectsNumbers, Stands}
+use Rattle.number_table.specs.Calls.{LeavesNumbers, MayNumber, NoneLeaves, NumberEffect, RejectsNumbers, Stands}
 use Rattle.number_table.specs.Fault.{of_numbers}
 use Rattle.number_table.specs.declared.fault.NumbererFault.{NumbererFault}
 use Rattle.number_table.specs.declared.fault.NumbererFault.TheVariants as fault
@@ -39,29 +40,9 @@ number_status fault.Foreign = 19
 abbrev pub IsNoEvents : List ℕ → ℕ → Type 0
 IsNoEvents bytes status = IsWant status ⊎ ((status ≡ 2) × ((why : ReadFault) × Refuses bytes why))
 
+-- ---- events numbered
+
 module _ {S : Type 0} (g : Ghosts S) where
-  -- ---- opening
-
-  -- a numberer with this base is open: what it numbered is in its table, or there was none
-  pub record OpensNumbers (base : ℕ) (old : State) (n : Numberer S) : Type 0 where
-    pub base_is : n.base ≡ base
-    pub opens : HasCleanDisk (state g n.table.conn) → (events rows : List EventValue)
-        × Opens (λ _ _. ⊤) old (state g n.table.conn) rows
-        × Stands base events rows (state g n.table.conn) n.counted
-
-  -- the table isn't one that a numberer with this base leaves, or can't be made; it is as it was
-  abbrev pub RefusesNumbers : State → ℕ → Type 0
-  RefusesNumbers old status = (last : Held S) × (why : NumbererFault)
-      × (status ≡ number_status why) × RejectsNumbers old (state g last) why
-      × Survives old (state g last) (MayOpen old.now)
-
-  -- the numberer of a database, or why there is none
-  abbrev pub FindsNumbers : ℕ → State → Result (Numberer S) ℕ → Type 0
-  FindsNumbers base old (Ok n) = OpensNumbers base old n
-  FindsNumbers base old (Err status) = RefusesNumbers old status
-
-  -- ---- events numbered
-
   -- a numberer was given events; the answer is the line of what it answered, or why it didn't. Where
   -- memory runs out for the line they are numbered, and given again they have the same numbers
   pub record Numbers (events : List EventValue) (was is : Numberer S) (made : Result Answered ℕ)
@@ -87,15 +68,46 @@ module _ {S : Type 0} (g : Ghosts S) where
       ((events : List EventValue) × Reads bytes events × Numbers events was is made)
       ⊎ ((status : ℕ) × (made ≡ Err status) × IsNoEvents bytes status × (is ≡ was))
 
+-- ---- opening
+
+module _ (D : Type 0) (g : disk.Ghosts D) where
+  -- a connection was opened over the files, and no numberer with this base was found or made there:
+  -- the database is as it was, and its files were closed so
+  pub record RefusesNumbers (base status : ℕ) : Type 0 where
+    pub first : Held (FileStore D g)
+    pub last : Held (FileStore D g)
+    pub over : IsOver untold first
+    pub why : NumbererFault
+    pub is : status ≡ number_status why
+    pub rejects : RejectsNumbers (file_state first) (file_state last) why
+    -- `Foreign` comes only of a table that no numberer with this base leaves
+    pub foreign : why ≡ fault.Foreign → HasCleanDisk (file_state last) → (rows : List EventValue)
+        → IsAnyInbox (file_state first).now rows → NoneLeaves base rows
+    -- a crash leaves it so, or with the table that was to be made
+    pub crash : Survives (file_state first) (file_state last) (MayOpen (file_state first).now)
+    pub closes : Closes last
+
 module _ {D : Type 0} {g : disk.Ghosts D} where
+  -- a numberer with this base was opened over the files: what it numbered is in its table, or there
+  -- was none
+  pub record OpensNumbers (base : ℕ) (n : Numberer (FileStore D g)) : Type 0 where
+    pub first : Held (FileStore D g)
+    pub over : IsOver untold first
+    pub base_is : n.base ≡ base
+    pub opens : HasCleanDisk (file_state n.table.conn) → (events rows : List EventValue)
+        × Opens (λ _ _. ⊤) (file_state first) (file_state n.table.conn) rows
+        × Stands base events rows (file_state n.table.conn) n.counted
+    -- no fault of the disk is forgotten, and a crash leaves it as it was, or with the table that was
+    -- to be made
+    pub crash : Survives (file_state first) (file_state n.table.conn)
+        (MayOpen (file_state first).now)
+
   -- the files have a numberer; or they weren't opened, or have none, and are as they were
   abbrev pub ServesNumbers : ℕ → Result (Numberer (FileStore D g)) ℕ → Type 0
-  ServesNumbers base (Ok n) = (first : Held (FileStore D g)) × IsOver untold first
-      × OpensNumbers over_files base (file_state first) n
+  ServesNumbers base (Ok n) = OpensNumbers base n
   ServesNumbers base (Err status) =
       ((why : OpenFault) × (status ≡ open_status why) × IsUnopened D g untold why)
-      ⊎ ((first : Held (FileStore D g)) × IsOver untold first
-      × RefusesNumbers (over_files {D = D} {g = g}) (file_state first) status)
+      ⊎ RefusesNumbers D g base status
 
   -- the room has this numberer, if any, and the reply tells how many events it numbered
   abbrev pub OpensAsNumbers : ℕ → Option (Numberer (FileStore D g)) → Reply → Type 0

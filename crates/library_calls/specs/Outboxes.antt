@@ -23,6 +23,7 @@ use Rattle.library_calls.specs.Calls.{IsPageLine, IsWant, piece_of}
 use Rattle.library_calls.specs.Files.{open_status, untold}
 use Rattle.library_calls.specs.declared.calls.Piece.{Piece}
 use Rattle.library_calls.specs.declared.outbox_calls.OutboxReply.{OutboxReply}
+use Rattle.library_calls.specs.declared.outbox_calls.Unserved.{Unserved}
 use Rattle.library_calls.specs.declared.outbox_held.OutboxHeld.{OutboxHeld}
 
 -- the status of a refusal of a service
@@ -105,13 +106,14 @@ pub record FindsAnother {S : Type 0} (has_source : ℕ) (source : List ℕ) (bas
   pub other : s.source ≢ source
 
 -- the service of a database, or why there is none: no service can be opened in it, or the one that
--- is there has another source
-abbrev pub Finds : {S : Type 0} → Ghosts S → ℕ → List ℕ → ℕ → State → Result (Shown S) ℕ → Type 0
+-- is there has another source. Then the connection comes back
+abbrev pub Finds : {S : Type 0} → Ghosts S → ℕ → List ℕ → ℕ → State
+    → Result (Shown S) (Unserved S) → Type 0
 Finds g has_source source base old (Ok s) = FindsMeant has_source source base old s (state g s.conn)
-Finds {S} g has_source source base old (Err status) =
-    ((fault : OutboxFault) × (last : Held S) × (status ≡ outbox_status fault)
-    × IsRefused source base old (state g last) fault)
-    ⊎ ((s : Shown S) × (status ≡ 28)
+Finds {S} g has_source source base old (Err u) =
+    ((fault : OutboxFault) × (u.status ≡ outbox_status fault)
+    × IsRefused source base old (state g u.conn) fault)
+    ⊎ ((s : Shown S) × (u.status ≡ 28) × (s.conn ≡ u.conn)
     × FindsAnother has_source source base old s (state g s.conn))
 
 module _ {S : Type 0} (g : Ghosts S) where
@@ -177,7 +179,7 @@ module _ {D : Type 0} {g : disk.Ghosts D} where
     pub meant : has_source ≢ 0 → s.source ≡ source
 
   -- a source was given, and the service that the files have has another: it was opened, which
-  -- changes nothing of it, and let go
+  -- changes nothing of it, and the files were closed
   pub record IsAnother (has_source : ℕ) (source : List ℕ) (base : ℕ) (s : Shown (FileStore D g))
       : Type 0 where
     pub first : Held (FileStore D g)
@@ -185,13 +187,16 @@ module _ {D : Type 0} {g : disk.Ghosts D} where
     pub opens : Opens (source_of has_source source) base (file_state first) s (file_state s.conn)
     pub is_given : has_source ≢ 0
     pub other : s.source ≢ source
+    pub closes : Closes s.conn
 
-  -- the files have no service and none was made in them, for this fault; they are as they were
+  -- the files have no service and none was made in them, for this fault: the database is as it was,
+  -- and they were closed so
   pub record RefusesOutbox (source : List ℕ) (base : ℕ) (fault : OutboxFault)
       (last : Held (FileStore D g)) : Type 0 where
     pub first : Held (FileStore D g)
     pub over : IsOver untold first
     pub refused : IsRefused source base (file_state first) (file_state last) fault
+    pub closes : Closes last
 
   -- there is a service, or the status says why not: want of memory; what was given isn't a source
   -- and a base, and the files weren't asked; they weren't opened, and are as they were; no service

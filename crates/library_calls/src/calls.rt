@@ -58,7 +58,7 @@ pub(crate) const DONE: u32 = 0;
 
 pub(crate) const OUT_OF_MEMORY: u32 = 1;
 
-const NO_SUCH_QUESTION: u32 = 4;
+pub(crate) const NO_SUCH_QUESTION: u32 = 4;
 
 /// A text, and how many events it has, where it is that of a page.
 #[derive(Drop)]
@@ -133,7 +133,7 @@ pub(crate) fn keep(site: &Site, text: &mut Text, made: Result<Answered, u32>, re
 }
 
 /// The question of a number, from 1.
-fn query_at(number: u32) -> Option<Query>
+pub(crate) fn query_at(number: u32) -> Option<Query>
     ensures some { IfSome result (λ query. number ≡ question_number query) }
     ensures none { IfNone result ((query : Query) → number ≢ question_number query) }
 {
@@ -255,7 +255,7 @@ pub(crate) fn peer_of(alloc: Global, bytes: &[u8]) -> Result<Summary, u32>
 }
 
 /// A batch as a line.
-fn batch_line(alloc: Global, batch: &Batch) -> Result<Text, AllocError>
+pub(crate) fn batch_line(alloc: Global, batch: &Batch) -> Result<Text, AllocError>
     ensures { IfOk result (λ text. text ≡ batch_line batch.now) }
 {
     let mut line = write_sequenced(alloc, batch)?.into_string();

@@ -11,6 +11,7 @@ mod numbers_held;
 mod offers;
 mod outbox_calls;
 mod outbox_held;
+mod part_calls;
 mod set_calls;
 
 pub use calls::{
@@ -30,6 +31,7 @@ pub use outbox_calls::{
     OutboxReply, outbox_close, outbox_open, outbox_order, outbox_read, outbox_rows,
 };
 pub use outbox_held::OutboxHeld;
+pub use part_calls::{CombineReply, site_combine, site_split, source_part};
 pub use set_calls::{
     Lag, Name, bytes_test, site_compare, site_copy, site_get, site_name, site_part,
 };

@@ -1,19 +1,20 @@
 //! What each call does to the numberer over a file that lies in the room.
 
 ghost use Rattle.std.specs.Prelude.{◌≡◌, ℕ, [], length, IfErr, IfOk, Result};
-ghost use Rattle.sqlite.specs.Held.{state};
 ghost use Rattle.event_json.specs.Reading.{Reads};
+ghost use Rattle.durable_site.specs.Files.{Closes};
 ghost use Rattle.library_calls.specs.declared.calls.Answered.{Answered as Made};
-ghost use Rattle.library_calls.specs.Numbers.{FindsNumbers, HasReadNumbers, IsNoEvents, KeepsMade, LetsGoNumbers, Numbered, Numbers, NumbersBytes, OpenedNumbers, ServesNumbers, number_status};
+ghost use Rattle.library_calls.specs.Numbers.{HasReadNumbers, IsNoEvents, KeepsMade, LetsGoNumbers, Numbered, Numbers, NumbersBytes, OpenedNumbers, ServesNumbers, number_status};
 
 use crate::calls::{Answered, DONE, OUT_OF_MEMORY, Piece, Reply, copied, page_line};
 use crate::file_calls::{NOT_OPEN, open_status, tell_nothing};
 use crate::numbers_held::{FileNumberer, NumbersHeld};
 use attributes::{Events, Text};
-use durable_site::{GivenFiles, Unknown, close, connect};
+use durable_site::{FileFrom, GivenFiles, Unknown, close, connect};
 use event_json::{ReadFault, read_events};
-use number_table::{Numberer, NumbererFault};
-use sqlite::{Alter, Connection};
+use number_table::{NotOpened, Numberer, NumbererFault};
+use sqlite::Alter;
+use sqlite_store::FileStore;
 use std::alloc::Global;
 
 const NO_EVENTS: u32 = 2;
@@ -36,18 +37,14 @@ fn number_status(fault: NumbererFault) -> u32
     }
 }
 
-/// The numberer of a database, made where there is none, or the status.
-fn numberer_of<S: Alter + Drop>(
-    alloc: Global,
-    conn: Connection<S>,
-    base: u64,
-) -> Result<Numberer<S>, u32>
-    ensures { FindsNumbers S.Store base (state S.Store conn) result }
+/// The status of a refused opening, whose files are closed as they are.
+fn refused_status(refused: NotOpened<FileStore<FileFrom<Unknown>>>) -> u32
+    ensures status { result ≡ number_status refused.fault }
+    ensures closes { Closes refused.conn }
 {
-    match Numberer::open(alloc, conn, base) {
-        Ok(numberer) => Ok(numberer),
-        Err(refused) => Err(number_status(refused.fault)),
-    }
+    let NotOpened { conn, fault } = refused;
+    close(conn);
+    number_status(fault)
 }
 
 /// The numberer of the database that the files hold, made where there is none, or the status.
@@ -58,7 +55,10 @@ fn served(alloc: Global, given: GivenFiles, base: u64) -> Result<FileNumberer, u
         Ok(conn) => conn,
         Err(fault) => return Err(open_status(fault)),
     };
-    numberer_of(alloc, conn, base)
+    match Numberer::open(alloc, conn, base) {
+        Ok(numberer) => Ok(numberer),
+        Err(refused) => Err(refused_status(refused)),
+    }
 }
 
 /// Opens a numberer over the files.

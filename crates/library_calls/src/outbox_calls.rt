@@ -10,6 +10,7 @@ ghost use Rattle.outbox.specs.Call.{CommandCall, CommandEffect, IsSame, LeavesAs
 ghost use Rattle.outbox.specs.Row.{row_event};
 ghost use Rattle.outbox.specs.Shown.{IsAllowed};
 ghost use Rattle.outbox.specs.declared.fault.OutboxFault.TheVariants.{OutOfMemory, Store};
+ghost use Rattle.durable_site.specs.Files.{Closes};
 ghost use Rattle.library_calls.specs.Calls.{IsPageLine, IsWant};
 ghost use Rattle.library_calls.specs.Outboxes.{Carries, Commands, Finds, HasReadOutbox, IsAction, IsGiven, IsNextRows, IsTime, LetsGoOutbox, Names, NamesNone, OpenedOutbox, OrderedOutbox, Serves, ShownOutbox, ShowsRows, TellsService, WantsTime, action_number, event_line, outbox_status, source_of};
 
@@ -17,9 +18,10 @@ use crate::calls::{Answered, DONE, MAX_PAGE, OUT_OF_MEMORY, Piece, copied, page_
 use crate::file_calls::{NOT_OPEN, open_status};
 use crate::outbox_held::{FileService, OutboxHeld};
 use attributes::{Fault, MAX_SEQUENCE, Moment, Sequenced, Text};
-use durable_site::{GivenFiles, Unknown, close, connect};
-use outbox::{OutboxFault, Service, Status};
+use durable_site::{FileFrom, GivenFiles, Unknown, close, connect};
+use outbox::{NotMade, OutboxFault, Service, Status};
 use sqlite::{Alter, Connection};
+use sqlite_store::FileStore;
 use std::alloc::{AllocError, Global};
 
 /// What a call on an outbox answers: a status, and counts.
@@ -179,25 +181,49 @@ fn is_meant(has_source: u32, own: &Text, source: &Text) -> bool
     has_source == 0 || is_same(own, source)
 }
 
-/// The service of a database, made where there is none, or the status.
+/// A connection in which no service is served, and why.
+#[derive(Drop)]
+struct Unserved<S: Alter> {
+    conn: Connection<S>,
+    status: u32,
+}
+
+/// The service of a database, made where there is none.
 fn service_of<S: Alter + Drop>(
     alloc: Global,
     conn: Connection<S>,
     has_source: u32,
     source: &Text,
     base: u64,
-) -> Result<Service<S>, u32>
+) -> Result<Service<S>, Unserved<S>>
     requires { IsAllowed source.now base }
     ensures { Finds S.Store has_source source.now base (state S.Store conn) result }
 {
     let service = match Service::open(alloc, conn, source, base) {
         Ok(service) => service,
-        Err(refused) => return Err(outbox_status(refused.fault)),
+        Err(refused) => {
+            let NotMade { conn, fault } = refused;
+            let status = outbox_status(fault);
+            return Err(Unserved { conn, status });
+        }
     };
     if is_meant(has_source, service.source(), source) {
         return Ok(service);
     }
-    Err(ANOTHER_SOURCE)
+    Err(Unserved {
+        conn: service.into_connection(),
+        status: ANOTHER_SOURCE,
+    })
+}
+
+/// Why no service is served, whose files are closed as they are.
+fn closed(unserved: Unserved<FileStore<FileFrom<Unknown>>>) -> u32
+    ensures status { result ≡ unserved.status }
+    ensures closes { Closes unserved.conn }
+{
+    let Unserved { conn, status } = unserved;
+    close(conn);
+    status
 }
 
 /// The service of the database that the files hold, made where there is none, or the status.
@@ -218,7 +244,10 @@ fn served(
         Ok(conn) => conn,
         Err(fault) => return Err(open_status(fault)),
     };
-    service_of(alloc, conn, has_source, &text, base)
+    match service_of(alloc, conn, has_source, &text, base) {
+        Ok(service) => Ok(service),
+        Err(unserved) => Err(closed(unserved)),
+    }
 }
 
 /// Opens an outbox over the files.

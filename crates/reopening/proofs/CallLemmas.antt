@@ -1,6 +1,5 @@
 -- From the clauses of calls to what the functions over crashed files ask for.
 use Rattle.std.proofs.Common.{◌≡◌, ◌∙◌, ℕ, suc, ◌+◌, Bool, true, false, List, [], ◌∷◌, length, IsTrue, refl, sym, subst, inl, arith}
-use Rattle.sqlite_trees.specs.Tree.{Trees}
 use Rattle.sqlite.specs.Effect.{Database, IsDatabase}
 use Rattle.sqlite.specs.Held.{Held}
 use Rattle.sqlite.specs.State.{HasCleanDisk, IsLive, State, Survives}
@@ -10,13 +9,12 @@ use Rattle.inbox_table.specs.Calls.{MayTake}
 use Rattle.inbox_table.specs.Opening.{MayOpen, Opens}
 use Rattle.inbox_table.specs.Rows.{IsInbox}
 use Rattle.inbox_table.proofs.UpgradeLemmas.{any_named}
-use Rattle.outbox.specs.Call.{MayAccept}
 use Rattle.outbox.specs.Opening as outbox
 use Rattle.outbox.specs.Order.{Accepted}
 use Rattle.outbox.specs.Service.{IsService}
 use Rattle.outbox.specs.Shown.{Shown}
 use Rattle.reopening.specs.Lists.{GaveEvents}
-use Rattle.reopening.specs.Services.{CommandsUntil, GaveCommand, WasService}
+use Rattle.reopening.specs.Services.{CommandsUntil, GaveCommand}
 
 -- a table was opened with some events
 abbrev pub OpensTable : (ℕ → ℕ → Type 0) → State → State → ℕ → Type 0

@@ -7,11 +7,12 @@ ghost use Rattle.library_calls.specs.Files.{Answered, HasReadFile, LetsGo, Opene
 ghost use Rattle.library_calls.specs.Numbers.{HasReadNumbers, LetsGoNumbers, Numbered, OpenedNumbers};
 ghost use Rattle.library_calls.specs.Offers.{HasAnswer, KeptOffers, Offered};
 ghost use Rattle.library_calls.specs.Outboxes.{HasReadOutbox, LetsGoOutbox, OpenedOutbox, OrderedOutbox, ShownOutbox};
+ghost use Rattle.library_calls.specs.Parts.{Combined, Split};
 ghost use Rattle.library_calls.specs.Sets.{Compared, Copied, Found, Named, PartLacked};
 
 use durable_site::GivenFiles;
 use library_calls::{
-    FileHeld, Held, Lag, Name, NumbersHeld, OutboxHeld, OutboxReply, Piece, Reply,
+    CombineReply, FileHeld, Held, Lag, Name, NumbersHeld, OutboxHeld, OutboxReply, Piece, Reply,
 };
 use std::alloc::Global;
 
@@ -104,6 +105,27 @@ pub(crate) fn site_copy(held: &mut Held) -> Held
     ensures { Copied held.old held.new result }
 {
     library_calls::site_copy(held)
+}
+
+pub(crate) fn site_split(held: Held, bytes: &[u8], parts: u64, reply: &mut Reply) -> Held
+    ensures { Split bytes.now parts held result reply.new }
+{
+    library_calls::site_split(held, bytes, parts, reply)
+}
+
+pub(crate) fn site_combine(
+    held: Held,
+    query: u32,
+    answers: u64,
+    bytes: &[u8],
+    lengths: &[u64],
+    reply: &mut CombineReply,
+) -> Held
+    ensures { Combined query
+        (record { answers = answers; bytes = bytes.now; lengths = lengths.now })
+        held result reply.new }
+{
+    library_calls::site_combine(held, query, answers, bytes, lengths, reply)
 }
 
 pub(crate) fn site_read(held: Held, piece: u32, out: &mut Piece) -> Held

@@ -11,6 +11,7 @@ ghost use Rattle.library_calls.specs.Files.{Answered, HasReadFile, LetsGo, Opene
 ghost use Rattle.library_calls.specs.Numbers.{HasReadNumbers, LetsGoNumbers, Numbered, OpenedNumbers};
 ghost use Rattle.library_calls.specs.Offers.{HasAnswer, KeptOffers, Offered};
 ghost use Rattle.library_calls.specs.Outboxes.{HasReadOutbox, LetsGoOutbox, OpenedOutbox, OrderedOutbox, ShownOutbox};
+ghost use Rattle.library_calls.specs.Parts.{Combined, Split, TellsPart};
 ghost use Rattle.library_calls.specs.Sets.{Compared, Copied, Found, Named, PartLacked, Tested};
 ghost use Rattle.library_calls.specs.contracts.file_held.FileHeld.{the_row as file_row};
 ghost use Rattle.library_calls.specs.contracts.held.Held.{the_row};
@@ -23,7 +24,8 @@ mod calls;
 
 use durable_site::GivenFiles;
 use library_calls::{
-    FileHeld, Held, Lag, Name, NumbersHeld, OutboxHeld, OutboxReply, Piece, Reply, bytes_test,
+    CombineReply, FileHeld, Held, Lag, Name, NumbersHeld, OutboxHeld, OutboxReply, Piece, Reply,
+    bytes_test, source_part,
 };
 use std::alloc::Global;
 
@@ -235,6 +237,61 @@ pub extern "C" fn jumbetai_bytes_test(alloc: Global, bytes: &[u8], reply: &mut R
     ensures { Tested bytes.now reply.new }
 {
     bytes_test(alloc, bytes, reply);
+}
+
+/// Parts the events that the bytes spell by their sources, a line for each of so many parts; its
+/// text stays in the site as an answer's does.
+#[unsafe(no_mangle)]
+pub unsafe extern "C" fn jumbetai_site_split(
+    at: *mut u8,
+    bytes: &[u8],
+    parts: u64,
+    reply: &mut Reply,
+)
+    ghost held: { Held }
+    requires* { sem 𝓛 (lies_at the_row full_share at held) }
+    ensures* { ∃ₛ λ kept. sem 𝓛 (lies_at the_row full_share at kept)
+        ∗ ⌜ Split bytes.now parts held kept reply.new ⌝ }
+{
+    let to = at as *mut Held;
+    std::ptr::write(
+        to,
+        calls::site_split(std::ptr::read(to), bytes, parts, reply),
+    );
+}
+
+/// Asks a question about the whole of parts, by the texts of so many of their answers, and behind
+/// them of their covers, which lie one behind the other in the bytes; its text stays in the site as
+/// an answer's does.
+#[unsafe(no_mangle)]
+pub unsafe extern "C" fn jumbetai_site_combine(
+    at: *mut u8,
+    query: u32,
+    answers: u64,
+    bytes: &[u8],
+    lengths: &[u64],
+    reply: &mut CombineReply,
+)
+    ghost held: { Held }
+    requires* { sem 𝓛 (lies_at the_row full_share at held) }
+    ensures* { ∃ₛ λ kept. sem 𝓛 (lies_at the_row full_share at kept)
+        ∗ ⌜ Combined query
+        (record { answers = answers; bytes = bytes.now; lengths = lengths.now })
+        held kept reply.new ⌝ }
+{
+    let to = at as *mut Held;
+    std::ptr::write(
+        to,
+        calls::site_combine(std::ptr::read(to), query, answers, bytes, lengths, reply),
+    );
+}
+
+/// Tells the part that a source falls to, of so many.
+#[unsafe(no_mangle)]
+pub extern "C" fn jumbetai_source_part(source: &[u8], parts: u64, part: &mut u64) -> u32
+    ensures { TellsPart source.now parts result part.new }
+{
+    source_part(source, parts, part)
 }
 
 /// Copies a piece of the answer's text, counted from 0.

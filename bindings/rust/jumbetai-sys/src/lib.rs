@@ -41,6 +41,16 @@ pub struct Counts {
     pub repeated: u64,
 }
 
+/// Of which parts of a region a refusal tells.
+#[repr(C)]
+#[derive(Clone, Copy, Debug, Default)]
+pub struct Parts {
+    /// The part, or the first of two; or how many answers there are.
+    pub first: u64,
+    /// The second of two; or how many covers there are.
+    pub second: u64,
+}
+
 /// The bytes of one caller.
 #[repr(C)]
 #[derive(Clone, Copy, Debug)]
@@ -217,6 +227,28 @@ extern "C" {
         numbers: *mut Numbers,
         bytes: *const c_void,
         length: usize,
+        text: *mut Text,
+    ) -> c_int;
+    /// Of so many parts the one that a source falls to.
+    pub fn jumbetai_part(source: *const c_void, length: usize, parts: u64, part: *mut u64)
+        -> c_int;
+    /// The events of the bytes in so many parts, a line each.
+    pub fn jumbetai_split(
+        site: *mut Site,
+        bytes: *const c_void,
+        length: usize,
+        parts: u64,
+        text: *mut Text,
+    ) -> c_int;
+    /// The answer of the whole from those of the parts, and their covers; `parts` may be null.
+    pub fn jumbetai_combine(
+        site: *mut Site,
+        question: c_int,
+        answers: *const Body,
+        answer_count: usize,
+        covers: *const Body,
+        cover_count: usize,
+        parts: *mut Parts,
         text: *mut Text,
     ) -> c_int;
     /// Gives a text back; null and no text are let through.

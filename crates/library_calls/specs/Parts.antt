@@ -1,0 +1,202 @@
+-- What the calls on a region in parts leave in the room, and what they reply.
+use Rattle.std.specs.Prelude.{◌≡◌, ◌<◌, ◌≤◌, ◌+◌, ◌-◌, ◌⊎◌, ℕ, Bool, true, false, List, [], ◌∷◌, All, IsUtf8, Some, drop, if◌then◌else◌, length, nat_lt, slice_get, string_bytes, sum, take}
+use Rattle.attributes.specs.Event.{EventValue}
+use Rattle.file_reports.specs.Numbers.{fault_number}
+use Rattle.file_reports.specs.Reports.{IsRefusal, SpellAll}
+use Rattle.file_reports.specs.declared.refusal.Refused.{Refused}
+use Rattle.parts.specs.Part.{IsCount, of_parts, part, part_of}
+use Rattle.parts.specs.Told.{IsHeld}
+use Rattle.parts.specs.Whole.{AreApartIn, ArePartsOf, RefusesParts}
+use Rattle.parts.specs.declared.fault.CombineFault.{CombineFault}
+use Rattle.parts.specs.declared.fault.CombineFault.TheVariants as fault
+use Rattle.views.specs.Question.{IsAnswer}
+use Rattle.views.specs.declared.query.Query.{Query}
+use Rattle.views.specs.declared.query.Query.TheVariants as query
+use Rattle.library_calls.specs.Calls.{Answers, IsDoneOrWant, IsNoQuestion, IsWant, batch_line, question_number}
+use Rattle.library_calls.specs.declared.calls.Reply.{Reply}
+use Rattle.library_calls.specs.declared.held.Held.{Held}
+use Rattle.library_calls.specs.declared.part_calls.CombineReply.{CombineReply}
+
+-- ---- the part of a source
+
+-- a region can't be in so many parts
+abbrev pub IsNoCount : ℕ → Type 0
+IsNoCount count = IsCount count → ⊥
+
+-- what `jumbetai_source_part` answers and tells
+abbrev pub TellsPart : List ℕ → ℕ → ℕ → ℕ → Type 0
+TellsPart source count status place =
+    ((status ≡ 0) × IsCount count × (place ≡ part_of count source))
+    ⊎ ((status ≡ 32) × IsNoCount count × (place ≡ 0))
+
+-- ---- events in parts
+
+-- a line for each part, in the order of the parts: the batch of its events
+abbrev pub part_lines : ℕ → List EventValue → List ℕ
+part_lines count events = of_parts count (λ i. batch_line (part (part_of count) i events))
+
+-- the text has the events that the bytes spell, which are so many, in parts
+abbrev pub IsSplit : List ℕ → ℕ → List ℕ → ℕ → Type 0
+IsSplit bytes count text listed = IsCount count × ((batch : List EventValue)
+    × SpellAll (bytes ∷ []) batch × (text ≡ part_lines count batch) × (listed ≡ length batch))
+
+-- why there are none: so many parts there can't be; the bytes are refused; memory ran out
+abbrev pub IsUnsplit : List ℕ → ℕ → ℕ → Type 0
+IsUnsplit bytes count status = ((status ≡ 32) × IsNoCount count)
+    ⊎ (IsCount count × (IsWant status ⊎ ((refused : Refused) × IsRefusal (bytes ∷ []) refused
+    × (status ≡ fault_number refused.fault))))
+
+-- what `jumbetai_site_split` leaves and replies
+abbrev pub Split : List ℕ → ℕ → Held → Held → Reply → Type 0
+Split bytes count held kept reply =
+    Answers (IsSplit bytes count) (IsUnsplit bytes count) held kept reply
+
+-- ---- texts of parts
+
+-- the texts that lie one behind the other in bytes, by how many bytes each has
+abbrev pub cut : List ℕ → List ℕ → List (List ℕ)
+cut bytes [] = []
+cut bytes (n ∷ lengths) = take n bytes ∷ cut (drop n bytes) lengths
+
+-- the bytes end before the text at the place does, or it isn't UTF-8
+abbrev pub IsNoText : List ℕ → List ℕ → ℕ → Type 0
+IsNoText bytes lengths i = (n : ℕ) × (slice_get lengths i ≡ Some n)
+    × ((length bytes < sum (take (i + 1) lengths))
+    ⊎ ((text : List ℕ) × (slice_get (cut bytes lengths) i ≡ Some text) × (IsUtf8 text → ⊥)))
+
+-- beside the answers to the question the covers of the parts stand
+abbrev pub has_covers : Query → Bool
+has_covers query.Cover = false
+has_covers query.Shown = false
+has_covers query.Conflicts = true
+has_covers query.Latest = true
+has_covers query.Kinds = true
+has_covers query.Days = true
+has_covers query.Gaps = true
+
+-- texts that a caller gives: so many answers, and behind them the covers, by how many bytes each
+-- has
+pub record Texts : Type 0 where
+  pub answers : ℕ
+  pub bytes : List ℕ
+  pub lengths : List ℕ
+
+-- the lengths of those that are looked at
+abbrev pub lengths_of : Query → Texts → List ℕ
+lengths_of q given = if has_covers q then given.lengths else take given.answers given.lengths
+
+-- these
+abbrev pub texts_of : Query → Texts → List (List ℕ)
+texts_of q given = cut given.bytes (lengths_of q given)
+
+-- the answers
+abbrev pub answers_of : Query → Texts → List (List ℕ)
+answers_of q given = take given.answers (texts_of q given)
+
+-- the covers
+abbrev pub covers_of : Query → Texts → List (List ℕ)
+covers_of q given = drop given.answers (texts_of q given)
+
+-- they lie in the bytes, and are UTF-8
+abbrev pub AreTexts : Query → Texts → Type 0
+AreTexts q given =
+    (sum (lengths_of q given) ≤ length given.bytes) × All IsUtf8 (texts_of q given)
+
+-- ---- the answer of the whole
+
+-- answers over the parts of a set want memory alone
+abbrev pub WantsMemoryAlone : Query → Texts → Type 0 → Type 0
+WantsMemoryAlone q given Want = AreTexts q given
+    → (p : List ℕ → ℕ) (E : List EventValue) → IsHeld E
+    → ArePartsOf q p E (answers_of q given) (covers_of q given) → Want
+
+-- where the texts are the answers of the parts of a set, and its parts' covers beside them, the
+-- text is the answer over the set; they lie in the bytes, and no source stands in two of them
+pub record IsWhole (q : Query) (given : Texts) (text : List ℕ) : Type 0 where
+  pub there : sum (lengths_of q given) ≤ length given.bytes
+  pub combined : (p : List ℕ → ℕ) (E : List EventValue) → IsHeld E
+      → ArePartsOf q p E (answers_of q given) (covers_of q given) → IsAnswer q E text
+  pub apart : AreApartIn q (answers_of q given) (covers_of q given)
+
+-- the fault of an answer that is none to the question
+abbrev pub no_answer : Query → ℕ → CombineFault
+no_answer query.Cover i = fault.NotACover i
+no_answer _ i = fault.NotAnAnswer i
+
+-- the fault of a text that is none, where so many are answers
+abbrev pub no_text : Query → ℕ → ℕ → CombineFault
+no_text q answers i =
+    if nat_lt i answers then no_answer q i else fault.NotACover (i - answers)
+
+-- memory ran out; or one of the texts is none; or they are refused as the parts of a whole
+abbrev pub RefusesTexts : Query → Texts → CombineFault → Type 0
+RefusesTexts q given f = (f ≡ fault.OutOfMemory)
+    ⊎ (((i : ℕ) × (f ≡ no_text q given.answers i) × IsNoText given.bytes (lengths_of q given) i)
+    ⊎ RefusesParts q (answers_of q given) (covers_of q given) f)
+
+-- the status of a fault
+abbrev pub combine_status : CombineFault → ℕ
+combine_status fault.OutOfMemory = 1
+combine_status (fault.NotACover i) = 33
+combine_status (fault.NotAnAnswer i) = 34
+combine_status (fault.CoverCount answers covers) = 35
+combine_status fault.TooMany = 36
+combine_status (fault.Overlap source i j) = 37
+
+-- the part of which it tells, or the first of two; how many answers there are
+abbrev pub first_of : CombineFault → ℕ
+first_of fault.OutOfMemory = 0
+first_of (fault.NotACover i) = i
+first_of (fault.NotAnAnswer i) = i
+first_of (fault.CoverCount answers covers) = answers
+first_of fault.TooMany = 0
+first_of (fault.Overlap source i j) = i
+
+-- the second of two parts; how many covers there are
+abbrev pub second_of : CombineFault → ℕ
+second_of fault.OutOfMemory = 0
+second_of (fault.NotACover i) = 0
+second_of (fault.NotAnAnswer i) = 0
+second_of (fault.CoverCount answers covers) = covers
+second_of fault.TooMany = 0
+second_of (fault.Overlap source i j) = j
+
+-- the text that stands in the room then: the source that stands in two parts, else that of before
+abbrev pub text_after : List ℕ → CombineFault → List ℕ
+text_after was (fault.Overlap source i j) = string_bytes source
+text_after was fault.OutOfMemory = was
+text_after was (fault.NotACover i) = was
+text_after was (fault.NotAnAnswer i) = was
+text_after was (fault.CoverCount answers covers) = was
+text_after was fault.TooMany = was
+
+-- the reply has this status, and tells of no parts
+abbrev pub TellsStatus : ℕ → CombineReply → Type 0
+TellsStatus status reply =
+    (reply.status ≡ status) × (reply.first ≡ 0) × (reply.second ≡ 0)
+
+-- the reply tells of the fault
+abbrev pub TellsFault : CombineFault → CombineReply → Type 0
+TellsFault f reply = (reply.status ≡ combine_status f) × (reply.first ≡ first_of f)
+    × (reply.second ≡ second_of f)
+
+-- the text is the answer of the whole to the question; or the fault is told of
+abbrev pub AnswersWhole : Query → Texts → List ℕ → List ℕ → CombineReply → Type 0
+AnswersWhole q given was text reply = (TellsStatus 0 reply × IsWhole q given text)
+    ⊎ ((f : CombineFault) × RefusesTexts q given f × TellsFault f reply
+    × (text ≡ text_after was f))
+
+-- so is the question of this number; or there is none, and the text is that of before
+abbrev pub AnswersNumber : ℕ → Texts → List ℕ → List ℕ → CombineReply → Type 0
+AnswersNumber number given was text reply =
+    (TellsStatus 4 reply × IsNoQuestion number × (text ≡ was))
+    ⊎ ((q : Query) × (number ≡ question_number q) × AnswersWhole q given was text reply)
+
+-- what `jumbetai_site_combine` leaves and replies
+pub record Combined (number : ℕ) (given : Texts) (held kept : Held) (reply : CombineReply)
+    : Type 0 where
+  pub site : kept.site ≡ held.site
+  pub length_is : reply.length ≡ length kept.text
+  pub told : AnswersNumber number given held.text kept.text reply
+  pub taken : (q : Query) → number ≡ question_number q
+      → WantsMemoryAlone q given (IsDoneOrWant reply.status)
