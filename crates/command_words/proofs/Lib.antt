@@ -1,3 +1,4 @@
 mod ClapLemmas
+mod CommandLemmas
 mod GivenLemmas
 mod PlanLemmas

@@ -1,5 +1,5 @@
 //! The table of the commands: their words, their help lines and their arguments.
-ghost use Rattle.std.specs.Prelude.{◌≡◌, IfOk, IfSome, IsNone, IsOk, codes, false, ◌≢◌};
+ghost use Rattle.std.specs.Prelude.{◌≡◌, ℕ, IfOk, IfSome, IsNone, IsOk, IsTrue, Some, false, slice_get, ◌≢◌, ◌↔◌};
 ghost use Rattle.clap.specs.Words.{app_of, new_app, rule_of, with_rule};
 ghost use Rattle.command_words.specs.Commands.{app_for, app_in, own_app, word_of};
 ghost use Rattle.command_words.specs.declared.command.Command.{Command};
@@ -52,179 +52,30 @@ pub enum Command {
     Combine,
 }
 
-/// A row of the table, for as long as clap's command wants its texts.
-#[derive(Clone, Copy)]
-pub struct Row<'a> {
-    pub command: Command,
-    /// The first word after the program's name.
-    word: &'a str,
-    /// The word with the program's name before it, for the usage.
-    full_name: &'a str,
-    /// One line on what the command prints.
-    about: &'a str,
-}
-
-/// The words of all commands, in the order in which help lists them.
-pub static WORDS: [&str; 21] = [
-    "cover",
-    "gaps",
-    "shown",
-    "latest",
-    "kinds",
-    "days",
-    "conflicts",
-    "check",
-    "take",
-    "follow",
-    "summary",
-    "delta",
-    "scrub",
-    "arrivals",
-    "run",
-    "service",
-    "order",
-    "relay",
-    "number",
-    "part",
-    "combine",
+/// All commands, in the order in which help lists them.
+pub static COMMANDS: [Command; 21] = [
+    Command::Ask(Query::Cover),
+    Command::Ask(Query::Gaps),
+    Command::Ask(Query::Shown),
+    Command::Ask(Query::Latest),
+    Command::Ask(Query::Kinds),
+    Command::Ask(Query::Days),
+    Command::Ask(Query::Conflicts),
+    Command::Check,
+    Command::Take,
+    Command::Follow,
+    Command::Summary,
+    Command::Delta,
+    Command::Scrub,
+    Command::Arrivals,
+    Command::Run,
+    Command::Service,
+    Command::Order,
+    Command::Relay,
+    Command::Number,
+    Command::Part,
+    Command::Combine,
 ];
-
-/// The table: the row of a word.
-pub fn row_of<'a>(word: &str) -> Option<Row<'a>>
-    ensures some { IfSome result (λ row. word_of row.command ≡ word.now) }
-    ensures word { IfSome result (λ row. row.word.now ≡ word_of row.command) }
-    ensures none { IsNone result → (command : Command) → word_of command ≢ word.now }
-{
-    match word {
-        "cover" => Some(Row {
-            command: Command::Ask(Query::Cover),
-            word: "cover",
-            full_name: "site cover",
-            about: "Prints which numbers each source has, as a summary that sites compare",
-        }),
-        "gaps" => Some(Row {
-            command: Command::Ask(Query::Gaps),
-            word: "gaps",
-            full_name: "site gaps",
-            about: "Prints which numbers each source lacks, to see what was lost on the way",
-        }),
-        "shown" => Some(Row {
-            command: Command::Ask(Query::Shown),
-            word: "shown",
-            full_name: "site shown",
-            about: "Prints the events, of each source and id the one with the least text",
-        }),
-        "latest" => Some(Row {
-            command: Command::Ask(Query::Latest),
-            word: "latest",
-            full_name: "site latest",
-            about: "Prints the latest event of each source and subject, as its state now",
-        }),
-        "kinds" => Some(Row {
-            command: Command::Ask(Query::Kinds),
-            word: "kinds",
-            full_name: "site kinds",
-            about: "Prints how many shown events have each type, as a count of what happened",
-        }),
-        "days" => Some(Row {
-            command: Command::Ask(Query::Days),
-            word: "days",
-            full_name: "site days",
-            about: "Prints how many shown events have each type and UTC day, for a report by day",
-        }),
-        "conflicts" => Some(Row {
-            command: Command::Ask(Query::Conflicts),
-            word: "conflicts",
-            full_name: "site conflicts",
-            about: "Prints the events that share a source and id, to find producers at fault",
-        }),
-        "check" => Some(Row {
-            command: Command::Check,
-            word: "check",
-            full_name: "site check",
-            about: "Prints what a database is, and each event of the files that can't be taken",
-        }),
-        "take" => Some(Row {
-            command: Command::Take,
-            word: "take",
-            full_name: "site take",
-            about: "Adds the files' events to a database, each once, and prints how many were new",
-        }),
-        "follow" => Some(Row {
-            command: Command::Follow,
-            word: "follow",
-            full_name: "site follow",
-            about: "Keeps lines of events in a database, and acknowledges each once it is kept",
-        }),
-        "summary" => Some(Row {
-            command: Command::Summary,
-            word: "summary",
-            full_name: "site summary",
-            about: "Prints which events a database has, as a summary that delta compares",
-        }),
-        "delta" => Some(Row {
-            command: Command::Delta,
-            word: "delta",
-            full_name: "site delta",
-            about: "Prints a batch of the events that another site lacks, to be sent to it",
-        }),
-        "scrub" => Some(Row {
-            command: Command::Scrub,
-            word: "scrub",
-            full_name: "site scrub",
-            about: "Prints a batch of all events, page by page, to mend what a delta can't find",
-        }),
-        "arrivals" => Some(Row {
-            command: Command::Arrivals,
-            word: "arrivals",
-            full_name: "site arrivals",
-            about: "Prints a batch of the events that came after those that were read, in their order",
-        }),
-        "run" => Some(Row {
-            command: Command::Run,
-            word: "run",
-            full_name: "site run",
-            about: "Takes files side by side into a database, and prints its summary",
-        }),
-        "service" => Some(Row {
-            command: Command::Service,
-            word: "service",
-            full_name: "site service",
-            about: "Makes the service of a database, or tells which one is there",
-        }),
-        "order" => Some(Row {
-            command: Command::Order,
-            word: "order",
-            full_name: "site order",
-            about: "Places, ships or cancels an order, and prints the event that says so",
-        }),
-        "relay" => Some(Row {
-            command: Command::Relay,
-            word: "relay",
-            full_name: "site relay",
-            about: "Prints a batch of the next events of the orders, to be sent to the sites",
-        }),
-        "number" => Some(Row {
-            command: Command::Number,
-            word: "number",
-            full_name: "site number",
-            about: "Gives each event of lines its number, for producers that send none, and prints it once it is kept",
-        }),
-        "part" => Some(Row {
-            command: Command::Part,
-            word: "part",
-            full_name: "site part",
-            about: "Prints which part of a region each source falls to, or the events of one part",
-        }),
-        "combine" => Some(Row {
-            command: Command::Combine,
-            word: "combine",
-            full_name: "site combine",
-            about: "Prints the answer of a whole region, from the answers of its parts to a question",
-        }),
-        _ => None,
-    }
-}
 
 impl Command {
     /// The command of a word.
@@ -232,26 +83,131 @@ impl Command {
         ensures some { IfSome result (λ command. word_of command ≡ word.now) }
         ensures none { IsNone result → (command : Command) → word_of command ≢ word.now }
     {
-        Some(row_of(word)?.command)
+        named(&COMMANDS, word)
     }
-}
 
-impl<'a> Row<'a> {
+    /// Whether it is the command of this word.
+    fn has_word(self, word: &str) -> bool
+        ensures { IsTrue result ↔ (word_of self ≡ word.now) }
+    {
+        self.word() == word
+    }
+
+    /// The first word behind the program's name.
+    fn word<'a>(self) -> &'a str
+        ensures { result.now ≡ word_of self }
+    {
+        match self {
+            Command::Ask(Query::Cover) => "cover",
+            Command::Ask(Query::Gaps) => "gaps",
+            Command::Ask(Query::Shown) => "shown",
+            Command::Ask(Query::Latest) => "latest",
+            Command::Ask(Query::Kinds) => "kinds",
+            Command::Ask(Query::Days) => "days",
+            Command::Ask(Query::Conflicts) => "conflicts",
+            Command::Check => "check",
+            Command::Take => "take",
+            Command::Follow => "follow",
+            Command::Summary => "summary",
+            Command::Delta => "delta",
+            Command::Scrub => "scrub",
+            Command::Arrivals => "arrivals",
+            Command::Run => "run",
+            Command::Service => "service",
+            Command::Order => "order",
+            Command::Relay => "relay",
+            Command::Number => "number",
+            Command::Part => "part",
+            Command::Combine => "combine",
+        }
+    }
+
+    /// The word with the program's name before it, for the usage.
+    fn full_name<'a>(self) -> &'a str {
+        match self {
+            Command::Ask(Query::Cover) => "site cover",
+            Command::Ask(Query::Gaps) => "site gaps",
+            Command::Ask(Query::Shown) => "site shown",
+            Command::Ask(Query::Latest) => "site latest",
+            Command::Ask(Query::Kinds) => "site kinds",
+            Command::Ask(Query::Days) => "site days",
+            Command::Ask(Query::Conflicts) => "site conflicts",
+            Command::Check => "site check",
+            Command::Take => "site take",
+            Command::Follow => "site follow",
+            Command::Summary => "site summary",
+            Command::Delta => "site delta",
+            Command::Scrub => "site scrub",
+            Command::Arrivals => "site arrivals",
+            Command::Run => "site run",
+            Command::Service => "site service",
+            Command::Order => "site order",
+            Command::Relay => "site relay",
+            Command::Number => "site number",
+            Command::Part => "site part",
+            Command::Combine => "site combine",
+        }
+    }
+
+    /// One line on what the command prints.
+    fn about<'a>(self) -> &'a str {
+        match self {
+            Command::Ask(Query::Cover) =>
+                "Prints which numbers each source has, as a summary that sites compare",
+            Command::Ask(Query::Gaps) =>
+                "Prints which numbers each source lacks, to see what was lost on the way",
+            Command::Ask(Query::Shown) =>
+                "Prints the events, of each source and id the one with the least text",
+            Command::Ask(Query::Latest) =>
+                "Prints the latest event of each source and subject, as its state now",
+            Command::Ask(Query::Kinds) =>
+                "Prints how many shown events have each type, as a count of what happened",
+            Command::Ask(Query::Days) =>
+                "Prints how many shown events have each type and UTC day, for a report by day",
+            Command::Ask(Query::Conflicts) =>
+                "Prints the events that share a source and id, to find producers at fault",
+            Command::Check =>
+                "Prints what a database is, and each event of the files that can't be taken",
+            Command::Take =>
+                "Adds the files' events to a database, each once, and prints how many were new",
+            Command::Follow =>
+                "Keeps lines of events in a database, and acknowledges each once it is kept",
+            Command::Summary =>
+                "Prints which events a database has, as a summary that delta compares",
+            Command::Delta =>
+                "Prints a batch of the events that another site lacks, to be sent to it",
+            Command::Scrub =>
+                "Prints a batch of all events, page by page, to mend what a delta can't find",
+            Command::Arrivals =>
+                "Prints a batch of the events that came after those that were read, in their order",
+            Command::Run => "Takes files side by side into a database, and prints its summary",
+            Command::Service => "Makes the service of a database, or tells which one is there",
+            Command::Order =>
+                "Places, ships or cancels an order, and prints the event that says so",
+            Command::Relay =>
+                "Prints a batch of the next events of the orders, to be sent to the sites",
+            Command::Number =>
+                "Gives each event of lines its number, for producers that send none, and prints it once it is kept",
+            Command::Part =>
+                "Prints which part of a region each source falls to, or the events of one part",
+            Command::Combine =>
+                "Prints the answer of a whole region, from the answers of its parts to a question",
+        }
+    }
+
     /// The command as clap reads it.
-    pub fn parser(self, alloc: Global) -> Result<clap::Command<'a>, AllocError>
-        requires { self.word.now ≡ word_of self.command }
-        ensures { IfOk result (λ parser. app_of parser ≡ app_for self.entry.command) }
+    pub fn parser<'a>(self, alloc: Global) -> Result<clap::Command<'a>, AllocError>
+        ensures { IfOk result (λ parser. app_of parser ≡ app_for self) }
     {
         with(self.own_parser(alloc), wait(alloc))
     }
 
     /// The command with the arguments that not every one has.
-    fn own_parser(self, alloc: Global) -> Result<clap::Command<'a>, AllocError>
-        requires { self.word.now ≡ word_of self.command }
-        ensures { IsOk result → app_in result ≡ own_app self.entry.command }
+    fn own_parser<'a>(self, alloc: Global) -> Result<clap::Command<'a>, AllocError>
+        ensures { IsOk result → app_in result ≡ own_app self }
     {
         let bare = self.bare(alloc);
-        match self.command {
+        match self {
             Command::Ask(_) => {
                 let begun = with(with(bare, question_db(alloc)), by_line(alloc));
                 with(begun, question_files(alloc))
@@ -302,12 +258,27 @@ impl<'a> Row<'a> {
     }
 
     /// The word with its help line, without arguments.
-    fn bare(self, alloc: Global) -> Result<clap::Command<'a>, AllocError>
-        ensures { IsOk result → app_in result ≡ new_app self.entry.word.now }
+    fn bare<'a>(self, alloc: Global) -> Result<clap::Command<'a>, AllocError>
+        ensures { IsOk result → app_in result ≡ new_app (word_of self) }
     {
-        let named = clap::Command::new(alloc, self.word).bin_name(self.full_name)?;
-        Ok(named.about(self.about))
+        let named = clap::Command::new(alloc, self.word()).bin_name(self.full_name())?;
+        Ok(named.about(self.about()))
     }
+}
+
+/// The first of the commands with this word.
+fn named(commands: &[Command], word: &str) -> Option<Command>
+    ensures some { IfSome result (λ command. word_of command ≡ word.now) }
+    ensures none { IsNone result → (i : ℕ) (command : Command)
+        → slice_get commands.now i ≡ Some command → word_of command ≢ word.now }
+{
+    for i in 0..commands.len() {
+        let command = commands[i];
+        if command.has_word(word) {
+            return Some(command);
+        }
+    }
+    None
 }
 
 /// The command with one more argument, if memory was left so far.

@@ -4,7 +4,7 @@ ghost use Rattle.clap.specs.Words.{kind_of};
 ghost use Rattle.clap.specs.declared.error.kind.ErrorKind.{ErrorKind};
 ghost use Rattle.command_words.specs.Plans.{Blames};
 
-use crate::command::{WORDS, row_of};
+use crate::command::{COMMANDS, Command};
 use crate::fault::Faulty;
 use attributes::Text;
 use clap::Error;
@@ -21,10 +21,8 @@ fn program<'a>(alloc: Global) -> Result<clap::Command<'a>, AllocError> {
         .no_binary_name(true)
         .subcommand_required(true)
         .arg_required_else_help(true);
-    for word in &WORDS {
-        if let Some(row) = row_of(word) {
-            program = program.subcommand(row.parser(alloc)?)?;
-        }
+    for command in &COMMANDS {
+        program = program.subcommand(command.parser(alloc)?)?;
     }
     Ok(program)
 }
@@ -57,7 +55,9 @@ fn late_command(words: &[&str]) -> Option<usize> {
     if !is_own_option(first) {
         return None;
     }
-    words.iter().position(|word| row_of(word).is_some())
+    words
+        .iter()
+        .position(|word| Command::of_word(word).is_some())
 }
 
 /// The words with that at a place as the first.

@@ -10,7 +10,7 @@ ghost use Rattle.command_words.specs.declared.request.Alone.TheVariants as alone
 ghost use Rattle.command_words.specs.declared.request.Plan.TheVariants as plan;
 ghost use Rattle.command_words.specs.declared.request.Request.{Request};
 
-use crate::command::{Command, row_of};
+use crate::command::Command;
 use crate::fault::Faulty;
 use crate::matched::{given_text_of, is_given, str_of, text_of, texts_of};
 use crate::program::{faulty_of, no_command};
@@ -47,12 +47,12 @@ fn invocation_for(alloc: Global, first: &str, words: &[Text]) -> Result<Invocati
         → IsInvocationFor words.now (command_of asked.plan) asked → ⊥)) }
 {
     let strs = as_strs(alloc, words)?;
-    let Some(row) = row_of(first) else {
+    let Some(command) = Command::of_word(first) else {
         return Err(no_command(alloc, strs.as_slice()));
     };
-    let parser = row.parser(alloc)?;
+    let parser = command.parser(alloc)?;
     match parser.try_get_matches_from(strs.as_slice()) {
-        Ok(matches) => timed(alloc, row.command, &matches),
+        Ok(matches) => timed(alloc, command, &matches),
         Err(error) => Err(faulty_of(alloc, error)),
     }
 }

@@ -7,7 +7,7 @@ use Rattle.sqlite.specs.Effect.{Database}
 use Rattle.sqlite.specs.State.{State, HasCleanDisk}
 use Rattle.attributes.specs.Event.{EventValue}
 use Rattle.database_layout.specs.Layout.{has_name}
-use Rattle.outbox.specs.Call.{IsSame, Leaves, LeavesAsBefore, ShowsAfter}
+use Rattle.outbox.specs.Call.{IsSame, IsSettled, Leaves, LeavesAsBefore, ShowsAfter}
 use Rattle.outbox.specs.Layout.{schema_in}
 use Rattle.outbox.specs.Order.{Accepted}
 use Rattle.outbox.specs.Row.{rows_of}
@@ -241,3 +241,13 @@ read_leaves old mid new source base last left opened stands later crash =
           let table = (stands.stands (early clean) there).table in
           left.crash (early clean) db (crash clean there table.layout table.schema db may);
     }
+
+-- a crash leaves just that, as where it was taken over
+pub read_settled : (mid new : State) (source : List ℕ) (base last : ℕ) → HasCleanDisk new → (HasCleanDisk mid → IsTrue mid.is_open) → (HasCleanDisk mid → IsSettled mid)
+    → StandsFor mid source base last → IsSame mid new → LeavesRead mid new → IsSettled new
+read_settled mid new source base last clean opened settled stands later crash still db may =
+    let early : HasCleanDisk mid = omega (arith, later.clean, clean) in
+    let there = opened early in
+    let table = (stands.stands early there).table in
+    settled early there db (crash clean there table.layout table.schema db may)
+    ∙ ap (λ (d : Database). d.trees) (sym (later.same clean still table.layout table.schema).0)

@@ -12,6 +12,7 @@ use Rattle.outbox.specs.Call.{IsAsItWas, IsFounded, IsSettled, Leaves}
 use Rattle.outbox.specs.Order.{Accepted}
 use Rattle.outbox.specs.Shown.{IsNoService}
 use Rattle.database_commands.specs.Described.{Describes}
+use Rattle.database_commands.specs.Done.{OpenIfDone, SettledIfDone}
 use Rattle.database_commands.specs.Held.{HasAnother, IsMeant, IsNoInbox, IsNoOrders, IsUntold, KeepsEvents, KeepsOrTakes, KeepsRows, KeepsService, LeavesOrOrders, MayHold, MayHoldMore, Orders, RefusesOrder, ShowsAllRows, ShowsEvents, ShowsRows, TakesInto, TellsUpgrade}
 use Rattle.database_commands.specs.Service.{HasOtherBase, LeavesOrFounds, TellsOrFounds}
 use Rattle.database_commands.specs.Service as service
@@ -167,4 +168,7 @@ pub record RelayAllEffect (after : ℕ) (outcome : Result (List ℕ) CommandFaul
   pub left : Leaves old new
   -- where there is none, nothing is printed, and the database is as it was, whatever the disk does
   pub without : has_name old.now.schema ≡ false → (new.now ≡ old.now) × (outcome ≡ Ok [])
+  -- where there is one, it was answered by the last commit, which is all that a crash leaves
+  pub stays_open : has_name old.now.schema ≡ true → OpenIfDone new outcome
+  pub settled : has_name old.now.schema ≡ true → SettledIfDone new outcome
   pub fault : IfErr outcome (λ f. f ≢ command.AnotherSource)

@@ -3,6 +3,7 @@ pub mod Name
 pub mod Print
 pub mod Pages
 pub mod Held
+pub mod Done
 pub mod Service
 pub mod Described
 pub mod Trouble

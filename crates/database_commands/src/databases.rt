@@ -1,5 +1,6 @@
 //! Databases by the names of their files.
 ghost use Rattle.std.specs.Prelude.{◌≡◌, ◌≤◌, ℕ, false, length, true, Err, IfErr, IfOk, IfSome, IsTrue, MatchResult};
+ghost use Rattle.sqlite_wal.specs.Files.{image_at};
 ghost use Rattle.sqlite.specs.Held.{state};
 ghost use Rattle.attributes.specs.Character.{is_filled};
 ghost use Rattle.attributes.specs.Sequence.{max_sequence};
@@ -7,12 +8,12 @@ ghost use Rattle.line_intake.specs.Acknowledged.{TellsAll};
 ghost use Rattle.database_layout.specs.Layout.{has_name};
 ghost use Rattle.database_commands.specs.Described.{SaysDatabase};
 ghost use Rattle.database_commands.specs.Held.{HasArrived, HasDelta, HasEvents, SaysAllRows, SaysArrivals, SaysDelta, SaysOrder, SaysPage, SaysRows, SaysSummary};
-ghost use Rattle.database_commands.specs.OfFile.{Closes};
+ghost use Rattle.database_commands.specs.OfFile.{Closes, IsOver};
 ghost use Rattle.database_commands.specs.Print.{counts_line};
 ghost use Rattle.database_commands.specs.Service.{SaysService};
 ghost use Rattle.database_commands.specs.Streams.{AcknowledgesUntil};
 
-use crate::command::CommandEnd;
+use crate::command::{Command, CommandEnd};
 use crate::commands::{
     ArrivalPage, ArrivalPages, DeltaPage, DeltaPages, Describe, GiveOrder, HeldEvents, RelayAll,
     RelayPage, ScrubPage, ScrubPages, SummaryLine, TakeEvents, TellService,
@@ -30,6 +31,7 @@ use database_layout::has_name;
 use inbox_table::Watch;
 use outbox::Status;
 use sqlite::{Alter, Connection};
+use sqlite_disk::{Start, Unknown};
 use sqlite_std_file::File;
 use sqlite_store::FileStore;
 use std::alloc::Global;
@@ -188,8 +190,7 @@ impl<'a> Databases for Opener<'a> {
     ) -> Result<Text, CommandFault> {
         // A row has some 100 bytes beside the event's text, and the index half a row.
         let growth = events.len().saturating_mul(512);
-        let opened = self.open(name, growth);
-        closed(performed(alloc, opened, TakeEvents { events, watch }))
+        give(self, alloc, name, growth, TakeEvents { events, watch })
     }
 
     fn follow<R: Read, W: Write>(
@@ -214,11 +215,11 @@ impl<'a> Databases for Opener<'a> {
     }
 
     fn events(&self, alloc: Global, name: &str) -> Result<Batch, CommandFault> {
-        closed(performed(alloc, self.open_there(name), HeldEvents))
+        give_there(self, alloc, name, HeldEvents)
     }
 
     fn summary(&self, alloc: Global, name: &str) -> Result<Text, CommandFault> {
-        closed(performed(alloc, self.open_there(name), SummaryLine))
+        give_there(self, alloc, name, SummaryLine)
     }
 
     fn delta_pages(
@@ -227,11 +228,11 @@ impl<'a> Databases for Opener<'a> {
         name: &str,
         summary: Summary,
     ) -> Result<EventPages, CommandFault> {
-        closed(performed(alloc, self.open_there(name), DeltaPages { summary }))
+        give_there(self, alloc, name, DeltaPages { summary })
     }
 
     fn scrub_pages(&self, alloc: Global, name: &str) -> Result<EventPages, CommandFault> {
-        closed(performed(alloc, self.open_there(name), ScrubPages))
+        give_there(self, alloc, name, ScrubPages)
     }
 
     fn delta(
@@ -241,15 +242,15 @@ impl<'a> Databases for Opener<'a> {
         summary: &Summary,
         from: u64,
     ) -> Result<Text, CommandFault> {
-        closed(performed(alloc, self.open(name, 0), DeltaPage { summary, from }))
+        give(self, alloc, name, 0, DeltaPage { summary, from })
     }
 
     fn scrub(&self, alloc: Global, name: &str, from: u64) -> Result<Text, CommandFault> {
-        closed(performed(alloc, self.open(name, 0), ScrubPage { from }))
+        give(self, alloc, name, 0, ScrubPage { from })
     }
 
     fn arrivals(&self, alloc: Global, name: &str, after: u64) -> Result<Text, CommandFault> {
-        closed(performed(alloc, self.open_there(name), ArrivalPage { after }))
+        give_there(self, alloc, name, ArrivalPage { after })
     }
 
     fn arrival_pages(
@@ -258,7 +259,7 @@ impl<'a> Databases for Opener<'a> {
         name: &str,
         after: u64,
     ) -> Result<EventPages, CommandFault> {
-        closed(performed(alloc, self.open_there(name), ArrivalPages { after }))
+        give_there(self, alloc, name, ArrivalPages { after })
     }
 
     fn order(
@@ -278,7 +279,7 @@ impl<'a> Databases for Opener<'a> {
             number,
             at,
         };
-        closed(performed(alloc, self.open(name, 0), order))
+        give(self, alloc, name, 0, order)
     }
 
     fn service(
@@ -294,7 +295,7 @@ impl<'a> Databases for Opener<'a> {
             is_source_named,
             base,
         };
-        closed(performed(alloc, self.open(name, 0), told))
+        give(self, alloc, name, 0, told)
     }
 
     fn describe(&self, alloc: Global, name: &str) -> Result<Text, Trouble> {
@@ -319,14 +320,14 @@ impl<'a> Databases for Opener<'a> {
             Ok(conn) => lacks_service(conn),
             Err(_) => false,
         };
-        match closed(performed(alloc, opened, RelayPage { source, after })) {
+        match carry_out(alloc, opened, RelayPage { source, after }) {
             Ok(text) => Ok(Relayed { text, is_made }),
             Err(fault) => Err(fault),
         }
     }
 
     fn relay_all(&self, alloc: Global, name: &str, after: u64) -> Result<Text, CommandFault> {
-        closed(performed(alloc, self.open_there(name), RelayAll { after }))
+        give_there(self, alloc, name, RelayAll { after })
     }
 
     fn is_there(&self, name: &str) -> bool {
@@ -336,6 +337,48 @@ impl<'a> Databases for Opener<'a> {
     fn waiting(&self, seconds: u64) -> Opener<'a> {
         self.tried_for(seconds)
     }
+}
+
+/// Gives a command to the database of that name, which is made where there is none, and closes it in
+/// the end.
+fn give<C: Command + Drop>(
+    opener: &Opener<'_>,
+    alloc: Global,
+    name: &str,
+    growth: u64,
+    command: C,
+) -> Result<C::Answer, CommandFault>
+    requires { C.may_come command }
+    ensures { IfOk result (C.says command) }
+{
+    carry_out(alloc, opener.open(name, growth), command)
+}
+
+/// Gives a command to the database of that name; one that isn't there is not made: `CannotRead`.
+fn give_there<C: Command + Drop>(
+    opener: &Opener<'_>,
+    alloc: Global,
+    name: &str,
+    command: C,
+) -> Result<C::Answer, CommandFault>
+    requires { C.may_come command }
+    ensures { IfOk result (C.says command) }
+{
+    carry_out(alloc, opener.open_there(name), command)
+}
+
+/// Gives a command to a database where it was opened, and closes it in the end. So all commands meet
+/// the store of files here.
+fn carry_out<C: Command + Drop>(
+    alloc: Global,
+    opened: Result<Connection<FileStore<File>>, CommandFault>,
+    command: C,
+) -> Result<C::Answer, CommandFault>
+    requires come { C.may_come command }
+    requires over { IfOk opened (IsOver (image_at ⟦<Unknown as Start>⟧)) }
+    ensures { IfOk result (C.says command) }
+{
+    closed(performed(alloc, opened, command))
 }
 
 /// Whether a database has no service, so that a command that needs one makes it.

@@ -21,6 +21,7 @@ use crate::told::told;
 use attributes::{Batch, Text};
 use database_layout::{Layout, has_inbox, has_name};
 use inbox_table::{Inspected, Version, inspect};
+use site::Site;
 use sqlite::{Alter, Connection};
 use std::alloc::{AllocError, Global};
 
@@ -141,6 +142,13 @@ fn sources_of(alloc: Global, events: Batch) -> Result<u64, AllocError>
     ensures { IfOk result (CountsSources (append_new key_cmp [] events)) }
 {
     let mut site = site_over(alloc, events)?;
+    count_sources(&mut site)
+}
+
+/// How many sources the events of a site have.
+fn count_sources(site: &mut Site) -> Result<u64, AllocError>
+    ensures { IfOk result (CountsSources site.old) }
+{
     let summary = site.summary()?;
     Ok(summary.len())
 }

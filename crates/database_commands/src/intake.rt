@@ -7,8 +7,9 @@ ghost use Rattle.inbox_table.specs.Calls.{IsAsItWas, IsSettled, IsTold, MayTake,
 ghost use Rattle.inbox_table.specs.Rows.{IsInbox};
 ghost use Rattle.inbox_table.specs.declared.fault.TableFault.TheVariants as TableFault;
 ghost use Rattle.database_commands.specs.declared.fault.CommandFault.TheVariants.{Foreign, OutOfMemory};
-ghost use Rattle.database_commands.specs.Held.{Holds, IsNoInbox, IsTaken, KeepsOrTakes, KeepsRows, MayHold, MayHoldMore, TakesInto, TellsUpgrade};
+ghost use Rattle.database_commands.specs.Held.{Holds, IsNoInbox, IsTaken, KeepsOrTakes, KeepsRows, MayHoldMore, TakesInto, TellsUpgrade};
 ghost use Rattle.database_commands.specs.Print.{counts_line};
+ghost use Rattle.database_commands.specs.Done.{LeavesHeld, LeavesRows, OpenIfDone, SettledIfDone};
 
 use crate::command::CommandEnd;
 use crate::fault::{CommandFault, of_table};
@@ -33,10 +34,8 @@ pub fn loaded<S: Alter + Drop>(alloc: Global, conn: Connection<S>) -> Result<Loa
     ensures settled { IfOk result (λ l. HasCleanDisk (state S.Store l.table.conn)
         → IsSettled (state S.Store l.table.conn)) }
     ensures back { IfErr result (λ n. IsAsItWas (state S.Store conn) (state S.Store n.conn)) }
-    ensures crash { IfOk result (λ l. Survives (state S.Store conn) (state S.Store l.table.conn)
-        (MayHold (state S.Store conn).now)) }
-    ensures crash_refused { IfErr result (λ n. Survives (state S.Store conn)
-        (state S.Store n.conn) (MayHold (state S.Store conn).now)) }
+    ensures crash { IfOk result (λ l. LeavesHeld (state S.Store conn) (state S.Store l.table.conn)) }
+    ensures crash_refused { IfErr result (λ n. LeavesHeld (state S.Store conn) (state S.Store n.conn)) }
     ensures beside { IfOk result (λ l. HasCleanDisk (state S.Store l.table.conn)
         → KeepsRows (state S.Store conn).now (state S.Store l.table.conn).now) }
     ensures foreign { IfErr result (λ n. n.fault ≡ TableFault.Foreign
@@ -66,16 +65,12 @@ pub fn take<S: Alter + Drop, W: Watch>(
         events.now f (state S.Store conn).now (state S.Store result.conn).now) }
     ensures line { IfOk result.outcome (λ text.
         (fresh : ℕ) × (text ≡ counts_line (length events.now) fresh)) }
-    ensures beside { HasCleanDisk (state S.Store result.conn)
-        → IsTrue (state S.Store result.conn).is_open
-        → KeepsRows (state S.Store conn).now (state S.Store result.conn).now }
+    ensures beside { LeavesRows (state S.Store conn) (state S.Store result.conn) }
     ensures told { OnOk result.outcome (IsTold (W.told watch.now) (length events.now)) }
     ensures upgraded { HasCleanDisk (state S.Store result.conn) → OnOk result.outcome
         (TellsUpgrade (W.told watch.now) (state S.Store conn).now) }
-    ensures stays_open { HasCleanDisk (state S.Store result.conn)
-        → OnOk result.outcome (IsTrue (state S.Store result.conn).is_open) }
-    ensures settled { HasCleanDisk (state S.Store result.conn)
-        → OnOk result.outcome (IsSettled (state S.Store result.conn)) }
+    ensures stays_open { OpenIfDone (state S.Store result.conn) result.outcome }
+    ensures settled { SettledIfDone (state S.Store result.conn) result.outcome }
     ensures crash { Survives (state S.Store conn) (state S.Store result.conn)
         (MayHoldMore events.now (state S.Store conn).now) }
     ensures foreign { IfErr result.outcome (λ f. f ≡ Foreign
@@ -116,10 +111,8 @@ pub(crate) fn adopted<S: Alter + Drop, W: Watch>(
         → (held : List EventValue) × Holds (state S.Store conn).now held) }
     ensures stays_open { IfOk result (λ t. HasCleanDisk (state S.Store t.conn)
         → IsTrue (state S.Store t.conn).is_open) }
-    ensures crash { IfOk result (λ t. Survives (state S.Store conn) (state S.Store t.conn)
-        (MayHold (state S.Store conn).now)) }
-    ensures crash_refused { IfErr result (λ n. Survives (state S.Store conn)
-        (state S.Store n.conn) (MayHold (state S.Store conn).now)) }
+    ensures crash { IfOk result (λ t. LeavesHeld (state S.Store conn) (state S.Store t.conn)) }
+    ensures crash_refused { IfErr result (λ n. LeavesHeld (state S.Store conn) (state S.Store n.conn)) }
     ensures foreign { IfErr result (λ n. n.fault ≡ TableFault.Foreign
         → HasCleanDisk (state S.Store n.conn) → IsNoInbox (state S.Store conn).now) }
     ensures both { has_both (state S.Store conn).now.schema ≡ true
@@ -147,14 +140,10 @@ fn kept<S: Alter + Drop, W: Watch>(
         ((state S.Store table.new.conn).now ≡ (state S.Store table.old.conn).now)
         ⊎ ((f ≡ OutOfMemory) × Takes events.now
         (state S.Store table.old.conn).now (state S.Store table.new.conn).now)) }
-    ensures beside { HasCleanDisk (state S.Store table.new.conn)
-        → IsTrue (state S.Store table.new.conn).is_open
-        → KeepsRows (state S.Store table.old.conn).now (state S.Store table.new.conn).now }
+    ensures beside { LeavesRows (state S.Store table.old.conn) (state S.Store table.new.conn) }
     ensures told { OnOk result (IsTold (W.told watch.now) (length events.now)) }
-    ensures stays_open { HasCleanDisk (state S.Store table.new.conn)
-        → OnOk result (IsTrue (state S.Store table.new.conn).is_open) }
-    ensures settled { HasCleanDisk (state S.Store table.new.conn)
-        → OnOk result (IsSettled (state S.Store table.new.conn)) }
+    ensures stays_open { OpenIfDone (state S.Store table.new.conn) result }
+    ensures settled { SettledIfDone (state S.Store table.new.conn) result }
     ensures crash { Survives (state S.Store table.old.conn) (state S.Store table.new.conn)
         (λ trees. IsTrue (state S.Store table.old.conn).is_open
         → MayTake events.now (state S.Store table.old.conn).now trees) }

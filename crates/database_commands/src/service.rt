@@ -6,11 +6,10 @@ ghost use Rattle.sqlite.specs.State.{HasCleanDisk};
 ghost use Rattle.attributes.specs.Character.{is_filled};
 ghost use Rattle.attributes.specs.Event.{EventValue};
 ghost use Rattle.attributes.specs.Sequence.{max_sequence};
-ghost use Rattle.outbox.specs.Call.{Accepts, IsAsItWas, IsSame, IsSettled, Leaves, LeavesAsBefore, Refuses, ShowsAfter};
+ghost use Rattle.outbox.specs.Call.{Accepts, IsAsItWas, IsSame, Leaves, LeavesAsBefore, Refuses, ShowsAfter};
 ghost use Rattle.outbox.specs.Opening.{LeavesOrMakes};
 ghost use Rattle.outbox.specs.Row.{row_event};
 ghost use Rattle.outbox.specs.Shown.{Stands};
-ghost use Rattle.database_layout.specs.Beside.{KeepsBeside};
 ghost use Rattle.database_layout.specs.Layout.{has_name};
 ghost use Rattle.outbox.specs.declared.fault.OutboxFault.{OutboxFault};
 ghost use Rattle.outbox.specs.declared.fault.OutboxFault.TheVariants.{OutOfMemory, Store};
@@ -24,6 +23,7 @@ ghost use Rattle.database_commands.specs.Print.{batch_line, event_line};
 ghost use Rattle.database_commands.specs.Service.{LeavesOrFounds};
 ghost use Rattle.database_commands.specs.steps.Left.{IsNextPage};
 ghost use Rattle.database_commands.specs.steps.Served.{LeavesOrAccepts, LeavesRead};
+ghost use Rattle.database_commands.specs.Done.{BesideIfDone, OpenIfDone, SettledIfDone};
 
 use crate::command::CommandEnd;
 use crate::fault::{CommandFault, of_outbox, of_relay};
@@ -131,14 +131,11 @@ fn command<S: Alter>(
         (record { status = status; order = order; at = at.now }))) }
     ensures same { OnErr result
         (IsAsItWas (state S.Store service.old.conn) (state S.Store service.new.conn)) }
-    ensures beside { HasCleanDisk (state S.Store service.new.conn) → OnOk result (KeepsBeside
-        (state S.Store service.old.conn).now (state S.Store service.new.conn).now) }
+    ensures beside { BesideIfDone (state S.Store service.old.conn) (state S.Store service.new.conn) result }
     ensures clean { HasCleanDisk (state S.Store service.new.conn)
         → HasCleanDisk (state S.Store service.old.conn) }
-    ensures stays_open { HasCleanDisk (state S.Store service.new.conn)
-        → OnOk result (IsTrue (state S.Store service.new.conn).is_open) }
-    ensures settled { HasCleanDisk (state S.Store service.new.conn)
-        → OnOk result (IsSettled (state S.Store service.new.conn)) }
+    ensures stays_open { OpenIfDone (state S.Store service.new.conn) result }
+    ensures settled { SettledIfDone (state S.Store service.new.conn) result }
     ensures crash { LeavesOrAccepts service.old.source service.old.base
         (record { status = status; order = order; at = at.now })
         (state S.Store service.old.conn) (state S.Store service.new.conn) }
@@ -209,14 +206,11 @@ fn command_line<S: Alter>(
         (state S.Store service.old.conn).now why) }
     ensures same { OnErr result
         (IsAsItWas (state S.Store service.old.conn) (state S.Store service.new.conn)) }
-    ensures beside { HasCleanDisk (state S.Store service.new.conn) → OnOk result (KeepsBeside
-        (state S.Store service.old.conn).now (state S.Store service.new.conn).now) }
+    ensures beside { BesideIfDone (state S.Store service.old.conn) (state S.Store service.new.conn) result }
     ensures clean { HasCleanDisk (state S.Store service.new.conn)
         → HasCleanDisk (state S.Store service.old.conn) }
-    ensures stays_open { HasCleanDisk (state S.Store service.new.conn)
-        → OnOk result (IsTrue (state S.Store service.new.conn).is_open) }
-    ensures settled { HasCleanDisk (state S.Store service.new.conn)
-        → OnOk result (IsSettled (state S.Store service.new.conn)) }
+    ensures stays_open { OpenIfDone (state S.Store service.new.conn) result }
+    ensures settled { SettledIfDone (state S.Store service.new.conn) result }
     ensures crash { LeavesOrAccepts service.old.source service.old.base
         (record { status = status; order = order; at = at.now })
         (state S.Store service.old.conn) (state S.Store service.new.conn) }
@@ -282,10 +276,8 @@ pub fn relay<S: Alter + Drop>(
     ensures beside { HasCleanDisk (state S.Store result.conn)
         → IsTrue (state S.Store result.conn).is_open
         → KeepsEvents (state S.Store conn).now (state S.Store result.conn).now }
-    ensures stays_open { HasCleanDisk (state S.Store result.conn)
-        → OnOk result.outcome (IsTrue (state S.Store result.conn).is_open) }
-    ensures settled { HasCleanDisk (state S.Store result.conn)
-        → OnOk result.outcome (IsSettled (state S.Store result.conn)) }
+    ensures stays_open { OpenIfDone (state S.Store result.conn) result.outcome }
+    ensures settled { SettledIfDone (state S.Store result.conn) result.outcome }
     ensures clean { HasCleanDisk (state S.Store result.conn) → HasCleanDisk (state S.Store conn) }
     ensures crash { LeavesOrFounds source.now 0 (state S.Store conn) (state S.Store result.conn) }
     ensures fault { IfErr result.outcome (λ f. f ≢ command.AnotherSource) }
@@ -317,10 +309,8 @@ fn rows_line<S: Alter>(
         ForNextRows service.old.source service.old.base after
         (state S.Store service.old.conn).now (λ rows. text ≡ batch_line rows)) }
     ensures same { IsSame (state S.Store service.old.conn) (state S.Store service.new.conn) }
-    ensures stays_open { HasCleanDisk (state S.Store service.new.conn)
-        → OnOk result (IsTrue (state S.Store service.new.conn).is_open) }
-    ensures settled { HasCleanDisk (state S.Store service.new.conn)
-        → OnOk result (IsSettled (state S.Store service.new.conn)) }
+    ensures stays_open { OpenIfDone (state S.Store service.new.conn) result }
+    ensures settled { SettledIfDone (state S.Store service.new.conn) result }
     ensures crash { LeavesAsBefore (state S.Store service.old.conn)
         (state S.Store service.new.conn) }
     ensures fault { IfErr result (λ f. f ≢ command.AnotherSource) }
@@ -366,6 +356,10 @@ pub fn relay_all<S: Alter + Drop>(
     ensures without { has_name (state S.Store conn).now.schema ≡ false
         → ((state S.Store result.conn).now ≡ (state S.Store conn).now)
         × (result.outcome ≡ Ok []) }
+    ensures stays_open { has_name (state S.Store conn).now.schema ≡ true
+        → OpenIfDone (state S.Store result.conn) result.outcome }
+    ensures settled { has_name (state S.Store conn).now.schema ≡ true
+        → SettledIfDone (state S.Store result.conn) result.outcome }
     ensures fault { IfErr result.outcome (λ f. f ≢ command.AnotherSource) }
     ensures line { IfOk result.outcome (SaysAllRows after) }
 {
@@ -387,6 +381,8 @@ fn found_rows<S: Alter + Drop>(
     ensures shown { HasCleanDisk (state S.Store result.conn) → IfOk result.outcome
         (ShowsAllRows after (state S.Store conn).now) }
     ensures left { Leaves (state S.Store conn) (state S.Store result.conn) }
+    ensures stays_open { OpenIfDone (state S.Store result.conn) result.outcome }
+    ensures settled { SettledIfDone (state S.Store result.conn) result.outcome }
     ensures fault { IfErr result.outcome (λ f. f ≢ command.AnotherSource) }
     ensures line { IfOk result.outcome (SaysAllRows after) }
 {
@@ -424,6 +420,7 @@ fn row_lines<S: Alter>(
         service.old.base after (state S.Store service.old.conn).now (λ rows. events ≡ rows))) }
     ensures same { IsSame (state S.Store service.old.conn) (state S.Store service.new.conn) }
     ensures crash { LeavesRead (state S.Store service.old.conn) (state S.Store service.new.conn) }
+    ensures stays_open { OpenIfDone (state S.Store service.new.conn) result }
     ensures fault { IfErr result (λ f. f ≢ command.AnotherSource) }
 {
     let mut lines = String::new(alloc);
@@ -452,8 +449,7 @@ fn next_page<S: Alter>(
         service.old.base mark max_page (state S.Store service.old.conn).now rows))) }
     ensures open { HasCleanDisk (state S.Store service.new.conn)
         → OnOk result (IsTrue (state S.Store service.old.conn).is_open) }
-    ensures stays_open { HasCleanDisk (state S.Store service.new.conn)
-        → OnOk result (IsTrue (state S.Store service.new.conn).is_open) }
+    ensures stays_open { OpenIfDone (state S.Store service.new.conn) result }
     ensures kept { (service.new.source ≡ service.old.source)
         × (service.new.base ≡ service.old.base) }
     ensures same { IsSame (state S.Store service.old.conn) (state S.Store service.new.conn) }

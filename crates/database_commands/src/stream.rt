@@ -1,15 +1,14 @@
 //! Lines that come into a database, each acknowledged when it is kept.
-ghost use Rattle.std.specs.Prelude.{◌≡◌, ◌⊎◌, Err, IfErr, IfOk, IsTrue, MatchResult, Ok, OnOk};
+ghost use Rattle.std.specs.Prelude.{◌≡◌, ◌⊎◌, Err, IfErr, IfOk, MatchResult, Ok};
 ghost use Rattle.std.specs.Io.Buffered.{reader_remaining};
 ghost use Rattle.std.specs.Io.KnownBytes.{Keeps};
 ghost use Rattle.sqlite.specs.Held.{state};
 ghost use Rattle.sqlite.specs.State.{HasCleanDisk};
-ghost use Rattle.inbox_table.specs.Calls.{IsSettled};
 ghost use Rattle.line_intake.specs.Acknowledged.{TellsAll};
 ghost use Rattle.line_intake.specs.Follow.{IsFollowed};
 ghost use Rattle.database_commands.specs.Fault.{of_follow};
-ghost use Rattle.database_commands.specs.Held.{KeepsRows};
 ghost use Rattle.database_commands.specs.Streams.{AcknowledgesUntil, HoldsTurns, StaysUnread, StopsInto};
+ghost use Rattle.database_commands.specs.Done.{LeavesRows, SettledIfDone};
 
 use crate::fault::{CommandFault, of_table};
 use crate::intake::adopted;
@@ -100,16 +99,13 @@ pub fn follow<S: Alter + Drop, R: Read, W: Write>(
         (record { lines = 0; left = R.remaining input.old; out = W.contents out.old })
         (W.contents out.new) faults (λ turns. HasCleanDisk (state S.Store result.conn)
         → HoldsTurns turns (state S.Store conn).now (state S.Store result.conn).now)) }
-    ensures settled { HasCleanDisk (state S.Store result.conn)
-        → OnOk result.outcome (IsSettled (state S.Store result.conn)) }
+    ensures settled { SettledIfDone (state S.Store result.conn) result.outcome }
     ensures stops { IfErr result.outcome (λ f. StaysUnread (R.remaining input.old)
         (R.remaining input.new) (W.contents out.old) (W.contents out.new)
         (state S.Store conn) (state S.Store result.conn) f ⊎ StopsInto
         (record { lines = 0; left = R.remaining input.old; out = W.contents out.old })
         (W.contents out.new) (state S.Store conn) (state S.Store result.conn) f) }
-    ensures beside { HasCleanDisk (state S.Store result.conn)
-        → IsTrue (state S.Store result.conn).is_open
-        → KeepsRows (state S.Store conn).now (state S.Store result.conn).now }
+    ensures beside { LeavesRows (state S.Store conn) (state S.Store result.conn) }
     ensures clean { HasCleanDisk (state S.Store result.conn) → HasCleanDisk (state S.Store conn) }
     ensures told { IfOk result.outcome
         (TellsAll (R.remaining input.old) (W.contents out.old) (W.contents out.new)) }

@@ -5,7 +5,7 @@ ghost use Rattle.sqlite.specs.State.{HasCleanDisk};
 ghost use Rattle.attributes.specs.Character.{is_filled};
 ghost use Rattle.attributes.specs.Sequence.{max_sequence};
 ghost use Rattle.database_layout.specs.Layout.{has_name};
-ghost use Rattle.outbox.specs.Call.{IsAsItWas, IsFounded, IsSettled, Leaves};
+ghost use Rattle.outbox.specs.Call.{IsAsItWas, IsFounded, Leaves};
 ghost use Rattle.outbox.specs.Shown.{IsNoService};
 ghost use Rattle.database_commands.specs.declared.fault.CommandFault.TheVariants as command;
 ghost use Rattle.database_commands.specs.Effect.{ServiceEffect};
@@ -13,6 +13,7 @@ ghost use Rattle.database_commands.specs.Held.{HasAnother, IsNoOrders};
 ghost use Rattle.database_commands.specs.Print.{service_line};
 ghost use Rattle.database_commands.specs.Service.{HasOtherBase, IsOtherBase, IsTold, LeavesOrFounds, SaysService};
 ghost use Rattle.database_commands.specs.steps.Told.{IsLineOf, TellsEach};
+ghost use Rattle.database_commands.specs.Done.{OpenIfDone, SettledIfDone};
 
 use crate::command::CommandEnd;
 use crate::fault::{CommandFault, of_outbox};
@@ -64,12 +65,10 @@ fn made<S: Alter + Drop>(
     ensures made { HasCleanDisk (state S.Store result.conn) → OnOk result.outcome
         (IsFounded source.now base (state S.Store conn).now (state S.Store result.conn).now) }
     ensures line { IfOk result.outcome (λ text. text ≡ service_line source.now base 0 0) }
-    ensures settled { HasCleanDisk (state S.Store result.conn)
-        → OnOk result.outcome (IsSettled (state S.Store result.conn)) }
+    ensures settled { SettledIfDone (state S.Store result.conn) result.outcome }
     ensures back { OnErr result.outcome
         (IsAsItWas (state S.Store conn) (state S.Store result.conn)) }
-    ensures open { HasCleanDisk (state S.Store result.conn)
-        → OnOk result.outcome (IsTrue (state S.Store result.conn).is_open) }
+    ensures open { OpenIfDone (state S.Store result.conn) result.outcome }
     ensures clean { HasCleanDisk (state S.Store result.conn) → HasCleanDisk (state S.Store conn) }
     ensures crash { LeavesOrFounds source.now base
         (state S.Store conn) (state S.Store result.conn) }

@@ -12,14 +12,14 @@ returns-clause-err c =
     let given = ap (λ (list : List (Bor (List ℕ))). map (λ s. s.now) list) c.as_slice-2.ensures.value ∙ c.in_ok-strs.ensures in
     Blames-weaker _ _ c.faulty_of.result
     (λ cause asked is_word is_for.
-    let parser = c.in_ok-parser.ensures ∙ ap app_for (command_by_word c.in-Some.row.command (command_of asked.plan) (c.in-Some.ensures.some ∙ is_word)) in
+    let parser = c.in_ok-parser.ensures ∙ ap app_for (command_by_word c.in-Some.command (command_of asked.plan) (c.in-Some.ensures.some ∙ is_word)) in
     refused_by _ (app_for (command_of asked.plan)) c.args.words.now _ c.in-Err.error parser given (app_for-simple (command_of asked.plan)) c.in-Err.ensures.kinds cause is_for.is_plan.faultless)
     c.faulty_of.ensures
 
 pub returns-in-Ok-clause-ok : goal.returns-in-Ok-clause-ok
 returns-in-Ok-clause-ok c =
     let given = ap (λ (list : List (Bor (List ℕ))). map (λ s. s.now) list) c.as_slice-2.ensures.value ∙ c.in_ok-strs.ensures in
-    let command = c.in-Some.row.command in
+    let command = c.in-Some.command in
     planned c.timed.result command c.args.words.now c.args.first.now _ c.in-Some.ensures.some
     (fault_by _ (app_for command) c.args.words.now _ c.in_ok-parser.ensures given (app_for-simple command) c.in-Ok.ensures.kinds)
     (rows_by _ (app_for command) c.args.words.now _ c.in-Ok.matches c.in_ok-parser.ensures given (is_simple_by (app_for command) (app_for-simple command)) c.in-Ok.ensures.matches)
@@ -28,7 +28,7 @@ returns-in-Ok-clause-ok c =
 pub returns-in-Ok-clause-err : goal.returns-in-Ok-clause-err
 returns-in-Ok-clause-err c =
     let given = ap (λ (list : List (Bor (List ℕ))). map (λ s. s.now) list) c.as_slice-2.ensures.value ∙ c.in_ok-strs.ensures in
-    let command = c.in-Some.row.command in
+    let command = c.in-Some.command in
     refused c.timed.result command c.args.words.now c.args.first.now _ c.in-Some.ensures.some
     (rows_by _ (app_for command) c.args.words.now _ c.in-Ok.matches c.in_ok-parser.ensures given (is_simple_by (app_for command) (app_for-simple command)) c.in-Ok.ensures.matches)
     c.timed.ensures.err

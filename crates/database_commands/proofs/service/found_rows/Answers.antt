@@ -1,9 +1,10 @@
-use Rattle.std.proofs.Common.{arith, subst, sym}
+use Rattle.std.proofs.Common.{IsTrue, arith, subst, sym}
 use Rattle.std.proofs.lemmas.Result.{IfOk-weaker}
 use Rattle.sqlite.specs.Held.{state}
 use Rattle.sqlite.specs.State.{HasCleanDisk}
-use Rattle.outbox.specs.Call.{Leaves}
-use Rattle.database_commands.proofs.RowLemmas.{read_leaves, shown_all}
+use Rattle.outbox.specs.Call.{IsSettled, Leaves}
+use Rattle.database_commands.proofs.HeldLemmas.{on_okay}
+use Rattle.database_commands.proofs.RowLemmas.{read_leaves, read_settled, shown_all}
 use Rattle.database_commands.proofs.service.found_rows.Goals as goal
 
 pub returns-in-Ok-clause-shown : goal.returns-in-Ok-clause-shown
@@ -27,3 +28,19 @@ returns-in-Ok-clause-left g c =
 
 pub returns-in-Ok-clause-line : goal.returns-in-Ok-clause-line
 returns-in-Ok-clause-line g c = IfOk-weaker c.row_lines-outcome.result _ _ (λ text rows. (rows.0, rows.1, rows.2)) c.row_lines-outcome.ensures.rows
+
+pub returns-in-Ok-clause-stays_open : goal.returns-in-Ok-clause-stays_open
+returns-in-Ok-clause-stays_open g c clean =
+    let late : HasCleanDisk (state g.S.Store c.row_lines-outcome.new.service.conn) = subst (λ h. HasCleanDisk (state g.S.Store h)) c.into_connection-conn.ensures clean in
+    on_okay c.row_lines-outcome.result _ _ (λ still. subst (λ h. IsTrue (state g.S.Store h).is_open) (sym c.into_connection-conn.ensures) still) (c.row_lines-outcome.ensures.stays_open late)
+
+pub returns-in-Ok-clause-settled : goal.returns-in-Ok-clause-settled
+returns-in-Ok-clause-settled g c clean =
+    let mid = c.in-Ok.service in
+    let last = c.row_lines-outcome.new.service in
+    let late : HasCleanDisk (state g.S.Store last.conn) = subst (λ h. HasCleanDisk (state g.S.Store h)) c.into_connection-conn.ensures clean in
+    let settled : IsSettled (state g.S.Store c.into_connection-conn.result) =
+    subst (λ h. IsSettled (state g.S.Store h)) (sym c.into_connection-conn.ensures)
+    (read_settled (state g.S.Store mid.conn) (state g.S.Store last.conn) mid.source mid.base mid.last late c.in-Ok.ensures.open c.in-Ok.ensures.settled c.in-Ok.ensures.stands
+    c.row_lines-outcome.ensures.same c.row_lines-outcome.ensures.crash) in
+    on_okay c.row_lines-outcome.result _ _ (λ _. settled) (c.row_lines-outcome.ensures.stays_open late)

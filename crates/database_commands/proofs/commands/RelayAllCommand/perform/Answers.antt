@@ -6,6 +6,8 @@ returns-clause-did g c = let it = c.relay_all.ensures in record {
   shown = it.shown;
   left = it.left;
   without = it.without;
+  stays_open = it.stays_open;
+  settled = it.settled;
   fault = it.fault;
 }
 
