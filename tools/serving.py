@@ -17,6 +17,7 @@ sys.dont_write_bytecode = True
 TOP = os.path.dirname(os.path.dirname(os.path.realpath(__file__)))
 sys.path.insert(0, f"{TOP}/tools")
 from harness import Counts  # noqa: E402
+from postgres import Postgres  # noqa: E402
 
 ONE = {"Content-Type": "application/cloudevents+json"}
 MANY = {"Content-Type": "application/cloudevents-batch+json"}
@@ -54,8 +55,8 @@ class Told:
 class Site:
     """A running service, with its folder for the database, the settings and the log."""
 
-    def __init__(self, tries: "Tries", name: str, settings: str = "", title: Optional[str] = None) -> None:
-        self.tries, self.name, self.title = tries, name, title or name
+    def __init__(self, tries: "Tries", name: str, settings: str = "", title: Optional[str] = None, is_front: bool = False) -> None:
+        self.tries, self.name, self.title, self.is_front = tries, name, title or name, is_front
         self.prefix: list[str] = []
         self.folder = f"{tries.folder}/{name}"
         os.makedirs(self.folder)
@@ -64,9 +65,10 @@ class Site:
         self.set(settings)
 
     def set(self, settings: str) -> None:
-        """Writes the settings; those of a table stand behind the others."""
+        """Writes the settings; those of a table stand behind the others. A front has no database."""
+        db = "" if self.is_front else f'db = "{self.db}"\n'
         with open(f"{self.folder}/settings.toml", "w", encoding="utf-8") as out:
-            out.write(f'name = {json.dumps(self.title)}\ndb = "{self.db}"\nlisten = "127.0.0.1:0"\n{settings}')
+            out.write(f'name = {json.dumps(self.title)}\n{db}listen = "127.0.0.1:0"\n{settings}')
 
     def start(self, seconds: float = 8) -> "Site":
         """Starts it, where it was before if it was, and waits until it is ready."""
@@ -132,6 +134,10 @@ class Site:
                 return said, None
         return said, time.monotonic() - began
 
+    @property
+    def url(self) -> str:
+        return f"http://127.0.0.1:{self.port}"
+
     def cover(self) -> Any:
         return self.get("/cover").json["sources"]
 
@@ -156,8 +162,8 @@ class Tries(Counts):
         self.folder, self.program, self.other = folder, program, site
         self.running: list[Any] = []
 
-    def site(self, name: str, settings: str = "", title: Optional[str] = None) -> Site:
-        return Site(self, f"{self.what}-{name}", settings, title)
+    def site(self, name: str, settings: str = "", title: Optional[str] = None, is_front: bool = False) -> Site:
+        return Site(self, f"{self.what}-{name}", settings, title, is_front)
 
     def end(self) -> None:
         for it in self.running:
@@ -167,9 +173,11 @@ class Tries(Counts):
 
 
 @contextlib.contextmanager
-def serving(tries: Tries, settings: str = "", name: str = "site", prefix: Iterable[str] = (), title: Optional[str] = None) -> Iterator[Site]:
+def serving(
+    tries: Tries, settings: str = "", name: str = "site", prefix: Iterable[str] = (), title: Optional[str] = None, is_front: bool = False
+) -> Iterator[Site]:
     """A service that runs, and ends well behind the block unless it was ended there."""
-    site = tries.site(f"{name}{len(tries.running)}", settings, title)
+    site = tries.site(f"{name}{len(tries.running)}", settings, title, is_front)
     site.prefix = list(prefix)
     yield site.start()
     if site.ran.poll() is None:
@@ -182,8 +190,6 @@ def serving(tries: Tries, settings: str = "", name: str = "site", prefix: Iterab
 @contextlib.contextmanager
 def database() -> Iterator[Any]:
     """A PostgreSQL of its own with an outbox; none where there is no PostgreSQL."""
-    from load_service import Postgres
-
     folder = tempfile.mkdtemp(dir="/tmp")
     server = Postgres(folder)
     if not server.is_there():

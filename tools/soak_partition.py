@@ -1,12 +1,13 @@
 #!/usr/bin/env python3
 """Tries regions of jumbetaid that lose one another: each in a network namespace of its own, as root.
 
-    tools/soak_partition.py [--program FILE] [--regions N] [--seconds N] [--seed N] [--rate N] [--events N] [--spare N]
+    tools/soak_partition.py [--program FILE] [--regions N] [--parts N] [--seconds N] [--seed N] [--rate N] [--events N] [--spare N]
 
 By default it is 3 regions for 60 seconds, with 270 events a second each, as in tests/test_partition.py. Writers give
 events to each region, and note what was acknowledged, while regions are cut off, cut off one way, slowed down, made
 to lose packets, stopped and killed. Behind it all regions have to come to the same summary, which has each event that
 was acknowledged, and none that nobody gave. Some sources are written by two regions, so that there are conflicts.
+With --parts the first region is a front before so many parts; what is killed or hangs is then the front or one of them.
 With --events a source has at most so many, which are then given again, so that the regions stop growing; with --spare
 the last N regions aren't killed. Each second memory and descriptors of each region are looked at, and how they grow
 is told: by the events, in the last half beside the first one, by the hour once no event is new, and what is left of
@@ -28,7 +29,7 @@ import sys
 import tempfile
 import threading
 import time
-from typing import Any, Callable, Optional
+from typing import Any, Callable, Iterator, Optional
 
 sys.dont_write_bytecode = True
 TOP = os.path.dirname(os.path.dirname(os.path.realpath(__file__)))
@@ -41,8 +42,8 @@ Row = tuple[int, int, int, int]
 TROUBLES = ("cut", "cut one way", "kill", "hang", "slow", "loss", "rest")
 QUESTIONS = ("cover", "gaps", "shown", "latest", "kinds", "days", "conflicts")
 SETTINGS = """name = "{name}"
-db = "{folder}/{name}.db"
-listen = "{address}:8087"
+{more}
+listen = "{address}"
 open_to_all = true
 [sync]
 wait_seconds = 5
@@ -99,10 +100,12 @@ def write(address: str, source: str, batch: int, rate: float, most: int, region:
 
 
 class Region:
-    def __init__(self, net: "Net", place: int) -> None:
+    def __init__(self, net: "Net", place: int, parts: int = 0) -> None:
         self.net, self.place, self.name = net, place, f"r{place}"
         self.space, self.address = f"{net.name}r{place}", f"10.77.0.{place + 1}"
         self.ran: Any = None
+        # The parts, where it is a front before such.
+        self.parts: list[Any] = [None] * parts
 
     def inside(self, *words: str, **how: Any) -> subprocess.CompletedProcess[bytes]:
         return run("ip", "netns", "exec", self.space, *words, **how)
@@ -112,9 +115,28 @@ class Region:
         self.net.running.append(ran)
         return ran
 
+    def settings(self) -> Iterator[tuple[str, str]]:
+        """The name of each of its services, and its settings."""
+        for at in range(len(self.parts)):
+            db = f'db = "{self.net.folder}/{self.name}p{at}.db"\npart = "{at}/{len(self.parts)}"'
+            yield f"{self.name}p{at}", SETTINGS.format(name=f"{self.name}p{at}", more=db, address=f"127.0.0.1:{PORT + 1 + at}")
+        db = "" if self.parts else f'db = "{self.net.folder}/{self.name}.db"'
+        text = SETTINGS.format(name=self.name, more=db, address=f"{self.address}:{PORT}")
+        text += "".join(f'[[parts]]\nurl = "http://127.0.0.1:{PORT + 1 + at}"\n' for at in range(len(self.parts)))
+        peers = [it for it in self.net.regions if it is not self]
+        yield self.name, text + "".join(f'[[peers]]\nname = "{it.name}"\nurl = "http://{it.address}:{PORT}"\n' for it in peers)
+
+    def service(self, name: str) -> Any:
+        with open(f"{self.net.folder}/{name}.log", "ab") as log:
+            return self.started(self.net.program, "--config", f"{self.net.folder}/{name}.toml", stdout=log, stderr=log)
+
     def start(self) -> None:
-        with open(f"{self.net.folder}/{self.name}.log", "ab") as log:
-            self.ran = self.started(self.net.program, "--config", f"{self.net.folder}/{self.name}.toml", stdout=log, stderr=log)
+        """Starts each of its services that doesn't run."""
+        for at, part in enumerate(self.parts):
+            if part is None or part.poll() is not None:
+                self.parts[at] = self.service(f"{self.name}p{at}")
+        if self.ran is None or self.ran.poll() is not None:
+            self.ran = self.service(self.name)
         if not self.net.until(lambda: self.get("/readyz", 1) is not None, self.net.patience):
             print(f"wrong: {self.name} isn't ready within {self.net.patience} s", flush=True)
 
@@ -145,13 +167,13 @@ class Region:
 class Net:
     """Regions around a switch, which go away in the end."""
 
-    def __init__(self, folder: str, program: str, regions: int, patience: int) -> None:
+    def __init__(self, folder: str, program: str, regions: int, patience: int, parts: int) -> None:
         self.folder, self.program, self.patience = folder, program, patience
         self.running: list[subprocess.Popen[bytes]] = []
         self.name = f"jmb{os.getpid() % 10000}"
         self.switch = f"{self.name}sw"
         self.spaces: list[str] = []
-        self.regions = [Region(self, it) for it in range(regions)]
+        self.regions = [Region(self, it, 0 if it else parts) for it in range(regions)]
 
     def make(self) -> None:
         for space in (self.switch, *(it.space for it in self.regions)):
@@ -165,11 +187,9 @@ class Net:
             for link in ("eth0", "lo"):
                 it.inside("ip", "link", "set", link, "up")
             run("ip", "netns", "exec", self.switch, "ip", "link", "set", f"p{it.place}", "master", "br0", "up")
-            with open(f"{self.folder}/{it.name}.toml", "w", encoding="utf-8") as out:
-                out.write(SETTINGS.format(name=it.name, folder=self.folder, address=it.address))
-                for peer in self.regions:
-                    if peer is not it:
-                        out.write(f'[[peers]]\nname = "{peer.name}"\nurl = "http://{peer.address}:{PORT}"\n')
+            for name, text in it.settings():
+                with open(f"{self.folder}/{name}.toml", "w", encoding="utf-8") as out:
+                    out.write(text)
 
     def end(self) -> None:
         for it in self.running:
@@ -260,15 +280,16 @@ def trouble(region: Region, dice: random.Random, is_spared: bool) -> str:
     """Something that happens to a region, for some seconds; answers what."""
     what = dice.choice([it for it in TROUBLES if it != "kill" or not is_spared])
     seconds = dice.uniform(1, 4)
+    victim = dice.choice([region.ran, *region.parts]) if region.parts else region.ran
     if what == "kill":
-        region.ran.send_signal(signal.SIGKILL)
-        region.ran.wait()
+        victim.send_signal(signal.SIGKILL)
+        victim.wait()
         time.sleep(seconds / 4)
         region.start()
     elif what == "hang":
-        region.ran.send_signal(signal.SIGSTOP)
+        victim.send_signal(signal.SIGSTOP)
         time.sleep(seconds + 3)
-        region.ran.send_signal(signal.SIGCONT)
+        victim.send_signal(signal.SIGCONT)
     elif what == "cut":
         region.link("down")
         time.sleep(seconds)
@@ -299,6 +320,7 @@ def options() -> argparse.ArgumentParser:
     words = argparse.ArgumentParser(description=__doc__, formatter_class=argparse.RawDescriptionHelpFormatter)
     words.add_argument("--program", default=f"{TOP}/out/service/jumbetaid")
     words.add_argument("--regions", type=int, default=3)
+    words.add_argument("--parts", type=int, default=0, help="how many parts the first region has")
     words.add_argument("--seconds", type=float, default=60)
     words.add_argument("--seed", type=int, default=1)
     words.add_argument("--rate", type=int, default=270, help="events a second in each region")
@@ -313,7 +335,7 @@ def soak(given: argparse.Namespace, counts: Counts) -> None:
     did: dict[str, int] = {}
     with tempfile.TemporaryDirectory() as folder, contextlib.ExitStack() as end:
         # A start reads each event anew.
-        net = Net(folder, os.path.abspath(given.program), given.regions, 20 if given.events > 1 << 30 else 90)
+        net = Net(folder, os.path.abspath(given.program), given.regions, 20 if given.events > 1 << 30 else 90, given.parts)
         end.callback(net.end)
         net.make()
         for it in net.regions:
@@ -371,11 +393,12 @@ def soak(given: argparse.Namespace, counts: Counts) -> None:
         conflicts = len((net.regions[0].get("/conflicts", 30) or b"").splitlines())
         counts.judge("there are conflicts", conflicts > 0)
         for it in net.regions:
-            it.ran.terminate()
-            counts.judge(f"{it.name} ends well", it.ran.wait(20) == 0)
-            with open(f"{folder}/{it.name}.log", encoding="utf-8") as log:
-                text = log.read()
-            counts.judge(f"{it.name} never panics", not re.search("panicked|can't go on", text), text[-1000:])
+            for name, ran in zip([name for name, _ in it.settings()], [*it.parts, it.ran]):
+                ran.terminate()
+                counts.judge(f"{name} ends well", ran.wait(20) == 0)
+                with open(f"{folder}/{name}.log", encoding="utf-8") as log:
+                    text = log.read()
+                counts.judge(f"{name} never panics", not re.search("panicked|can't go on", text), text[-1000:])
     print(f"{given.regions} regions for {given.seconds:.0f} s, seed {given.seed}: {did}")
     print(f"{len(acked)} events were acknowledged, with {conflicts} conflicts; all the same {took:.1f} s behind the last")
 

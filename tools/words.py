@@ -29,14 +29,16 @@ LIMITS = {
     "crates/inbox_table/README.md": (60, 1050),  # what each call leaves at each exit
     "crates/site/README.md": (60, 1050),  # what all above stands on
     "docs/SERVICE.md": (None, 1100),  # an interface, as others call it
+    "docs/SCALING.md": (80, 950),  # a region on several machines, with what is run of it
     "docs/PRODUCERS.md": (300, 2400),  # a recipe for each kind of producer, with its faults
 }
 OF_CRATES = (60, 1000)
 OTHERS = (None, 600)
-# All of these together, the page of the service among them with its 1,100, those of the numberer with 600, and of parts
-# with 590; what stands beside code that people copy (NOT_COUNTED) has limits of its own alone.
-ALL_WORDS = 48_570
-NOT_COUNTED = ("bindings/", "contrib/", "examples/", "tools/")
+# All of these together, the page of the service among them with its 1,100, those of the numberer with 600, of parts with
+# 590, and of a region on several machines with 924; what stands beside code that people copy (NOT_COUNTED) has limits of
+# its own alone.
+ALL_WORDS = 49_494
+NOT_COUNTED = ("bench/", "bindings/", "contrib/", "examples/", "tools/")
 
 
 def every_page() -> list[str]:

@@ -1,6 +1,6 @@
 //! Connections: how many there are, and how long one may be idle.
 
-use crate::routes::Service;
+use crate::routes::Kind;
 use hyper::server::conn::Http;
 use hyper::service::service_fn;
 use std::convert::Infallible;
@@ -36,21 +36,21 @@ pub fn listen(at: SocketAddr) -> io::Result<TcpListener> {
 
 /// What accepts connections, and what each of them has of it.
 #[derive(Clone)]
-pub struct Front {
-    service: Arc<Service>,
+pub struct Door {
+    service: Kind,
     http: Http,
     places: Arc<Semaphore>,
     #[cfg(feature = "tls")]
     acceptor: Option<tokio_rustls::TlsAcceptor>,
 }
 
-impl Front {
-    /// The front of a service, or why its certificate can't be used.
-    pub fn new(service: Arc<Service>) -> Result<Front, String> {
+impl Door {
+    /// The door of a service, or why its certificate can't be used.
+    pub fn new(service: Kind) -> Result<Door, String> {
         let limits = &service.settings.limits;
         let mut http = Http::new();
         http.http1_only(true).max_buf_size(limits.head_bytes);
-        Ok(Front {
+        Ok(Door {
             #[cfg(feature = "tls")]
             acceptor: service.settings.tls.as_ref().map(crate::tls::acceptor).transpose()?,
             places: Arc::new(Semaphore::new(limits.connections)),
@@ -73,12 +73,12 @@ impl Front {
             };
             match accepted {
                 Ok((stream, from)) => {
-                    let front = self.clone();
+                    let door = self.clone();
                     tokio::spawn(async move {
                         let _place = place;
-                        let open = front.service.metrics.connections.clone();
+                        let open = door.service.metrics.connections.clone();
                         open.inc();
-                        front.greet(stream, from).await;
+                        door.greet(stream, from).await;
                         open.dec();
                     });
                 }

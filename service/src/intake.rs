@@ -3,20 +3,18 @@
 use crate::access::Sources;
 use crate::events::{self, Mode, Unread, ACCEPTED};
 use crate::keeper::{Body as Given, Kept, Refusal};
-use crate::library::{self, Error};
+use crate::library::{self, on_thread, Error};
 use crate::number::{Numberer, Plan, Planned};
+use crate::part::Part;
 use crate::peers::now;
 use crate::problems::{bare, plain, problem, set, Answered, JSON};
-use crate::routes::Service;
+use crate::routes::{Common, Service};
 use hyper::body::{Body, Bytes, HttpBody};
 use hyper::{Request, StatusCode};
 use serde_json::{json, Value};
 use std::collections::BTreeMap;
 use std::sync::Arc;
 use std::time::{Duration, Instant};
-
-/// Bytes that are read on the thread of their connection; more go to a thread of their own.
-const SMALL: usize = 64 << 10;
 
 impl Service {
     /// `POST /events`: takes all events of the request, or none, and answers once they are synced. All have to be of the
@@ -42,8 +40,9 @@ impl Service {
         let (room, bytes) = (given.room, bytes);
         match self.keeper.take(Given { bytes: bytes.clone(), room }).await {
             Ok(kept) => self.taken(kept, start.elapsed(), 0),
+            Err(Refusal::Misdirected) => self.misdirected(bytes).await,
             Err(Refusal::Faulty) if self.settings.number.is_empty() => self.faulty(mode, bytes, BTreeMap::new()).await,
-            Err(Refusal::Faulty) => match self.keeper.room(bytes.len()).await {
+            Err(Refusal::Faulty) => match self.room.bytes(bytes.len()).await {
                 Ok(room) => self.number(mode, Given { bytes, room }, &sources, start).await,
                 Err(why) => self.refused(why),
             },
@@ -68,6 +67,14 @@ impl Service {
         };
         if let Err(refused) = self.of_sources(&plan.sources, sources) {
             return refused;
+        }
+        // What isn't taken gets no number.
+        if let Some(part) = self.settings.part {
+            match part.misdirected(&plan.sources) {
+                Ok(None) => {}
+                Ok(Some((source, other))) => return self.of_another_part(part, &source, other),
+                Err(why) => return self.refused(Refusal::Store(why)),
+            }
         }
         let numbered = plan.count();
         let text = match self.numberer() {
@@ -94,7 +101,29 @@ impl Service {
         self.numberer.read().unwrap().clone()
     }
 
-    fn of_sources(&self, found: &[String], sources: &Sources) -> Result<(), Answered> {
+    /// The problem of a body with events of another part of the region.
+    async fn misdirected(&self, bytes: Bytes) -> Answered {
+        let Some(part) = self.settings.part else {
+            return self.refused(Refusal::Misdirected);
+        };
+        let find = move |bytes: &[u8]| part.misdirected(&library::sources_of(bytes)?);
+        match on_thread(bytes, find).await {
+            Ok(Some((source, other))) => self.of_another_part(part, &source, other),
+            Ok(None) => self.refused(Refusal::Misdirected),
+            Err(why) => self.refused(Refusal::Store(why)),
+        }
+    }
+
+    fn of_another_part(&self, part: Part, source: &str, other: u64) -> Answered {
+        self.refuse("misdirected");
+        let detail = format!("nothing was taken: this is part {part}");
+        problem(StatusCode::MISDIRECTED_REQUEST, "misdirected", "Events of another part", detail)
+            .with(json!({"source": source, "part": {"index": other, "of": part.of}}))
+    }
+}
+
+impl Common {
+    pub fn of_sources(&self, found: &[String], sources: &Sources) -> Result<(), Answered> {
         match found.iter().find(|it| !sources.has(it)) {
             Some(other) => Err(self.of_another(other)),
             None => Ok(()),
@@ -115,7 +144,7 @@ impl Service {
             .with(json!({ "source": source }))
     }
 
-    fn taken(&self, kept: Kept, time: Duration, numbered: usize) -> Answered {
+    pub fn taken(&self, kept: Kept, time: Duration, numbered: usize) -> Answered {
         let Kept { fresh, repeated, count } = kept;
         self.metrics.recent.taken(now(), fresh, time);
         self.metrics.taken.with_label_values(&["new", "http"]).inc_by(fresh);
@@ -144,7 +173,7 @@ impl Service {
     }
 
     /// The events of a request, as the library takes them.
-    async fn read(&self, request: Request<Body>) -> Result<(Mode, Given), Answered> {
+    pub async fn read(&self, request: Request<Body>) -> Result<(Mode, Given), Answered> {
         let mode = events::mode_of(request.headers()).map_err(|why| self.unread(why))?;
         let headers = (mode == Mode::Binary).then(|| request.headers().clone());
         let mut given = self.receive(request.into_body(), self.settings.limits.body_bytes).await?;
@@ -197,7 +226,7 @@ impl Service {
             return Err(Unreceived::Large);
         }
         let (mut bytes, mut rest) = (Bytes::new(), Vec::new());
-        let mut room = self.keeper.room(0).await.map_err(Unreceived::NoRoom)?;
+        let mut room = self.room.bytes(0).await.map_err(Unreceived::NoRoom)?;
         let mut has_room = 1 << 10;
         while let Some(data) = body.data().await {
             let data = data.map_err(|_| Unreceived::Broken)?;
@@ -206,7 +235,7 @@ impl Service {
                 return Err(Unreceived::Large);
             }
             if length > has_room {
-                room.merge(self.keeper.room(length - has_room).await.map_err(Unreceived::NoRoom)?);
+                room.merge(self.room.bytes(length - has_room).await.map_err(Unreceived::NoRoom)?);
                 has_room = length;
             }
             // Most bodies are one piece, which isn't copied.
@@ -248,6 +277,9 @@ impl Service {
                 (StatusCode::SERVICE_UNAVAILABLE, "closing", "The service ends", detail)
             }
             Refusal::Faulty => (StatusCode::BAD_REQUEST, "events-at-fault", "Events at fault", String::new()),
+            Refusal::Misdirected => {
+                (StatusCode::MISDIRECTED_REQUEST, "misdirected", "Events of another part", String::new())
+            }
             Refusal::Store(why) => {
                 let detail = format!("nothing was taken: {why}");
                 (StatusCode::SERVICE_UNAVAILABLE, "store", "The database refused", detail)
@@ -261,14 +293,14 @@ impl Service {
         problem(status, name, title, detail).into()
     }
 
-    fn refuse(&self, reason: &str) {
+    pub fn refuse(&self, reason: &str) {
         self.metrics.refused.with_label_values(&[reason]).inc();
         self.metrics.recent.refused(now());
     }
 
     /// The problem of a body at fault, with an entry for each event at fault, in the words of `site check`, and the homes of
     /// sources that are numbered elsewhere.
-    async fn faulty(&self, mode: Mode, bytes: Bytes, homes: BTreeMap<String, String>) -> Answered {
+    pub async fn faulty(&self, mode: Mode, bytes: Bytes, homes: BTreeMap<String, String>) -> Answered {
         let lines = match on_thread(bytes, library::faults).await {
             Ok(lines) => lines,
             Err(why) => return self.refused(Refusal::Store(why)),
@@ -320,19 +352,6 @@ enum Unreceived {
     Slow,
     Broken,
     NoRoom(Refusal),
-}
-
-/// Reads bytes by the library; large ones on a thread that holds up no connection.
-async fn on_thread<T, F>(bytes: Bytes, read: F) -> Result<T, Error>
-where
-    T: Send + 'static,
-    F: FnOnce(&[u8]) -> Result<T, Error> + Send + 'static,
-{
-    if bytes.len() <= SMALL {
-        return read(&bytes);
-    }
-    let done = tokio::task::spawn_blocking(move || read(&bytes)).await;
-    done.unwrap_or(Err(Error::OutOfMemory))
 }
 
 /// A line of `site check` as an entry of a problem: where it is as a pointer (RFC 6901), and its hint as the detail.

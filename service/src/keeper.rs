@@ -4,16 +4,17 @@
 //! The other has a copy in memory, which takes what was kept, and answers all questions, so that no question holds up
 //! what comes.
 
-use crate::library::{Error, Lag, Page, Site, Taken};
+use crate::library::{on_thread, sources_of, Error, Lag, Page, Site, Taken};
 use crate::metrics::Metrics;
+use crate::part::Part;
 use crate::reader::{self, Answer, Ask, Figures, What};
-use crate::settings::Limits;
+use crate::room::Room;
 use hyper::body::Bytes;
 use std::sync::atomic::{AtomicBool, AtomicU64, Ordering::SeqCst};
 use std::sync::{Arc, Mutex};
 use std::thread::JoinHandle;
 use std::time::{Duration, Instant};
-use tokio::sync::{mpsc, oneshot, watch, OwnedSemaphorePermit, Semaphore};
+use tokio::sync::{mpsc, oneshot, watch, OwnedSemaphorePermit};
 
 /// How many asks and transactions wait for the reader; the writer waits behind that.
 const BEHIND: usize = 256;
@@ -42,6 +43,8 @@ pub enum Refusal {
     Closing,
     /// The bytes aren't events of a site: nothing was taken.
     Faulty,
+    /// Some are of another part of the region: nothing was taken.
+    Misdirected,
     /// The database refused: nothing was taken.
     Store(Error),
     /// It isn't known whether it was kept.
@@ -63,9 +66,8 @@ enum Job {
 pub struct Keeper {
     jobs: mpsc::UnboundedSender<Job>,
     asks: Mutex<Option<mpsc::Sender<Ask>>>,
-    bodies: Arc<Semaphore>,
-    room: Arc<Semaphore>,
-    limits: Limits,
+    pub room: Arc<Room>,
+    part: Option<Part>,
     state: Arc<State>,
     metrics: Arc<Metrics>,
     /// How many events the set has that is answered from.
@@ -95,8 +97,14 @@ impl Threads {
     }
 }
 
-/// Copies the site, and starts the threads. Time and memory in proportion to the events.
-pub fn start(mut site: Site, limits: &Limits, metrics: Arc<Metrics>) -> Result<(Arc<Keeper>, Threads), Error> {
+/// Copies the site, which may be a part of a region, and starts the threads. Time and memory in proportion to the events.
+pub fn start(
+    mut site: Site,
+    part: Option<Part>,
+    commit_bytes: usize,
+    room: Arc<Room>,
+    metrics: Arc<Metrics>,
+) -> Result<(Arc<Keeper>, Threads), Error> {
     let mut copy = site.copy()?;
     copy.keep_views()?;
     let before = site.len();
@@ -117,20 +125,11 @@ pub fn start(mut site: Site, limits: &Limits, metrics: Arc<Metrics>) -> Result<(
         reader: asks.clone(),
         state: state.clone(),
         metrics: metrics.clone(),
-        commit_bytes: limits.commit_bytes,
+        commit_bytes,
     };
     let reader = reader::Reader::new(copy, count, state.clone(), metrics.clone());
     let threads = Threads([spawn("writer", move || writer.run()), spawn("reader", move || reader.run(asked))]);
-    let keeper = Keeper {
-        jobs,
-        asks: Mutex::new(Some(asks)),
-        bodies: Arc::new(Semaphore::new(limits.waiting_bodies)),
-        room: Arc::new(Semaphore::new(kib(limits.waiting_bytes))),
-        limits: limits.clone(),
-        state,
-        metrics,
-        counted,
-    };
+    let keeper = Keeper { jobs, asks: Mutex::new(Some(asks)), room, part, state, metrics, counted };
     Ok((Arc::new(keeper), threads))
 }
 
@@ -160,29 +159,11 @@ fn spawn(name: &str, work: impl FnOnce() + Send + 'static) -> JoinHandle<()> {
     made.unwrap_or_else(|why| give_up(&why.to_string()))
 }
 
-fn kib(bytes: usize) -> usize {
-    (bytes >> 10) + 1
-}
-
 impl Keeper {
-    /// Room for so many bytes of a body beside those that it has already, or none in the time that a body waits.
-    pub async fn room(&self, bytes: usize) -> Result<OwnedSemaphorePermit, Refusal> {
-        // A body has never more than there is room for, or it would wait for ever.
-        let most = kib(self.limits.waiting_bytes).min(u32::MAX as usize);
-        let wanted = self.room.clone().acquire_many_owned(kib(bytes).min(most) as u32);
-        self.in_time(wanted).await
-    }
-
-    async fn in_time<T, E>(&self, wanted: impl std::future::Future<Output = Result<T, E>>) -> Result<T, Refusal> {
-        match tokio::time::timeout(Duration::from_millis(self.limits.waiting_ms), wanted).await {
-            Ok(got) => got.map_err(|_| Refusal::Closing),
-            Err(_) => Err(Refusal::Full),
-        }
-    }
-
     /// Keeps the events of a body: all of them, once no crash takes them back, or none.
     pub async fn take(&self, body: Body) -> Result<Kept, Refusal> {
-        let turn = self.in_time(self.bodies.clone().acquire_owned()).await?;
+        self.judge(&body.bytes).await?;
+        let turn = self.room.turn().await?;
         if self.is_closing() {
             return Err(Refusal::Closing);
         }
@@ -199,6 +180,19 @@ impl Keeper {
         answer.await.unwrap_or(Err(Refusal::Unknown))
     }
 
+    /// Refuses events of other parts than the one that the site is. What is at fault otherwise is told by whoever keeps it.
+    async fn judge(&self, bytes: &Bytes) -> Result<(), Refusal> {
+        let Some(part) = self.part else {
+            return Ok(());
+        };
+        let find = move |bytes: &[u8]| part.misdirected(&sources_of(bytes)?);
+        match on_thread(bytes.clone(), find).await {
+            Ok(None) | Err(Error::NoEvents | Error::NoNumber) => Ok(()),
+            Ok(Some(_)) => Err(Refusal::Misdirected),
+            Err(why) => Err(Refusal::Store(why)),
+        }
+    }
+
     /// How many events the set has that is answered from.
     pub fn count(&self) -> u64 {
         *self.counted.borrow()
@@ -211,6 +205,11 @@ impl Keeper {
             Some(had) => Ok(had),
             None => self.asked(|reply| Ask::Answer(what, kept, reply)).await,
         }
+    }
+
+    /// The same behind the line of the summary, which is of the same set.
+    pub async fn ask_with_summary(&self, what: What) -> Result<Arc<Answer>, Error> {
+        self.asked(|reply| Ask::WithSummary(what, reply)).await.map(Arc::new)
     }
 
     /// Events that a peer lacks by its summary, from a place on: at most so many, and about so many bytes.
@@ -373,7 +372,8 @@ fn refusal_of(why: Error) -> Refusal {
 #[cfg(test)]
 mod tests {
     use super::*;
-    use crate::library::Question;
+    use crate::library::{part_of, Question};
+    use crate::settings::Limits;
     use std::path::PathBuf;
 
     struct Folder(PathBuf);
@@ -386,8 +386,13 @@ mod tests {
         }
 
         fn open(&self, limits: &Limits) -> (Arc<Keeper>, Threads) {
+            self.open_as(None, limits)
+        }
+
+        fn open_as(&self, part: Option<Part>, limits: &Limits) -> (Arc<Keeper>, Threads) {
             let site = Site::open_with_cache(self.0.join("site.db"), 0).unwrap();
-            start(site, limits, Arc::new(Metrics::new())).unwrap()
+            let room = Arc::new(Room::new(limits));
+            start(site, part, limits.commit_bytes, room, Arc::new(Metrics::new())).unwrap()
         }
     }
 
@@ -402,7 +407,7 @@ mod tests {
     }
 
     async fn give(keeper: &Keeper, text: String) -> Result<Kept, Refusal> {
-        let room = keeper.room(text.len()).await?;
+        let room = keeper.room.bytes(text.len()).await?;
         keeper.take(Body { bytes: text.into(), room }).await
     }
 
@@ -436,11 +441,32 @@ mod tests {
         let limits = Limits { waiting_bytes: 8 << 10, waiting_ms: 50, ..Limits::default() };
         let (keeper, threads) = folder.open(&limits);
         // More than there is room for takes all of it, and not more.
-        let room = keeper.room(1 << 30).await.unwrap();
+        let room = keeper.room.bytes(1 << 30).await.unwrap();
         assert!(matches!(give(&keeper, event(1)).await, Err(Refusal::Full)));
         drop(room);
         assert_eq!(give(&keeper, event(1)).await.unwrap().fresh, 1);
         keeper.close();
         threads.join();
+    }
+
+    #[tokio::test(flavor = "multi_thread")]
+    async fn a_part_keeps_no_events_of_others() {
+        let folder = Folder::new("part");
+        let part = Part { index: part_of("/a", 4).unwrap(), of: 4 };
+        let (keeper, threads) = folder.open_as(Some(part), &Limits::default());
+        let other = event(1).replace("/a", "/c");
+        assert_ne!(part_of("/c", 4).unwrap(), part.index);
+        assert_eq!(give(&keeper, event(1)).await.unwrap().fresh, 1);
+        for bad in [other.clone(), format!("[{},{other}]", event(2))] {
+            assert!(matches!(give(&keeper, bad).await, Err(Refusal::Misdirected)));
+        }
+        assert!(matches!(give(&keeper, "{}".into()).await, Err(Refusal::Faulty)));
+        assert_eq!(keeper.count(), 1);
+        keeper.close();
+        threads.join();
+        let mut site = Site::open(folder.0.join("site.db")).unwrap();
+        assert_eq!(part.test(&mut site), Ok(()));
+        let why = Part { index: (part.index + 1) % 4, of: 4 }.test(&mut site).unwrap_err();
+        assert!(why.contains("/a"), "{why}");
     }
 }

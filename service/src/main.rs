@@ -1,19 +1,22 @@
 //! `jumbetaid`: holds a site of CloudEvents open over its database, takes events over HTTP, keeps them before it answers,
-//! and comes to one view with its peers.
+//! and comes to one view with its peers; or stands in front of several such, each with a part of a region.
 //!
 //! What is decided about events is decided by the library, which is proved; the service carries bytes and is tested.
 
 mod access;
 mod backup;
+mod client;
 mod connections;
 mod events;
 mod feed;
+mod front;
 mod intake;
 mod keeper;
 mod library;
 mod metrics;
 mod number;
 mod page;
+mod part;
 mod peers;
 #[cfg(feature = "postgres")]
 mod postgres;
@@ -21,6 +24,7 @@ mod problems;
 mod questions;
 mod reader;
 mod recent;
+mod room;
 mod routes;
 mod settings;
 mod sync;
@@ -29,8 +33,11 @@ mod tls;
 mod watching;
 
 use clap::Parser;
+use front::Front;
 use library::{Error, Site};
-use routes::{Live, Service};
+use metrics::Metrics;
+use room::Room;
+use routes::{Common, Kind, Live, Service};
 use sd_notify::NotifyState;
 use settings::{Flags, Settings};
 use std::path::Path;
@@ -70,19 +77,27 @@ fn run(flags: &Flags) -> Result<(), String> {
 
 /// Tells whether the files that the settings name can be read; a database that isn't there isn't made.
 fn check(settings: &Settings) -> Result<(), String> {
-    for file in settings.peers.iter().filter_map(|it| it.token_file.as_deref()) {
+    let of_parts = settings.parts.iter().filter_map(|it| it.token_file.as_deref());
+    for file in settings.peers.iter().filter_map(|it| it.token_file.as_deref()).chain(of_parts) {
         settings::text_of(file)?;
     }
     #[cfg(feature = "tls")]
     if let Some(tls) = &settings.tls {
         tls::acceptor(tls)?;
     }
+    if !settings.parts.is_empty() {
+        println!("the settings can be used; the {} parts weren't asked", settings.parts.len());
+        return Ok(());
+    }
     let db = settings.db.display();
     let told = if !settings.db.exists() {
         "isn't there, and will be made".to_owned()
     } else {
         match library::Site::open_with_cache(&settings.db, settings.cache_mib) {
-            Ok(site) => format!("is sound, with {} events", site.len()),
+            Ok(mut site) => {
+                settings.part.map_or(Ok(()), |it| it.test(&mut site)).map_err(|why| format!("{db}: {why}"))?;
+                format!("is sound, with {} events", site.len())
+            }
             Err(Error::Busy) => "is in use, and wasn't tested".to_owned(),
             Err(why) => return Err(format!("{db}: {why}")),
         }
@@ -110,7 +125,7 @@ fn log_to_stderr(settings: &Settings) -> Result<(), String> {
 type Opened = (Arc<keeper::Keeper>, keeper::Threads, Option<(number::Numberer, std::thread::JoinHandle<()>)>);
 
 /// Opens the files of the settings, and starts the threads that have them.
-fn open(settings: &Settings, metrics: Arc<metrics::Metrics>) -> Result<Opened, String> {
+fn open(settings: &Settings, room: Arc<Room>, metrics: Arc<Metrics>) -> Result<Opened, String> {
     let of = |file: &Path, why: Error| format!("{}: {why}", file.display());
     let of_db = |why| of(&settings.db, why);
     let of_numbers = |why| of(settings.numbers.as_deref().unwrap_or(&settings.db), why);
@@ -119,37 +134,51 @@ fn open(settings: &Settings, metrics: Arc<metrics::Metrics>) -> Result<Opened, S
     if events > 0 {
         tracing::warn!(events, "what was numbered and hadn't been taken is taken");
     }
-    let (keeper, threads) = keeper::start(site, &settings.limits, metrics).map_err(of_db)?;
+    if let Some(part) = settings.part {
+        part.test(&mut site).map_err(|why| format!("{}: {why}", settings.db.display()))?;
+    }
+    let commit_bytes = settings.limits.commit_bytes;
+    let (keeper, threads) = keeper::start(site, settings.part, commit_bytes, room, metrics).map_err(of_db)?;
     let numberer = number::Numberer::open(settings).map_err(of_numbers)?;
     Ok((keeper, threads, numberer))
 }
 
-/// Opens the site, serves until a signal ends it, and closes the site, whatever came between.
+/// Serves what the settings say until a signal ends it.
 async fn serve(flags: &Flags, settings: Settings, live: Live) -> Result<(), String> {
     let signals = Signals::new().map_err(|it| it.to_string())?;
-    let metrics = Arc::new(metrics::Metrics::new());
+    let (end, ends) = watch::channel(false);
+    let common = Common::new(settings, live, ends);
+    match common.settings.parts.is_empty() {
+        true => serve_site(flags, common, signals, &end).await,
+        false => serve_front(flags, common, signals, &end).await,
+    }
+}
+
+/// Looks at the parts once, and serves in front of them.
+async fn serve_front(flags: &Flags, common: Common, signals: Signals, end: &watch::Sender<bool>) -> Result<(), String> {
+    let front = Front::start(common)?;
+    front.looked().await;
+    serve_until_signal(flags, &Kind::Front(front), signals, end).await
+}
+
+/// Opens the site, serves, and closes the site, whatever came between.
+async fn serve_site(flags: &Flags, common: Common, signals: Signals, end: &watch::Sender<bool>) -> Result<(), String> {
     let start = Instant::now();
     let opening = {
-        let (settings, metrics) = (settings.clone(), metrics.clone());
-        tokio::task::spawn_blocking(move || open(&settings, metrics))
+        let (settings, room, metrics) = (common.settings.clone(), common.room.clone(), common.metrics.clone());
+        tokio::task::spawn_blocking(move || open(&settings, room, metrics))
     };
     let (keeper, threads, numberer) = opening.await.map_err(|it| it.to_string())??;
     let (numberer, numbering) = numberer.map_or((None, None), |it| (Some(it.0), Some(it.1)));
     let (events, ms) = (keeper.count(), start.elapsed().as_millis() as u64);
-    tracing::info!(db = %settings.db.display(), events, ms, "the database is open");
-    let (end, ends) = watch::channel(false);
+    tracing::info!(db = %common.settings.db.display(), events, ms, "the database is open");
     let service = Arc::new(Service {
+        common,
         backups: Arc::new(Semaphore::new(1)),
-        held: Arc::new(Semaphore::new(settings.limits.connections / 2)),
-        live: RwLock::new(Arc::new(live)),
         keeper: keeper.clone(),
         numberer: RwLock::new(numberer.map(Arc::new)),
-        metrics,
-        peers: Arc::default(),
-        ends,
-        settings,
     });
-    let served = serve_until_signal(flags, &service, signals, &end).await;
+    let served = serve_until_signal(flags, &Kind::Site(service.clone()), signals, end).await;
     keeper.close();
     // Without whom nobody can ask it any more.
     *service.numberer.write().unwrap() = None;
@@ -167,19 +196,22 @@ async fn serve(flags: &Flags, settings: Settings, live: Live) -> Result<(), Stri
 
 async fn serve_until_signal(
     flags: &Flags,
-    service: &Arc<Service>,
+    service: &Kind,
     mut signals: Signals,
     end: &watch::Sender<bool>,
 ) -> Result<(), String> {
     let settings = &service.settings;
     let mut tasks = sync::Tasks::new(service)?;
-    let front = connections::Front::new(service.clone())?;
+    let door = connections::Door::new(service.clone())?;
     let listener = connections::listen(settings.listen).map_err(|it| format!("{}: {it}", settings.listen))?;
     let at = listener.local_addr().map_err(|it| it.to_string())?;
     tasks.set(&settings.peers)?;
     #[cfg(feature = "postgres")]
-    let outbox = settings.postgres.clone().map(|it| tokio::spawn(postgres::Outbox::new(it, service).run()));
-    let connections = tokio::spawn(front.serve(listener));
+    let outbox = match (service, settings.postgres.clone()) {
+        (Kind::Site(site), Some(it)) => Some(tokio::spawn(postgres::Outbox::new(it, site).run())),
+        _ => None,
+    };
+    let connections = tokio::spawn(door.serve(listener));
     notify(NotifyState::Ready);
     tracing::info!(name = settings.name, listen = %at, "ready");
     while !signals.next().await {
@@ -200,9 +232,12 @@ async fn serve_until_signal(
 }
 
 /// Takes up what of the settings may change while the service runs.
-fn reload(flags: &Flags, service: &Service, tasks: &mut sync::Tasks) -> Result<(), String> {
+fn reload(flags: &Flags, service: &Kind, tasks: &mut sync::Tasks) -> Result<(), String> {
     let settings = Settings::of(flags)?;
     let live = Live::of(&settings)?;
+    if let Kind::Front(front) = service {
+        front.set(&settings.parts)?;
+    }
     tasks.set(&settings.peers)?;
     *service.live.write().unwrap() = Arc::new(live);
     let fixed = service.settings.fixed_changes(&settings);

@@ -35,6 +35,7 @@ pub struct Metrics {
     pub set: SetMetrics,
     pub backup: BackupMetrics,
     pub peer: PeerMetrics,
+    pub part_up: IntGaugeVec,
     #[cfg(feature = "postgres")]
     pub outbox: OutboxMetrics,
     pub recent: Recent,
@@ -163,6 +164,11 @@ impl Metrics {
             set: SetMetrics::new(&it),
             backup: BackupMetrics::new(&it),
             peer: PeerMetrics::new(&it),
+            part_up: it.gauges(
+                "jumbetai_part_up",
+                "1 where the part was last seen to be there, told by a front",
+                &["part"],
+            ),
             #[cfg(feature = "postgres")]
             outbox: OutboxMetrics { up: it.gauges("jumbetai_outbox_up", "1 where the outbox is read", &["kind"]) },
             recent: Recent::default(),

@@ -187,7 +187,7 @@ impl Outbox {
     }
 
     async fn keep(&self, bytes: Bytes) -> Result<u64, String> {
-        let room = self.keeper.room(bytes.len()).await.map_err(|it| format!("{it:?}"))?;
+        let room = self.keeper.room.bytes(bytes.len()).await.map_err(|it| format!("{it:?}"))?;
         match self.keeper.take(Body { bytes: bytes.clone(), room }).await {
             Ok(kept) => {
                 for (result, count) in [("new", kept.fresh), ("repeated", kept.repeated)] {

@@ -48,6 +48,8 @@ pub enum Ask {
     /// These bodies were kept, and the database has so many events since.
     Applied(Vec<Bytes>, Option<u64>),
     Answer(What, u64, Reply<Arc<Answer>>),
+    /// The summary, and the answer behind it.
+    WithSummary(What, Reply<Answer>),
     Delta(String, u64, u64, u64, Reply<Option<Page>>),
     Compare(String, Reply<Lag>),
     Arrivals(u64, Reply<Option<Arc<Page>>>),
@@ -148,6 +150,10 @@ impl Reader {
                     let _ = reply.send(self.answer(what, at_least));
                     name_of(what)
                 }
+                Ask::WithSummary(what, reply) => {
+                    let _ = reply.send(self.with_summary(what));
+                    name_of(what)
+                }
                 Ask::Delta(summary, from, events, bytes, reply) => {
                     let _ = reply.send(self.site.delta_part(&summary, from, events, bytes));
                     "delta"
@@ -197,6 +203,13 @@ impl Reader {
         let answer = Arc::new(Answer { text: text.into(), count: self.site.len(), tag: self.tag()? });
         self.state.cache.put(what, answer.clone());
         Ok(answer)
+    }
+
+    fn with_summary(&mut self, what: What) -> Result<Answer, Error> {
+        let count = self.site.len();
+        let (summary, answer) = (self.answer(What::Summary, count)?, self.answer(what, count)?);
+        let text = [&summary.text[..], &answer.text[..]].concat().into();
+        Ok(Answer { text, count, tag: answer.tag.clone() })
     }
 
     fn tag(&mut self) -> Result<Arc<str>, Error> {

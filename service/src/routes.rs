@@ -1,6 +1,7 @@
 //! Which part answers a request, and who may ask it.
 
 use crate::access::{Access, Role, Sources, Verdict};
+use crate::front::Front;
 use crate::keeper::Keeper;
 use crate::metrics::Metrics;
 use crate::number::Numberer;
@@ -8,28 +9,48 @@ use crate::page::page;
 use crate::peers::Peers;
 use crate::problems::{problem, set, Answered};
 use crate::reader::{self, What};
+use crate::room::Room;
 use crate::settings::Settings;
 use hyper::header::{AUTHORIZATION, CONTENT_LENGTH, HOST, ORIGIN, TRANSFER_ENCODING};
 use hyper::{Body, Method, Request, StatusCode};
 use std::net::{IpAddr, SocketAddr};
+use std::ops::Deref;
 use std::sync::{Arc, RwLock};
 use std::time::Instant;
 use tokio::sync::{watch, Semaphore};
 
-/// All that answers stand on.
-pub struct Service {
+/// The header by which a part says which it is, and whoever asks it which is meant.
+pub const PART: &str = "site-part";
+
+/// What answers of any kind of the service stand on.
+pub struct Common {
     pub settings: Settings,
     pub live: RwLock<Arc<Live>>,
-    pub keeper: Arc<Keeper>,
-    pub numberer: RwLock<Option<Arc<Numberer>>>,
+    /// Room for bodies.
+    pub room: Arc<Room>,
     pub metrics: Arc<Metrics>,
     pub peers: Arc<Peers>,
     /// True once the service ends: nothing waits any more.
     pub ends: watch::Receiver<bool>,
     /// Room for answers that are held back or never end.
     pub held: Arc<Semaphore>,
+}
+
+/// A site, whole or a part of a region, over its database.
+pub struct Service {
+    pub common: Common,
+    pub keeper: Arc<Keeper>,
+    pub numberer: RwLock<Option<Arc<Numberer>>>,
     /// Room for one backup at a time.
     pub backups: Arc<Semaphore>,
+}
+
+impl Deref for Service {
+    type Target = Common;
+
+    fn deref(&self) -> &Common {
+        &self.common
+    }
 }
 
 /// The settings that may change while the service runs.
@@ -37,6 +58,21 @@ pub struct Live {
     pub access: Access,
     pub webhook_origins: Vec<String>,
     pub webhook_rate: u32,
+}
+
+impl Common {
+    /// That of the settings, with nothing under way.
+    pub fn new(settings: Settings, live: Live, ends: watch::Receiver<bool>) -> Common {
+        Common {
+            live: RwLock::new(Arc::new(live)),
+            room: Arc::new(Room::new(&settings.limits)),
+            metrics: Arc::new(Metrics::new()),
+            peers: Arc::default(),
+            ends,
+            held: Arc::new(Semaphore::new(settings.limits.connections / 2)),
+            settings,
+        }
+    }
 }
 
 impl Live {
@@ -52,7 +88,7 @@ impl Live {
 
 /// What a path stands for.
 #[derive(Clone, Copy, PartialEq, Eq, Debug)]
-enum Route {
+pub enum Route {
     Page,
     Events,
     Check,
@@ -127,18 +163,39 @@ impl Route {
     }
 }
 
-impl Service {
+/// What of the service answers.
+#[derive(Clone)]
+pub enum Kind {
+    Site(Arc<Service>),
+    Front(Arc<Front>),
+}
+
+impl Deref for Kind {
+    type Target = Common;
+
+    fn deref(&self) -> &Common {
+        match self {
+            Kind::Site(site) => site,
+            Kind::Front(front) => front,
+        }
+    }
+}
+
+impl Kind {
     /// Answers a request, counts it and logs it.
-    pub async fn answer(self: Arc<Self>, request: Request<Body>, from: SocketAddr) -> Answered {
+    pub async fn answer(self, request: Request<Body>, from: SocketAddr) -> Answered {
         let start = Instant::now();
         let (method, path) = (request.method().clone(), request.uri().path().to_owned());
         let route = Route::of(&path);
         // A request that a proxy may have read otherwise than hyper does is the last of its connection, so that what
         // is behind it is never taken for another one.
         let is_last = request.headers().contains_key(TRANSFER_ENCODING);
-        let mut answer = self.clone().route(route, request).await;
+        let mut answer = self.route(route, request).await;
         if is_last {
             set(&mut answer, "connection", "close");
+        }
+        if let Some(part) = self.settings.part {
+            set(&mut answer, PART, &part.to_string());
         }
         let (status, time) = (answer.status().as_u16(), start.elapsed());
         self.metrics.requests.with_label_values(&[route.name(), &status.to_string()]).inc();
@@ -152,50 +209,81 @@ impl Service {
         answer
     }
 
-    async fn route(self: Arc<Self>, route: Route, request: Request<Body>) -> Answered {
+    async fn route(&self, route: Route, request: Request<Body>) -> Answered {
+        let sources = match self.admit(route, &request) {
+            Ok(sources) => sources,
+            Err(refused) => return refused,
+        };
+        if route == Route::Other {
+            let path = request.uri().path();
+            return problem(StatusCode::NOT_FOUND, "not-found", "Nothing of that name", path).into();
+        }
+        match request.method() {
+            &Method::POST => match self {
+                Kind::Site(site) => site.posted(route, request, sources).await,
+                Kind::Front(front) => front.posted(route, request, sources).await,
+            },
+            &Method::GET | &Method::HEAD => match self {
+                Kind::Site(site) => site.got(route, &request).await,
+                Kind::Front(front) => front.got(route, &request).await,
+            },
+            &Method::OPTIONS if route == Route::Events => self.handshake(&request),
+            _ => not_so(route),
+        }
+    }
+}
+
+/// The answer to a method that a path hasn't.
+pub fn not_so(route: Route) -> Answered {
+    let allowed = route.methods();
+    let mut answer = problem(StatusCode::METHOD_NOT_ALLOWED, "method", "Not by this method", allowed).into();
+    set(&mut answer, "allow", allowed);
+    answer
+}
+
+impl Service {
+    async fn posted(self: &Arc<Self>, route: Route, request: Request<Body>, sources: Sources) -> Answered {
+        match route {
+            Route::Events => self.take(request, sources).await,
+            Route::Check => self.check(request).await,
+            Route::Delta => self.delta(request).await,
+            Route::Backup => self.backup().await,
+            _ => not_so(route),
+        }
+    }
+
+    async fn got(self: &Arc<Self>, route: Route, request: &Request<Body>) -> Answered {
+        match route {
+            Route::Arrivals => self.arrivals(request).await,
+            Route::Get => self.get(request).await,
+            Route::Answer(what) => self.ask(request, what).await,
+            Route::Page => page(),
+            Route::Metrics => self.metrics().await,
+            Route::Status => self.status().await,
+            Route::Health => self.health(),
+            Route::Ready => self.ready(),
+            _ => not_so(route),
+        }
+    }
+}
+
+impl Common {
+    /// The sources of which whoever asks may give events, or why the request isn't answered.
+    fn admit(&self, route: Route, request: &Request<Body>) -> Result<Sources, Answered> {
         let headers = request.headers();
         let head: usize = headers.iter().map(|(name, value)| name.as_str().len() + value.len()).sum();
         if head > self.settings.limits.head_bytes {
             let detail = format!("at most {} bytes", self.settings.limits.head_bytes);
             let status = StatusCode::REQUEST_HEADER_FIELDS_TOO_LARGE;
-            return problem(status, "head", "The head is too large", detail).into();
+            return Err(problem(status, "head", "The head is too large", detail).into());
         }
         if headers.contains_key(TRANSFER_ENCODING) && headers.contains_key(CONTENT_LENGTH) {
             let detail = "Content-Length and Transfer-Encoding both say how long the body is";
-            return problem(StatusCode::BAD_REQUEST, "two-lengths", "No request", detail).into();
+            return Err(problem(StatusCode::BAD_REQUEST, "two-lengths", "No request", detail).into());
         }
-        let method = request.method().clone();
-        let sources = match self.allow(&request, route.roles(&method)) {
-            Ok(sources) => sources,
-            Err(refused) => return refused,
-        };
-        let is_get = matches!(method, Method::GET | Method::HEAD);
-        let is_post = method == Method::POST;
-        match route {
-            Route::Other => {
-                problem(StatusCode::NOT_FOUND, "not-found", "Nothing of that name", request.uri().path()).into()
-            }
-            Route::Events if is_post => self.take(request, sources).await,
-            Route::Events if method == Method::OPTIONS => self.handshake(&request),
-            Route::Check if is_post => self.check(request).await,
-            Route::Delta if is_post => self.delta(request).await,
-            Route::Backup if is_post => self.backup().await,
-            Route::Arrivals if is_get => self.arrivals(&request).await,
-            Route::Get if is_get => self.get(&request).await,
-            Route::Answer(what) if is_get => self.ask(&request, what).await,
-            Route::Page if is_get => page(),
-            Route::Metrics if is_get => self.metrics().await,
-            Route::Status if is_get => self.status().await,
-            Route::Health if is_get => self.health(),
-            Route::Ready if is_get => self.ready(),
-            _ => {
-                let allowed = route.methods();
-                let mut answer =
-                    problem(StatusCode::METHOD_NOT_ALLOWED, "method", "Not by this method", allowed).into();
-                set(&mut answer, "allow", allowed);
-                answer
-            }
-        }
+        let sources = self.allow(request, route.roles(request.method()))?;
+        self.is_meant(request)?;
+        Ok(sources)
     }
 
     /// The sources of which whoever asks may give events, or why nothing may be done.
@@ -226,6 +314,17 @@ impl Service {
         let mut answer = problem(StatusCode::UNAUTHORIZED, "token", title, detail).into();
         set(&mut answer, "www-authenticate", challenge);
         Err(answer)
+    }
+
+    /// Refuses what is meant for another part of a region, or for a part where this is none.
+    fn is_meant(&self, request: &Request<Body>) -> Result<(), Answered> {
+        let (asked, own) = (request.headers().get(PART), self.settings.part.map(|it| it.to_string()));
+        if asked.map_or(true, |it| own.as_deref().is_some_and(|own| it == own)) {
+            return Ok(());
+        }
+        let detail = own.map_or("this is no part of a region".into(), |own| format!("this is part {own}"));
+        let status = StatusCode::MISDIRECTED_REQUEST;
+        Err(problem(status, "misdirected", "Meant for another part", detail).into())
     }
 
     pub fn live(&self) -> Arc<Live> {

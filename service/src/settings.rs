@@ -1,6 +1,8 @@
 //! What the service is told: a TOML file, and flags over it.
 
 use crate::access::{test_patterns, Role};
+use crate::library::MAX_PARTS;
+use crate::part::Part;
 use clap::Parser;
 use hyper::Uri;
 use serde::Deserialize;
@@ -30,6 +32,12 @@ pub struct Flags {
     /// The address and port to listen at
     #[arg(long, value_name = "ADDR")]
     pub listen: Option<SocketAddr>,
+    /// Which part of a region it holds: 1/4 is the second of four
+    #[arg(long, value_name = "I/N", value_parser = Part::read)]
+    pub part: Option<Part>,
+    /// A part that it stands in front of; given for each, part 0 first, in place of those of the file
+    #[arg(long, value_name = "URL")]
+    pub parts: Vec<String>,
     /// A peer; may be given several times, in place of those of the file
     #[arg(long, value_name = "NAME=URL")]
     pub peer: Vec<String>,
@@ -58,6 +66,14 @@ pub struct Peer {
     pub token_file: Option<PathBuf>,
 }
 
+/// Where a part of the region is that a front stands before.
+#[derive(Deserialize, Clone, PartialEq, Eq, Debug)]
+#[serde(deny_unknown_fields)]
+pub struct PartAt {
+    pub url: String,
+    pub token_file: Option<PathBuf>,
+}
+
 #[derive(Deserialize, Clone, PartialEq, Eq, Debug)]
 #[serde(deny_unknown_fields)]
 pub struct Tls {
@@ -79,6 +95,7 @@ pub struct Limits {
     pub commit_bytes: usize,
     pub page_events: u64,
     pub page_bytes: usize,
+    pub answer_bytes: usize,
     pub faults: usize,
     pub shutdown_seconds: u64,
 }
@@ -97,6 +114,7 @@ impl Default for Limits {
             commit_bytes: 256 << 10,
             page_events: 2000,
             page_bytes: 8 << 20,
+            answer_bytes: 64 << 20,
             faults: 100,
             shutdown_seconds: 8,
         }
@@ -162,6 +180,7 @@ pub struct Number {
 pub struct Settings {
     pub name: String,
     pub db: PathBuf,
+    pub part: Option<Part>,
     pub listen: SocketAddr,
     pub open_to_all: bool,
     pub cache_mib: u32,
@@ -175,6 +194,7 @@ pub struct Settings {
     pub webhook_rate: u32,
     pub tokens: Vec<Token>,
     pub peers: Vec<Peer>,
+    pub parts: Vec<PartAt>,
     pub number: Vec<Number>,
     pub tls: Option<Tls>,
     pub postgres: Option<Postgres>,
@@ -187,6 +207,7 @@ impl Default for Settings {
         Settings {
             name: "site".into(),
             db: PathBuf::new(),
+            part: None,
             listen: SocketAddr::from(([127, 0, 0, 1], 8087)),
             open_to_all: false,
             cache_mib: 0,
@@ -200,6 +221,7 @@ impl Default for Settings {
             webhook_rate: 0,
             tokens: Vec::new(),
             peers: Vec::new(),
+            parts: Vec::new(),
             number: Vec::new(),
             tls: None,
             postgres: None,
@@ -230,11 +252,20 @@ impl Settings {
         if let Some(listen) = flags.listen {
             settings.listen = listen;
         }
+        if flags.part.is_some() {
+            settings.part = flags.part;
+        }
         if !flags.peer.is_empty() {
             settings.peers = flags.peer.iter().map(|it| peer_of(it)).collect::<Result<_, _>>()?;
         }
-        for peer in &mut settings.peers {
-            peer.url.truncate(peer.url.trim_end_matches('/').len());
+        if !flags.parts.is_empty() {
+            let at = |url: &String| PartAt { url: url.clone(), token_file: None };
+            settings.parts = flags.parts.iter().map(at).collect();
+        }
+        let urls =
+            settings.peers.iter_mut().map(|it| &mut it.url).chain(settings.parts.iter_mut().map(|it| &mut it.url));
+        for url in urls {
+            url.truncate(url.trim_end_matches('/').len());
         }
         settings.test()?;
         Ok(settings)
@@ -242,7 +273,8 @@ impl Settings {
 
     /// Why the settings can't be used.
     fn test(&self) -> Result<(), String> {
-        if self.db.as_os_str().is_empty() {
+        self.test_parts()?;
+        if self.db.as_os_str().is_empty() && self.parts.is_empty() {
             return Err("no database: give --db FILE, or db in the file of settings".into());
         }
         if self.tokens.is_empty() && !self.listen.ip().is_loopback() && !self.open_to_all {
@@ -271,11 +303,37 @@ impl Settings {
         self.limits.test()
     }
 
+    /// Why it can't be a front, where it has parts.
+    fn test_parts(&self) -> Result<(), String> {
+        for (index, part) in self.parts.iter().enumerate() {
+            test_url(&part.url).map_err(|why| format!("part {index}: {}: {why}", part.url))?;
+        }
+        if self.parts.len() as u64 > MAX_PARTS {
+            return Err(format!("a region has at most {MAX_PARTS} parts"));
+        }
+        let others = [
+            ("db", !self.db.as_os_str().is_empty()),
+            ("part", self.part.is_some()),
+            ("numbers", self.numbers.is_some()),
+            ("number", !self.number.is_empty()),
+            ("postgres", self.postgres.is_some()),
+            ("backups", self.backups.is_some()),
+        ];
+        match others.iter().find(|it| it.1) {
+            Some((name, _)) if !self.parts.is_empty() => {
+                Err(format!("{name} is the business of the parts: a front with [[parts]] has none"))
+            }
+            _ => Ok(()),
+        }
+    }
+
     /// The names of settings that differ from others and that a running service doesn't take up.
     pub fn fixed_changes(&self, other: &Settings) -> Vec<&'static str> {
         let changes = [
             ("name", self.name != other.name),
             ("db", self.db != other.db),
+            ("part", self.part != other.part),
+            ("parts", self.parts.len() != other.parts.len()),
             ("listen", self.listen != other.listen),
             ("cache_mib", self.cache_mib != other.cache_mib),
             ("backups", self.backups != other.backups),
@@ -329,6 +387,7 @@ impl Limits {
             ("commit_bytes", self.commit_bytes, 1, LARGEST / 2),
             ("page_events", self.page_events as usize, 1, 2000),
             ("page_bytes", self.page_bytes, 1, LARGEST),
+            ("answer_bytes", self.answer_bytes, 1, 1 << 40),
             ("shutdown_seconds", self.shutdown_seconds as usize, 1, 3600),
         ];
         for (name, value, least, most) in rows {
@@ -361,7 +420,10 @@ mod tests {
         let part = |name: &str| text.find(name).unwrap_or(text.len());
         let end = if cfg!(feature = "tls") { text.len() } else { part("[tls]") };
         let end = if cfg!(feature = "postgres") { end } else { end.min(part("[postgres]")) };
-        let text = text[..end].to_owned();
+        // A front has no database; so its example stands for itself.
+        let (front, behind) = (part("[[parts]]"), part("[[peers]]"));
+        assert_eq!(read(&text[front..behind]).unwrap().parts.len(), 2);
+        let text = format!("{}{}", &text[..front], &text[behind..end]);
         let told = read(&text).unwrap();
         assert_eq!((told.tokens.len(), told.peers.len(), told.sync.ca.is_some()), (1, 1, true));
     }
@@ -379,12 +441,19 @@ mod tests {
             ("db = 'a'\n[[peers]]\nname = 'b'\nurl = 'http://c?d'", "question mark"),
             ("db = 'a'\n[[peers]]\nname = ''\nurl = 'http://c'", "empty"),
             ("db = 'a'\n[[tokens]]\nname = 'b'\nroles = ['all']", "all"),
+            ("db = 'a'\npart = '4/4'", "1/4"),
+            ("db = 'a'\npart = 1", "string"),
+            ("db = 'a'\n[[parts]]\nurl = 'http://b'", "db is the business"),
+            ("numbers = 'a'\n[[parts]]\nurl = 'http://b'", "numbers is the business"),
+            ("part = '0/1'\n[[parts]]\nurl = 'http://b'", "part is the business"),
+            ("[[parts]]\nurl = 'http://a'\n[[parts]]\nurl = 'b'", "part 1: b"),
         ] {
             let told = read(text).unwrap_err();
             assert!(told.contains(why), "{text}: {told}");
         }
         assert!(read("db = 'a'\nlisten = '0.0.0.0:1'\nopen_to_all = true").is_ok());
         assert!(read("db = 'a'\nlisten = '[::1]:1'").is_ok());
+        assert_eq!(read("[[parts]]\nurl = 'http://a'\n[[parts]]\nurl = 'http://b'").unwrap().parts.len(), 2);
     }
 
     #[test]
@@ -397,6 +466,9 @@ mod tests {
         };
         let told = Settings::of(&flags).unwrap();
         assert_eq!((told.listen.port(), told.peers[0].url.as_str()), (9, "http://s:1"));
+        let front = Flags { parts: vec!["http://a:1/".into(), "http://b:1".into()], ..Flags::default() };
+        assert_eq!(Settings::of(&front).unwrap().parts[0].url, "http://a:1");
+        assert!(Settings::of(&Flags { db: Some("x.db".into()), ..front }).unwrap_err().contains("db"));
         let twice = Flags { peer: vec!["a=http://b".into(), "a=http://c".into()], ..flags };
         assert!(Settings::of(&twice).unwrap_err().contains("twice"));
     }

@@ -6,26 +6,21 @@
 //! page by page. Where both have the same numbers and their sets other names, which is what two events of one number are,
 //! it is asked by the summary, whose digests find them.
 
-use crate::keeper::{Body as Given, Keeper, Refusal};
-use crate::library::{faults, Lag};
+use crate::client::{whole, Client};
+use crate::keeper::{Body as Given, Kept, Refusal};
+use crate::library::{faults, Error, Lag};
 use crate::metrics::Metrics;
 use crate::peers::{now, Peers};
 use crate::reader::{Answer, What};
-use crate::routes::Service;
+use crate::routes::Kind;
 use crate::settings::{self, text_of};
-use hyper::body::{Bytes, HttpBody};
-use hyper::client::HttpConnector;
-use hyper::{header, Body, Client, Request, Response, StatusCode};
+use hyper::body::Bytes;
+use hyper::{header, Body, Request, Response, StatusCode};
 use std::collections::BTreeMap;
 use std::sync::Arc;
 use std::time::{Duration, Instant};
-use tokio::sync::watch;
+use tokio::sync::{watch, OwnedSemaphorePermit};
 use tokio::task::JoinHandle;
-
-#[cfg(feature = "tls")]
-type Connector = hyper_rustls::HttpsConnector<HttpConnector>;
-#[cfg(not(feature = "tls"))]
-type Connector = HttpConnector;
 
 /// More than any answer of a peer has.
 const MOST: usize = 64 << 20;
@@ -37,8 +32,8 @@ const IDLE_BY_DIGESTS: u32 = 500;
 
 /// The tasks of the peers.
 pub struct Tasks {
-    client: Client<Connector>,
-    keeper: Arc<Keeper>,
+    client: Client,
+    own: Kind,
     metrics: Arc<Metrics>,
     peers: Arc<Peers>,
     ends: watch::Receiver<bool>,
@@ -48,21 +43,15 @@ pub struct Tasks {
 
 impl Tasks {
     /// None yet, or why peers can't be connected to.
-    pub fn new(service: &Service) -> Result<Tasks, String> {
-        let settings = &service.settings;
-        let mut tcp = HttpConnector::new();
-        tcp.set_connect_timeout(Some(Duration::from_secs(settings.sync.connect_seconds)));
-        tcp.set_keepalive(Some(Duration::from_secs(15)));
-        tcp.set_nodelay(true);
-        #[cfg(feature = "tls")]
-        let tcp = crate::tls::connector(tcp, settings.sync.ca.as_deref())?;
+    pub fn new(own: &Kind) -> Result<Tasks, String> {
+        let sync = &own.settings.sync;
         Ok(Tasks {
-            client: Client::builder().pool_idle_timeout(Duration::from_secs(15)).pool_max_idle_per_host(2).build(tcp),
-            keeper: service.keeper.clone(),
-            metrics: service.metrics.clone(),
-            peers: service.peers.clone(),
-            ends: service.ends.clone(),
-            settings: settings.sync.clone(),
+            client: crate::client::new(sync, 2)?,
+            metrics: own.metrics.clone(),
+            peers: own.peers.clone(),
+            ends: own.ends.clone(),
+            settings: sync.clone(),
+            own: own.clone(),
             running: BTreeMap::new(),
         })
     }
@@ -103,7 +92,7 @@ impl Tasks {
             of: of.clone(),
             token: token.map(|it| it.trim().to_owned()),
             client: self.client.clone(),
-            keeper: self.keeper.clone(),
+            own: self.own.clone(),
             metrics: self.metrics.clone(),
             peers: self.peers.clone(),
             settings: self.settings.clone(),
@@ -127,8 +116,8 @@ struct Peer {
     name: String,
     of: settings::Peer,
     token: Option<String>,
-    client: Client<Connector>,
-    keeper: Arc<Keeper>,
+    client: Client,
+    own: Kind,
     metrics: Arc<Metrics>,
     peers: Arc<Peers>,
     settings: settings::Sync,
@@ -226,7 +215,7 @@ impl Peer {
         if answer.status() == StatusCode::NOT_MODIFIED {
             if tag == *own.tag {
                 self.last = (tag, String::from_utf8_lossy(&own.text).trim_end_matches('\n').to_owned());
-                self.compared(self.keeper.count() == own.count, Lag { lacking: 0, ahead: 0, blocks: 0 });
+                self.compared(self.own.count() == own.count, Lag { lacking: 0, ahead: 0, blocks: 0 });
                 return Ok(());
             }
         } else {
@@ -259,7 +248,7 @@ impl Peer {
             .header("prefer", format!("wait={wait}"));
         let asking = self.send(asked, Body::empty(), wait);
         let mut asking = std::pin::pin!(asking);
-        let mut counted = self.keeper.counted.clone();
+        let mut counted = self.own.counted();
         loop {
             let look = async {
                 tokio::time::sleep(Duration::from_millis(self.settings.every_ms)).await;
@@ -280,13 +269,13 @@ impl Peer {
     /// How the numbers stand beside those that the peer told last, and whether the sets have one name.
     async fn compare(&mut self) -> Result<Lag, String> {
         let own = self.own(What::Cover).await?;
-        let lag = self.keeper.compare(self.last.1.clone()).await.map_err(|it| it.to_string())?;
+        let lag = self.own.compare(self.last.1.clone()).await?;
         self.compared(*own.tag == *self.last.0, lag);
         Ok(lag)
     }
 
     async fn own(&self, what: What) -> Result<Arc<Answer>, String> {
-        self.keeper.ask(what).await.map_err(|it| it.to_string())
+        self.own.set(what).await
     }
 
     fn compared(&mut self, equal: bool, lag: Lag) {
@@ -377,20 +366,19 @@ impl Peer {
         for line in pages.split(|it| *it == b'\n').filter(|it| !it.is_empty()) {
             let bytes = pages.slice_ref(line);
             let room = loop {
-                match self.keeper.room(bytes.len()).await {
+                match self.own.room.bytes(bytes.len()).await {
                     Err(Refusal::Full) => continue,
                     room => break room.map_err(|it| format!("a page isn't kept: {it:?}"))?,
                 }
             };
-            let given = Given { bytes: bytes.clone(), room };
-            match self.keeper.take(given).await {
+            match self.own.pulled(bytes.clone(), room).await {
                 Ok(kept) => (fresh, repeated) = (fresh + kept.fresh, repeated + kept.repeated),
-                Err(Refusal::Faulty) => {
+                Err(Unkept::Faulty) => {
                     let lines = faults(&bytes).map_err(|it| it.to_string())?;
                     self.metrics.count_faults(&lines, "peer");
                     return Err(format!("a page at fault: {}", lines.lines().next().unwrap_or("")));
                 }
-                Err(why) => return Err(format!("a page isn't kept: {why:?}")),
+                Err(Unkept::Else(why)) => return Err(format!("a page isn't kept: {why}")),
             }
         }
         for (result, count) in [("new", fresh), ("repeated", repeated)] {
@@ -421,25 +409,64 @@ impl Peer {
     }
 
     async fn body(&self, answer: Response<Body>) -> Result<Bytes, String> {
-        let mut body = answer.into_body();
-        let whole = async {
-            let mut all = Vec::new();
-            while let Some(data) = body.data().await {
-                all.extend_from_slice(&data.map_err(|it| it.to_string())?);
-                if all.len() > MOST {
-                    return Err("an answer without end".to_owned());
-                }
-            }
-            Ok(Bytes::from(all))
-        };
         let seconds = self.settings.request_seconds;
         let late = |_| Err(format!("no whole answer within {seconds} seconds"));
-        tokio::time::timeout(Duration::from_secs(seconds), whole).await.unwrap_or_else(late)
+        tokio::time::timeout(Duration::from_secs(seconds), whole(answer.into_body(), MOST)).await.unwrap_or_else(late)
+    }
+}
+
+/// Why a page isn't kept.
+enum Unkept {
+    Faulty,
+    Else(String),
+}
+
+/// What is pulled into: the set of a site, or that of a region by its front.
+impl Kind {
+    async fn set(&self, what: What) -> Result<Arc<Answer>, String> {
+        match self {
+            Kind::Site(site) => site.keeper.ask(what).await.map_err(|it| it.to_string()),
+            Kind::Front(front) => front.answer(what).await.map_err(|it| it.to_string()),
+        }
+    }
+
+    async fn compare(&self, cover: String) -> Result<Lag, String> {
+        match self {
+            Kind::Site(site) => site.keeper.compare(cover).await.map_err(|it| it.to_string()),
+            Kind::Front(front) => front.compare(&cover).await,
+        }
+    }
+
+    async fn pulled(&self, bytes: Bytes, room: OwnedSemaphorePermit) -> Result<Kept, Unkept> {
+        match self {
+            Kind::Site(site) => match site.keeper.take(Given { bytes, room }).await {
+                Ok(kept) => Ok(kept),
+                Err(Refusal::Faulty) => Err(Unkept::Faulty),
+                Err(why) => Err(Unkept::Else(format!("{why:?}"))),
+            },
+            Kind::Front(front) => match front.spread(bytes, room).await {
+                Ok(spread) => spread.all().map_err(Unkept::Else),
+                Err(Error::NoEvents | Error::NoNumber) => Err(Unkept::Faulty),
+                Err(why) => Err(Unkept::Else(why.to_string())),
+            },
+        }
+    }
+
+    /// How many events the set was last seen with.
+    fn count(&self) -> u64 {
+        *self.counted().borrow()
+    }
+
+    fn counted(&self) -> watch::Receiver<u64> {
+        match self {
+            Kind::Site(site) => site.keeper.counted.clone(),
+            Kind::Front(front) => front.counted(),
+        }
     }
 }
 
 /// How long to rest behind so many failed rounds, by a die from 0 to 1.
-fn back_off(settings: &settings::Sync, failed: u32, die: f64) -> Duration {
+pub fn back_off(settings: &settings::Sync, failed: u32, die: f64) -> Duration {
     let most = settings.backoff_ms.saturating_mul(1 << failed.min(16)).min(settings.backoff_max_ms);
     Duration::from_millis(settings.backoff_ms.min(most)) + Duration::from_millis(most).mul_f64(die)
 }

@@ -48,7 +48,7 @@ impl Service {
     pub async fn status(&self) -> Answered {
         self.count().await;
         let (trouble, set) = (self.trouble(), &self.metrics.set);
-        let status = json!({
+        let mut status = json!({
             "name": self.settings.name,
             "version": env!("CARGO_PKG_VERSION"),
             "library": crate::library::version(),
@@ -63,6 +63,9 @@ impl Service {
             "peers": self.peers.all(),
             "recent": self.metrics.recent.told(now()),
         });
+        if let Some(part) = self.settings.part {
+            status["part"] = json!({"index": part.index, "of": part.of});
+        }
         plain(StatusCode::OK, JSON, format!("{status}\n"))
     }
 
