@@ -16,7 +16,7 @@ from shell import LONGEST, text_of
 
 # What a command printed; none where it didn't come to its end.
 Printed = list[Optional[str]]
-SERVICE = "docs/SERVICE.md"
+SERVICES = ("docs/SERVICE.md", "docs/SCALING.md")
 OF_SERVICE = (pytest.mark.library, pytest.mark.alone)
 
 
@@ -57,7 +57,7 @@ def pytest_generate_tests(metafunc: pytest.Metafunc) -> None:
     each: list[object] = []
     for page in PAGES:
         commands, lacking = script(page, int(metafunc.config.getoption("--of")))
-        marks = OF_SERVICE if page == SERVICE else ()
+        marks = OF_SERVICE if page in SERVICES else ()
         for at, (command, more) in enumerate(commands):
             name = command.splitlines()[0] if command else f"the file {more[0]}"
             each.append(pytest.param(page, at, id=f"{page}: {name}", marks=marks))
@@ -70,7 +70,7 @@ def pytest_generate_tests(metafunc: pytest.Metafunc) -> None:
 def test_command(
     page: str, command: int, printed: Callable[[str, Optional[str]], Printed], pytestconfig: pytest.Config, request: pytest.FixtureRequest
 ) -> None:
-    said = printed(page, request.getfixturevalue("service") if page == SERVICE else None)[command]
+    said = printed(page, request.getfixturevalue("service") if page in SERVICES else None)[command]
     line, wanted = script(page, int(pytestconfig.getoption("--of")))[0][command]
     assert said == (wanted if line else "")
 

@@ -48,6 +48,7 @@ FILES = (
     "docs/FORMATS.md",
     "docs/GUARANTEES.md",
     "docs/SERVICE.md",
+    "docs/SCALING.md",
     "service/Cargo.toml",
     "service/src/main.rs",
     "contrib/prometheus/jumbetai.rules.yml",

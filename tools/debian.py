@@ -31,7 +31,7 @@ MODULE = "usr/lib/python3/dist-packages"
 DOCUMENTS = "usr/share/doc/jumbetai"
 PAGES = (
     *("README.md", "SECURITY.md", "docs/GUIDE.md", "docs/OPERATIONS.md", "docs/PRODUCERS.md", "docs/FORMATS.md"),
-    *("docs/GUARANTEES.md", "docs/PERFORMANCE.md", "docs/GLOSSARY.md", "docs/SERVICE.md", "contrib/prometheus/README.md"),
+    *("docs/GUARANTEES.md", "docs/PERFORMANCE.md", "docs/GLOSSARY.md", "docs/SERVICE.md", "docs/SCALING.md", "contrib/prometheus/README.md"),
 )
 EXAMPLES = (
     *("service/jumbetaid.toml", "contrib/prometheus/jumbetai.rules.yml", "contrib/prometheus/dashboard.json"),

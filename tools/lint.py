@@ -91,7 +91,7 @@ def black(*how: str) -> Said:
 
 def mypy() -> Said:
     """Without pytest, whose types the tests stand on, of all but these."""
-    return clean(wanted("mypy"), "--cache-dir", f"{OUT}/mypy", *([] if run_tests.python_with_pytest() else ["gate", "tools"]))
+    return clean(wanted("mypy"), "--cache-dir", f"{OUT}/mypy", *([] if run_tests.python_with_pytest() else ["bench", "gate", "tools"]))
 
 
 def mypy_of_package() -> Said:

@@ -19,7 +19,7 @@ import tempfile
 from typing import Any, Iterable, Iterator, Optional
 
 HERE = os.path.dirname(os.path.dirname(os.path.realpath(__file__)))
-PAGES = ("README.md", "docs/GUIDE.md", "docs/OPERATIONS.md", "docs/PRODUCERS.md", "docs/SERVICE.md")
+PAGES = ("README.md", "docs/GUIDE.md", "docs/OPERATIONS.md", "docs/PRODUCERS.md", "docs/SERVICE.md", "docs/SCALING.md")
 # The service, where no other one is named.
 SERVICE = os.path.join(HERE, "out/service/jumbetaid")
 # What a stand-in for ssh does: it leaves out the host, and joins the words to one text for a shell, as ssh does.

@@ -56,7 +56,7 @@ mkdir -p "$here/bin" "$here/library" || exit 1
 cp -- "$program" "$here/bin/site" && cp -- "$library/libjumbetai.a" "$library/jumbetai.h" "$here/library/" || exit 1
 licence=$(git ls-tree --name-only "$commit" LICENSE) || exit 1
 git archive -o "$room/pages.tar" "$commit" README.md CHANGELOG.md SECURITY.md docs/GUIDE.md docs/OPERATIONS.md \
-    docs/PRODUCERS.md docs/FORMATS.md docs/GUARANTEES.md docs/PERFORMANCE.md docs/GLOSSARY.md docs/SERVICE.md docs/page.webp docs/page-narrow.webp examples bindings \
+    docs/PRODUCERS.md docs/FORMATS.md docs/GUARANTEES.md docs/PERFORMANCE.md docs/GLOSSARY.md docs/SERVICE.md docs/SCALING.md docs/page.webp docs/page-narrow.webp examples bindings \
     service contrib tools/make_batch.py ${licence:+"$licence"} && tar -xf "$room/pages.tar" -C "$here" || exit 1
 tools/archive_pages.py "$here" || fail 'a page speaks of what the archive has not'
 # shellcheck disable=SC2015

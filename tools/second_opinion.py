@@ -3,7 +3,7 @@
 
 usage: tools/second_opinion.py PROGRAM OTHER [--files N] [--seed N] [--commands COMMAND ..]
 
-The programs are `site` as the gate builds it and the plain Rust program in tools/baseline. Half of the files are made
+The programs are `site` as the gate builds it and the plain Rust program in bench/baseline. Half of the files are made
 of a good event by up to three changes: other values, names, times, numbers, encodings, repeated members, cut or garbled
 bytes. The other half are batches of good events that meet: few sources, ids, types, subjects and numbers, so that there
 are conflicts, repeated events and gaps, and times near the ends of days in many zones; one in ten of these has a change

@@ -515,7 +515,7 @@ def main() -> int:
                     tally.kept.keep(before[file], {"told": text})
     tally.kept.shrink()
     print(f"edits: {tally.taken} kept, {sum(map(len, todo.values()))} tried anew")
-    print(f"edits: {tally.passed} passed, {tally.failed} failed")
+    print(f"{tally.passed} passed, {tally.failed} failed")
     return 1 if tally.failed else 0
 
 

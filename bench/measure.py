@@ -1,10 +1,10 @@
 #!/usr/bin/env python3
 """Measures the built program beside plain Rust programs, and prints tables in Markdown.
 
-usage: tools/measure.py PLAIN [PLAIN_TABLES] [--program FILE] [--hold FILE] [--rounds N] [--threads N]
+usage: bench/measure.py PLAIN [PLAIN_TABLES] [--program FILE] [--hold FILE] [--rounds N] [--threads N]
            [--folder FOLDER] [--groups GROUP..]
 
-PLAIN is the program of tools/baseline, PLAIN_TABLES that of tools/baseline_tables. The programs run in turn, the same
+PLAIN is the program of bench/baseline, PLAIN_TABLES that of bench/baseline_tables. The programs run in turn, the same
 words over the same files, N rounds (3 by default). A table gives of each the least and the middle of processor time
 (user and system), the least time by the clock, the largest memory that a round took, and the ratios of ours to the
 plain one: of processor time, least by least, of the clock, and of memory. Where two programs answer a question, their outputs must be equal

@@ -1,7 +1,7 @@
 #!/usr/bin/env python3
 """Write a batch of events whose sources and numbers come in an order that may be dear.
 
-    tools/make_shapes.py --sources descending > shape.json
+    bench/make_shapes.py --sources descending > shape.json
 
 Each event has a source of its own where --sources is asked for, and the number 1; with --numbers all
 events have one source, and numbers that descend, or that no two of touch and that are shuffled. With

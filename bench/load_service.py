@@ -1,24 +1,26 @@
 #!/usr/bin/env python3
 """Durable events a second that jumbetaid takes over HTTP, beside PostgreSQL, Redis and RabbitMQ by as many clients.
 
-    tools/load_service.py [--program FILE] [--rounds N] [--seconds N] [--shapes LIST]
-    tools/load_service.py [--program FILE] --sync N
-    tools/load_service.py [--program FILE] --ask N
-    tools/load_service.py [--program FILE] --backup N
+    bench/load_service.py [--program FILE] [--rounds N] [--seconds N] [--shapes LIST]
+    bench/load_service.py [--program FILE] --sync N
+    bench/load_service.py [--program FILE] --ask N
+    bench/load_service.py [--program FILE] --backup N
+    bench/load_service.py [--program FILE] [--rounds N] [--seconds N] [--shapes LIST] --parts LIST
 
 A shape is CONNECTIONSxBATCH, by default 1x1,16x1,64x1,256x1,16x100. By turns each gets events of 350 bytes for so many
 seconds, 3 rounds of 3: the service by wrk, each event answered once it is synced; PostgreSQL by pgbench, prepared, with
 synchronous_commit, into a table with the keys of a site's; Redis by redis-benchmark, a batch as commands in one write, into
-a stream with appendfsync always, and RabbitMQ by tools/load_rabbitmq.c, confirmed, into a quorum queue of one node, which
+a stream with appendfsync always, and RabbitMQ by bench/load_rabbitmq.c, confirmed, into a quorum queue of one node, which
 both have no keys and tell no repeat. RabbitMQ runs during its own turns alone, since an idle node disturbs the others. Told
 are the middle of the rounds, with the least and the most rate, and the median and the 99th percentile of the time to an
 answer. --sync tells how long two services take to come to one view, where one has N events and where each has N others;
 --ask how long GET /kinds takes while a service over N events takes 1,000 a second, how long it took to start, and its
 memory; --backup how long a backup of N events takes while 1,000 a second come, what it does to their answers, and how long
 it takes a site whose disk is lost to be restored from it and to catch up from its peer: status 1 where an event that was
-acknowledged isn't there then. It wants wrk and, for the comparison, initdb and pgbench, redis-server and redis-benchmark,
-rabbitmq-server and librabbitmq (on Debian wrk, postgresql-15, redis-server, redis-tools, rabbitmq-server, librabbitmq-dev);
-as root PostgreSQL runs as the user postgres. No part of a gate.
+acknowledged isn't there then; --parts how a front before each of these counts of parts does, all on this machine (0: a
+site without a front): events of 64 sources a second, the time to their answers, and that of GET /kinds. It wants wrk and,
+for the comparison, initdb and pgbench, redis-server and redis-benchmark, rabbitmq-server and librabbitmq (on Debian wrk,
+postgresql-15, redis-server, redis-tools, rabbitmq-server, librabbitmq-dev); as root PostgreSQL runs as the user postgres. No part of a gate.
 """
 import argparse
 import contextlib
@@ -38,6 +40,7 @@ from typing import Callable, Optional
 sys.dont_write_bytecode = True
 TOP = os.path.dirname(os.path.dirname(os.path.realpath(__file__)))
 sys.path.insert(0, f"{TOP}/tools")
+from postgres import Postgres  # noqa: E402
 from serving import Site, Tries, event  # noqa: E402
 
 # How many connections there are, and how many events a request has.
@@ -50,10 +53,11 @@ local threads, number = 0, 0
 function setup(thread) thread:set("id", threads) threads = threads + 1 end
 local function event()
     number = number + 1
-    return string.format('{"specversion":"1.0","id":"/load/%d-%012d","source":"/load/%d","type":"com.example.order.placed",' ..
+    local source = SOURCES == 1 and id or string.format("%d/%d", id, number % SOURCES)
+    return string.format('{"specversion":"1.0","id":"/load/%d-%012d","source":"/load/%s","type":"com.example.order.placed",' ..
         '"subject":"customer/%06d","sequence":"%020d","time":"2024-02-29T10:00:%02dZ","attempt":1,' ..
         '"datacontenttype":"application/json","data":{"lines":[{"sku":"%08x","count":%d}]}}',
-        id, number, id, number * 7919 % 5000, number, number % 60, number * 40503 % 4294967296, number % 19 + 1)
+        id, number, source, number * 7919 % 5000, math.ceil(number / SOURCES), number % 60, number * 40503 % 4294967296, number % 19 + 1)
 end
 function request()
     if BATCH == 1 then
@@ -87,16 +91,22 @@ def found(pattern: str, text: str) -> "re.Match[str]":
 
 
 def of_service(tries: Tries, folder: str, shape: Shape, seconds: int) -> Rates:
+    site = tries.site(f"s{time.monotonic_ns()}").start()
+    rates = by_wrk(site, folder, shape, seconds, 1)
+    site.stop(seconds=30)
+    shutil.rmtree(site.folder)
+    return rates
+
+
+def by_wrk(site: Site, folder: str, shape: Shape, seconds: int, sources: int) -> Rates:
+    """What a service takes of events of so many sources for each of two threads of wrk."""
     connections, batch = shape
     with open(f"{folder}/load.lua", "w", encoding="ascii") as out:
-        out.write(SCRIPT.replace("BATCH", str(batch)))
-    site = tries.site(f"s{time.monotonic_ns()}").start()
+        out.write(SCRIPT.replace("BATCH", str(batch)).replace("SOURCES", str(sources)))
     threads = str(min(2, connections))
     words = ["wrk", "-t", threads, "-c", str(connections), "-d", f"{seconds}s", "--latency", "-s", f"{folder}/load.lua", f"http://127.0.0.1:{site.port}"]
     said = subprocess.run(words, capture_output=True, text=True, check=True, timeout=seconds + 30).stdout
-    count = int(found(r"jumbetai_events (\d+)", site.get("/metrics").body.decode())[1])
-    site.stop(seconds=30)
-    shutil.rmtree(site.folder)
+    count = int(site.get("/kinds").headers["site-events"])
     refused = re.search(r"Non-2xx or 3xx responses: (\d+)", said)
     if refused:
         sys.exit(f"the service refused {refused[1]} requests: {said}")
@@ -109,35 +119,8 @@ def of_service(tries: Tries, folder: str, shape: Shape, seconds: int) -> Rates:
     return count / took, milliseconds(50), milliseconds(99)
 
 
-class Postgres:
-    """A server of its own in a folder, over a socket there."""
-
-    def __init__(self, folder: str) -> None:
-        self.folder, self.bin = f"{folder}/postgres", (sorted(glob.glob("/usr/lib/postgresql/*/bin")) or [""])[-1]
-        self.user = ["setpriv", "--reuid=postgres", "--regid=postgres", "--clear-groups"] if os.geteuid() == 0 else []
-
-    def is_there(self) -> bool:
-        return all(os.path.exists(f"{self.bin}/{it}") for it in ("initdb", "pg_ctl", "pgbench"))
-
-    def run(self, *words: str) -> str:
-        command = [*self.user, f"{self.bin}/{words[0]}", *words[1:]]
-        return subprocess.run(command, cwd=self.folder, capture_output=True, text=True, check=True, timeout=120).stdout
-
-    def sql(self, text: str, *more: str) -> str:
-        """What a statement answers."""
-        words = ["psql", "-h", self.folder, "-U", "load", "-v", "ON_ERROR_STOP=1", "-qAt", *more, "-c", text, "postgres"]
-        return self.run(*words).strip()
-
-    def start(self) -> None:
-        os.chmod(os.path.dirname(self.folder), 0o755)
-        os.mkdir(self.folder)
-        if self.user:
-            shutil.chown(self.folder, "postgres", "postgres")
-        self.run("initdb", "-D", "data", "-A", "trust", "-U", "load")
-        self.run("pg_ctl", "-D", "data", "-w", "-l", "log", "-o", f"-k {self.folder} -h '' -c max_connections=300", "start")
-
-    def stop(self) -> None:
-        self.run("pg_ctl", "-D", "data", "-m", "immediate", "stop")
+class LoadedPostgres(Postgres):
+    """A server that clients of pgbench load."""
 
     def load(self, shape: Shape, seconds: int) -> Rates:
         connections, batch = shape
@@ -221,7 +204,7 @@ class RabbitMQ:
         if not os.path.exists(self.SERVER):
             return False
         os.mkdir(self.folder)
-        words = ["gcc", "-O2", "-o", self.client, f"{TOP}/tools/load_rabbitmq.c", "-lrabbitmq", "-lpthread"]
+        words = ["gcc", "-O2", "-o", self.client, f"{TOP}/bench/load_rabbitmq.c", "-lrabbitmq", "-lpthread"]
         return subprocess.run(words, check=False, stderr=subprocess.DEVNULL).returncode == 0
 
     def start(self) -> subprocess.Popen[bytes]:
@@ -326,6 +309,42 @@ def wait_for_one_view(sites: list[Site]) -> float:
     return time.monotonic() - began
 
 
+def of_region(tries: Tries, folder: str, count: int, shape: Shape, seconds: int) -> tuple[Rates, list[float]]:
+    """What a front before so many parts takes, and the milliseconds of GET /kinds behind that: first where nothing came
+    between two, then where an event did."""
+    name = f"p{time.monotonic_ns()}"
+    parts = [tries.site(f"{name}-{it}", f'part = "{it}/{count}"\n').start() for it in range(count)]
+    rows = "".join(f'[[parts]]\nurl = "{it.url}"\n' for it in parts)
+    front = tries.site(name, rows, is_front=bool(parts)).start()
+    rates = by_wrk(front, folder, shape, seconds, 32)
+    times: list[list[float]] = [[], []]
+    for turn in range(100):
+        if turn % 2:
+            front.give(event(turn, "/asked"))
+        began = time.monotonic()
+        front.get("/kinds")
+        times[turn % 2].append((time.monotonic() - began) * 1000)
+    for it in (front, *parts):
+        it.stop(seconds=60)
+        shutil.rmtree(it.folder)
+    return rates, [statistics.median(it) for it in times]
+
+
+def of_parts(tries: Tries, folder: str, given: argparse.Namespace, shapes: list[Shape]) -> None:
+    print("| connections x batch | parts | events a second | p50, p99 ms | GET /kinds, nothing new, and new: ms |\n|---|---|---|---|---|")
+    for shape in shapes:
+        got: dict[int, list[tuple[Rates, list[float]]]] = {}
+        for _ in range(given.rounds):
+            for count in map(int, given.parts.split(",")):
+                got.setdefault(count, []).append(of_region(tries, folder, count, shape, given.seconds))
+        for count, rows in got.items():
+            rates = [[row[0][at] for row in rows] for at in range(3)]
+            kinds = [statistics.median(row[1][at] for row in rows) for at in range(2)]
+            told = f"{statistics.median(rates[0]):,.0f} ({min(rates[0]):,.0f}..{max(rates[0]):,.0f})"
+            told += f" | {statistics.median(rates[1]):.1f}, {statistics.median(rates[2]):.1f} | {kinds[0]:.1f}, {kinds[1]:.1f}"
+            print(f"| {shape[0]} x {shape[1]} | {count or 'a site'} | {told} |", flush=True)
+
+
 def of_backup(tries: Tries, count: int) -> bool:
     """A backup of a service over so many events while more come; then its disk is lost, and it begins with the backup."""
     folder = f"{tries.folder}/backups"
@@ -402,6 +421,7 @@ def main() -> int:
     words.add_argument("--sync", type=int, metavar="N")
     words.add_argument("--ask", type=int, metavar="N")
     words.add_argument("--backup", type=int, metavar="N")
+    words.add_argument("--parts", metavar="LIST")
     given = words.parse_args()
     if given.sync or given.ask or given.backup:
         with tempfile.TemporaryDirectory() as folder, contextlib.ExitStack() as end:
@@ -418,12 +438,18 @@ def main() -> int:
         sys.exit("skipped: wrk isn't there")
     pairs = [it.split("x") for it in given.shapes.split(",")]
     shapes = [(int(connections), int(batch)) for connections, batch in pairs]
+    if given.parts:
+        with tempfile.TemporaryDirectory() as folder, contextlib.ExitStack() as end:
+            tries = Tries(folder, os.path.abspath(given.program))
+            end.callback(tries.end)
+            of_parts(tries, folder, given, shapes)
+        return 0
     got: dict[tuple[Shape, str], list[Rates]] = {}
     with tempfile.TemporaryDirectory() as folder, contextlib.ExitStack() as end:
         tries = Tries(folder, os.path.abspath(given.program))
         end.callback(tries.end)
         systems: dict[str, Callable[[Shape], Rates]] = {"jumbetaid": lambda shape: of_service(tries, folder, shape, given.seconds)}
-        postgres = Postgres(folder)
+        postgres = LoadedPostgres(folder)
         if postgres.is_there():
             postgres.start()
             end.callback(postgres.stop)

@@ -2,7 +2,7 @@
 """Looks for shapes of input that are dear: times the built program on files of odd shapes, each beside a friendly
 file of about its size, and prints how much more processor time a byte of it costs.
 
-usage: tools/shapes.py PROGRAM [--size BYTES] [--runs N] [--limit RATIO] [--only WORD] [--commands COMMAND ..]
+usage: bench/shapes.py PROGRAM [--size BYTES] [--runs N] [--limit RATIO] [--only WORD] [--commands COMMAND ..]
 
 The commands are `cover` and `shown` where none is named; `all` means every one. `take`, `run` and `follow` bring the
 file into a new database, `follow` its events one a line; `summary`, `scrub` and `delta` of the empty summary read what

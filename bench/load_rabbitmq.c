@@ -4,7 +4,7 @@
 //
 //     load_rabbitmq PORT CONNECTIONS BATCH SECONDS
 //
-// It is built and called by tools/load_service.py, and wants librabbitmq.
+// It is built and called by bench/load_service.py, and wants librabbitmq.
 #include <pthread.h>
 #include <stdbool.h>
 #include <stdint.h>
