@@ -1,15 +1,12 @@
 """Who may what: tokens, sources, webhooks and TLS."""
-import contextlib
 import hashlib
-import http.client
 import json
 import os
-import shutil
 import subprocess
 from typing import Any, Optional
 
 import pytest
-from serving import MANY, ONE, Site, Told, Tries, event, serving
+from serving import MANY, ONE, Authority, Told, Tries, event, serving
 
 pytestmark = [pytest.mark.library, pytest.mark.alone, pytest.mark.slow]
 
@@ -135,41 +132,15 @@ def test_webhooks(tries: Tries) -> None:
 
 def test_tls(tries: Tries) -> None:
     """Two sites over TLS, by an authority of their own and a token."""
-    folder = tries.folder
-    asked = [str(tries.program), "--db", "x", "--peer", "a=https://b", "--check"]
-    if "the feature tls" in subprocess.run(asked, capture_output=True, text=True, check=False).stderr:
-        pytest.skip("the program is built without it")
-    if not shutil.which("openssl"):
-        pytest.skip("openssl isn't there")
-
-    def run(*words: str) -> Any:
-        subprocess.run(["openssl", *words], check=True, capture_output=True, cwd=folder, timeout=20)
-
-    curve = ("-newkey", "ec", "-pkeyopt", "ec_paramgen_curve:P-256", "-nodes")
-    run("req", "-x509", *curve, "-keyout", "ca.key", "-out", "ca.pem", "-subj", "/CN=test", "-days", "2")
-    run("req", *curve, "-keyout", "key.pem", "-out", "csr", "-subj", "/CN=localhost")
-    with open(f"{folder}/ext", "w", encoding="ascii") as out:
-        out.write("subjectAltName=DNS:localhost\nbasicConstraints=CA:FALSE\n")
-    run("x509", "-req", "-in", "csr", "-CA", "ca.pem", "-CAkey", "ca.key", "-CAcreateserial", "-extfile", "ext", "-out", "cert.pem", "-days", "2")
-    with open(f"{folder}/peer.token", "w", encoding="ascii") as out:
-        out.write("a token\n")
-    both = f'[tls]\ncertificate = "{folder}/cert.pem"\nkey = "{folder}/key.pem"\n[sync]\nevery_ms = 50\nca = "{folder}/ca.pem"\n'
-    both += f'[[tokens]]\nname = "all"\nroles = ["write", "read", "peer"]\nfile = "{folder}/peer.token"\n'
-    import ssl
-
-    context = ssl.create_default_context(cafile=f"{folder}/ca.pem")
-
-    def ask(site: Site, method: str, path: str, body: Any = None) -> Any:
-        connection = http.client.HTTPSConnection("localhost", site.port, timeout=8, context=context)
-        with contextlib.closing(connection):
-            connection.request(method, path, body, {"Authorization": "Bearer a token", **ONE})
-            answer = connection.getresponse()
-            return answer.status, answer.read()
-
-    with serving(tries, both, name="first") as first:
-        peers = f'[[peers]]\nname = "first"\nurl = "https://localhost:{first.port}"\ntoken_file = "{folder}/peer.token"\n'
-        with serving(tries, both + peers, name="second") as second:
-            tries.judge("an event over TLS", ask(first, "POST", "/events", json.dumps(event(1)))[0] == 200)
-            tries.judge("a peer over TLS", second.waits_for(lambda: b'"/a"' in ask(second, "GET", "/cover")[1]), ask(second, "GET", "/status"))
+    if why := Authority.lack(str(tries.program)):
+        pytest.skip(why)
+    authority = Authority(f"{tries.folder}/{tries.what}-authority")
+    sync = f'[sync]\nevery_ms = 50\nca = "{authority.folder}/ca.pem"\n'
+    with serving(tries, sync, "first", authority=authority) as first:
+        peers = f'[[peers]]\nname = "first"\nurl = "{first.url}"\ntoken_file = "{authority.folder}/token"\n'
+        with serving(tries, sync + peers, "second", authority=authority) as second:
+            tries.judge("an event over TLS", first.give(event(1)).status == 200)
+            tries.judge("a peer over TLS", second.waits_for(second.cover), second.get("/status"))
+            tries.judge("its events", second.cover() == {"/a": [[1, 1]]})
             said, _ = first.raw(b"GET / HTTP/1.1\r\nHost: localhost\r\n\r\n")
             tries.judge("plain HTTP at a port of TLS", b"200" not in said, said)

@@ -14,7 +14,7 @@ from typing import Any, Iterator
 from urllib.parse import quote
 
 import pytest
-from serving import HEAD, MANY, ONE, QUESTIONS, Site, Tries, event, serving
+from serving import HEAD, MANY, ONE, QUESTIONS, Authority, Site, Tries, event, serving
 
 pytestmark = [pytest.mark.library, pytest.mark.alone, pytest.mark.slow]
 
@@ -316,6 +316,32 @@ def test_identity(tries: Tries) -> None:
         with contextlib.suppress(OSError):
             one.start()
         tries.judge("a front with a database", one.ran.wait(8) == 1 and "db is the business of the parts" in one.text_of_log(), one.text_of_log())
+
+
+def test_tls_before_parts(tries: Tries) -> None:
+    """A front and its parts over TLS, by an authority of their own and a token; what another authority signed is no part."""
+    if why := Authority.lack(str(tries.program)):
+        pytest.skip(why)
+    own, other = (Authority(f"{tries.folder}/{tries.what}-{it}") for it in ("own", "other"))
+    batch = [event(1, it) for it in SOURCES]
+    with contextlib.ExitStack() as stack:
+        parts = [stack.enter_context(serving(tries, f'part = "{it}/2"\n{QUICK}', f"part{it}", authority=own)) for it in range(2)]
+
+        def settings(by: Authority) -> str:
+            """A front's, which holds what an authority signed for its parts."""
+            rows = "".join(f'[[parts]]\nurl = "{it.url}"\ntoken_file = "{own.folder}/token"\n' for it in parts)
+            return QUICK.replace("[sync]\n", f'[sync]\nca = "{by.folder}/ca.pem"\n') + rows
+
+        whole = stack.enter_context(serving(tries, QUICK, "whole"))
+        front = stack.enter_context(serving(tries, settings(own), "front", is_front=True, authority=own))
+        for it in (front, whole):
+            tries.judge("events over TLS", it.give(batch).status == 200, it.give(batch))
+        tries.judge("its answers", not differences(front, whole), differences(front, whole))
+        tries.judge("each part has some", all(it.cover() for it in parts), [it.cover() for it in parts])
+        wrong = stack.enter_context(serving(tries, settings(other), "wrong", is_front=True, authority=own))
+        told = wrong.give([event(2)])
+        tries.judge("another authority", told.problem == "part-away" and {it["part"] for it in told.json["parts"]} <= {0, 1}, told)
+        tries.judge("no event came", front.cover() == whole.cover(), front.cover())
 
 
 def test_tokens_of_parts(tries: Tries) -> None:

@@ -7,6 +7,7 @@ import re
 import shutil
 import signal
 import socket
+import ssl
 import subprocess
 import sys
 import tempfile
@@ -52,12 +53,49 @@ class Told:
         return f"{self.status} {self.headers} {self.body[:300]!r}"
 
 
+class Authority:
+    """An authority in a folder with a certificate of localhost that it signed, and a token: what services over TLS want."""
+
+    TOKEN = "a token"
+
+    def __init__(self, folder: str) -> None:
+        self.folder = folder
+        os.makedirs(folder)
+        curve = ("-newkey", "ec", "-pkeyopt", "ec_paramgen_curve:P-256", "-nodes")
+        self.run("req", "-x509", *curve, "-keyout", "ca.key", "-out", "ca.pem", "-subj", "/CN=test", "-days", "2")
+        self.run("req", *curve, "-keyout", "key.pem", "-out", "csr", "-subj", "/CN=localhost")
+        for name, text in (("ext", "subjectAltName=DNS:localhost\nbasicConstraints=CA:FALSE\n"), ("token", f"{self.TOKEN}\n")):
+            with open(f"{folder}/{name}", "w", encoding="ascii") as out:
+                out.write(text)
+        signed = ("-CA", "ca.pem", "-CAkey", "ca.key", "-CAcreateserial", "-extfile", "ext", "-days", "2")
+        self.run("x509", "-req", "-in", "csr", *signed, "-out", "cert.pem")
+        self.context = ssl.create_default_context(cafile=f"{folder}/ca.pem")
+
+    def run(self, *words: str) -> None:
+        subprocess.run(["openssl", *words], check=True, capture_output=True, cwd=self.folder, timeout=20)
+
+    @property
+    def settings(self) -> str:
+        """The tables of a service with the certificate, which answers whoever has the token."""
+        tls = f'[tls]\ncertificate = "{self.folder}/cert.pem"\nkey = "{self.folder}/key.pem"\n'
+        return f'{tls}[[tokens]]\nname = "all"\nroles = ["write", "read", "peer"]\nfile = "{self.folder}/token"\n'
+
+    @staticmethod
+    def lack(program: str) -> str:
+        """What a program lacks to be tried over TLS, if anything."""
+        asked = [program, "--db", "x", "--peer", "a=https://b", "--check"]
+        if "the feature tls" in subprocess.run(asked, capture_output=True, text=True, check=False).stderr:
+            return "the program is built without it"
+        return "" if shutil.which("openssl") else "openssl isn't there"
+
+
 class Site:
     """A running service, with its folder for the database, the settings and the log."""
 
     def __init__(self, tries: "Tries", name: str, settings: str = "", title: Optional[str] = None, is_front: bool = False) -> None:
         self.tries, self.name, self.title, self.is_front = tries, name, title or name, is_front
         self.prefix: list[str] = []
+        self.authority: Optional[Authority] = None
         self.folder = f"{tries.folder}/{name}"
         os.makedirs(self.folder)
         self.port, self.db = 0, f"{self.folder}/site.db"
@@ -105,6 +143,9 @@ class Site:
 
     def ask(self, method: str, path: str, body: Any = None, headers: Optional[dict[str, str]] = None, seconds: float = 20) -> Told:
         connection = http.client.HTTPConnection("127.0.0.1", self.port, timeout=seconds)
+        if self.authority:
+            connection = http.client.HTTPSConnection("localhost", self.port, timeout=seconds, context=self.authority.context)
+            headers = {"Authorization": f"Bearer {self.authority.TOKEN}", **(headers or {})}
         with contextlib.closing(connection):
             connection.request(method, path, body, headers or {})
             answer = connection.getresponse()
@@ -136,7 +177,7 @@ class Site:
 
     @property
     def url(self) -> str:
-        return f"http://127.0.0.1:{self.port}"
+        return f"https://localhost:{self.port}" if self.authority else f"http://127.0.0.1:{self.port}"
 
     def cover(self) -> Any:
         return self.get("/cover").json["sources"]
@@ -174,11 +215,17 @@ class Tries(Counts):
 
 @contextlib.contextmanager
 def serving(
-    tries: Tries, settings: str = "", name: str = "site", prefix: Iterable[str] = (), title: Optional[str] = None, is_front: bool = False
+    tries: Tries,
+    settings: str = "",
+    name: str = "site",
+    prefix: Iterable[str] = (),
+    title: Optional[str] = None,
+    is_front: bool = False,
+    authority: Optional[Authority] = None,
 ) -> Iterator[Site]:
-    """A service that runs, and ends well behind the block unless it was ended there."""
-    site = tries.site(f"{name}{len(tries.running)}", settings, title, is_front)
-    site.prefix = list(prefix)
+    """A service that runs, over TLS where there is an authority, and ends well behind the block unless it was ended there."""
+    site = tries.site(f"{name}{len(tries.running)}", settings + (authority.settings if authority else ""), title, is_front)
+    site.prefix, site.authority = list(prefix), authority
     yield site.start()
     if site.ran.poll() is None:
         status = site.stop()
