@@ -318,14 +318,31 @@ def body_at(lines: list[str], start: int) -> Optional[tuple[int, int]]:
     return None
 
 
+def module_of(path: str) -> list[str]:
+    """The module that a file of src/ is."""
+    names = path.removesuffix(".rt").split(os.sep)
+    return [] if names in (["lib"], ["main"]) else names
+
+
+def modules_of_types(room: str) -> dict[str, list[str]]:
+    """The module that each type of a crate stands in, where there is one of its name: its methods are proved by the path
+    of the type, in whichever file they stand."""
+    found: dict[str, list[list[str]]] = {}
+    for at, _, files in os.walk(f"{room}/src"):
+        for file in files:
+            for name in re.findall(r"^(?:pub(?:\([a-z]+\))? )?(?:struct|enum) (\w+)", text_of(at, file), re.M):
+                found.setdefault(name, []).append(module_of(os.path.relpath(f"{at}/{file}", f"{room}/src")))
+    return {name: modules[0] for name, modules in found.items() if len(modules) == 1}
+
+
 def hollow(room: str, stay: set[str]) -> None:
     """Takes the bodies of a copy's functions away, but for those of traits and of circles of calls and those that stay, each
     by the end of its path; each gets a file in place of its proof, so that whoever calls it is checked by its contract.
     Its own proof is then refused at once."""
+    types = modules_of_types(room)
     for at, _, files in os.walk(f"{room}/src"):
         for file in files:
-            path = os.path.relpath(f"{at}/{file}", f"{room}/src").removesuffix(".rt").split(os.sep)
-            module = [] if path == ["lib"] or path == ["main"] else path
+            module = module_of(os.path.relpath(f"{at}/{file}", f"{room}/src"))
             lines = text_of(f"{at}", file).split("\n")
             inside: list[str] = []
             is_of_trait, line = False, 0
@@ -341,10 +358,11 @@ def hollow(room: str, stay: set[str]) -> None:
                 can_lose = not is_of_trait and " const fn " not in f" {text}" and not IN_CYCLE.search("\n".join(lines[max(0, line - 2) : line]))
                 body = body_at(lines, line) if head and can_lose else None
                 if head and body:
-                    name = [*module, *(inside if head[1] else []), head[2]]
-                    if not any(f"::{'::'.join(name)}".endswith(f"::{it}") for it in stay):
+                    own = inside if head[1] else []
+                    names = [[*around, *own, head[2]] for around in (module, types.get(own[0], module) if own else module)]
+                    if not any(f"::{'::'.join(name)}".endswith(f"::{it}") for name in names for it in stay):
                         lines[slice(*body)] = [f"{head[1]}    loop {{}}"] * (body[0] < body[1])
-                        folder = "/".join([room, "proofs", *name])
+                        folder = "/".join([room, "proofs", *names[1]])
                         shutil.rmtree(folder, ignore_errors=True)
                         os.makedirs(folder)
                         with open(f"{folder}/Proof.antt", "w", encoding="ascii") as it:

@@ -98,6 +98,13 @@ static void try_combine(const unsigned char *bytes, size_t length) {
              "the same text");
         jumbetai_free(&one), jumbetai_free(&both);
     }
+    /* A summary of version 2 is that of a region of one part. */
+    jumbetai_body summary = {bytes, length};
+    jumbetai_text text;
+    int status = jumbetai_combine_summaries(site, &summary, 1, NULL, &text);
+    must(status == JUMBETAI_DONE || status == JUMBETAI_NOT_AN_ANSWER, "the status of a summary");
+    must(status || (text.length == length && !memcmp(text.bytes, bytes, length)), "its own text");
+    jumbetai_free(&text);
     jumbetai_close(site);
 }
 

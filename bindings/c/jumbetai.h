@@ -344,6 +344,12 @@ int jumbetai_combine(jumbetai_site *site, int question, const jumbetai_body *ans
                      size_t answer_count, const jumbetai_body *covers, size_t cover_count,
                      jumbetai_parts *parts, jumbetai_text *text);
 
+/* The summary of a whole region, from the texts of jumbetai_summary of its parts, in any order of
+ * the parts: the bytes that jumbetai_summary tells of a site with all events. A text that is none
+ * is JUMBETAI_NOT_AN_ANSWER; all else is as of jumbetai_combine. */
+int jumbetai_combine_summaries(jumbetai_site *site, const jumbetai_body *summaries, size_t count,
+                               jumbetai_parts *parts, jumbetai_text *text);
+
 /* Gives a text back, and sets it to no text. Texts of no bytes and a null pointer are let through.
  */
 void jumbetai_free(jumbetai_text *text);

@@ -74,6 +74,9 @@ static int are_ranges(const jumbetai_body *bodies, size_t count) {
     return 1;
 }
 
+/* The number by which the export is asked for the summary of the whole. */
+enum { SUMMARY = JUMBETAI_GAPS + 1 };
+
 /* Has the answer of the whole made in the room; memory may be refused here already. */
 static void combine(jumbetai_site *room, int question, const jumbetai_body *answers,
                     size_t answer_count, const jumbetai_body *covers, size_t cover_count,
@@ -92,9 +95,10 @@ static void combine(jumbetai_site *room, int question, const jumbetai_body *answ
     free(texts.bytes), free(texts.lengths);
 }
 
-int jumbetai_combine(jumbetai_site *site, int question, const jumbetai_body *answers,
-                     size_t answer_count, const jumbetai_body *covers, size_t cover_count,
-                     jumbetai_parts *parts, jumbetai_text *text) {
+/* What the export answers to a number, as a text of the caller's. */
+static int answer_whole(jumbetai_site *site, int number, const jumbetai_body *answers,
+                        size_t answer_count, const jumbetai_body *covers, size_t cover_count,
+                        jumbetai_parts *parts, jumbetai_text *text) {
     struct jumbetai_combine_reply reply;
     if (parts) *parts = (jumbetai_parts){0, 0};
     if (text) *text = (jumbetai_text){0};
@@ -102,9 +106,21 @@ int jumbetai_combine(jumbetai_site *site, int question, const jumbetai_body *ans
         return JUMBETAI_BAD_ARGUMENT;
     jumbetai_site *room = room_for(site);
     if (!room) return JUMBETAI_OUT_OF_MEMORY;
-    combine(room, question, answers, answer_count, covers, cover_count, &reply);
+    combine(room, number, answers, answer_count, covers, cover_count, &reply);
     if (parts) *parts = (jumbetai_parts){reply.first, reply.second};
     int is_done = reply.status == JUMBETAI_DONE, is_overlap = reply.status == JUMBETAI_OVERLAP;
     int copied = copy_text(site, room, is_done || is_overlap, reply.length, 0, text);
     return is_done ? copied : (int)reply.status;
+}
+
+int jumbetai_combine(jumbetai_site *site, int question, const jumbetai_body *answers,
+                     size_t answer_count, const jumbetai_body *covers, size_t cover_count,
+                     jumbetai_parts *parts, jumbetai_text *text) {
+    return answer_whole(site, question == SUMMARY ? 0 : question, answers, answer_count, covers,
+                        cover_count, parts, text);
+}
+
+int jumbetai_combine_summaries(jumbetai_site *site, const jumbetai_body *summaries, size_t count,
+                               jumbetai_parts *parts, jumbetai_text *text) {
+    return answer_whole(site, SUMMARY, summaries, count, NULL, 0, parts, text);
 }

@@ -187,6 +187,41 @@ static void try_arguments(jumbetai_site *site) {
     IS(is_text(&text, ""), 1);
 }
 
+#define SUMMARY(source, digest)                                                                    \
+    "{\"blocks\":{\"" source "\":[[0,\"" digest "\"]]},\"sources\":{\"" source                     \
+    "\":[[1,1]]},\"version\":2}\n"
+/* The SHA-256 of no bytes: a summary of version 2 is taken as it is. */
+#define DIGEST "e3b0c44298fc1c149afbf4c8996fb92427ae41e4649b934ca495991b7852b855"
+
+static void try_summaries(jumbetai_site *site) {
+    static const char a[] = SUMMARY("/a", DIGEST), b[] = SUMMARY("/b", DIGEST);
+    static const char first[] = COVER("/a", "[[1,1]]"), none[] = "\xff";
+    jumbetai_body one[] = {body(b), body(a)}, same[] = {body(a), body(b), body(a)};
+    jumbetai_body cover[] = {body(a), body(first)}, odd[] = {body(none), body(a)};
+    jumbetai_body wrong = {NULL, 1};
+    jumbetai_parts parts = {9, 9};
+    jumbetai_text text;
+    IS(jumbetai_combine_summaries(site, one, 2, &parts, &text), JUMBETAI_DONE);
+    IS(parts.first + parts.second, 0);
+    IS(is_text(&text, "{\"blocks\":{\"/a\":[[0,\"" DIGEST "\"]],\"/b\":[[0,\"" DIGEST
+                      "\"]]},\"sources\":{\"/a\":[[1,1]],\"/b\":[[1,1]]},\"version\":2}\n"),
+       1);
+    IS(jumbetai_combine_summaries(site, NULL, 0, NULL, &text), JUMBETAI_DONE);
+    IS(is_text(&text, "{\"blocks\":{},\"sources\":{},\"version\":2}\n"), 1);
+    IS(jumbetai_combine_summaries(site, same, 3, &parts, &text), JUMBETAI_OVERLAP);
+    IS(parts.first, 0);
+    IS(parts.second, 2);
+    IS(is_text(&text, "/a"), 1);
+    IS(jumbetai_combine_summaries(site, cover, 2, &parts, &text), JUMBETAI_NOT_AN_ANSWER);
+    IS(parts.first, 1);
+    IS(is_none(&text), 1);
+    IS(jumbetai_combine_summaries(site, odd, 2, &parts, &text), JUMBETAI_NOT_AN_ANSWER);
+    IS(parts.first, 0);
+    IS(jumbetai_combine_summaries(site, &wrong, 1, &parts, &text), JUMBETAI_BAD_ARGUMENT);
+    IS(jumbetai_combine_summaries(NULL, one, 2, &parts, &text), JUMBETAI_BAD_ARGUMENT);
+    IS(jumbetai_combine_summaries(site, one, 2, &parts, NULL), JUMBETAI_BAD_ARGUMENT);
+}
+
 /* Each question to three parts, and to one site with all. */
 static void try_whole(jumbetai_site *site) {
     static const char events[] = "[" EVENT("/a", "1", "x") "," EVENT("/d", "3", "x") "," EVENT(
@@ -222,8 +257,16 @@ static void try_whole(jumbetai_site *site) {
         for (int i = 0; i < PARTS; i++)
             jumbetai_free(&answers[i]);
     }
+    for (int i = 0; i < PARTS; i++) {
+        IS(jumbetai_summary(each[i], &answers[i]), JUMBETAI_DONE);
+        given[i] = (jumbetai_body){answers[i].bytes, answers[i].length};
+    }
+    IS(jumbetai_summary(all, &want), JUMBETAI_DONE);
+    IS(jumbetai_combine_summaries(site, given, PARTS, NULL, &whole), JUMBETAI_DONE);
+    IS(is_text(&whole, want.bytes), 1);
+    jumbetai_free(&want);
     for (int i = 0; i < PARTS; i++)
-        jumbetai_free(&covers[i]), jumbetai_close(each[i]);
+        jumbetai_free(&answers[i]), jumbetai_free(&covers[i]), jumbetai_close(each[i]);
     jumbetai_free(&lines), jumbetai_close(all);
 }
 
@@ -231,6 +274,7 @@ static void try_all(jumbetai_site *site) {
     try_split(site);
     try_faults(site);
     try_arguments(site);
+    try_summaries(site);
     try_whole(site);
 }
 

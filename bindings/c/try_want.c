@@ -82,6 +82,7 @@ enum {
     GET,
     SPLIT,
     COMBINE,
+    JOIN,
     CALLS
 };
 
@@ -95,6 +96,16 @@ static int combine(jumbetai_site *site, jumbetai_text *text) {
     return jumbetai_combine(site, JUMBETAI_KINDS, answers, 2, beside, 2, NULL, text);
 }
 
+/* The summary of two parts, of which one has no events. */
+static int join(jumbetai_site *site, jumbetai_text *text) {
+    static const char one[] =
+        "{\"blocks\":{\"/a\":[[0,\"e3b0c44298fc1c149afbf4c8996fb92427ae41e4649b934c"
+        "a495991b7852b855\"]]},\"sources\":{\"/a\":[[1,1]]},\"version\":2}\n",
+                      none[] = "{\"blocks\":{},\"sources\":{},\"version\":2}\n";
+    jumbetai_body summaries[] = {{one, sizeof one - 1}, {none, sizeof none - 1}};
+    return jumbetai_combine_summaries(site, summaries, 2, NULL, text);
+}
+
 static int call(jumbetai_site *site, int which, jumbetai_text *text) {
     int status;
     switch (which) {
@@ -106,6 +117,7 @@ static int call(jumbetai_site *site, int which, jumbetai_text *text) {
     case GET: return jumbetai_get(site, "/shop", 5, "a", 1, text);
     case SPLIT: return jumbetai_split(site, three, sizeof three - 1, 2, text);
     case COMBINE: return combine(site, text);
+    case JOIN: return join(site, text);
     /* Views, and an answer that they give. */
     case VIEWS:
         *text = (jumbetai_text){0};

@@ -40,6 +40,7 @@ from jumbetai import (
     Taken,
     _c,
     combine,
+    combine_summaries,
     part_of,
     split,
 )
@@ -1145,6 +1146,7 @@ class Parts(unittest.TestCase):
             for question in QUESTIONS:
                 answers = [site.ask(question) for site in each]
                 self.assertEqual(combine(question, answers, covers), whole.ask(question), (seed, question))
+            self.assertEqual(combine_summaries([site.summary() for site in each]), whole.summary(), seed)
 
     def test_events_in_parts(self):
         for seed in range(40):
@@ -1195,6 +1197,18 @@ class Parts(unittest.TestCase):
         self.refused(Status.OVERLAP, (1, 2), combine, "cover", [a, b, b])
         with self.assertRaises(ValueError):
             combine("all", [])
+
+    def test_what_is_no_summary_of_a_whole(self):
+        digest = hashlib.sha256(b"").hexdigest()
+        a, b = ('{"blocks":{"/%s":[[0,"%s"]]},"sources":{"/%s":[[1,1]]},"version":2}\n' % (it, digest, it) for it in "ab")
+        blocks = '"/a":[[0,"%s"]],"/b":[[0,"%s"]]' % (digest, digest)
+        both = '{"blocks":{%s},"sources":{"/a":[[1,1]],"/b":[[1,1]]},"version":2}\n' % blocks
+        self.assertEqual(combine_summaries([b, a]), both.encode())
+        self.assertEqual(combine_summaries([]), b'{"blocks":{},"sources":{},"version":2}\n')
+        cover = '{"sources":{"/b":[[1,1]]},"version":1}\n'
+        for bad in ("", "x", b"\xff", a[:-1], a + " ", cover, a.replace(digest, digest.upper())):
+            self.refused(Status.NOT_AN_ANSWER, (1, 0), combine_summaries, [b, bad])
+        self.refused(Status.OVERLAP, (0, 2), combine_summaries, [a, b, a])
 
 
 class BesideTheProgram(unittest.TestCase):

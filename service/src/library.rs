@@ -6,7 +6,8 @@ use serde::de::IgnoredAny;
 use std::collections::BTreeMap;
 
 pub use jumbetai::{
-    combine, part_of, split, test, version, Error, Lag, Numbers, Page, Question, Site, Taken, MAX_PARTS,
+    combine, combine_summaries, part_of, split, test, version, Error, Lag, Numbers, Page, Question, Site, Taken,
+    MAX_PARTS,
 };
 
 /// Bytes that are read on the thread of their connection; more go to a thread of their own.

@@ -79,6 +79,7 @@ __all__ = [
     "Status",
     "Taken",
     "combine",
+    "combine_summaries",
     "part_of",
     "split",
     "test",
@@ -238,10 +239,22 @@ def combine(question: str, answers: Sequence[Given], covers: Sequence[Given] = (
         raise ValueError(f"no such question: {question!r}")
     texts, beside = [_bytes(it) for it in answers], [_bytes(it) for it in covers]
     given = (_bodies(texts), len(texts), _bodies(beside), len(beside))
+    return _whole("jumbetai_combine", QUESTIONS.index(question) + 1, *given)
+
+
+def combine_summaries(summaries: Sequence[Given]) -> bytes:
+    """The summary of a whole region, from those of its parts, in any order of the parts: the very bytes that a site with
+    all events tells. Time in proportion to the texts, times a logarithm, and to the sources, times the parts."""
+    texts = [_bytes(it) for it in summaries]
+    return _whole("jumbetai_combine_summaries", _bodies(texts), len(texts))
+
+
+def _whole(call: str, *given: Any) -> bytes:
+    """What a call makes of the texts of parts; its refusal tells of which parts."""
     parts = _c.Parts()
     with Site() as site:
         try:
-            return site._text("jumbetai_combine", QUESTIONS.index(question) + 1, *given, ctypes.byref(parts))[0]
+            return site._text(call, *given, ctypes.byref(parts))[0]
         except Error as fault:
             fault.parts = (parts.first, parts.second)
             raise

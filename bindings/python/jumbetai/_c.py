@@ -83,6 +83,7 @@ def library() -> Any:
         "part": (status, [given, size, number, ctypes.POINTER(number)]),
         "split": (status, [raw, given, size, number, text]),
         "combine": (status, [raw, status, bodies, size, bodies, size, ctypes.POINTER(Parts), text]),
+        "combine_summaries": (status, [raw, bodies, size, ctypes.POINTER(Parts), text]),
         "free": (None, [text]),
         "why": (status, []),
         "words": (ctypes.c_char_p, [status]),

@@ -100,7 +100,7 @@ mod parts;
 
 pub use numbers::Numbers;
 pub use outbox::{OrderCounts, Outbox, RowPages, Rows};
-pub use parts::{combine, part_of, split, MAX_PARTS};
+pub use parts::{combine, combine_summaries, part_of, split, MAX_PARTS};
 
 use jumbetai_sys as ffi;
 use std::ffi::{c_int, CStr, CString};

@@ -28,6 +28,15 @@ pub fn split(bytes: &[u8], parts: u64) -> Result<Vec<String>, Error> {
     Ok(lines.lines().map(str::to_string).collect())
 }
 
+/// The texts as C takes them, which lends them.
+fn bodies(texts: &[&str]) -> Vec<ffi::Body> {
+    let body = |text: &&str| ffi::Body {
+        bytes: text.as_ptr().cast(),
+        length: text.len(),
+    };
+    texts.iter().map(body).collect()
+}
+
 /// The answer to a question over a whole region, from the answers of its parts, in any order of the parts:
 /// the very bytes that a site with all events answers. Beside answers to [`Question::Conflicts`],
 /// [`Question::Latest`], [`Question::Kinds`], [`Question::Days`] and [`Question::Gaps`] stand the parts'
@@ -41,13 +50,6 @@ pub fn split(bytes: &[u8], parts: u64) -> Result<Vec<String>, Error> {
 /// the sources, times the parts.
 pub fn combine(question: Question, answers: &[&str], covers: &[&str]) -> Result<String, Error> {
     let site = Site::new()?;
-    let bodies = |texts: &[&str]| -> Vec<ffi::Body> {
-        let body = |text: &&str| ffi::Body {
-            bytes: text.as_ptr().cast(),
-            length: text.len(),
-        };
-        texts.iter().map(body).collect()
-    };
     let (answers, covers) = (bodies(answers), bodies(covers));
     // SAFETY: the site is open, and the texts are lent for the call.
     let (text, _) = text_of(|text| unsafe {
@@ -61,6 +63,20 @@ pub fn combine(question: Question, answers: &[&str], covers: &[&str]) -> Result<
             std::ptr::null_mut(),
             text,
         )
+    })?;
+    Ok(text)
+}
+
+/// The summary of a whole region, from the texts of [`Site::summary`] of its parts, in any order of the parts:
+/// the very bytes that a site with all events tells. [`Error::NotAnAnswer`] where a text is none,
+/// [`Error::Overlap`] where a source stands in two parts. Time in proportion to the texts, times a logarithm,
+/// and to the sources, times the parts.
+pub fn combine_summaries(summaries: &[&str]) -> Result<String, Error> {
+    let site = Site::new()?;
+    let (given, none) = (bodies(summaries), std::ptr::null_mut());
+    // SAFETY: the site is open, and the texts are lent for the call.
+    let (text, _) = text_of(|text| unsafe {
+        ffi::jumbetai_combine_summaries(site.raw.as_ptr(), given.as_ptr(), given.len(), none, text)
     })?;
     Ok(text)
 }

@@ -1,6 +1,6 @@
 //! Tests of a region in parts over the library: `JUMBETAI_LIB_DIR=FOLDER cargo test --offline`.
 
-use jumbetai::{combine, part_of, split, Error, Question, Site, MAX_PARTS};
+use jumbetai::{combine, combine_summaries, part_of, split, Error, Question, Site, MAX_PARTS};
 
 fn event(source: &str, number: u64) -> String {
     format!(
@@ -89,6 +89,26 @@ fn answers_of_parts_make_that_of_the_whole() {
         }
     }
     assert_eq!(combine(Question::Shown, &[], &[]), Ok(String::new()));
+}
+
+#[test]
+fn summaries_of_parts_make_that_of_the_whole() {
+    let batch = batch();
+    let each: Vec<String> = split(batch.as_bytes(), 5)
+        .unwrap()
+        .iter()
+        .map(|it| site_of(it).summary().unwrap())
+        .collect();
+    let given: Vec<&str> = each.iter().rev().map(String::as_str).collect();
+    assert_eq!(combine_summaries(&given), site_of(&batch).summary());
+    assert_eq!(combine_summaries(&[]), Site::new().unwrap().summary());
+    let one = given[0];
+    assert_eq!(combine_summaries(&[one]), Ok(one.to_string()));
+    assert_eq!(combine_summaries(&[one, one]), Err(Error::Overlap));
+    let cover = site_of(&batch).cover().unwrap();
+    for bad in [&cover, "", "x", one.trim_end()] {
+        assert_eq!(combine_summaries(&[one, bad]), Err(Error::NotAnAnswer));
+    }
 }
 
 #[test]

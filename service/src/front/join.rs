@@ -1,14 +1,13 @@
-//! What the parts' texts make. Answers are combined by the library; of summaries, which it doesn't combine, the entries are
-//! put together here as they stand, since each source stands in one part alone.
+//! What the parts' texts make, which the library decides.
 
 use super::parts::Away;
-use crate::library::{combine, Error, Lag, Question};
+use crate::library::{combine, combine_summaries, Error, Lag, Question};
 use crate::reader::{Answer, What};
 use hyper::body::Bytes;
 use serde::Deserialize;
 use serde_json::value::RawValue;
 use sha2::{Digest, Sha256};
-use std::collections::{BTreeMap, HashMap};
+use std::collections::{BTreeMap, HashMap, HashSet};
 use std::fmt;
 use std::sync::Arc;
 
@@ -61,8 +60,9 @@ pub struct Joined {
 
 /// The answer that the parts' answers make. Its name is that which a site with all their events has.
 pub fn joined(what: What, parts: &[OfPart]) -> Result<Joined, Fault> {
-    let read: Vec<Summary> = parts.iter().map(|it| Summary::read(text_of(&it.summary)?)).collect::<Result<_, _>>()?;
-    let whole = summary_of(&read)?;
+    let summaries: Vec<&str> = parts.iter().map(|it| text_of(&it.summary)).collect::<Result<_, _>>()?;
+    let read: Vec<Summary> = summaries.iter().map(|it| Summary::read(it)).collect::<Result<_, _>>()?;
+    let whole = summary_of(&summaries, &read)?;
     let tag = name_of(&whole);
     let covers: Vec<String> = read.iter().map(Summary::cover).collect();
     let covers: Vec<&str> = covers.iter().map(String::as_str).collect();
@@ -90,12 +90,9 @@ pub fn name_of(summary: &str) -> String {
     digest.iter().map(|it| format!("{it:02x}")).collect()
 }
 
-/// A summary of version 2, its entries as they stand.
+/// What a summary of version 2 says beside its digests, its entries as they stand.
 #[derive(Deserialize)]
-#[serde(deny_unknown_fields)]
 struct Summary<'a> {
-    #[serde(borrow)]
-    blocks: BTreeMap<String, &'a RawValue>,
     #[serde(borrow)]
     sources: BTreeMap<String, &'a RawValue>,
     version: u64,
@@ -116,24 +113,19 @@ impl Summary<'_> {
     }
 }
 
-/// The summary of the set that sets of other sources each make together: entries stand in the order of their sources' bytes.
-fn summary_of(parts: &[Summary]) -> Result<String, Fault> {
-    let (mut blocks, mut sources) = (BTreeMap::new(), BTreeMap::new());
-    for part in parts {
-        for (all, of_part) in [(&mut blocks, &part.blocks), (&mut sources, &part.sources)] {
-            for (source, entry) in of_part {
-                if all.insert(source, entry).is_some() {
-                    return Err(Fault::Overlap(source.clone()));
-                }
-            }
-        }
-    }
-    let mut text = String::from("{\"blocks\":");
-    write_entries(&mut text, blocks.into_iter());
-    text.push_str(",\"sources\":");
-    write_entries(&mut text, sources.into_iter());
-    text.push_str(",\"version\":2}\n");
-    Ok(text)
+/// The summary of the set that the parts' sets make together, by theirs, which are read here too.
+fn summary_of(summaries: &[&str], read: &[Summary]) -> Result<String, Fault> {
+    combine_summaries(summaries).map_err(|why| match why {
+        Error::Overlap => Fault::Overlap(shared_source(read).unwrap_or_default()),
+        Error::NotAnAnswer => Fault::NoSummary,
+        _ => Fault::Uncombined(why),
+    })
+}
+
+/// A source that stands in two summaries, where there is one.
+fn shared_source(summaries: &[Summary]) -> Option<String> {
+    let mut seen = HashSet::new();
+    summaries.iter().flat_map(|it| it.sources.keys()).find(|it| !seen.insert(*it)).cloned()
 }
 
 fn write_entries<'a>(text: &mut String, entries: impl Iterator<Item = (&'a String, &'a &'a RawValue)>) {
@@ -202,8 +194,9 @@ mod tests {
     }
 
     fn together(parts: &[String]) -> Result<String, Fault> {
-        let read: Vec<Summary> = parts.iter().map(|it| Summary::read(it).unwrap()).collect();
-        summary_of(&read)
+        let texts: Vec<&str> = parts.iter().map(String::as_str).collect();
+        let read: Vec<Summary> = texts.iter().map(|it| Summary::read(it).unwrap()).collect();
+        summary_of(&texts, &read)
     }
 
     #[test]

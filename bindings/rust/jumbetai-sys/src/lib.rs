@@ -251,6 +251,14 @@ extern "C" {
         parts: *mut Parts,
         text: *mut Text,
     ) -> c_int;
+    /// The summary of the whole from those of the parts; `parts` may be null.
+    pub fn jumbetai_combine_summaries(
+        site: *mut Site,
+        summaries: *const Body,
+        count: usize,
+        parts: *mut Parts,
+        text: *mut Text,
+    ) -> c_int;
     /// Gives a text back; null and no text are let through.
     pub fn jumbetai_free(text: *mut Text);
     /// Which error of the system stands behind the last call of this thread, 0 for none.
