@@ -5,7 +5,7 @@
     bench/load_service.py [--program FILE] --sync N
     bench/load_service.py [--program FILE] --ask N
     bench/load_service.py [--program FILE] --backup N
-    bench/load_service.py [--program FILE] [--rounds N] [--seconds N] [--shapes LIST] --parts LIST
+    bench/load_service.py [--program FILE] [--rounds N] [--seconds N] [--shapes LIST] --parts LIST [--events N]
 
 A shape is CONNECTIONSxBATCH, by default 1x1,16x1,64x1,256x1,16x100. By turns each gets events of 350 bytes for so many
 seconds, 3 rounds of 3: the service by wrk, each event answered once it is synced; PostgreSQL by pgbench, prepared, with
@@ -18,7 +18,8 @@ answer. --sync tells how long two services take to come to one view, where one h
 memory; --backup how long a backup of N events takes while 1,000 a second come, what it does to their answers, and how long
 it takes a site whose disk is lost to be restored from it and to catch up from its peer: status 1 where an event that was
 acknowledged isn't there then; --parts how a front before each of these counts of parts does, all on this machine (0: a
-site without a front): events of 64 sources a second, the time to their answers, and that of GET /kinds. It wants wrk and,
+site without a front): events of 64 sources a second, the time to their answers, and that of GET /kinds; with --events N
+where they hold N events of 640 sources before, and then also how long they take to start and their memory. It wants wrk and,
 for the comparison, initdb and pgbench, redis-server and redis-benchmark, rabbitmq-server and librabbitmq (on Debian wrk,
 postgresql-15, redis-server, redis-tools, rabbitmq-server, librabbitmq-dev); as root PostgreSQL runs as the user postgres. No part of a gate.
 """
@@ -41,7 +42,7 @@ sys.dont_write_bytecode = True
 TOP = os.path.dirname(os.path.dirname(os.path.realpath(__file__)))
 sys.path.insert(0, f"{TOP}/tools")
 from postgres import Postgres  # noqa: E402
-from serving import Site, Tries, event  # noqa: E402
+from serving import MANY, Site, Tries, event, part_of  # noqa: E402
 
 # How many connections there are, and how many events a request has.
 Shape = tuple[int, int]
@@ -98,8 +99,8 @@ def of_service(tries: Tries, folder: str, shape: Shape, seconds: int) -> Rates:
     return rates
 
 
-def by_wrk(site: Site, folder: str, shape: Shape, seconds: int, sources: int) -> Rates:
-    """What a service takes of events of so many sources for each of two threads of wrk."""
+def by_wrk(site: Site, folder: str, shape: Shape, seconds: int, sources: int, had: int = 0) -> Rates:
+    """What a service that had so many events takes of events of so many sources for each of two threads of wrk."""
     connections, batch = shape
     with open(f"{folder}/load.lua", "w", encoding="ascii") as out:
         out.write(SCRIPT.replace("BATCH", str(batch)).replace("SOURCES", str(sources)))
@@ -116,7 +117,7 @@ def by_wrk(site: Site, folder: str, shape: Shape, seconds: int, sources: int) ->
         value, unit = found(rf"^\s+{percent}%\s+([\d.]+)(us|ms|s)$", said).groups()
         return float(value) * {"us": 0.001, "ms": 1.0, "s": 1000.0}[unit]
 
-    return count / took, milliseconds(50), milliseconds(99)
+    return (count - had) / took, milliseconds(50), milliseconds(99)
 
 
 class LoadedPostgres(Postgres):
@@ -309,14 +310,64 @@ def wait_for_one_view(sites: list[Site]) -> float:
     return time.monotonic() - began
 
 
-def of_region(tries: Tries, folder: str, count: int, shape: Shape, seconds: int) -> tuple[Rates, list[float]]:
+def hold(site: Site, sources: list[str], count: int) -> None:
+    """Gives a service so many events of each of the sources, a thousand at a time, of one type in twenty."""
+    for first in range(1, count + 1, 1000):
+        numbers = range(first, min(first + 1000, count + 1))
+        for source in sources:
+            each = (
+                f'{{"specversion":"1.0","id":"{source}-{it:012d}","source":"{source}","type":"com.example.order.t{it % 20}",'
+                f'"subject":"customer/{it * 7919 % 5000:06d}","sequence":"{it:020d}","time":"2024-02-{it % 29 + 1:02d}T10:00:00Z",'
+                f'"datacontenttype":"application/json","data":{{"lines":[{{"sku":"{it * 40503 % 2**32:08x}","count":{it % 19}}}]}}}}'
+                for it in numbers
+            )
+            told = site.ask("POST", "/events", f"[{','.join(each)}]", MANY, seconds=60)
+            if told.status != 200:
+                sys.exit(f"the service refused: {told}")
+
+
+def begin(sites: list[Site]) -> float:
+    """Starts services side by side, and answers how long that took."""
+    began = time.monotonic()
+    threads = [threading.Thread(target=it.start, args=(900,)) for it in sites]
+    for thread in threads:
+        thread.start()
+    for thread in threads:
+        thread.join()
+    return time.monotonic() - began
+
+
+def hold_all(tries: Tries, name: str, count: int, events: int) -> tuple[list[Site], str]:
+    """So many parts, or a site where there are none, that hold events and have started again; how long that took."""
+    settings = [f'part = "{it}/{count}"\n' for it in range(count)] or [""]
+    sites = [tries.site(f"{name}-{at}", it) for at, it in enumerate(settings)]
+    begin(sites)
+    if not events:
+        return sites, ""
+    sources = [f"/held/{it}" for it in range(640)]
+    own = [[it for it in sources if part_of(it, len(sites)) == at] for at in range(len(sites))]
+    threads = [threading.Thread(target=hold, args=(site, of_site, events // 640)) for site, of_site in zip(sites, own)]
+    for thread in threads:
+        thread.start()
+    for thread in threads:
+        thread.join()
+    for it in sites:
+        it.stop(seconds=120)
+    took = begin(sites)
+    held = sum(int(it.get("/cover").headers["site-events"]) for it in sites)
+    return sites, f"{held:,} events held, start {took:.1f} s, {sum(resident(it)[0] for it in sites):,} MiB"
+
+
+def of_region(tries: Tries, folder: str, count: int, shape: Shape, given: argparse.Namespace) -> tuple[Rates, list[float]]:
     """What a front before so many parts takes, and the milliseconds of GET /kinds behind that: first where nothing came
     between two, then where an event did."""
     name = f"p{time.monotonic_ns()}"
-    parts = [tries.site(f"{name}-{it}", f'part = "{it}/{count}"\n').start() for it in range(count)]
+    parts, told = hold_all(tries, name, count, given.events)
+    if told:
+        print(f"{count or 'no'} parts: {told}", file=sys.stderr, flush=True)
     rows = "".join(f'[[parts]]\nurl = "{it.url}"\n' for it in parts)
-    front = tries.site(name, rows, is_front=bool(parts)).start()
-    rates = by_wrk(front, folder, shape, seconds, 32)
+    front = tries.site(name, rows, is_front=True).start(60) if count else parts[0]
+    rates = by_wrk(front, folder, shape, given.seconds, 32, given.events // 640 * 640)
     times: list[list[float]] = [[], []]
     for turn in range(100):
         if turn % 2:
@@ -324,8 +375,8 @@ def of_region(tries: Tries, folder: str, count: int, shape: Shape, seconds: int)
         began = time.monotonic()
         front.get("/kinds")
         times[turn % 2].append((time.monotonic() - began) * 1000)
-    for it in (front, *parts):
-        it.stop(seconds=60)
+    for it in {front, *parts}:
+        it.stop(seconds=120)
         shutil.rmtree(it.folder)
     return rates, [statistics.median(it) for it in times]
 
@@ -336,7 +387,7 @@ def of_parts(tries: Tries, folder: str, given: argparse.Namespace, shapes: list[
         got: dict[int, list[tuple[Rates, list[float]]]] = {}
         for _ in range(given.rounds):
             for count in map(int, given.parts.split(",")):
-                got.setdefault(count, []).append(of_region(tries, folder, count, shape, given.seconds))
+                got.setdefault(count, []).append(of_region(tries, folder, count, shape, given))
         for count, rows in got.items():
             rates = [[row[0][at] for row in rows] for at in range(3)]
             kinds = [statistics.median(row[1][at] for row in rows) for at in range(2)]
@@ -422,6 +473,7 @@ def main() -> int:
     words.add_argument("--ask", type=int, metavar="N")
     words.add_argument("--backup", type=int, metavar="N")
     words.add_argument("--parts", metavar="LIST")
+    words.add_argument("--events", type=int, default=0, metavar="N", help="what parts hold before they are measured")
     given = words.parse_args()
     if given.sync or given.ask or given.backup:
         with tempfile.TemporaryDirectory() as folder, contextlib.ExitStack() as end:

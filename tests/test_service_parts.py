@@ -14,7 +14,7 @@ from typing import Any, Iterator
 from urllib.parse import quote
 
 import pytest
-from serving import HEAD, MANY, ONE, QUESTIONS, Authority, Site, Tries, event, serving
+from serving import HEAD, MANY, ONE, QUESTIONS, Authority, Site, Tries, event, part_of, serving
 
 pytestmark = [pytest.mark.library, pytest.mark.alone, pytest.mark.slow]
 
@@ -23,11 +23,6 @@ SOURCES = ["/", "/north", "/süd", '/"quoted"\\', "urn:x:1", *(f"/shop/{it}" for
 ANSWERS = (*QUESTIONS, "summary")
 # Ways in which a service ends that holds nothing up, and how often a client that gives events is disturbed.
 TROUBLES = (signal.SIGKILL, signal.SIGTERM, signal.SIGSTOP)
-
-
-def part_of(source: str, count: int) -> int:
-    """The first eight bytes of the SHA-256 of the source, the greatest byte first, modulo the count."""
-    return int.from_bytes(hashlib.sha256(source.encode()).digest()[:8], "big") % count
 
 
 def tables(parts: list[Site]) -> str:

@@ -1,5 +1,6 @@
 """The service jumbetaid, as its clients, its peers and its operator meet it: over loopback alone."""
 import contextlib
+import hashlib
 import http.client
 import json
 import os
@@ -29,6 +30,11 @@ HEAD = b"POST /events HTTP/1.1\r\nHost: localhost\r\nContent-Type: application/c
 
 def event(number: int, source: str = "/a", **more: Any) -> dict[str, Any]:
     return {"specversion": "1.0", "id": str(number), "source": source, "type": "t", "sequence": f"{number:020d}", **more}
+
+
+def part_of(source: str, count: int) -> int:
+    """The first eight bytes of the SHA-256 of the source, the greatest byte first, modulo the count."""
+    return int.from_bytes(hashlib.sha256(source.encode()).digest()[:8], "big") % count
 
 
 class Told:
