@@ -124,6 +124,13 @@ pub fn stays() -> u8 {
 }
 """
 HOLLOWED = {"first": "self.first", "second": "self.second"}
+# A method of a type that another file declares.
+METHOD = """impl Triple {
+    pub fn third(&self) -> u8 {
+        self.third
+    }
+}
+"""
 
 
 @pytest.fixture(scope="module")
@@ -362,8 +369,12 @@ def hollow(folder: str) -> str:
     os.makedirs(f"{folder}/proofs/outer/inner/Pair/first")
     with open(f"{folder}/proofs/outer/inner/Pair/first/Answers.antt", "w", encoding="utf-8") as it:
         it.write(ANSWERS)
-    with open(f"{folder}/src/outer/inner.rt", "w", encoding="utf-8") as it:
-        it.write(BODIES)
+    for path, text in (("outer/inner.rt", BODIES), ("outer.rt", "pub struct Triple {\n    third: u8,\n}\n"), ("outer/method.rt", METHOD)):
+        with open(f"{folder}/src/{path}", "w", encoding="utf-8") as it:
+            it.write(text)
+    os.makedirs(f"{folder}/proofs/outer/Triple/third")
+    with open(f"{folder}/proofs/outer/Triple/third/Answers.antt", "w", encoding="utf-8") as it:
+        it.write(ANSWERS)
     try_edits.hollow(folder, {"inner::stays"})
     return folder
 
@@ -376,5 +387,14 @@ def test_bodies_that_are_taken_away(hollow: str) -> None:
 
 
 def test_file_in_place_of_the_proofs(hollow: str) -> None:
-    found = sorted(os.path.relpath(f"{at}/{it}", f"{hollow}/proofs/outer/inner") for at, _, files in os.walk(f"{hollow}/proofs") for it in files)
-    assert found == ["Pair/first/Proof.antt", "Pair/second/Proof.antt", "law/Proof.antt"]
+    found = sorted(os.path.relpath(f"{at}/{it}", f"{hollow}/proofs/outer") for at, _, files in os.walk(f"{hollow}/proofs") for it in files)
+    assert found == ["Triple/third/Proof.antt", "inner/Pair/first/Proof.antt", "inner/Pair/second/Proof.antt", "inner/law/Proof.antt"]
+
+
+@pytest.mark.parametrize("path", ["outer::Triple::third", "method::Triple::third", "Triple::third"])
+def test_method_that_stays(hollow: str, path: str) -> None:
+    at = f"{hollow}/src/outer/method.rt"
+    with open(at, "w", encoding="utf-8") as it:
+        it.write(METHOD)
+    try_edits.hollow(hollow, {path})
+    assert try_edits.text_of(hollow, "src/outer/method.rt") == METHOD
