@@ -38,7 +38,7 @@ use Rattle.coverage.proofs.MapLemmas.{is_at-equal}
 
 -- ---- what is looked up in a list whose keys ascend
 module _ {K X : Type 0} {R : K → K → Ordering} (o : IsTotalOrder R) (exact : (x y : K) → R x y ≡ Equal → x ≡ y) where
-  all_looked : (P : K × X → Type 0) (es : List (K × X)) → IsStrictlySortedBy R (keys_of es) → ((k : K) (v : X) → lookup (is_at (R k)) es ≡ Some v → P (k, v)) → AllByRecursion P es
+  pub all_looked : (P : K × X → Type 0) (es : List (K × X)) → IsStrictlySortedBy R (keys_of es) → ((k : K) (v : X) → lookup (is_at (R k)) es ≡ Some v → P (k, v)) → AllByRecursion P es
   unfolding IsStrictlySortedBy
   all_looked P [] s h = tt
   all_looked P (e ∷ es) s h = (
@@ -78,7 +78,7 @@ same_marks None (Some z) f g = absurd (true≢false (sym (g refl)))
 same_marks (Some x) None f g = absurd (true≢false (sym (f refl)))
 same_marks (Some x) (Some z) f g = refl
 
-same_keys : {X Z : Type 0} (es : List (List ℕ × X)) (fs : List (List ℕ × Z)) → IsStrictlySortedBy byte_cmp (keys_of es) → IsStrictlySortedBy byte_cmp (keys_of fs)
+pub same_keys : {X Z : Type 0} (es : List (List ℕ × X)) (fs : List (List ℕ × Z)) → IsStrictlySortedBy byte_cmp (keys_of es) → IsStrictlySortedBy byte_cmp (keys_of fs)
     → ((q : List ℕ) → is_some (lookup (is_at (byte_cmp q)) es) ≡ true → is_some (lookup (is_at (byte_cmp q)) fs) ≡ true)
     → ((q : List ℕ) → is_some (lookup (is_at (byte_cmp q)) fs) ≡ true → is_some (lookup (is_at (byte_cmp q)) es) ≡ true) → keys_of es ≡ keys_of fs
 same_keys es fs s t f g =
@@ -88,7 +88,7 @@ same_keys es fs s t f g =
     ∙ marked_keys fs
 
 -- ---- the numbers of a source
-numbers_looked : (es : Entries) (q : List ℕ) → numbers_in es q ≡ option_map_or (λ v. v) (lookup (is_at (byte_cmp q)) es) []
+pub numbers_looked : (es : Entries) (q : List ℕ) → numbers_in es q ≡ option_map_or (λ v. v) (lookup (is_at (byte_cmp q)) es) []
 numbers_looked [] q = refl
 numbers_looked (e ∷ es) q =
     ap (λ b. if b then e.1 else numbers_in es q) (sym (is_eq-slice_cmp q e.0))
@@ -97,7 +97,7 @@ numbers_looked (e ∷ es) q =
       | false ↦ numbers_looked es q
     ]
 
-entry_of : {X : Type 0} (P : List ℕ × X → Type 0) (es : List (List ℕ × X)) (q : List ℕ) (v : X) → AllByRecursion P es → lookup (is_at (byte_cmp q)) es ≡ Some v → (x : List ℕ) × P (x, v)
+pub entry_of : {X : Type 0} (P : List ℕ × X → Type 0) (es : List (List ℕ × X)) (q : List ℕ) (v : X) → AllByRecursion P es → lookup (is_at (byte_cmp q)) es ≡ Some v → (x : List ℕ) × P (x, v)
 entry_of P [] q v a h = absurd (no_value v h)
 entry_of P (e ∷ es) q v a h =
     elim (is_at (byte_cmp q) e.0) as (λ b. (if b then Some e.1 else lookup (is_at (byte_cmp q)) es) ≡ Some v → (x : List ℕ) × P (x, v)) [
@@ -105,7 +105,7 @@ entry_of P (e ∷ es) q v a h =
       | false ↦ λ k. entry_of P es q v a.1 k
     ] h
 
-there_if : {X : Type 0} (o : Option X) → is_some o ≡ true → (x : X) × (o ≡ Some x)
+pub there_if : {X : Type 0} (o : Option X) → is_some o ≡ true → (x : X) × (o ≡ Some x)
 there_if None h = absurd (true≢false (sym h))
 there_if (Some x) h = (x, refl)
 

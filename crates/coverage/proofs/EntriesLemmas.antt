@@ -103,13 +103,13 @@ InOrder-at (e ∷ es) zero (suc j) h lt hj = below_at e.0 es j (sorted_head _ e.
 InOrder-at (e ∷ es) (suc i) (suc j) h lt hj = InOrder-at es i j (sorted_tail _ e.0 (keys_of es) h) (le_of_suc-le-suc lt) (le_of_suc-le-suc hj)
 
 -- ---- one more entry
-entry_less : (e : Entry) (es : Entries) (k : List ℕ) (v : List Interval) → byte_cmp k e.0 ≡ Less → insert_entry byte_cmp (e ∷ es) k v ≡ (k, v) ∷ e ∷ es
+entry_less : {X : Type 0} (e : List ℕ × X) (es : List (List ℕ × X)) (k : List ℕ) (v : X) → byte_cmp k e.0 ≡ Less → insert_entry byte_cmp (e ∷ es) k v ≡ (k, v) ∷ e ∷ es
 entry_less e es k v h = ap (λ o. match_ordering o ((k, v) ∷ e ∷ es) ((e.0, v) ∷ es) (e ∷ insert_entry byte_cmp es k v)) h
 
-entry_equal : (e : Entry) (es : Entries) (k : List ℕ) (v : List Interval) → byte_cmp k e.0 ≡ Equal → insert_entry byte_cmp (e ∷ es) k v ≡ (e.0, v) ∷ es
+entry_equal : {X : Type 0} (e : List ℕ × X) (es : List (List ℕ × X)) (k : List ℕ) (v : X) → byte_cmp k e.0 ≡ Equal → insert_entry byte_cmp (e ∷ es) k v ≡ (e.0, v) ∷ es
 entry_equal e es k v h = ap (λ o. match_ordering o ((k, v) ∷ e ∷ es) ((e.0, v) ∷ es) (e ∷ insert_entry byte_cmp es k v)) h
 
-entry_greater : (e : Entry) (es : Entries) (k : List ℕ) (v : List Interval) → byte_cmp k e.0 ≡ Greater → insert_entry byte_cmp (e ∷ es) k v ≡ e ∷ insert_entry byte_cmp es k v
+entry_greater : {X : Type 0} (e : List ℕ × X) (es : List (List ℕ × X)) (k : List ℕ) (v : X) → byte_cmp k e.0 ≡ Greater → insert_entry byte_cmp (e ∷ es) k v ≡ e ∷ insert_entry byte_cmp es k v
 entry_greater e es k v h = ap (λ o. match_ordering o ((k, v) ∷ e ∷ es) ((e.0, v) ∷ es) (e ∷ insert_entry byte_cmp es k v)) h
 
 pub numbers_in-insert_entry : (es : Entries) (k : List ℕ) (v : List Interval) (s : List ℕ) → numbers_in (insert_entry byte_cmp es k v) s ≡ cond (bytes_eq s k) v (numbers_in es s)
@@ -146,18 +146,18 @@ above_chain : (q k : List ℕ) (ks : List (List ℕ)) → byte_cmp q k ≡ Less 
 above_chain q k [] h a = tt
 above_chain q k (x ∷ xs) h a = (byte_cmp-chain q k x h a.0, above_chain q k xs h a.1)
 
-above_entry : (q : List ℕ) (es : Entries) (k : List ℕ) (v : List Interval) → AllByRecursion (λ y. byte_cmp q y ≡ Less) (keys_of es) → byte_cmp q k ≡ Less →
+above_entry : {X : Type 0} (q : List ℕ) (es : List (List ℕ × X)) (k : List ℕ) (v : X) → AllByRecursion (λ y. byte_cmp q y ≡ Less) (keys_of es) → byte_cmp q k ≡ Less →
     AllByRecursion (λ y. byte_cmp q y ≡ Less) (keys_of (insert_entry byte_cmp es k v))
 above_entry q [] k v h new = (new, tt)
-above_entry q (e ∷ es) k v h new =
-    let Above : Entries → Type 0 = λ l. AllByRecursion (λ y. byte_cmp q y ≡ Less) (keys_of l) in
+above_entry {X} q (e ∷ es) k v h new =
+    let Above : List (List ℕ × X) → Type 0 = λ l. AllByRecursion (λ y. byte_cmp q y ≡ Less) (keys_of l) in
     elim (cases_order (byte_cmp k e.0)) [
       | inl less ↦ subst Above (sym (entry_less e es k v less)) (new, h)
       | inr (inl equal) ↦ subst Above (sym (entry_equal e es k v equal)) h
       | inr (inr greater) ↦ subst Above (sym (entry_greater e es k v greater)) (h.0, above_entry q es k v h.1 new)
     ]
 
-pub InOrder-cons : (e : Entry) (es : Entries) → AllByRecursion (λ y. byte_cmp e.0 y ≡ Less) (keys_of es) → InOrder es → InOrder (e ∷ es)
+pub InOrder-cons : {X : Type 0} (e : List ℕ × X) (es : List (List ℕ × X)) → AllByRecursion (λ y. byte_cmp e.0 y ≡ Less) (keys_of es) → IsStrictlySortedBy byte_cmp (keys_of es) → IsStrictlySortedBy byte_cmp (keys_of (e ∷ es))
 unfolding IsStrictlySortedBy
 InOrder-cons e es h t = (h, t)
 
@@ -165,15 +165,16 @@ pub InOrder-nil : InOrder []
 unfolding IsStrictlySortedBy
 InOrder-nil = tt
 
-pub InOrder-insert_entry : (es : Entries) (k : List ℕ) (v : List Interval) → InOrder es → InOrder (insert_entry byte_cmp es k v)
+pub InOrder-insert_entry : {X : Type 0} (es : List (List ℕ × X)) (k : List ℕ) (v : X) → IsStrictlySortedBy byte_cmp (keys_of es) → IsStrictlySortedBy byte_cmp (keys_of (insert_entry byte_cmp es k v))
 InOrder-insert_entry [] k v h = InOrder-cons (k, v) [] tt InOrder-nil
-InOrder-insert_entry (e ∷ es) k v h =
+InOrder-insert_entry {X} (e ∷ es) k v h =
+    let Rises : List (List ℕ × X) → Type 0 = λ l. IsStrictlySortedBy byte_cmp (keys_of l) in
     let head = sorted_head byte_cmp e.0 (keys_of es) h in
     let tail = sorted_tail byte_cmp e.0 (keys_of es) h in
     elim (cases_order (byte_cmp k e.0)) [
-      | inl less ↦ subst InOrder (sym (entry_less e es k v less)) (InOrder-cons (k, v) (e ∷ es) (less, above_chain k e.0 (keys_of es) less head) h)
-      | inr (inl equal) ↦ subst InOrder (sym (entry_equal e es k v equal)) (InOrder-cons (e.0, v) es head tail)
-      | inr (inr greater) ↦ subst InOrder (sym (entry_greater e es k v greater)) (InOrder-cons e (insert_entry byte_cmp es k v) (above_entry e.0 es k v head (less_from_greater k e.0 greater)) (InOrder-insert_entry es k v tail))
+      | inl less ↦ subst Rises (sym (entry_less e es k v less)) (InOrder-cons (k, v) (e ∷ es) (less, above_chain k e.0 (keys_of es) less head) h)
+      | inr (inl equal) ↦ subst Rises (sym (entry_equal e es k v equal)) (InOrder-cons (e.0, v) es head tail)
+      | inr (inr greater) ↦ subst Rises (sym (entry_greater e es k v greater)) (InOrder-cons e (insert_entry byte_cmp es k v) (above_entry e.0 es k v head (less_from_greater k e.0 greater)) (InOrder-insert_entry es k v tail))
     ]
 
 pub AreListed-insert_entry : (es : Entries) (k : List ℕ) (v : List Interval) → AreListed es → IsEntry (k, v) → AreListed (insert_entry byte_cmp es k v)

@@ -19,6 +19,7 @@ pub mod BlockLemmas
 pub mod ToldLemmas
 pub mod FormLemmas
 pub mod DigestedLemmas
+pub mod JoinLemmas
 pub mod EventsLemmas
 pub mod FitLemmas
 pub mod DigestsRoundLemmas

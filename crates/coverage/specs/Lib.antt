@@ -6,6 +6,7 @@ pub mod Summary
 pub mod DigestsText
 pub mod SummaryText
 pub mod Digests
+pub mod Join
 pub mod CoverText
 pub mod SummaryShape
 pub mod Refusals

@@ -2,6 +2,7 @@
 pub mod Blocks
 pub mod Entries
 pub mod Fits
+pub mod Joins
 pub mod Places
 pub mod Spans
 pub mod Starts

@@ -6,6 +6,7 @@ ghost use Rattle.coverage.specs.BlockDigests.{block_digest, blocks_of};
 ghost use Rattle.coverage.specs.steps.Blocks.{AreDigestsIn};
 ghost use Rattle.coverage.specs.steps.Tokens.{blocks_tokens, digest_tokens, digests_tokens};
 
+mod join;
 pub(crate) mod read;
 
 use block_digests::{Arrivals, Blocks};

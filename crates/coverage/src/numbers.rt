@@ -3,6 +3,7 @@
 mod blocks;
 mod compare;
 mod entries;
+mod join;
 pub(crate) mod read;
 pub(crate) mod shape;
 mod union;

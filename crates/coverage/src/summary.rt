@@ -1,6 +1,7 @@
 //! Which sequence numbers of which sources have been seen.
 
 mod digested;
+mod join;
 
 ghost use Rattle.std.specs.Prelude.{◌≡◌, ◌≢◌, ◌<◌, ◌↔◌, ◌⊎◌, ℕ, ◌||◌, ◌&&◌, ◌==◌, true, false, not, List, [], length, map, slice_get, bytes_eq, Err, Some, option_copied, IsTrue, IfOk, IfErr, IfSome, MatchOption, MatchResult, OnOk, OnErr};
 ghost use Rattle.std.specs.Map.Iter.{deref_pair};

@@ -1,9 +1,10 @@
 //! A summary's entries: made, looked up, added and copied.
 ghost use Rattle.std.specs.Prelude.{◌≡◌, ◌≢◌, ◌<◌, ℕ, ◌||◌, ◌&&◌, ◌==◌, ◌++◌, ◌∷◌, true, false, not, List, [], length, map, slice_get, bytes_eq, Some, IfOk, IfSome, MatchOption, OnOk, OnErr};
+ghost use Rattle.std.specs.BTreeMap.{insert_entry};
 ghost use Rattle.std.specs.Map.Iter.{deref_pair};
 ghost use Rattle.attributes.specs.Character.{is_filled};
 ghost use Rattle.coverage.specs.Intervals.{IsCanonical};
-ghost use Rattle.coverage.specs.Numbers.{IsEntry, AreListed, holds_in, numbers_in, names_in};
+ghost use Rattle.coverage.specs.Numbers.{IsEntry, AreListed, byte_cmp, holds_in, numbers_in, names_in};
 ghost use Rattle.coverage.specs.steps.Places.{EndsBefore};
 
 use super::Numbers;
@@ -64,6 +65,14 @@ impl Numbers {
         requires entry { IsEntry (source.now, numbers) }
         requires last { EndsBefore self.old source.now }
         ensures { OnOk result (self.new ≡ self.old ++ (source.now, numbers) ∷ []) }
+    {
+        self.put(source, numbers)
+    }
+
+    /// Sets the numbers of a source. Time logarithmic in the sources.
+    pub(super) fn put(&mut self, source: &str, numbers: Intervals) -> Result<(), AllocError>
+        requires { IsEntry (source.now, numbers) }
+        ensures { OnOk result (self.new ≡ insert_entry byte_cmp self.old source.now numbers) }
     {
         let key = String::from_str(self.alloc, source)?;
         self.entries.insert(key, numbers)?;

@@ -1,16 +1,6 @@
-use Rattle.std.proofs.Common.{subst, ◌∙◌}
-use Rattle.coverage.specs.Numbers.{AreListed}
-use Rattle.coverage.proofs.EntriesLemmas.{AreListed-put, insert_entry-last, put_new}
+use Rattle.std.proofs.Common.{◌∙◌}
+use Rattle.coverage.proofs.EntriesLemmas.{OnOk-along, insert_entry-last}
 use Rattle.coverage.proofs.numbers.Numbers.append.Goals as goal
 
-pub invariant_of-self-2 : goal.invariant_of-self-2
-invariant_of-self-2 c =
-    let now = c.args.self.now in
-    let put = put_new _ c.insert.new.self.entries now c.in_ok-key.key c.args.source.now c.args.numbers c.self.view_is c.in_ok-key.ensures.ok c.in_ok-insert.ensures.entries in
-    AreListed-put now _ c.args.source.now c.args.numbers (subst AreListed c.self.view_is c.self.invariant) put c.requires.entry
-
 pub returns : goal.returns
-returns c =
-    let now = c.args.self.now in
-    put_new _ c.insert.new.self.entries now c.in_ok-key.key c.args.source.now c.args.numbers c.self.view_is c.in_ok-key.ensures.ok c.in_ok-insert.ensures.entries
-    ∙ insert_entry-last now c.args.source.now c.args.numbers c.requires.last
+returns c = OnOk-along c.put.result _ _ (λ put. put ∙ insert_entry-last c.args.self.now c.args.source.now c.args.numbers c.requires.last) c.put.ensures

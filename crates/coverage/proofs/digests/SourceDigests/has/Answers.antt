@@ -1,0 +1,6 @@
+use Rattle.std.proofs.Common.{◌∙◌}
+use Rattle.coverage.proofs.JoinLemmas.{source_had}
+use Rattle.coverage.proofs.digests.SourceDigests.has.Goals as goal
+
+pub returns : goal.returns
+returns c = c.contains_key.ensures ∙ source_had (λ m. m.entries) c.self.inside.sources.entries c.args.self.now c.args.source.now c.self.view_is
