@@ -19,7 +19,7 @@ pub no_numbers : (s : Sources) (source : List ℕ) → numbers_of s source ≡ [
 unfolding holds
 no_numbers s source none h = true≢false (sym h.1 ∙ ap (λ l. holds l h.0) none)
 
-all_more : {X : Type 0} (P : X → Type 0) (xs : List X) (x : X) → AllByRecursion P xs → P x → AllByRecursion P (xs ++ x ∷ [])
+pub all_more : {X : Type 0} (P : X → Type 0) (xs : List X) (x : X) → AllByRecursion P xs → P x → AllByRecursion P (xs ++ x ∷ [])
 all_more P [] x a h = (h, tt)
 all_more P (y ∷ ys) x a h = (a.0, all_more P ys x a.1 h)
 

@@ -23,3 +23,4 @@ mod KindLemmas
 mod DayLemmas
 mod GapLemmas
 mod CombineLemmas
+mod SummaryLemmas

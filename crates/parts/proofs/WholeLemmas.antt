@@ -23,7 +23,7 @@ no_end : (x : ℕ) (ys : List ℕ) → [] ≡ ys ++ x ∷ [] → ⊥
 no_end x [] h = cc
 no_end x (y ∷ ys) h = cc
 
-same_front : (x : ℕ) (a b : List ℕ) → a ++ x ∷ [] ≡ b ++ x ∷ [] → a ≡ b
+pub same_front : (x : ℕ) (a b : List ℕ) → a ++ x ∷ [] ≡ b ++ x ∷ [] → a ≡ b
 same_front x [] [] h = refl
 same_front x [] (y ∷ ys) h = absurd (no_end x ys (rest h))
   where
@@ -51,7 +51,7 @@ bool_same true b f g = sym (f refl)
 bool_same false true f g = g refl
 bool_same false false f g = refl
 
-and_right : (a b : Bool) → (a && b) ≡ true → b ≡ true
+pub and_right : (a b : Bool) → (a && b) ≡ true → b ≡ true
 and_right true b h = h
 and_right false b h = absurd (true≢false (sym h))
 

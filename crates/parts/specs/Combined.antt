@@ -17,9 +17,17 @@ pub record AreAnswers (query : Query) (p : List ℕ → ℕ) (E : List EventValu
   pub each : (i : ℕ) (text : List ℕ) → slice_get texts i ≡ Some text
       → IsAnswer query (part p i E) text
 
+-- a summary of that version
+abbrev pub IsOfVersion : ℕ → Sources → Type 0
+IsOfVersion version s = IsSummary s × (version_of s ≡ version)
+
+-- the text is the line of no summary of that version
+abbrev pub IsNoLineOf : ℕ → List ℕ → Type 0
+IsNoLineOf version text = (s : Sources) → IsOfVersion version s → text ≢ cover_line s
+
 -- a summary of version 1
 abbrev pub IsFirst : Sources → Type 0
-IsFirst s = IsSummary s × (version_of s ≡ 1)
+IsFirst s = IsOfVersion 1 s
 
 -- the texts are the answers to `cover` that say what the summaries do
 pub record AreCovers (texts : List (List ℕ)) (summaries : List Sources) : Type 0 where
@@ -50,7 +58,7 @@ AreApartCovers texts = (summaries : List Sources) × AreCovers texts summaries �
 
 -- the text isn't the answer to `cover` over any set
 abbrev pub IsNoCover : List ℕ → Type 0
-IsNoCover text = (s : Sources) → IsFirst s → text ≢ cover_line s
+IsNoCover text = IsNoLineOf 1 text
 
 -- what is true of the covers of parts that are refused with the fault
 abbrev pub Refuses : List (List ℕ) → CombineFault → Type 0

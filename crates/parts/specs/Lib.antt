@@ -8,3 +8,4 @@ pub mod Told
 pub mod Counts
 pub mod Gaps
 pub mod Whole
+pub mod Summaries

@@ -6,7 +6,7 @@ ghost use Rattle.coverage.specs.Summary.{Sources};
 ghost use Rattle.views.specs.Line.{cover_line};
 ghost use Rattle.views.specs.Question.{IsAnswer};
 ghost use Rattle.views.specs.declared.query.Query.TheVariants as query;
-ghost use Rattle.parts.specs.Combined.{AreAnswers, AreApart, AreApartCovers, AreCovers, HasSource, IsFirst, IsNoCover, IsUnited, Refuses, RefusesRead, ShareNone};
+ghost use Rattle.parts.specs.Combined.{AreAnswers, AreApart, AreApartCovers, AreCovers, HasSource, IsFirst, IsNoLineOf, IsOfVersion, IsUnited, Refuses, RefusesRead, ShareNone};
 
 use crate::fault::CombineFault;
 use attributes::Text;
@@ -16,10 +16,15 @@ use std::alloc::{AllocError, Global};
 use views::laws::answers_are_alike;
 use views::{Answer, print};
 
-/// The summary that a text answers `cover` with, where it is such an answer.
-fn read_cover(alloc: Global, text: &str) -> Result<Option<Summary>, CombineFault>
-    ensures some { IfOk result (λ o. IfSome o (λ s. IsFirst s × (text.now ≡ cover_line s))) }
-    ensures none { IfOk result (λ o. IfNone o (IsNoCover text.now)) }
+/// The summary of a version that a text tells in a line, where it does.
+pub(crate) fn read_of_version(
+    alloc: Global,
+    text: &str,
+    version: u64,
+) -> Result<Option<Summary>, CombineFault>
+    ensures some { IfOk result (λ o. IfSome o (λ s. IsOfVersion version s
+        × (text.now ≡ cover_line s))) }
+    ensures none { IfOk result (λ o. IfNone o (IsNoLineOf version text.now)) }
     ensures err { OnErr result (result ≡ Err CombineFault.OutOfMemory) }
 {
     let Some((last, words)) = text.as_bytes().split_last() else {
@@ -30,7 +35,7 @@ fn read_cover(alloc: Global, text: &str) -> Result<Option<Summary>, CombineFault
     }
     match Summary::of_text(alloc, words) {
         Ok(summary) => {
-            if summary.version() == 1 {
+            if summary.version() == version {
                 Ok(Some(summary))
             } else {
                 Ok(None)
@@ -49,7 +54,7 @@ pub(crate) fn read_covers(alloc: Global, covers: &[&str]) -> Result<Vec<Summary>
     let mut summaries = Vec::new(alloc);
     for i in 0..covers.len() {
         let cover = covers[i];
-        match read_cover(alloc, cover)? {
+        match read_of_version(alloc, cover, 1)? {
             Some(summary) => summaries.push(summary)?,
             None => return Err(CombineFault::NotACover { part: i as u64 }),
         }

@@ -13,7 +13,8 @@ pub enum CombineFault {
     NotACover {
         part: u64,
     },
-    /// The text of the part is no answer to the question.
+    /// The text of the part is no answer to the question; where summaries are combined, no summary
+    /// of version 2.
     #[error("part {part}: not an answer to the question")]
     NotAnAnswer {
         part: u64,

@@ -12,9 +12,11 @@ mod gaps;
 mod kinds;
 pub mod laws;
 mod lines;
+mod summaries;
 mod told;
 mod whole;
 
 pub use division::{MAX_PARTS, is_count, part_of, split};
 pub use fault::CombineFault;
+pub use summaries::combine_summaries;
 pub use whole::combine;
