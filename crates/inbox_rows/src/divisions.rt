@@ -5,7 +5,7 @@ ghost use Rattle.parts.specs.Part.{IsCount};
 use crate::inboxes::query_of;
 use attributes::{Batch, Sequenced, Text};
 use inbox::Inbox;
-use parts::{CombineFault, combine, is_count, part_of};
+use parts::{CombineFault, combine, combine_summaries, is_count, part_of};
 use rows::events::fill;
 use rows::said::{events, number};
 use rows::shelf::Shelf;
@@ -94,13 +94,22 @@ fn add_combined(combined: Result<Text, CombineFault>, out: &mut String) -> bool 
     }
 }
 
+/// What texts come to, each a line: covers, or for the word `join` summaries.
+fn combined(alloc: Global, word: &str, lines: &[&str]) -> Result<Text, CombineFault> {
+    if word == "join" {
+        return combine_summaries(alloc, lines);
+    }
+    combine(alloc, Query::Cover, lines, &[])
+}
+
 /// `combine TEXT..`: the cover of the whole, from those of its parts, each without its end of line.
-pub fn covers(alloc: Global, words: &[&str], out: &mut String) -> bool {
+/// `join TEXT..`: the summary of version 2, from those of its parts.
+pub fn covers(alloc: Global, word: &str, words: &[&str], out: &mut String) -> bool {
     let Ok(lines) = ended_all(alloc, words) else {
         return false;
     };
     match lent(alloc, lines.as_slice()) {
-        Ok(covers) => add_combined(combine(alloc, Query::Cover, covers.as_slice(), &[]), out),
+        Ok(texts) => add_combined(combined(alloc, word, texts.as_slice()), out),
         Err(_) => false,
     }
 }
