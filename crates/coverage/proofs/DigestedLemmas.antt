@@ -105,7 +105,7 @@ entry_of P (e ∷ es) q v a h =
       | false ↦ λ k. entry_of P es q v a.1 k
     ] h
 
-pub there_if : {X : Type 0} (o : Option X) → is_some o ≡ true → (x : X) × (o ≡ Some x)
+there_if : {X : Type 0} (o : Option X) → is_some o ≡ true → (x : X) × (o ≡ Some x)
 there_if None h = absurd (true≢false (sym h))
 there_if (Some x) h = (x, refl)
 

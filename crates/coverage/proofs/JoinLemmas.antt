@@ -1,12 +1,11 @@
 -- Two lists by source joined, and the summary that two summaries make.
 use Rattle.std.proofs.Common.{◌≡◌, ℕ, List, [], ◌∷◌, Bool, true, false, Option, Some, None, is_some, if◌then◌else◌, subst, refl, sym, ap, ap₂, ◌∙◌, ◌⊎◌, inl, inr, ◌↔◌, IsTrue, Result, Ok, Err}
 use Rattle.std.specs.Prelude.{◌≢◌, map}
-use Rattle.std.specs.List.{AllByRecursion}
 use Rattle.std.specs.List.Sorted.{IsStrictlySortedBy}
 use Rattle.std.specs.Map.{keys_of, lookup}
 use Rattle.std.specs.BTreeMap.{insert_entry, is_at}
 use Rattle.std.specs.Option.{option_map, option_map_or, option_or}
-use Rattle.std.specs.Ordering.{is_eq, match_ordering}
+use Rattle.std.specs.Ordering.{match_ordering}
 use Rattle.std.specs.Result.{OnErr}
 use Rattle.std.specs.String.{string_bytes}
 use Rattle.std.specs.declared.cmp.Ordering.{Ordering}
@@ -17,7 +16,7 @@ use Rattle.std.proofs.lemmas.Cmp.{nat_list_cmp_total}
 use Rattle.std.proofs.lemmas.Map.Lookups.{exact_bytes}
 use Rattle.std.proofs.lemmas.Map.Text.{text_cmp}
 use Rattle.coverage.specs.Intervals.{Interval}
-use Rattle.coverage.specs.Numbers.{AreEntries, AreListed, Entries, IsEntry, byte_cmp, numbers_in}
+use Rattle.coverage.specs.Numbers.{AreListed, Entries, IsEntry, byte_cmp, numbers_in}
 use Rattle.coverage.specs.BlockDigests.{AreBlocks, AreDigests, Blocks, HasDigests, SourceBlocks, block_digest, blocks_of}
 use Rattle.coverage.specs.Join.{chosen}
 use Rattle.coverage.specs.steps.Fits.{HoldsIn}

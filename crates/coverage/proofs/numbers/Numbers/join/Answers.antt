@@ -1,11 +1,11 @@
-use Rattle.std.proofs.Common.{ap, ap₂, refl, subst, sym, ◌∙◌, string_bytes}
+use Rattle.std.proofs.Common.{ap, ap₂, subst, sym, ◌∙◌, string_bytes}
 use Rattle.std.specs.BTreeMap.{insert_entry, is_at}
 use Rattle.std.specs.Map.{lookup}
 use Rattle.std.specs.Prelude.{is_some}
-use Rattle.coverage.specs.Numbers.{AreEntries, AreListed, byte_cmp}
+use Rattle.coverage.specs.Numbers.{AreEntries, byte_cmp}
 use Rattle.coverage.specs.steps.Entries.{sources_in}
-use Rattle.coverage.proofs.EntriesLemmas.{AreListed-put, IsEntry-along}
-use Rattle.coverage.proofs.JoinLemmas.{joined_all, joined_kept, joined_none, joined_put, joined_some, wanted}
+use Rattle.coverage.proofs.EntriesLemmas.{AreListed-put}
+use Rattle.coverage.proofs.JoinLemmas.{joined_kept, joined_put, joined_some, wanted}
 use Rattle.coverage.proofs.numbers.Numbers.join.Goals as goal
 
 pub loop-source-preserved-in_ok-put : goal.loop-source-preserved-in_ok-put

@@ -1,12 +1,8 @@
-use Rattle.std.proofs.Common.{Result, Ok, Err, ap, ◌∙◌}
-use Rattle.std.specs.Result.{OnErr}
+use Rattle.std.proofs.Common.{ap, ◌∙◌}
 use Rattle.coverage.specs.Summary.{entries_of}
+use Rattle.coverage.proofs.JoinLemmas.{wanted}
 use Rattle.coverage.proofs.SummaryTextLemmas.{no_blocks}
 use Rattle.coverage.proofs.summary.Summary.copy.Goals as goal
-
-wanted : {T E : Type 0} (r : Result T E) (P : Type 0) → P → OnErr r P
-wanted (Ok t) P p = tt
-wanted (Err e) P p = p
 
 pub returns-in_err-copy-in-Some-clause-err : goal.returns-in_err-copy-in-Some-clause-err
 returns-in_err-copy-in-Some-clause-err c =
