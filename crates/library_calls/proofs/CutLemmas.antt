@@ -1,6 +1,7 @@
 -- Where the texts lie that lie one behind the other, and the lines of parts.
-use Rattle.std.proofs.Common.{arith, ◌≡◌, ◌∙◌, ◌≤◌, ◌<◌, ◌+◌, ◌++◌, ℕ, zero, suc, List, [], ◌∷◌, Some, ap, drop, get_or, inl, inr, length, map, min, refl, slice_get, subst, sum, sym, take}
+use Rattle.std.proofs.Common.{arith, ◌≡◌, ◌∙◌, ◌≤◌, ◌<◌, ◌+◌, ◌++◌, ℕ, zero, suc, List, [], ◌∷◌, Result, Ok, Err, Some, ap, drop, get_or, inl, inr, length, map, min, refl, slice_get, subst, sum, sym, take}
 use Rattle.std.specs.Prelude.{All, IsUtf8}
+use Rattle.std.specs.Result.{IfErr, IfOk, OnErr, OnOk}
 use Rattle.std.proofs.lemmas.List.{append-nil, append_assoc, drop-drop, drop-map, drop_min, take-map, take_min}
 use Rattle.std.specs.Borrow.{Bor}
 use Rattle.std.specs.List.{range_with_len}
@@ -8,11 +9,16 @@ use Rattle.std.specs.Prelude.{flat_map}
 use Rattle.std.proofs.lemmas.List.Sums.{sum_by-cons, sum_by-take-le, sum_by_more}
 use Rattle.std.proofs.lemmas.List.Elements.{All-get_or}
 use Rattle.std.proofs.lemmas.Option.{get_or_from_slice_get, slice_get_within}
+use Rattle.attributes.specs.Event.{EventValue}
 use Rattle.parts.specs.Part.{of_parts}
+use Rattle.parts.specs.Summaries.{AreApartSummaries, AreSummaries, IsSummaryOf}
+use Rattle.parts.specs.declared.fault.CombineFault.{CombineFault}
+use Rattle.parts.specs.declared.fault.CombineFault.TheVariants as fault
 use Rattle.views.specs.declared.query.Query.{Query}
 use Rattle.views.specs.declared.query.Query.TheVariants as query
-use Rattle.library_calls.specs.Calls.{question_number}
-use Rattle.library_calls.specs.Parts.{IsNoText, cut}
+use Rattle.library_calls.specs.Calls.{IsDoneOrWant, question_number}
+use Rattle.library_calls.specs.Parts.{IsNoText, IsWholeSummary, TellsFault, TellsStatus, Texts, combine_status, cut, summaries_of, summary_lengths, summary_number}
+use Rattle.library_calls.specs.declared.part_calls.CombineReply.{CombineReply}
 use Rattle.library_calls.specs.declared.part_calls.TextFault.{TextFault}
 use Rattle.library_calls.specs.declared.part_calls.TextFault.TheVariants as text
 
@@ -118,3 +124,35 @@ own_question query.Gaps = refl
 -- no two questions have one number
 pub same_question : (number : ℕ) (q r : Query) → number ≡ question_number q → number ≡ question_number r → q ≡ r
 same_question number q r one other = sym (own_question q) ∙ ap question_at (sym one ∙ other) ∙ own_question r
+
+no_question : (q : Query) → summary_number ≡ question_number q → ⊥
+no_question query.Cover h = cc
+no_question query.Shown h = cc
+no_question query.Conflicts h = cc
+no_question query.Latest h = cc
+no_question query.Kinds h = cc
+no_question query.Days h = cc
+no_question query.Gaps h = cc
+
+-- the summary's number is that of no question
+pub no_summary : (number : ℕ) (q : Query) → number ≡ question_number q → number ≡ summary_number → ⊥
+no_summary number q question summary = no_question q (sym summary ∙ question)
+
+-- what is made of the summaries that lie in bytes is the summary of the whole
+pub summed_up : (given : Texts) (texts : List (List ℕ)) (r : Result (List ℕ) CombineFault) → texts ≡ summaries_of given → sum (summary_lengths given) ≤ length given.bytes
+    → ((p : List ℕ → ℕ) (E : List EventValue) → AreSummaries p E texts → IfOk r (IsSummaryOf E)) → OnOk r (AreApartSummaries texts) → IfOk r (IsWholeSummary given)
+summed_up given texts (Ok text) same there combined apart = record {
+  there = there;
+  combined = λ p E parts. combined p E (subst (AreSummaries p E) (sym same) parts);
+  apart = subst AreApartSummaries same apart;
+}
+summed_up given texts (Err f) same there combined apart = tt
+
+same_fault : (f g : CombineFault) (r : Result (List ℕ) CombineFault) → r ≡ Err f → r ≡ Err g → f ≡ g
+same_fault f g r one other = cc
+
+-- what is told of a result that wants memory alone
+pub done_or_want : (P : List ℕ → Type 0) (Q : CombineFault → Type 0) (r : Result (List ℕ) CombineFault) (reply : CombineReply) → IfOk r (λ t. TellsStatus 0 reply × P t)
+    → IfErr r (λ f. TellsFault f reply × Q f) → OnErr r (r ≡ Err fault.OutOfMemory) → IsDoneOrWant reply.status
+done_or_want P Q (Ok text) reply ok err want = inl ok.0.0
+done_or_want P Q (Err f) reply ok err want = inr (err.0.0 ∙ ap combine_status (same_fault f fault.OutOfMemory (Err f) refl want))

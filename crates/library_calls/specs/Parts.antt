@@ -1,10 +1,11 @@
 -- What the calls on a region in parts leave in the room, and what they reply.
-use Rattle.std.specs.Prelude.{◌≡◌, ◌<◌, ◌≤◌, ◌+◌, ◌-◌, ◌⊎◌, ℕ, Bool, true, false, List, [], ◌∷◌, All, IsUtf8, Some, drop, if◌then◌else◌, length, nat_lt, slice_get, string_bytes, sum, take}
+use Rattle.std.specs.Prelude.{◌≡◌, ◌<◌, ◌≤◌, ◌≢◌, ◌+◌, ◌-◌, ◌⊎◌, ℕ, Bool, true, false, List, [], ◌∷◌, All, IsUtf8, Some, drop, if◌then◌else◌, length, nat_lt, slice_get, string_bytes, sum, take}
 use Rattle.attributes.specs.Event.{EventValue}
 use Rattle.file_reports.specs.Numbers.{fault_number}
 use Rattle.file_reports.specs.Reports.{IsRefusal, SpellAll}
 use Rattle.file_reports.specs.declared.refusal.Refused.{Refused}
 use Rattle.parts.specs.Part.{IsCount, of_parts, part, part_of}
+use Rattle.parts.specs.Summaries.{AreApartSummaries, AreSummaries, IsSummaryOf, RefusesSummaries}
 use Rattle.parts.specs.Told.{IsHeld}
 use Rattle.parts.specs.Whole.{AreApartIn, ArePartsOf, RefusesParts}
 use Rattle.parts.specs.declared.fault.CombineFault.{CombineFault}
@@ -186,11 +187,55 @@ AnswersWhole q given was text reply = (TellsStatus 0 reply × IsWhole q given te
     ⊎ ((f : CombineFault) × RefusesTexts q given f × TellsFault f reply
     × (text ≡ text_after was f))
 
--- so is the question of this number; or there is none, and the text is that of before
+-- ---- the summary of the whole
+
+-- the number of the summary, behind those of the questions
+abbrev pub summary_number : ℕ
+summary_number = 8
+
+-- the lengths of the summaries; what lies behind them isn't looked at
+abbrev pub summary_lengths : Texts → List ℕ
+summary_lengths given = take given.answers given.lengths
+
+-- the summaries
+abbrev pub summaries_of : Texts → List (List ℕ)
+summaries_of given = cut given.bytes (summary_lengths given)
+
+-- they lie in the bytes, and are UTF-8; summaries of the parts of a set want memory alone
+abbrev pub SummariesWantMemoryAlone : Texts → Type 0 → Type 0
+SummariesWantMemoryAlone given Want =
+    (sum (summary_lengths given) ≤ length given.bytes) × All IsUtf8 (summaries_of given)
+    → (p : List ℕ → ℕ) (E : List EventValue) → AreSummaries p E (summaries_of given) → Want
+
+-- where the texts are the summaries of the parts of a set, the text is that of the set; they lie in
+-- the bytes, and no source stands in two of them
+pub record IsWholeSummary (given : Texts) (text : List ℕ) : Type 0 where
+  pub there : sum (summary_lengths given) ≤ length given.bytes
+  pub combined : (p : List ℕ → ℕ) (E : List EventValue) → AreSummaries p E (summaries_of given)
+      → IsSummaryOf E text
+  pub apart : AreApartSummaries (summaries_of given)
+
+-- memory ran out; or one of the texts is none; or they are refused as summaries of parts
+abbrev pub RefusesSummaryTexts : Texts → CombineFault → Type 0
+RefusesSummaryTexts given f = (f ≡ fault.OutOfMemory)
+    ⊎ (((i : ℕ) × (f ≡ fault.NotAnAnswer i) × IsNoText given.bytes (summary_lengths given) i)
+    ⊎ RefusesSummaries (summaries_of given) f)
+
+-- the text is the summary of the whole; or the fault is told of
+abbrev pub AnswersSummary : Texts → List ℕ → List ℕ → CombineReply → Type 0
+AnswersSummary given was text reply = (TellsStatus 0 reply × IsWholeSummary given text)
+    ⊎ ((f : CombineFault) × RefusesSummaryTexts given f × TellsFault f reply
+    × (text ≡ text_after was f))
+
+-- ---- what a number stands for
+
+-- the text is the answer to the question of this number, or the summary; or the number stands for
+-- neither, and the text is that of before
 abbrev pub AnswersNumber : ℕ → Texts → List ℕ → List ℕ → CombineReply → Type 0
 AnswersNumber number given was text reply =
-    (TellsStatus 4 reply × IsNoQuestion number × (text ≡ was))
-    ⊎ ((q : Query) × (number ≡ question_number q) × AnswersWhole q given was text reply)
+    (TellsStatus 4 reply × (IsNoQuestion number × (number ≢ summary_number)) × (text ≡ was))
+    ⊎ (((q : Query) × (number ≡ question_number q) × AnswersWhole q given was text reply)
+    ⊎ ((number ≡ summary_number) × AnswersSummary given was text reply))
 
 -- what `jumbetai_site_combine` leaves and replies
 pub record Combined (number : ℕ) (given : Texts) (held kept : Held) (reply : CombineReply)
@@ -200,3 +245,5 @@ pub record Combined (number : ℕ) (given : Texts) (held kept : Held) (reply : C
   pub told : AnswersNumber number given held.text kept.text reply
   pub taken : (q : Query) → number ≡ question_number q
       → WantsMemoryAlone q given (IsDoneOrWant reply.status)
+  pub summary_taken : number ≡ summary_number
+      → SummariesWantMemoryAlone given (IsDoneOrWant reply.status)

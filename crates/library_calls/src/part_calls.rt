@@ -10,7 +10,7 @@ ghost use Rattle.parts.specs.declared.fault.CombineFault.TheVariants as fault;
 ghost use Rattle.views.specs.Question.{IsAnswer};
 ghost use Rattle.views.specs.declared.query.Query.{Query};
 ghost use Rattle.library_calls.specs.Calls.{IsDoneOrWant, question_number};
-ghost use Rattle.library_calls.specs.Parts.{AnswersNumber, AnswersWhole, Combined, IsNoText, IsSplit, IsUnsplit, IsWhole, RefusesTexts, Split, TellsFault, TellsPart, TellsStatus, WantsMemoryAlone, cut, has_covers, no_answer, no_text, part_lines, text_after};
+ghost use Rattle.library_calls.specs.Parts.{AnswersNumber, AnswersSummary, AnswersWhole, Combined, IsNoText, IsSplit, IsUnsplit, IsWhole, IsWholeSummary, RefusesSummaryTexts, RefusesTexts, Split, SummariesWantMemoryAlone, TellsFault, TellsPart, TellsStatus, WantsMemoryAlone, cut, has_covers, no_answer, no_text, part_lines, summary_number, text_after};
 ghost use Rattle.library_calls.specs.declared.part_calls.TextFault.TheVariants as text;
 
 use crate::calls::{
@@ -18,9 +18,12 @@ use crate::calls::{
 };
 use crate::held::Held;
 use attributes::{Batch, Text};
-use parts::{CombineFault, combine, is_count, part_of, split};
+use parts::{CombineFault, combine, combine_summaries, is_count, part_of, split};
 use std::alloc::{AllocError, AllocFailed, Global};
 use views::Query;
+
+/// The number of the summary, behind those of the questions.
+const SUMMARY: u32 = 8;
 
 /// A region isn't in so many parts.
 const BAD_PARTS: u32 = 32;
@@ -45,8 +48,8 @@ const OVERLAP: u32 = 37;
 #[derive(Drop)]
 pub struct CombineReply {
     /// 0: done. 1: out of memory. 4: no such question. 33: a text is no answer to `cover`. 34: a
-    /// text is no answer to the question. 35: there are more or fewer covers than answers. 36: a sum
-    /// is above 2^64 - 1. 37: a source stands in two parts.
+    /// text is no answer to the question, or no summary of version 2. 35: there are more or fewer
+    /// covers than answers. 36: a sum is above 2^64 - 1. 37: a source stands in two parts.
     pub status: u32,
     /// The part of which 33 and 34 tell, the first one of 37; of 35 how many answers there are;
     /// else 0.
@@ -166,15 +169,25 @@ fn has_covers(query: Query) -> bool
     }
 }
 
+/// At most so many of the lengths.
+fn first_lengths<'a>(count: usize, lengths: &'a [u64]) -> &'a [u64]
+    ensures { result.now ≡ take count lengths.now }
+{
+    if count >= lengths.len() {
+        return lengths;
+    }
+    &lengths[..count]
+}
+
 /// At most so many of the lengths, where no covers stand beside the answers.
 fn lengths_of<'a>(query: Query, answers: usize, lengths: &'a [u64]) -> &'a [u64]
     ensures { result.now
         ≡ (if has_covers query then lengths.now else take answers lengths.now) }
 {
-    if has_covers(query) || answers >= lengths.len() {
+    if has_covers(query) {
         return lengths;
     }
-    &lengths[..answers]
+    first_lengths(answers, lengths)
 }
 
 /// The fault of an answer that is none to the question.
@@ -249,6 +262,29 @@ fn whole_of(
     }
 }
 
+/// The summary of the whole from texts that lie in bytes, of which so many are summaries.
+fn whole_summary(
+    alloc: Global,
+    answers: u64,
+    bytes: &[u8],
+    lengths: &[u64],
+) -> Result<Text, CombineFault>
+    ensures whole { IfOk result (IsWholeSummary
+        (record { answers = answers; bytes = bytes.now; lengths = lengths.now })) }
+    ensures refused { IfErr result (RefusesSummaryTexts
+        (record { answers = answers; bytes = bytes.now; lengths = lengths.now })) }
+    ensures taken { SummariesWantMemoryAlone
+        (record { answers = answers; bytes = bytes.now; lengths = lengths.now })
+        (OnErr result (result ≡ Err fault.OutOfMemory)) }
+{
+    let looked_at = first_lengths(answers as usize, lengths);
+    match texts_in(alloc, bytes, looked_at) {
+        Ok(texts) => combine_summaries(alloc, texts.as_slice()),
+        Err(TextFault::NoText(part)) => Err(CombineFault::NotAnAnswer { part }),
+        Err(TextFault::OutOfMemory) => Err(CombineFault::OutOfMemory),
+    }
+}
+
 /// Sets what a reply tells of.
 fn tell(status: u32, first: u64, second: u64, reply: &mut CombineReply)
     ensures status { reply.new.status ≡ status }
@@ -317,7 +353,27 @@ fn answer_whole(
     tell_whole(made, text, reply);
 }
 
-/// Answers the question of a number over the whole in place of the text, or tells why there is no
+/// Answers with the summary of the whole in place of the text, or tells why there is none.
+fn answer_summary(
+    alloc: Global,
+    text: &mut Text,
+    answers: u64,
+    bytes: &[u8],
+    lengths: &[u64],
+    reply: &mut CombineReply,
+)
+    ensures answers { AnswersSummary
+        (record { answers = answers; bytes = bytes.now; lengths = lengths.now })
+        text.old text.new reply.new }
+    ensures taken { SummariesWantMemoryAlone
+        (record { answers = answers; bytes = bytes.now; lengths = lengths.now })
+        (IsDoneOrWant reply.new.status) }
+{
+    let made = whole_summary(alloc, answers, bytes, lengths);
+    tell_whole(made, text, reply);
+}
+
+/// Answers what a number stands for over the whole in place of the text, or tells why there is no
 /// answer.
 fn answer_number(
     alloc: Global,
@@ -334,15 +390,25 @@ fn answer_number(
     ensures taken { (q : Query) → number ≡ question_number q → WantsMemoryAlone q
         (record { answers = answers; bytes = bytes.now; lengths = lengths.now })
         (IsDoneOrWant reply.new.status) }
+    ensures summary_taken { number ≡ summary_number → SummariesWantMemoryAlone
+        (record { answers = answers; bytes = bytes.now; lengths = lengths.now })
+        (IsDoneOrWant reply.new.status) }
 {
     match query_at(number) {
         Some(query) => answer_whole(alloc, text, query, answers, bytes, lengths, reply),
-        None => tell(NO_SUCH_QUESTION, 0, 0, reply),
+        None => {
+            if number == SUMMARY {
+                answer_summary(alloc, text, answers, bytes, lengths, reply);
+            } else {
+                tell(NO_SUCH_QUESTION, 0, 0, reply);
+            }
+        }
     }
 }
 
 /// Answers the question of a number over the whole, from texts that lie in bytes one behind the
 /// other, by how many bytes each has: so many answers of the parts, and behind them their covers.
+/// Number 8 is the summary, of version 2, from so many summaries of the parts.
 pub fn site_combine(
     mut held: Held,
     query: u32,
