@@ -81,7 +81,8 @@ struct jumbetai_combine_reply {
 };
 
 /* The answer of the whole to a question from texts of its parts, which lie one behind the other in
- * the bytes, as many as there are lengths: so many answers, and behind them the covers. */
+ * the bytes, as many as there are lengths: so many answers, and behind them the covers. 8 asks for
+ * the summary of the whole, from so many summaries of its parts. */
 void jumbetai_site_combine(void *at, uint32_t question, uint64_t answers,
                            const unsigned char *bytes, size_t length, const uint64_t *lengths,
                            size_t count, struct jumbetai_combine_reply *reply);

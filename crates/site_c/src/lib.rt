@@ -261,8 +261,8 @@ pub unsafe extern "C" fn jumbetai_site_split(
 }
 
 /// Asks a question about the whole of parts, by the texts of so many of their answers, and behind
-/// them of their covers, which lie one behind the other in the bytes; its text stays in the site as
-/// an answer's does.
+/// them of their covers, which lie one behind the other in the bytes; 8 asks for the summary, by so
+/// many summaries. Its text stays in the site as an answer's does.
 #[unsafe(no_mangle)]
 pub unsafe extern "C" fn jumbetai_site_combine(
     at: *mut u8,
