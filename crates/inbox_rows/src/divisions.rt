@@ -94,16 +94,16 @@ fn add_combined(combined: Result<Text, CombineFault>, out: &mut String) -> bool 
     }
 }
 
-/// What texts come to, each a line: covers, or for the word `join` summaries.
+/// What covers come to, or, for the word `summaries`, summaries; each is a line.
 fn combined(alloc: Global, word: &str, lines: &[&str]) -> Result<Text, CombineFault> {
-    if word == "join" {
+    if word == "summaries" {
         return combine_summaries(alloc, lines);
     }
     combine(alloc, Query::Cover, lines, &[])
 }
 
 /// `combine TEXT..`: the cover of the whole, from those of its parts, each without its end of line.
-/// `join TEXT..`: the summary of version 2, from those of its parts.
+/// `summaries TEXT..`: the summary of version 2, from those of its parts.
 pub fn covers(alloc: Global, word: &str, words: &[&str], out: &mut String) -> bool {
     let Ok(lines) = ended_all(alloc, words) else {
         return false;

@@ -119,7 +119,7 @@ fn call(alloc: Global, values: &mut Values, word: &str, words: &[&str], said: &m
         ("conflict", _) => inboxes::conflict(alloc, words, &mut said.text),
         ("part", _) => divisions::part(words, &mut said.text),
         ("split", _) => divisions::split(alloc, &values.events, words, &mut said.text),
-        ("combine", _) | ("join", _) => divisions::covers(alloc, word, words, &mut said.text),
+        ("combine", _) | ("summaries", _) => divisions::covers(alloc, word, words, &mut said.text),
         ("whole", _) => divisions::whole(alloc, words, &mut said.text),
         ("divide", _) => divisions::divide(alloc, &values.inboxes, words, &mut said.text),
         ("all", _) | ("best", _) | ("size", _) | ("came", _) | ("rivals", _) => {
