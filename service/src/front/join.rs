@@ -212,7 +212,7 @@ mod tests {
 
     #[test]
     fn a_source_in_two_parts_is_told() {
-        let told = together(&[summary(&[("/a", 1)]), summary(&[("/b", 1), ("/a", 2)])]).unwrap_err();
+        let told = together(&[summary(&[("/a", 1)]), summary(&[("/a", 2), ("/b", 1)])]).unwrap_err();
         assert!(matches!(told, Fault::Overlap(source) if source == "/a"));
     }
 
