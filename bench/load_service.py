@@ -55,7 +55,7 @@ function setup(thread) thread:set("id", threads) threads = threads + 1 end
 local function event()
     number = number + 1
     local source = SOURCES == 1 and id or string.format("%d/%d", id, number % SOURCES)
-    return string.format('{"specversion":"1.0","id":"/load/%d-%012d","source":"/load/%s","type":"com.example.order.placed",' ..
+    return string.format('{"specversion":"1.0","id":"/load/%d-%012d","source":"/load/RUN/%s","type":"com.example.order.placed",' ..
         '"subject":"customer/%06d","sequence":"%020d","time":"2024-02-29T10:00:%02dZ","attempt":1,' ..
         '"datacontenttype":"application/json","data":{"lines":[{"sku":"%08x","count":%d}]}}',
         id, number, source, number * 7919 % 5000, math.ceil(number / SOURCES), number % 60, number * 40503 % 4294967296, number % 19 + 1)
@@ -99,11 +99,12 @@ def of_service(tries: Tries, folder: str, shape: Shape, seconds: int) -> Rates:
     return rates
 
 
-def by_wrk(site: Site, folder: str, shape: Shape, seconds: int, sources: int, had: int = 0) -> Rates:
-    """What a service that had so many events takes of events of so many sources for each of two threads of wrk."""
+def by_wrk(site: Site, folder: str, shape: Shape, seconds: int, sources: int) -> Rates:
+    """What a service takes of events that nobody gave before, of so many sources for each of two threads of wrk."""
     connections, batch = shape
+    had = int(site.get("/kinds").headers["site-events"])
     with open(f"{folder}/load.lua", "w", encoding="ascii") as out:
-        out.write(SCRIPT.replace("BATCH", str(batch)).replace("SOURCES", str(sources)))
+        out.write(SCRIPT.replace("BATCH", str(batch)).replace("SOURCES", str(sources)).replace("RUN", str(had)))
     threads = str(min(2, connections))
     words = ["wrk", "-t", threads, "-c", str(connections), "-d", f"{seconds}s", "--latency", "-s", f"{folder}/load.lua", f"http://127.0.0.1:{site.port}"]
     said = subprocess.run(words, capture_output=True, text=True, check=True, timeout=seconds + 30).stdout
@@ -358,37 +359,41 @@ def hold_all(tries: Tries, name: str, count: int, events: int) -> tuple[list[Sit
     return sites, f"{held:,} events held, start {took:.1f} s, {sum(resident(it)[0] for it in sites):,} MiB"
 
 
-def of_region(tries: Tries, folder: str, count: int, shape: Shape, given: argparse.Namespace) -> tuple[Rates, list[float]]:
-    """What a front before so many parts takes, and the milliseconds of GET /kinds behind that: first where nothing came
-    between two, then where an event did."""
+def of_region(tries: Tries, folder: str, count: int, shapes: list[Shape], given: argparse.Namespace) -> list[tuple[Rates, list[float]]]:
+    """What a front before so many parts takes of each shape in turn, and the milliseconds of GET /kinds behind that: first
+    where nothing came between two, then where an event did."""
     name = f"p{time.monotonic_ns()}"
     parts, told = hold_all(tries, name, count, given.events)
     if told:
         print(f"{count or 'no'} parts: {told}", file=sys.stderr, flush=True)
     rows = "".join(f'[[parts]]\nurl = "{it.url}"\n' for it in parts)
     front = tries.site(name, rows, is_front=True).start(60) if count else parts[0]
-    rates = by_wrk(front, folder, shape, given.seconds, 32, given.events // 640 * 640)
-    times: list[list[float]] = [[], []]
-    for turn in range(100):
-        if turn % 2:
-            front.give(event(turn, "/asked"))
-        began = time.monotonic()
-        front.get("/kinds")
-        times[turn % 2].append((time.monotonic() - began) * 1000)
+    found = []
+    for shape in shapes:
+        rates = by_wrk(front, folder, shape, given.seconds, 32)
+        times: list[list[float]] = [[], []]
+        for turn in range(100):
+            if turn % 2:
+                front.give(event(turn, f"/asked/{len(found)}"))
+            began = time.monotonic()
+            front.get("/kinds")
+            times[turn % 2].append((time.monotonic() - began) * 1000)
+        found.append((rates, [statistics.median(it) for it in times]))
     for it in {front, *parts}:
         it.stop(seconds=120)
         shutil.rmtree(it.folder)
-    return rates, [statistics.median(it) for it in times]
+    return found
 
 
 def of_parts(tries: Tries, folder: str, given: argparse.Namespace, shapes: list[Shape]) -> None:
     print("| connections x batch | parts | events a second | p50, p99 ms | GET /kinds, nothing new, and new: ms |\n|---|---|---|---|---|")
+    got: dict[tuple[Shape, int], list[tuple[Rates, list[float]]]] = {}
+    for _ in range(given.rounds):
+        for count in map(int, given.parts.split(",")):
+            for shape, row in zip(shapes, of_region(tries, folder, count, shapes, given)):
+                got.setdefault((shape, count), []).append(row)
     for shape in shapes:
-        got: dict[int, list[tuple[Rates, list[float]]]] = {}
-        for _ in range(given.rounds):
-            for count in map(int, given.parts.split(",")):
-                got.setdefault(count, []).append(of_region(tries, folder, count, shape, given))
-        for count, rows in got.items():
+        for (_, count), rows in ((at, rows) for at, rows in got.items() if at[0] == shape):
             rates = [[row[0][at] for row in rows] for at in range(3)]
             kinds = [statistics.median(row[1][at] for row in rows) for at in range(2)]
             told = f"{statistics.median(rates[0]):,.0f} ({min(rates[0]):,.0f}..{max(rates[0]):,.0f})"
