@@ -368,7 +368,7 @@ def of_region(tries: Tries, folder: str, count: int, shapes: list[Shape], given:
         print(f"{count or 'no'} parts: {told}", file=sys.stderr, flush=True)
     rows = "".join(f'[[parts]]\nurl = "{it.url}"\n' for it in parts)
     front = tries.site(name, rows, is_front=True).start(60) if count else parts[0]
-    found = []
+    found: list[tuple[Rates, list[float]]] = []
     for shape in shapes:
         rates = by_wrk(front, folder, shape, given.seconds, 32)
         times: list[list[float]] = [[], []]

@@ -1200,7 +1200,9 @@ class Parts(unittest.TestCase):
 
     def test_what_is_no_summary_of_a_whole(self):
         digest = hashlib.sha256(b"").hexdigest()
-        a, b = ('{"blocks":{"/%s":[[0,"%s"]]},"sources":{"/%s":[[1,1]]},"version":2}\n' % (it, digest, it) for it in "ab")
+        a, b = (
+            '{"blocks":{"/%s":[[0,"%s"]]},"sources":{"/%s":[[1,1]]},"version":2}\n' % (it, digest, it) for it in "ab"
+        )
         blocks = '"/a":[[0,"%s"]],"/b":[[0,"%s"]]' % (digest, digest)
         both = '{"blocks":{%s},"sources":{"/a":[[1,1]],"/b":[[1,1]]},"version":2}\n' % blocks
         self.assertEqual(combine_summaries([b, a]), both.encode())

@@ -243,8 +243,8 @@ def combine(question: str, answers: Sequence[Given], covers: Sequence[Given] = (
 
 
 def combine_summaries(summaries: Sequence[Given]) -> bytes:
-    """The summary of a whole region, from those of its parts, in any order of the parts: the very bytes that a site with
-    all events tells. Time in proportion to the texts, times a logarithm, and to the sources, times the parts."""
+    """The summary of a whole region, from those of its parts, in any order of the parts: the very bytes that a site
+    with all events tells. Time in proportion to the texts, times a logarithm, and to the sources, times the parts."""
     texts = [_bytes(it) for it in summaries]
     return _whole("jumbetai_combine_summaries", _bodies(texts), len(texts))
 
