@@ -24,7 +24,7 @@ LIMITS = {
     "docs/GUARANTEES.md": (None, 1700),
     "docs/GUIDE.md": (310, 2500),  # every command with what it prints, since all of it is run
     "docs/OPERATIONS.md": (None, 2100),
-    "docs/PERFORMANCE.md": (105, 1350),  # the service beside PostgreSQL, too
+    "docs/PERFORMANCE.md": (128, 1600),  # the service beside PostgreSQL, and in parts, too
     "crates/database_commands/README.md": (60, 1200),  # fourteen commands
     "crates/inbox_table/README.md": (60, 1050),  # what each call leaves at each exit
     "crates/site/README.md": (60, 1050),  # what all above stands on
