@@ -8,9 +8,11 @@ import os
 import random
 import shutil
 import signal
+import socket
+import subprocess
 import threading
 import time
-from typing import Any, Iterator
+from typing import Any, Callable, Iterator
 from urllib.parse import quote
 
 import pytest
@@ -470,6 +472,85 @@ def give_until_taken(fronts: list[Site], batch: list[dict[str, Any]], until: flo
                 return True
         turn += 1
         time.sleep(0.02)
+    return False
+
+
+NGINX = """daemon off;
+pid {folder}/pid;
+error_log {folder}/error.log;
+events {{}}
+http {{
+    access_log off;
+    client_body_temp_path {folder}/body;
+    proxy_temp_path {folder}/proxy;
+    fastcgi_temp_path {folder}/fastcgi;
+    uwsgi_temp_path {folder}/uwsgi;
+    scgi_temp_path {folder}/scgi;
+    upstream fronts {{ {servers} }}
+    server {{
+        listen 127.0.0.1:{port};
+        location / {{
+            proxy_pass http://fronts;
+            proxy_set_header Host localhost;
+            proxy_next_upstream error timeout non_idempotent;
+        }}
+    }}
+}}
+"""
+
+
+@contextlib.contextmanager
+def balancer(folder: str, fronts: list[Site]) -> Iterator[str]:
+    """nginx before these, as docs/SCALING.md has it; its address."""
+    os.makedirs(folder)
+    with socket.socket() as free:
+        free.bind(("127.0.0.1", 0))
+        port = free.getsockname()[1]
+    servers = " ".join(f"server {it.url.removeprefix('http://')} max_fails=0;" for it in fronts)
+    with open(f"{folder}/conf", "w", encoding="ascii") as out:
+        out.write(NGINX.format(folder=folder, port=port, servers=servers))
+    with subprocess.Popen([shutil.which("nginx") or "", "-p", folder, "-e", f"{folder}/error.log", "-c", f"{folder}/conf"]) as ran:
+        try:
+            yield f"127.0.0.1:{port}"
+        finally:
+            ran.terminate()
+
+
+def test_balancer(tries: Tries) -> None:
+    """Fronts behind nginx are killed and ended in turn while a client gives events: each is answered, and kept once."""
+    if not shutil.which("nginx"):
+        pytest.skip("nginx isn't there")
+    with region(tries, 2, 2) as (parts, fronts), balancer(f"{tries.folder}/nginx", fronts) as address:
+        statuses = list[int]()
+
+        def ask(method: str, path: str, body: str = "") -> int:
+            connection = http.client.HTTPConnection(address, timeout=10)
+            with contextlib.closing(connection):
+                connection.request(method, path, body, MANY)
+                answer = connection.getresponse()
+                answer.read()
+                return answer.status
+
+        tries.judge("it is there", fronts[0].waits_for(lambda: not refuses(lambda: ask("GET", "/healthz"))))
+        for turn in range(6):
+            front = fronts[turn % 2]
+            front.stop((signal.SIGKILL, signal.SIGTERM)[turn % 3 % 2])
+            for number in range(turn * 10 + 1, turn * 10 + 11):
+                statuses.append(ask("POST", "/events", json.dumps([event(number, f"/c{it}") for it in range(8)])))
+            front.start()
+        tries.judge("each is answered", statuses == [200] * 60, statuses)
+        wanted = {f"/c{it}": [[1, 60]] for it in range(8)}
+        for it in fronts:
+            tries.judge("each is kept", it.cover() == wanted and it.get("/kinds").body == b'["t",480]\n', it.cover())
+        tries.judge("both parts have some", all(it.cover() for it in parts))
+
+
+def refuses(call: Callable[[], object]) -> bool:
+    """Whether nobody answers yet."""
+    try:
+        call()
+    except OSError:
+        return True
     return False
 
 
