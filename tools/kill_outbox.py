@@ -110,6 +110,12 @@ class Outbox:
             self.follow(is_killed=True)
         writers.wait(60)
 
+    def wait_for_writers(self) -> None:
+        """Waits until none is left at the database: it goes on with what a writer sent before it was killed."""
+        end = time.monotonic() + 60
+        while int(self.db.sql("SELECT count(*) FROM pg_stat_activity WHERE application_name = 'pgbench'")) and time.monotonic() < end:
+            time.sleep(0.05)
+
     def written(self) -> dict[str, set[str]]:
         """The ids that were committed, by source."""
         found: dict[str, set[str]] = {}
@@ -121,6 +127,7 @@ class Outbox:
     def judge(self) -> None:
         if self.long is not None:
             self.hold()
+        self.wait_for_writers()
         want = self.written()
         cover = {source: [[1, len(names)]] for source, names in want.items()}
         is_there = self.site.waits_for(lambda: self.site.cover() == cover, 60)
