@@ -164,7 +164,7 @@ following_stops start lines next left left' out out' old mid now faults tells li
 -- a turn that stops leaves the service beside the table too
 stop_beside : (mid : Database) (now : State) (out out' : Option (List ℕ)) (tells : List Told) (lists : List (List EventValue)) (why : FollowFault) → StopsTurn why tells lists mid now out out' → HasCleanDisk now → IsTrue now.is_open → KeepsService mid now.now
 stop_beside mid now out out' tells lists (Input fault) stop clean still = absurd stop
-stop_beside mid now out out' tells lists (Table fault) (unwritten, left) clean still = elim (left clean still) [
+stop_beside mid now out out' tells lists (Table fault) (unwritten, of_store, left) clean still = elim (left clean still) [
   | inl same ↦ subst (KeepsService mid) (sym same) (keeps_none mid)
   | inr took ↦ took.2.beside
 ]

@@ -8,6 +8,7 @@ use Rattle.inbox.specs.KeyOrder.{key_cmp}
 use Rattle.inbox.specs.Ordered.{append_new}
 use Rattle.inbox_table.specs.Beside.{KeepsService}
 use Rattle.inbox_table.specs.Calls.{AreFreshEach, IsSettled, Takes, joined}
+use Rattle.inbox_table.specs.Fault.{IsOfStore}
 use Rattle.inbox_table.specs.Rows.{IsInbox}
 use Rattle.inbox_table.specs.declared.fault.TableFault.TheVariants.{OutOfMemory}
 use Rattle.line_intake.specs.Answers.{answers}
@@ -28,13 +29,14 @@ pub record IsKept (lists : List (List EventValue)) (each : List ℕ) (old : Data
 
 -- ---- one turn that stops
 
--- why a turn stops, and what it leaves. The table refused it: nothing was written, and the table is
--- as it was, or, where memory for the answers is wanted, has the events. Or a write failed: the
--- events are in, and a front of the answers was written
+-- why a turn stops, and what it leaves. The table refused it, for want of memory or by another
+-- refusal of the store: nothing was written, and the table is as it was, or, where memory for the
+-- answers is wanted, has the events. Or a write failed: the events are in, and a front of the answers
+-- was written
 abbrev pub StopsTurn : FollowFault → List Told → List (List EventValue) → Database → State
     → Option (List ℕ) → Option (List ℕ) → Type 0
 StopsTurn (fault.Input why) tells lists old new out out' = ⊥
-StopsTurn (fault.Table why) tells lists old new out out' = Keeps out out'
+StopsTurn (fault.Table why) tells lists old new out out' = Keeps out out' × IsOfStore why
     × (HasCleanDisk new → IsTrue new.is_open → (new.now ≡ old)
     ⊎ ((why ≡ OutOfMemory) × (each : List ℕ) × IsKept lists each old new))
 StopsTurn fault.Unwritten tells lists old new out out' = (each : List ℕ)

@@ -5,6 +5,7 @@ ghost use Rattle.std.specs.Io.KnownBytes.{Appends, Keeps};
 ghost use Rattle.sqlite.specs.Held.{state};
 ghost use Rattle.sqlite.specs.State.{HasCleanDisk, Survives};
 ghost use Rattle.inbox_table.specs.Calls.{MayTake, joined};
+ghost use Rattle.inbox_table.specs.Fault.{IsOfStore};
 ghost use Rattle.inbox_table.specs.declared.fault.TableFault.TheVariants.{OutOfMemory};
 ghost use Rattle.line_intake.specs.Answers.{answers};
 ghost use Rattle.line_intake.specs.Follow.{IsKept, StopsTurn};
@@ -47,6 +48,7 @@ pub fn keep_lines<S: Alter>(
         × (text ≡ answers gathered.now.tells gathered.now.lists each)
         × (HasCleanDisk (state S.Store table.new.conn) → IsKept gathered.now.lists each
         (state S.Store table.old.conn).now (state S.Store table.new.conn))) }
+    ensures fault { IfErr result IsOfStore }
     ensures left { HasCleanDisk (state S.Store table.new.conn)
         → IsTrue (state S.Store table.new.conn).is_open → IfErr result (λ f.
         ((state S.Store table.new.conn).now ≡ (state S.Store table.old.conn).now)
