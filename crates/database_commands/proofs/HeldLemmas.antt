@@ -1,5 +1,5 @@
 -- What a database holds for a command, before and after.
-use Rattle.std.proofs.Common.{◌≡◌, ◌∙◌, ℕ, List, [], length, Bool, true, false, Ok, Err, Result, inl, inr, sym, subst, refl}
+use Rattle.std.proofs.Common.{◌≡◌, ◌⊎◌, ◌∙◌, ℕ, List, [], length, Bool, true, false, Ok, Err, Result, ap, inl, inr, sym, subst, refl}
 use Rattle.std.specs.Result.{IfOk, OnErr, OnOk}
 use Rattle.sqlite_trees.specs.Tree.{Trees}
 use Rattle.sqlite.specs.Effect.{Database}
@@ -17,7 +17,8 @@ use Rattle.inbox_table.specs.declared.fault.TableFault.TheVariants as table
 use Rattle.inbox_table.proofs.UpgradeLemmas.{any_named}
 use Rattle.database_commands.specs.Fault.{of_table}
 use Rattle.database_commands.specs.declared.fault.CommandFault.TheVariants as command
-use Rattle.database_commands.specs.Held.{Holds, IsNoInbox, KeepsRows, MayHold, MayHoldMore, TellsUpgrade}
+use Rattle.database_commands.specs.declared.fault.CommandFault.{CommandFault}
+use Rattle.database_commands.specs.Held.{Holds, IsNoInbox, IsUntold, KeepsRows, MayHold, MayHoldMore, TellsUpgrade}
 use Rattle.database_commands.proofs.BesideLemmas.{service_gained, service_kept, service_over, service_same, service_upgraded}
 
 -- where there was no table, the one that was made has what the database held
@@ -180,7 +181,21 @@ table_foreign table.OutOfMemory is = absurd (cc)
 table_foreign table.Store is = absurd (cc)
 table_foreign table.Foreign is = refl
 
--- keeping is never refused so
-pub store_known : (fault : TableFault) → IsOfStore fault → of_table fault ≡ command.Foreign → ⊥
-store_known fault (inl is) told = let e : table.OutOfMemory ≡ table.Foreign = sym is ∙ table_foreign fault told in cc
-store_known fault (inr is) told = let e : table.Store ≡ table.Foreign = sym is ∙ table_foreign fault told in cc
+-- a table is refused so
+pub table_untold : (fault : TableFault) → IsUntold (of_table fault)
+table_untold table.OutOfMemory = inl refl
+table_untold table.Store = inr (inl refl)
+table_untold table.Foreign = inr (inr refl)
+
+-- and keeping
+pub store_told : (fault : TableFault) → IsOfStore fault → (of_table fault ≡ command.OutOfMemory) ⊎ (of_table fault ≡ command.Store)
+store_told fault (inl is) = inl (ap of_table is)
+store_told fault (inr is) = inr (ap of_table is)
+
+pub untold_so : (f : CommandFault) → (f ≡ command.OutOfMemory) ⊎ (f ≡ command.Store) → IsUntold f
+untold_so f (inl is) = inl is
+untold_so f (inr is) = inr (inl is)
+
+pub known_so : (f : CommandFault) → (f ≡ command.OutOfMemory) ⊎ (f ≡ command.Store) → f ≡ command.Foreign → ⊥
+known_so f (inl is) foreign = let e : command.OutOfMemory ≡ command.Foreign = sym is ∙ foreign in cc
+known_so f (inr is) foreign = let e : command.Store ≡ command.Foreign = sym is ∙ foreign in cc

@@ -11,7 +11,7 @@ use Rattle.database_layout.specs.Layout.{has_inbox}
 use Rattle.inbox_table.specs.Calls.{has_both}
 use Rattle.outbox.specs.Call.{Leaves}
 use Rattle.database_commands.specs.Effect.{LookEffect, PageEffect}
-use Rattle.database_commands.specs.Held.{Holds, IsNoInbox, ShowsEvents}
+use Rattle.database_commands.specs.Held.{Holds, IsNoInbox, IsUntold, ShowsEvents}
 use Rattle.database_commands.specs.declared.fault.CommandFault.{CommandFault}
 use Rattle.database_commands.specs.declared.fault.CommandFault.TheVariants as command
 use Rattle.database_commands.specs.steps.Made.{ContentsEffect, IsMadeOf}
@@ -79,6 +79,14 @@ made_foreign given (Err f) Is P p it = λ is. elim it.why [
   | inr memory ↦ absurd (let e : command.OutOfMemory ≡ command.Foreign = sym memory ∙ is in cc)
 ]
 
+-- it is refused as what was given is, or for want of memory
+made_untold : {A B : Type 0} (given : Result A CommandFault) (made : Result B CommandFault) (Is : A → B → Type 0) → IfErr given IsUntold → IsMadeOf given Is made → IfErr made IsUntold
+made_untold given (Ok b) Is untold it = tt
+made_untold given (Err f) Is untold it = elim it.why [
+  | inl same ↦ IfErr-at_err IsUntold same untold
+  | inr memory ↦ inl memory
+]
+
 -- events that a database holds stand there once each
 pub once_shown : (db : Database) (es held : List EventValue) → ShowsEvents db es → Holds db held → append_new key_cmp [] es ≡ held
 once_shown db es held shows holds = ap (append_new key_cmp []) (shows held holds) ∙ held_once db held holds
@@ -86,14 +94,15 @@ once_shown db es held shows holds = ap (append_new key_cmp []) (shows held holds
 -- a command that only looks
 pub look_made : {B : Type 0} (old new : State) (events : Result (List EventValue) CommandFault) (made : Result B CommandFault) (Is : List EventValue → B → Type 0) (Shows : Database → B → Type 0)
     → (HasCleanDisk new → IfOk events (ShowsEvents old.now)) → Leaves old new → (has_inbox old.now.schema ≡ false → new.now ≡ old.now)
-    → IfErr events (λ f. f ≡ command.Foreign → HasCleanDisk new → IsNoInbox old.now) → (has_both old.now.schema ≡ true → events ≡ Err command.Foreign)
+    → IfErr events (λ f. f ≡ command.Foreign → HasCleanDisk new → IsNoInbox old.now) → (has_both old.now.schema ≡ true → events ≡ Err command.Foreign) → IfErr events IsUntold
     → ((es : List EventValue) (b : B) → Is es b → ShowsEvents old.now es → Shows old.now b) → IsMadeOf events Is made → LookEffect Shows made old new
-look_made old new events made Is Shows shown left without foreign both to it = record {
+look_made old new events made Is Shows shown left without foreign both untold to it = record {
   shown = λ clean. made_shows events made Is (ShowsEvents old.now) (Shows old.now) (shown clean) to it;
   left = left;
   without = without;
   foreign = made_foreign events made Is (HasCleanDisk new → IsNoInbox old.now) foreign it;
   both = λ there. it.refused command.Foreign (both there);
+  fault = made_untold events made Is untold it;
 }
 
 -- and one that makes the table where there is none
@@ -108,6 +117,7 @@ page_made old new events made Is Shows own to it = record {
   crash = own.crash;
   foreign = made_foreign events made Is (HasCleanDisk new → IsNoInbox old.now) own.foreign it;
   both = λ there. it.refused command.Foreign (own.both there);
+  fault = made_untold events made Is own.fault it;
 }
 
 -- what a command that was carried out answers is of its form, also behind the closing

@@ -66,18 +66,19 @@ short_page (suc n) (x ∷ xs) few = ap (λ l. x ∷ l) (short_page n xs (omega (
 
 -- ---- the numbers of rows
 
--- the events before a place and the one that stands there
-behind_step : (after i : ℕ) (es : List EventValue) (e : EventValue) → slice_get es i ≡ Some e → IsBehind after e → AllByRecursion (IsBehind after) (take i es) → AllByRecursion (IsBehind after) (take (suc i) es)
-behind_step after zero [] e here is before = absurd (cc)
-behind_step after (suc i) [] e here is before = absurd (cc)
-behind_step after zero (x ∷ xs) e here is before = (let same : e ≡ x = cc in subst (IsBehind after) same is, tt)
-behind_step after (suc i) (x ∷ xs) e here is before = (before.0, behind_step after i xs e here is before.1)
+-- what holds of each event before a place, and of the one that stands there
+module _ (P : EventValue → Type 0) where
+  each_step : (i : ℕ) (es : List EventValue) (e : EventValue) → slice_get es i ≡ Some e → P e → AllByRecursion P (take i es) → AllByRecursion P (take (suc i) es)
+  each_step zero [] e here is before = absurd (cc)
+  each_step (suc i) [] e here is before = absurd (cc)
+  each_step zero (x ∷ xs) e here is before = (let same : e ≡ x = cc in subst P same is, tt)
+  each_step (suc i) (x ∷ xs) e here is before = (before.0, each_step i xs e here is before.1)
 
-pub behind_next : (after i : ℕ) (es : List EventValue) (e : EventValue) → slice_get es i ≡ Some e → IsBehind after e → AllByRecursion (IsBehind after) (take i es) → AllByRecursion (IsBehind after) (take (i + 1) es)
-behind_next after i es e here is before = subst (λ k. AllByRecursion (IsBehind after) (take k es)) (sym (add-one i)) (behind_step after i es e here is before)
+  pub each_next : (i : ℕ) (es : List EventValue) (e : EventValue) → slice_get es i ≡ Some e → P e → AllByRecursion P (take i es) → AllByRecursion P (take (i + 1) es)
+  each_next i es e here is before = subst (λ k. AllByRecursion P (take k es)) (sym (add-one i)) (each_step i es e here is before)
 
-pub behind_all : (after i : ℕ) (es : List EventValue) → length es ≤ i → AllByRecursion (IsBehind after) (take i es) → AllByRecursion (IsBehind after) es
-behind_all after i es past h = subst (AllByRecursion (IsBehind after)) (take_all i es past) h
+  pub each_all : (i : ℕ) (es : List EventValue) → length es ≤ i → AllByRecursion P (take i es) → AllByRecursion P es
+  each_all i es past h = subst (AllByRecursion P) (take_all i es past) h
 
 behind_both : (after : ℕ) (es ds : List EventValue) → AllByRecursion (IsBehind after) es → AllByRecursion (IsBehind after) ds → AllByRecursion (IsBehind after) (es ++ ds)
 behind_both after [] ds h k = k

@@ -12,13 +12,15 @@ use Rattle.outbox.specs.Service.{IsService}
 use Rattle.outbox.specs.Opening.{LeavesOrMakes, Opens}
 use Rattle.outbox.specs.Shown.{HasNoOther, Shown, Stands}
 use Rattle.outbox.specs.declared.fault.OutboxFault.{OutboxFault}
+use Rattle.outbox.specs.declared.fault.OutboxFault.TheVariants as outbox
 use Rattle.outbox.specs.declared.status.Status.{Status}
 use Rattle.relay.specs.Relay.{ForNextRows}
-use Rattle.database_commands.specs.Fault.{of_outbox}
-use Rattle.database_commands.specs.Held.{HasAnother, IsOrdered, IsServed, KeepsEvents, KeepsService, LeavesOrOrders, MayOrder, Orders, RefusesOrder, Serves, ShowsRows}
+use Rattle.database_commands.specs.Fault.{IsOfOrder, of_outbox}
+use Rattle.database_commands.specs.Held.{HasAnother, IsNoOrders, IsOrdered, IsServed, KeepsEvents, KeepsService, LeavesOrOrders, MayOrder, Orders, RefusesOrder, Serves, ShowsRows}
 use Rattle.database_commands.specs.Print.{batch_line, event_line}
 use Rattle.database_commands.specs.Service.{LeavesOrFounds}
 use Rattle.database_commands.specs.declared.fault.CommandFault.{CommandFault}
+use Rattle.database_commands.specs.declared.fault.CommandFault.TheVariants as command
 use Rattle.database_commands.specs.steps.Served.{LeavesOrAccepts}
 use Rattle.database_commands.proofs.BesideLemmas.{events_beside, events_gained, events_over, events_same}
 use Rattle.database_commands.proofs.RowLemmas.{no_service}
@@ -162,3 +164,20 @@ read_or_founds given old mid new source base last first stands same leaves clean
     let early : HasCleanDisk mid = omega (arith, same.clean, clean) in
     let table = (stands early).table in
     made_or_founds given old mid first early db (leaves clean table.layout table.schema db may)
+
+-- a service isn't refused for another source
+pub not_another : (f : OutboxFault) → of_outbox f ≡ command.AnotherSource → ⊥
+not_another outbox.OutOfMemory is = cc
+not_another outbox.OrderExists is = cc
+not_another outbox.NoOrder is = cc
+not_another outbox.WrongState is = cc
+not_another outbox.Full is = cc
+not_another outbox.Store is = cc
+not_another outbox.Foreign is = cc
+
+-- what isn't to be had is refused as an order is
+pub not_to_be_had : (f : CommandFault) → IsNoOrders f → IsOfOrder f
+not_to_be_had f (inl is) = inr (outbox.OutOfMemory, is)
+not_to_be_had f (inr (inl is)) = inr (outbox.Store, is)
+not_to_be_had f (inr (inr (inl is))) = inr (outbox.Foreign, is)
+not_to_be_had f (inr (inr (inr is))) = inl is

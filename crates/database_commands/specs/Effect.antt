@@ -13,6 +13,7 @@ use Rattle.outbox.specs.Order.{Accepted}
 use Rattle.outbox.specs.Shown.{IsNoService}
 use Rattle.database_commands.specs.Described.{Describes}
 use Rattle.database_commands.specs.Done.{OpenIfDone, SettledIfDone}
+use Rattle.database_commands.specs.Fault.{IsOfOrder}
 use Rattle.database_commands.specs.Held.{HasAnother, IsMeant, IsNoInbox, IsNoOrders, IsUntold, KeepsEvents, KeepsOrTakes, KeepsRows, KeepsService, LeavesOrOrders, MayHold, MayHoldMore, Orders, RefusesOrder, ShowsAllRows, ShowsEvents, ShowsRows, TakesInto, TellsUpgrade}
 use Rattle.database_commands.specs.Service.{HasOtherBase, LeavesOrFounds, TellsOrFounds}
 use Rattle.database_commands.specs.Service as service
@@ -42,6 +43,7 @@ pub record TakeEffect (tells : ℕ → ℕ → Type 0) (events : List EventValue
   -- are there
   pub foreign : IfErr outcome (λ f. f ≡ command.Foreign → HasCleanDisk new → IsNoInbox old.now)
   pub both : has_both old.now.schema ≡ true → IsErrOf outcome command.Foreign
+  pub fault : IfErr outcome IsUntold
 
 -- a page was asked for, by `delta` or `scrub`
 pub record PageEffect (Shows : Database → List ℕ → Type 0)
@@ -59,6 +61,7 @@ pub record PageEffect (Shows : Database → List ℕ → Type 0)
   -- `Foreign` comes as of `take`
   pub foreign : IfErr outcome (λ f. f ≡ command.Foreign → HasCleanDisk new → IsNoInbox old.now)
   pub both : has_both old.now.schema ≡ true → IsErrOf outcome command.Foreign
+  pub fault : IfErr outcome IsUntold
 
 -- a command only looked at the inbox: `summary`, or all pages of `delta` or `scrub`
 pub record LookEffect {A : Type 0} (Shows : Database → A → Type 0)
@@ -71,6 +74,7 @@ pub record LookEffect {A : Type 0} (Shows : Database → A → Type 0)
   -- `Foreign` comes as of `take`
   pub foreign : IfErr outcome (λ f. f ≡ command.Foreign → HasCleanDisk new → IsNoInbox old.now)
   pub both : has_both old.now.schema ≡ true → IsErrOf outcome command.Foreign
+  pub fault : IfErr outcome IsUntold
 
 -- the events were asked for
 pub record HeldEffect (outcome : Result (List EventValue) CommandFault) (old new : State)
@@ -132,6 +136,7 @@ pub record OrderEffect (is_named : Bool) (given : List ℕ) (c : Accepted)
       → f ≢ command.AnotherSource → RefusesOrder given c.status c.order old.now f)
   pub another : IfErr outcome (λ f. f ≡ command.AnotherSource → IsTrue is_named
       × (HasCleanDisk new → HasAnother given old.now))
+  pub fault : IfErr outcome IsOfOrder
   pub meant : IsTrue is_named → HasCleanDisk new → OnOk outcome (IsMeant given old.now)
   -- accepted, a crash leaves the command
   pub stays_open : HasCleanDisk new → OnOk outcome (IsTrue new.is_open)

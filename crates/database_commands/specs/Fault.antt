@@ -1,4 +1,5 @@
 -- The faults of the crates below, as those of commands.
+use Rattle.std.specs.Prelude.{◌≡◌, ◌⊎◌}
 use Rattle.inbox_table.specs.declared.fault.TableFault.{TableFault}
 use Rattle.inbox_table.specs.declared.fault.TableFault.TheVariants as table
 use Rattle.outbox.specs.declared.fault.OutboxFault.{OutboxFault}
@@ -28,6 +29,11 @@ of_outbox outbox.Full = command.Full
 of_outbox outbox.Store = command.Store
 of_outbox outbox.Foreign = command.Foreign
 
+-- the fault says that an order isn't given a status: so a service refuses, or the one that is there
+-- has another source than the one that was named
+abbrev pub IsOfOrder : CommandFault → Type 0
+IsOfOrder f = (f ≡ command.AnotherSource) ⊎ ((why : OutboxFault) × (f ≡ of_outbox why))
+
 -- the fault that one of a relay is
 abbrev pub of_relay : RelayFault → CommandFault
 of_relay relay.OutOfMemory = command.OutOfMemory
@@ -39,3 +45,16 @@ abbrev pub of_follow : FollowFault → StreamFault
 of_follow (follow.Input why) = stream.Input why
 of_follow (follow.Table why) = stream.Database (of_table why)
 of_follow follow.Unwritten = stream.Unwritten
+
+-- the fault of the file of a name: its opening, or its database
+abbrev pub IsOfNamed : CommandFault → Type 0
+IsOfNamed command.OutOfMemory = Unit {0}
+IsOfNamed command.Store = Unit {0}
+IsOfNamed command.Foreign = Unit {0}
+IsOfNamed command.CannotRead = Unit {0}
+IsOfNamed command.Cache = Unit {0}
+IsOfNamed _ = ⊥
+
+-- the fault is such a one of a command, or that of the file of its name
+abbrev pub OrOfNamed : (CommandFault → Type 0) → CommandFault → Type 0
+OrOfNamed Fails f = Fails f ⊎ IsOfNamed f

@@ -82,3 +82,7 @@ module _ {D : Type 0} {g : disk.Ghosts D} where
   abbrev pub RefusesCommand : {A : Type 0} → Image
       → Result (CommandEnd (FileStore D g) A) CommandFault → Type 0
   RefusesCommand image result = IfErr result (IsUnopenedFor D g image)
+
+  abbrev pub RefusesLook : {A : Type 0} → Image
+      → Result (CommandEnd (FileStore D g) A) Trouble → Type 0
+  RefusesLook image result = IfErr result (IsUnopened D g image)

@@ -83,6 +83,13 @@ IsOfSystem trouble.Store = ⊥
 IsOfSystem trouble.Foreign = ⊥
 IsOfSystem _ = Unit {0}
 
+-- a file of a name isn't opened for this: the name is a file's, and the file may be looked at
+abbrev pub IsOfOpening : Trouble → Type 0
+IsOfOpening trouble.NoFile = ⊥
+IsOfOpening trouble.CannotRead = ⊥
+IsOfOpening trouble.Foreign = ⊥
+IsOfOpening _ = Unit {0}
+
 -- {"db":DB,"fault":NAME,"hint":WORDS}
 abbrev pub trouble_data : List ℕ → List ℕ → List ℕ → Data
 trouble_data db fault words =

@@ -1,7 +1,8 @@
 //! What a command to a database is, whatever the database's store.
-ghost use Rattle.std.specs.Prelude.{Result, IfOk, ⊤};
+ghost use Rattle.std.specs.Prelude.{Result, IfErr, IfOk, ⊤};
 ghost use Rattle.sqlite.specs.Held.{state};
 ghost use Rattle.sqlite.specs.State.{State, HasCleanDisk};
+ghost use Rattle.database_commands.specs.Held.{IsUntold};
 ghost use Rattle.database_commands.specs.declared.fault.CommandFault.{CommandFault};
 
 use crate::fault::CommandFault;
@@ -30,6 +31,9 @@ pub trait Command {
     // Of which form an answer is, whatever the disk does.
     ghost says: { Self → Self.Answer → Type 0 };
 
+    // For what it is refused, whatever the disk does.
+    ghost fails: { Self → CommandFault → Type 0 } = { λ _. IsUntold };
+
     /// Carries it out over an open connection.
     fn perform<S: Alter + Drop>(
         self,
@@ -40,5 +44,6 @@ pub trait Command {
         ensures did { does self result.outcome (state S.Store conn) (state S.Store result.conn) }
         ensures clean { HasCleanDisk (state S.Store result.conn)
             → HasCleanDisk (state S.Store conn) }
-        ensures line { IfOk result.outcome (says self) };
+        ensures line { IfOk result.outcome (says self) }
+        ensures fault { IfErr result.outcome (fails self) };
 }

@@ -1,13 +1,16 @@
 //! The commands, each as a value. What each does, and how it is refused, stands at the function of
 //! the crate that it calls.
-ghost use Rattle.std.specs.Prelude.{◌≡◌, ◌≤◌, ℕ, length, true, IfSome, ⊤};
+ghost use Rattle.std.specs.Prelude.{◌≡◌, ◌≢◌, ◌≤◌, ℕ, length, true, IfSome};
 ghost use Rattle.attributes.specs.Character.{is_filled};
 ghost use Rattle.attributes.specs.Sequence.{max_sequence};
+ghost use Rattle.inbox_table.specs.Rows.{AreNumbered};
 ghost use Rattle.database_commands.specs.Described.{SaysDatabase};
 ghost use Rattle.database_commands.specs.Effect.{DescribeEffect, HeldEffect, LookEffect, OrderEffect, PageEffect, RelayAllEffect, RelayEffect, ServiceEffect, TakeEffect};
-ghost use Rattle.database_commands.specs.Held.{HasArrived, HasDelta, HasEvents, SaysAllRows, SaysArrivals, SaysDelta, SaysOrder, SaysPage, SaysRows, SaysSummary, ShowsArrivals, ShowsArrived, ShowsDelta, ShowsLacking, ShowsPage, ShowsSet, ShowsSummary};
+ghost use Rattle.database_commands.specs.Fault.{IsOfOrder};
+ghost use Rattle.database_commands.specs.Held.{HasArrived, HasDelta, HasEvents, IsNoOrders, SaysAllRows, SaysArrivals, SaysDelta, SaysOrder, SaysPage, SaysRows, SaysSummary, ShowsArrivals, ShowsArrived, ShowsDelta, ShowsLacking, ShowsPage, ShowsSet, ShowsSummary};
 ghost use Rattle.database_commands.specs.Print.{counts_line};
 ghost use Rattle.database_commands.specs.Service.{SaysService};
+ghost use Rattle.database_commands.specs.declared.fault.CommandFault.TheVariants as command;
 
 use crate::command::{Command, CommandEnd};
 use crate::described::describe;
@@ -51,7 +54,7 @@ impl Command for HeldEvents {
 
     ghost does = { λ _. HeldEffect };
 
-    ghost says = { λ _ _. ⊤ };
+    ghost says = { λ _. AreNumbered };
 
     fn perform<S: Alter + Drop>(self, alloc: Global, conn: Connection<S>) -> CommandEnd<S, Batch> {
         held(alloc, conn)
@@ -215,6 +218,8 @@ impl<'a> Command for GiveOrder<'a> {
     ghost says = { λ c. SaysOrder c.is_source_named c.source.now
         (record { status = c.status; order = c.number; at = c.at.now }) };
 
+    ghost fails = { λ _. IsOfOrder };
+
     fn perform<S: Alter + Drop>(self, alloc: Global, conn: Connection<S>) -> CommandEnd<S, Text> {
         order(
             alloc,
@@ -245,6 +250,8 @@ impl<'a> Command for TellService<'a> {
     ghost does = { λ c. ServiceEffect c.is_source_named c.source.now c.base };
 
     ghost says = { λ c. SaysService c.is_source_named c.source.now c.base };
+
+    ghost fails = { λ _. IsNoOrders };
 
     fn perform<S: Alter + Drop>(self, alloc: Global, conn: Connection<S>) -> CommandEnd<S, Text> {
         tell_service(alloc, conn, self.source, self.is_source_named, self.base)
@@ -285,6 +292,8 @@ impl<'a> Command for RelayPage<'a> {
 
     ghost says = { λ c. SaysRows c.after };
 
+    ghost fails = { λ _ f. f ≢ command.AnotherSource };
+
     fn perform<S: Alter + Drop>(self, alloc: Global, conn: Connection<S>) -> CommandEnd<S, Text> {
         relay(alloc, conn, self.source, self.after)
     }
@@ -302,6 +311,8 @@ impl Command for RelayAll {
     ghost does = { λ c. RelayAllEffect c.after };
 
     ghost says = { λ c. SaysAllRows c.after };
+
+    ghost fails = { λ _ f. f ≢ command.AnotherSource };
 
     fn perform<S: Alter + Drop>(self, alloc: Global, conn: Connection<S>) -> CommandEnd<S, Text> {
         relay_all(alloc, conn, self.after)

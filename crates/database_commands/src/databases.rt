@@ -1,17 +1,22 @@
 //! Databases by the names of their files.
-ghost use Rattle.std.specs.Prelude.{◌≡◌, ◌≤◌, ℕ, false, length, true, Err, IfErr, IfOk, IfSome, IsTrue, MatchResult};
+ghost use Rattle.std.specs.Prelude.{◌≡◌, ◌≢◌, ◌≤◌, ℕ, false, length, true, Err, IfErr, IfOk, IfSome, IsErrOf, IsTrue, MatchResult};
 ghost use Rattle.sqlite_wal.specs.Files.{image_at};
 ghost use Rattle.sqlite.specs.Held.{state};
 ghost use Rattle.attributes.specs.Character.{is_filled};
 ghost use Rattle.attributes.specs.Sequence.{max_sequence};
+ghost use Rattle.inbox_table.specs.Rows.{AreNumbered};
 ghost use Rattle.line_intake.specs.Acknowledged.{TellsAll};
 ghost use Rattle.database_layout.specs.Layout.{has_name};
 ghost use Rattle.database_commands.specs.Described.{SaysDatabase};
-ghost use Rattle.database_commands.specs.Held.{HasArrived, HasDelta, HasEvents, SaysAllRows, SaysArrivals, SaysDelta, SaysOrder, SaysPage, SaysRows, SaysSummary};
+ghost use Rattle.database_commands.specs.Fault.{IsOfNamed, IsOfOrder, OrOfNamed};
+ghost use Rattle.database_commands.specs.Held.{HasArrived, HasDelta, HasEvents, IsNoOrders, IsUntold, SaysAllRows, SaysArrivals, SaysDelta, SaysOrder, SaysPage, SaysRows, SaysSummary};
+ghost use Rattle.database_commands.specs.Name.{IsNoFile};
 ghost use Rattle.database_commands.specs.OfFile.{Closes, IsOver};
 ghost use Rattle.database_commands.specs.Print.{counts_line};
 ghost use Rattle.database_commands.specs.Service.{SaysService};
 ghost use Rattle.database_commands.specs.Streams.{AcknowledgesUntil};
+ghost use Rattle.database_commands.specs.declared.fault.CommandFault.TheVariants as command;
+ghost use Rattle.database_commands.specs.declared.trouble.Trouble.TheVariants as trouble;
 
 use crate::command::{Command, CommandEnd};
 use crate::commands::{
@@ -52,8 +57,9 @@ pub trait Databases {
         events: &Batch,
         watch: &W,
     ) -> Result<Text, CommandFault>
-        ensures { IfOk result (λ text. (fresh : ℕ)
-            × (text ≡ counts_line (length events.now) fresh)) };
+        ensures answer { IfOk result (λ text. (fresh : ℕ)
+            × (text ≡ counts_line (length events.now) fresh)) }
+        ensures fault { IfErr result (OrOfNamed IsUntold) };
 
     /// As [`crate::follow`].
     fn follow<R: Read, W: Write>(
@@ -70,11 +76,14 @@ pub trait Databases {
 
     /// The events that a database holds, as [`crate::held`]. A file that isn't there is not made:
     /// `CannotRead`.
-    fn events(&self, alloc: Global, name: &str) -> Result<Batch, CommandFault>;
+    fn events(&self, alloc: Global, name: &str) -> Result<Batch, CommandFault>
+        ensures answer { IfOk result AreNumbered }
+        ensures fault { IfErr result (OrOfNamed IsUntold) };
 
     /// As [`crate::summary`]. A file that isn't there is not made: `CannotRead`.
     fn summary(&self, alloc: Global, name: &str) -> Result<Text, CommandFault>
-        ensures { IfOk result SaysSummary };
+        ensures answer { IfOk result SaysSummary }
+        ensures fault { IfErr result (OrOfNamed IsUntold) };
 
     /// As [`crate::delta_pages`]. A file that isn't there is not made: `CannotRead`.
     fn delta_pages(
@@ -83,11 +92,13 @@ pub trait Databases {
         name: &str,
         summary: Summary,
     ) -> Result<EventPages, CommandFault>
-        ensures { IfOk result (HasDelta summary) };
+        ensures answer { IfOk result (HasDelta summary) }
+        ensures fault { IfErr result (OrOfNamed IsUntold) };
 
     /// As [`crate::scrub_pages`]. A file that isn't there is not made: `CannotRead`.
     fn scrub_pages(&self, alloc: Global, name: &str) -> Result<EventPages, CommandFault>
-        ensures { IfOk result HasEvents };
+        ensures answer { IfOk result HasEvents }
+        ensures fault { IfErr result (OrOfNamed IsUntold) };
 
     /// As [`crate::delta`].
     fn delta(
@@ -97,15 +108,18 @@ pub trait Databases {
         summary: &Summary,
         from: u64,
     ) -> Result<Text, CommandFault>
-        ensures { IfOk result (SaysDelta summary.now from) };
+        ensures answer { IfOk result (SaysDelta summary.now from) }
+        ensures fault { IfErr result (OrOfNamed IsUntold) };
 
     /// As [`crate::scrub`].
     fn scrub(&self, alloc: Global, name: &str, from: u64) -> Result<Text, CommandFault>
-        ensures { IfOk result (SaysPage from) };
+        ensures answer { IfOk result (SaysPage from) }
+        ensures fault { IfErr result (OrOfNamed IsUntold) };
 
     /// As [`crate::arrivals`]. A file that isn't there is not made: `CannotRead`.
     fn arrivals(&self, alloc: Global, name: &str, after: u64) -> Result<Text, CommandFault>
-        ensures { IfOk result (SaysArrivals after) };
+        ensures answer { IfOk result (SaysArrivals after) }
+        ensures fault { IfErr result (OrOfNamed IsUntold) };
 
     /// As [`crate::arrival_pages`]. A file that isn't there is not made: `CannotRead`.
     fn arrival_pages(
@@ -114,7 +128,8 @@ pub trait Databases {
         name: &str,
         after: u64,
     ) -> Result<EventPages, CommandFault>
-        ensures { IfOk result (HasArrived after) };
+        ensures answer { IfOk result (HasArrived after) }
+        ensures fault { IfErr result (OrOfNamed IsUntold) };
 
     /// As [`crate::order`].
     fn order(
@@ -130,8 +145,9 @@ pub trait Databases {
         requires source { (is_filled source.now ≡ true) × (length source.now ≤ 1024) }
         requires order { (1 ≤ order) × (order ≤ max_sequence) }
         requires short { length at.now ≤ 64 }
-        ensures { IfOk result (SaysOrder is_source_named source.now
-            (record { status = status; order = order; at = at.now })) };
+        ensures answer { IfOk result (SaysOrder is_source_named source.now
+            (record { status = status; order = order; at = at.now })) }
+        ensures fault { IfErr result (OrOfNamed IsOfOrder) };
 
     /// As [`crate::tell_service`].
     fn service(
@@ -144,11 +160,12 @@ pub trait Databases {
     ) -> Result<Text, CommandFault>
         requires source { (is_filled source.now ≡ true) × (length source.now ≤ 1024) }
         requires base { IfSome base (λ n. n ≤ max_sequence) }
-        ensures { IfOk result (SaysService is_source_named source.now base) };
+        ensures answer { IfOk result (SaysService is_source_named source.now base) }
+        ensures fault { IfErr result (OrOfNamed IsNoOrders) };
 
     /// As [`crate::describe`]. A file that isn't there is not made: `CannotRead`.
     fn describe(&self, alloc: Global, name: &str) -> Result<Text, Trouble>
-        ensures { IfOk result (SaysDatabase name.now) };
+        ensures answer { IfOk result (SaysDatabase name.now) };
 
     /// As [`crate::relay`], and whether the service was made.
     fn relay(
@@ -159,11 +176,13 @@ pub trait Databases {
         after: u64,
     ) -> Result<Relayed, CommandFault>
         requires { (is_filled source.now ≡ true) × (length source.now ≤ 1024) }
-        ensures { IfOk result (λ r. SaysRows after r.text) };
+        ensures answer { IfOk result (λ r. SaysRows after r.text) }
+        ensures fault { IfErr result (OrOfNamed (λ f. f ≢ command.AnotherSource)) };
 
     /// As [`crate::relay_all`]. A file that isn't there is not made: `CannotRead`.
     fn relay_all(&self, alloc: Global, name: &str, after: u64) -> Result<Text, CommandFault>
-        ensures { IfOk result (SaysAllRows after) };
+        ensures answer { IfOk result (SaysAllRows after) }
+        ensures fault { IfErr result (OrOfNamed (λ f. f ≢ command.AnotherSource)) };
 
     /// Whether there is something of that name, so that no command makes it.
     fn is_there(&self, name: &str) -> bool;
@@ -349,7 +368,8 @@ fn give<C: Command + Drop>(
     command: C,
 ) -> Result<C::Answer, CommandFault>
     requires { C.may_come command }
-    ensures { IfOk result (C.says command) }
+    ensures answer { IfOk result (C.says command) }
+    ensures fault { IfErr result (OrOfNamed (C.fails command)) }
 {
     carry_out(alloc, opener.open(name, growth), command)
 }
@@ -362,7 +382,8 @@ fn give_there<C: Command + Drop>(
     command: C,
 ) -> Result<C::Answer, CommandFault>
     requires { C.may_come command }
-    ensures { IfOk result (C.says command) }
+    ensures answer { IfOk result (C.says command) }
+    ensures fault { IfErr result (OrOfNamed (C.fails command)) }
 {
     carry_out(alloc, opener.open_there(name), command)
 }
@@ -376,7 +397,9 @@ fn carry_out<C: Command + Drop>(
 ) -> Result<C::Answer, CommandFault>
     requires come { C.may_come command }
     requires over { IfOk opened (IsOver (image_at ⟦<Unknown as Start>⟧)) }
-    ensures { IfOk result (C.says command) }
+    requires unopened { IfErr opened IsOfNamed }
+    ensures answer { IfOk result (C.says command) }
+    ensures fault { IfErr result (OrOfNamed (C.fails command)) }
 {
     closed(performed(alloc, opened, command))
 }

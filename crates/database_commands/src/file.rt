@@ -3,7 +3,7 @@ ghost use Rattle.std.specs.Prelude.{◌≡◌, ◌≤◌, IfErr, IfOk, IfSome, I
 ghost use Rattle.sqlite_wal.specs.Files.{image_at};
 ghost use Rattle.database_commands.specs.Name.{IsNoFile};
 ghost use Rattle.database_commands.specs.OfFile.{Closes, IsOver, RefusesFiles, RefusesFilesFor};
-ghost use Rattle.database_commands.specs.Trouble.{IsOfSystem};
+ghost use Rattle.database_commands.specs.Trouble.{IsOfOpening, IsOfSystem};
 ghost use Rattle.database_commands.specs.declared.fault.CommandFault.TheVariants as CommandFault;
 ghost use Rattle.database_commands.specs.declared.trouble.Trouble.TheVariants as trouble;
 
@@ -74,6 +74,7 @@ pub(crate) fn found<T: Start>(
     ensures over { IfOk result (IsOver (image_at T.Start)) }
     ensures refused { RefusesFiles (image_at T.Start) result }
     ensures none { IsNoFile name.now → IsErrOf result trouble.NoFile }
+    ensures name { IfErr result (λ why. why ≡ trouble.NoFile → IsNoFile name.now) }
 {
     match is_there(rt, name) {
         Ok(()) => opened(rt, name, 0, start),
@@ -84,6 +85,7 @@ pub(crate) fn found<T: Start>(
 /// Whether there is something of that name, which may be a database: `CannotRead` where there isn't.
 pub(crate) fn is_there(rt: &HostRuntime, name: &str) -> Result<(), Trouble>
     ensures none { IsNoFile name.now → IsErrOf result trouble.NoFile }
+    ensures name { IfErr result (λ why. why ≡ trouble.NoFile → IsNoFile name.now) }
     ensures refused { IfErr result IsOfSystem }
 {
     if is_no_file(name) {
@@ -140,6 +142,7 @@ pub(crate) fn opened<T: Start>(
 ) -> Result<Connection<FileStore<FileFrom<T>>>, Trouble>
     ensures over { IfOk result (IsOver (image_at T.Start)) }
     ensures refused { RefusesFiles (image_at T.Start) result }
+    ensures opening { IfErr result IsOfOpening }
 {
     let pages = pages_for(length_of(rt, name), growth, most_pages(rt)?);
     let options = options(rt, pages)?;
@@ -175,6 +178,7 @@ fn pages_for(length: u64, growth: u64, most: u64) -> u64
 fn most_pages(rt: &HostRuntime) -> Result<u64, Trouble>
     ensures pages { IfOk result (λ n. 200 ≤ n) }
     ensures refused { IfErr result IsOfSystem }
+    ensures opening { IfErr result IsOfOpening }
 {
     match env::var(rt, CACHE) {
         Ok(text) => match pages_of(text.as_str()) {
@@ -206,6 +210,7 @@ fn pages_of(mib: &str) -> Option<u64>
 fn options(rt: &HostRuntime, pages: u64) -> Result<Options, Trouble>
     ensures memory { IfOk result (λ o. (o.cache_pages ≡ pages) × (pages ≤ o.spill_pages)) }
     ensures refused { IfErr result IsOfSystem }
+    ensures opening { IfErr result IsOfOpening }
 {
     let state = match RandomState::new(rt) {
         Ok(state) => state,

@@ -1,13 +1,13 @@
 //! The inbox of a database: its table, and taking events into it.
-ghost use Rattle.std.specs.Prelude.{◌≡◌, ◌≢◌, ◌⊎◌, ℕ, List, length, true, IfErr, IfOk, IsErrAnd, IsErrOf, IsTrue, OnOk};
+ghost use Rattle.std.specs.Prelude.{◌≡◌, ◌⊎◌, ℕ, List, length, true, IfErr, IfOk, IsErrAnd, IsErrOf, IsTrue, OnOk};
 ghost use Rattle.sqlite.specs.Held.{state};
 ghost use Rattle.sqlite.specs.State.{HasCleanDisk, Survives};
 ghost use Rattle.attributes.specs.Event.{EventValue};
 ghost use Rattle.inbox_table.specs.Calls.{IsAsItWas, IsSettled, IsTold, MayTake, Takes, has_both};
 ghost use Rattle.inbox_table.specs.Rows.{IsInbox};
 ghost use Rattle.inbox_table.specs.declared.fault.TableFault.TheVariants as TableFault;
-ghost use Rattle.database_commands.specs.declared.fault.CommandFault.TheVariants.{Foreign, OutOfMemory};
-ghost use Rattle.database_commands.specs.Held.{Holds, IsNoInbox, IsTaken, KeepsOrTakes, KeepsRows, MayHoldMore, TakesInto, TellsUpgrade};
+ghost use Rattle.database_commands.specs.declared.fault.CommandFault.TheVariants.{Foreign, OutOfMemory, Store};
+ghost use Rattle.database_commands.specs.Held.{Holds, IsNoInbox, IsTaken, IsUntold, KeepsOrTakes, KeepsRows, MayHoldMore, TakesInto, TellsUpgrade};
 ghost use Rattle.database_commands.specs.Print.{counts_line};
 ghost use Rattle.database_commands.specs.Done.{LeavesHeld, LeavesRows, OpenIfDone, SettledIfDone};
 
@@ -77,6 +77,7 @@ pub fn take<S: Alter + Drop, W: Watch>(
         → HasCleanDisk (state S.Store result.conn) → IsNoInbox (state S.Store conn).now) }
     ensures both { has_both (state S.Store conn).now.schema ≡ true
         → IsErrOf result.outcome Foreign }
+    ensures fault { IfErr result.outcome IsUntold }
 {
     match adopted(alloc, conn, watch) {
         Ok(mut table) => {
@@ -147,7 +148,7 @@ fn kept<S: Alter + Drop, W: Watch>(
     ensures crash { Survives (state S.Store table.old.conn) (state S.Store table.new.conn)
         (λ trees. IsTrue (state S.Store table.old.conn).is_open
         → MayTake events.now (state S.Store table.old.conn).now trees) }
-    ensures known { IfErr result (λ f. f ≢ Foreign) }
+    ensures fault { IfErr result (λ f. (f ≡ OutOfMemory) ⊎ (f ≡ Store)) }
 {
     match table.keep_watched(events, watch) {
         Ok(fresh) => said(alloc, events.len(), fresh),

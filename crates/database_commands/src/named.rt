@@ -2,13 +2,15 @@
 //! database can't be opened, there is the fault alone and no connection, and each clause `refused`
 //! says what is left of the files: an opening may make a file and play a log back. Once it is open,
 //! each clause `did` says all that the command may do over a connection, also where it is refused.
-ghost use Rattle.std.specs.Prelude.{◌≡◌, Err, IfErr, IfOk, IsOk, MatchResult};
+ghost use Rattle.std.specs.Prelude.{◌≡◌, Err, IfErr, IfOk, IsErrOf, IsOk, MatchResult};
 ghost use Rattle.sqlite_wal.specs.Files.{image_at};
 ghost use Rattle.line_intake.specs.Acknowledged.{TellsAll};
 ghost use Rattle.database_commands.specs.Described.{SaysDatabase};
 ghost use Rattle.database_commands.specs.Effect.{DescribeEffect};
-ghost use Rattle.database_commands.specs.OfFile.{DoesOver, IsOver, RefusesCommand};
+ghost use Rattle.database_commands.specs.Name.{IsNoFile};
+ghost use Rattle.database_commands.specs.OfFile.{DoesOver, IsOver, RefusesCommand, RefusesLook};
 ghost use Rattle.database_commands.specs.Streams.{AcknowledgesUntil, FollowsOver};
+ghost use Rattle.database_commands.specs.declared.trouble.Trouble.TheVariants as trouble;
 
 use crate::command::{Command, CommandEnd};
 use crate::commands::Describe;
@@ -46,6 +48,7 @@ pub(crate) fn performed<T: Start, C: Command + Drop, F: Drop>(
     ensures did { IfOk result (λ e.
         DoesOver (image_at T.Start) (C.does command e.outcome) e.conn) }
     ensures line { IfOk result (λ e. IfOk e.outcome (C.says command)) }
+    ensures fault { IfOk result (λ e. IfErr e.outcome (C.fails command)) }
     ensures refused { MatchResult opened (λ _. IsOk result) (λ why. result ≡ Err why) }
 {
     match opened {
@@ -101,6 +104,9 @@ pub fn describe_named<T: Start>(
     ensures did { IfOk result (λ e. DoesOver (image_at T.Start)
         (DescribeEffect name.now e.outcome) e.conn) }
     ensures line { IfOk result (λ e. IfOk e.outcome (SaysDatabase name.now)) }
+    ensures refused { RefusesLook (image_at T.Start) result }
+    ensures none { IsNoFile name.now → IsErrOf result trouble.NoFile }
+    ensures name { IfErr result (λ why. why ≡ trouble.NoFile → IsNoFile name.now) }
 {
     performed(alloc, found(rt, name, start), Describe { name })
 }

@@ -1,8 +1,10 @@
 //! Databases of the operating system, opened by the names of their files, for which one may wait.
-ghost use Rattle.std.specs.Prelude.{IfOk, IsErrOf};
+ghost use Rattle.std.specs.Prelude.{◌≡◌, IfErr, IfOk, IsErrOf};
 ghost use Rattle.sqlite_wal.specs.Files.{image_at};
+ghost use Rattle.database_commands.specs.Fault.{IsOfNamed};
 ghost use Rattle.database_commands.specs.Name.{IsNoFile};
 ghost use Rattle.database_commands.specs.OfFile.{IsOver, RefusesFiles, RefusesFilesFor};
+ghost use Rattle.database_commands.specs.Trouble.{IsOfOpening};
 ghost use Rattle.database_commands.specs.declared.fault.CommandFault.TheVariants as CommandFault;
 ghost use Rattle.database_commands.specs.declared.trouble.Trouble.TheVariants as trouble;
 
@@ -49,6 +51,7 @@ impl<'a> Opener<'a> {
         ensures over { IfOk result (IsOver (image_at ⟦<Unknown as Start>⟧)) }
         ensures refused { RefusesFilesFor (image_at ⟦<Unknown as Start>⟧) result }
         ensures none { IsNoFile name.now → IsErrOf result CommandFault.Store }
+        ensures named { IfErr result IsOfNamed }
     {
         if is_no_file(name) {
             return Err(CommandFault::Store);
@@ -64,6 +67,7 @@ impl<'a> Opener<'a> {
         ensures over { IfOk result (IsOver (image_at ⟦<Unknown as Start>⟧)) }
         ensures refused { RefusesFilesFor (image_at ⟦<Unknown as Start>⟧) result }
         ensures none { IsNoFile name.now → IsErrOf result CommandFault.Store }
+        ensures named { IfErr result IsOfNamed }
     {
         match self.found(name) {
             Ok(conn) => Ok(conn),
@@ -76,6 +80,7 @@ impl<'a> Opener<'a> {
         ensures over { IfOk result (IsOver (image_at ⟦<Unknown as Start>⟧)) }
         ensures refused { RefusesFiles (image_at ⟦<Unknown as Start>⟧) result }
         ensures none { IsNoFile name.now → IsErrOf result trouble.NoFile }
+        ensures name { IfErr result (λ why. why ≡ trouble.NoFile → IsNoFile name.now) }
     {
         is_there(self.rt, name)?;
         self.opened(name, 0)
@@ -85,6 +90,7 @@ impl<'a> Opener<'a> {
     fn opened(&self, name: &str, growth: u64) -> Result<Connection<FileStore<File>>, Trouble>
         ensures over { IfOk result (IsOver (image_at ⟦<Unknown as Start>⟧)) }
         ensures refused { RefusesFiles (image_at ⟦<Unknown as Start>⟧) result }
+        ensures opening { IfErr result IsOfOpening }
     {
         for _ in 0..self.seconds.saturating_mul(TRIES) {
             match opened(self.rt, name, growth, Unknown) {

@@ -9,10 +9,11 @@ ghost use Rattle.site.specs.Delta.{delta};
 ghost use Rattle.site.specs.Page.{max_page, page};
 ghost use Rattle.database_layout.specs.Layout.{has_inbox};
 ghost use Rattle.inbox_table.specs.Calls.{has_both};
+ghost use Rattle.inbox_table.specs.Rows.{AreNumbered};
 ghost use Rattle.outbox.specs.Call.{Leaves};
 ghost use Rattle.database_commands.specs.Effect.{LookEffect, PageEffect};
 ghost use Rattle.database_commands.specs.declared.fault.CommandFault.TheVariants.{Foreign};
-ghost use Rattle.database_commands.specs.Held.{HasArrived, HasDelta, HasEvents, IsNoInbox, SaysArrivals, SaysDelta, SaysPage, SaysSummary, SaysSummaryOf, ShowsArrivals, ShowsArrived, ShowsDelta, ShowsEvents, ShowsLacking, ShowsPage, ShowsSet, ShowsSummary};
+ghost use Rattle.database_commands.specs.Held.{HasArrived, HasDelta, HasEvents, IsNoInbox, IsUntold, SaysArrivals, SaysDelta, SaysPage, SaysSummary, SaysSummaryOf, ShowsArrivals, ShowsArrived, ShowsDelta, ShowsEvents, ShowsLacking, ShowsPage, ShowsSet, ShowsSummary};
 ghost use Rattle.database_commands.specs.Print.{batch_line};
 ghost use Rattle.database_commands.specs.steps.Made.{ContentsEffect, IsMadeOf};
 
@@ -52,11 +53,23 @@ fn own_contents<S: Alter + Drop>(alloc: Global, conn: Connection<S>) -> CommandE
     }
 }
 
+/// The type of a batch keeps that each is an event with a number: whoever asks is told so here.
+fn tell_numbers(events: &Batch)
+    ensures { AreNumbered events.now }
+{
+    for place in 0..events.len() {
+        let event = events.at(place);
+        let _text = event.event().text();
+        let _number = event.number();
+    }
+}
+
 /// The events that a database holds. Nothing is written: where there is no inbox, there are none,
 /// and one of version 1 stays what it is. Time in proportion to all events.
 pub fn held<S: Alter + Drop>(alloc: Global, conn: Connection<S>) -> CommandEnd<S, Batch>
     ensures events { HasCleanDisk (state S.Store result.conn) → IfOk result.outcome
         (ShowsEvents (state S.Store conn).now) }
+    ensures numbered { IfOk result.outcome AreNumbered }
     ensures left { Leaves (state S.Store conn) (state S.Store result.conn) }
     ensures without { has_inbox (state S.Store conn).now.schema ≡ false
         → ((state S.Store result.conn).now ≡ (state S.Store conn).now)
@@ -65,6 +78,7 @@ pub fn held<S: Alter + Drop>(alloc: Global, conn: Connection<S>) -> CommandEnd<S
         → HasCleanDisk (state S.Store result.conn) → IsNoInbox (state S.Store conn).now) }
     ensures both { has_both (state S.Store conn).now.schema ≡ true
         → IsErrOf result.outcome Foreign }
+    ensures fault { IfErr result.outcome IsUntold }
 {
     let mut conn = conn;
     if !has_inbox(conn.schema()) {
@@ -76,6 +90,7 @@ pub fn held<S: Alter + Drop>(alloc: Global, conn: Connection<S>) -> CommandEnd<S
     match inspect(alloc, &mut conn) {
         Ok(found) => {
             let Inspected { version: _, events } = found;
+            tell_numbers(&events);
             CommandEnd {
                 conn,
                 outcome: Ok(events),

@@ -214,7 +214,7 @@ fn command_line<S: Alter>(
     ensures crash { LeavesOrAccepts service.old.source service.old.base
         (record { status = status; order = order; at = at.now })
         (state S.Store service.old.conn) (state S.Store service.new.conn) }
-    ensures fault { IfErr result (λ f. f ≢ command.AnotherSource) }
+    ensures fault { IfErr result (λ f. (why : OutboxFault) × (f ≡ of_outbox why)) }
     ensures line { IfOk result (λ text. text ≡ event_line
         (row_event service.old.source (suc service.old.last)
         (record { status = status; order = order; at = at.now }))) }

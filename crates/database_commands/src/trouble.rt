@@ -1,6 +1,8 @@
 //! Why nothing is told of a database, in more words than a command has that needs it.
-ghost use Rattle.std.specs.Prelude.{◌≡◌, IfOk};
-ghost use Rattle.database_commands.specs.Trouble.{IsOfSystem, fault_of, hint, name_of, of_error, of_fault, of_kind, trouble_line};
+ghost use Rattle.std.specs.Prelude.{◌≡◌, ◌≢◌, IfOk};
+ghost use Rattle.database_commands.specs.Fault.{IsOfNamed};
+ghost use Rattle.database_commands.specs.declared.trouble.Trouble.TheVariants as trouble;
+ghost use Rattle.database_commands.specs.Trouble.{IsOfOpening, IsOfSystem, fault_of, hint, name_of, of_error, of_fault, of_kind, trouble_line};
 
 use crate::fault::CommandFault;
 use crate::text::trouble_text;
@@ -39,7 +41,8 @@ pub enum Trouble {
 impl Trouble {
     /// The fault of a command that needs the database.
     pub fn fault(self) -> CommandFault
-        ensures { result ≡ fault_of self }
+        ensures exact { result ≡ fault_of self }
+        ensures named { IsOfNamed result }
     {
         match self {
             Trouble::OutOfMemory => CommandFault::OutOfMemory,
@@ -94,7 +97,8 @@ impl Trouble {
 
 /// What a fault is of a command over an open database.
 pub fn of_fault(fault: CommandFault) -> Trouble
-    ensures { result ≡ of_fault fault }
+    ensures exact { result ≡ of_fault fault }
+    ensures file { result ≢ trouble.NoFile }
 {
     match fault {
         CommandFault::OutOfMemory => Trouble::OutOfMemory,
@@ -105,7 +109,8 @@ pub fn of_fault(fault: CommandFault) -> Trouble
 
 /// What an error of the database is that is met when it is opened.
 pub fn of_error(error: sqlite::Error) -> Trouble
-    ensures { result ≡ of_error error }
+    ensures exact { result ≡ of_error error }
+    ensures opening { IsOfOpening result }
 {
     match error {
         sqlite::Error::SqliteFailure(code) => match code {
@@ -124,6 +129,7 @@ pub fn of_error(error: sqlite::Error) -> Trouble
 pub fn of_kind(kind: ErrorKind) -> Trouble
     ensures exact { result ≡ of_kind kind }
     ensures system { IsOfSystem result }
+    ensures opening { IsOfOpening result }
 {
     match kind {
         ErrorKind::OutOfMemory => Trouble::OutOfMemory,
@@ -133,7 +139,8 @@ pub fn of_kind(kind: ErrorKind) -> Trouble
 
 /// Why the files of a database weren't opened.
 pub fn of_open(error: OpenError) -> Trouble
-    ensures { IsOfSystem result }
+    ensures system { IsOfSystem result }
+    ensures opening { IsOfOpening result }
 {
     match error {
         OpenError::OutOfMemory => Trouble::OutOfMemory,

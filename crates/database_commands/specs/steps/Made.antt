@@ -4,7 +4,7 @@ use Rattle.sqlite.specs.State.{State, HasCleanDisk, Survives}
 use Rattle.attributes.specs.Event.{EventValue}
 use Rattle.inbox_table.specs.Calls.{has_both}
 use Rattle.outbox.specs.Call.{IsSettled}
-use Rattle.database_commands.specs.Held.{IsNoInbox, KeepsEvents, KeepsRows, MayHold, ShowsEvents}
+use Rattle.database_commands.specs.Held.{IsNoInbox, IsUntold, KeepsEvents, KeepsRows, MayHold, ShowsEvents}
 use Rattle.database_commands.specs.declared.fault.CommandFault.{CommandFault}
 use Rattle.database_commands.specs.declared.fault.CommandFault.TheVariants.{Foreign, OutOfMemory}
 
@@ -33,3 +33,4 @@ pub record ContentsEffect (outcome : Result (List EventValue) CommandFault) (old
   -- are there
   pub foreign : IfErr outcome (λ f. f ≡ Foreign → HasCleanDisk new → IsNoInbox old.now)
   pub both : has_both old.now.schema ≡ true → IsErrOf outcome Foreign
+  pub fault : IfErr outcome IsUntold

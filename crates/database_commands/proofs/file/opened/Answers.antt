@@ -24,7 +24,7 @@ returns-in-Ok-clause-refused g c =
     let (log, db) = c.in-Ok.ensures.fresh in
     inr (
       c.in-Err-open_files.error,
-      c.of_error.ensures,
+      c.of_error.ensures.exact,
       record {
         files = c.in-Ok.files;
         rest = c.in-Err-open_files.field-0-1;

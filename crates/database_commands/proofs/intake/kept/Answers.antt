@@ -1,9 +1,10 @@
-use Rattle.std.proofs.Common.{◌≡◌, ◌∙◌, ap, sym}
+use Rattle.std.proofs.Common.{◌≡◌, ◌⊎◌, ◌∙◌, ap, inl, subst, sym}
 use Rattle.std.proofs.lemmas.Result.{IfErr-weaker, IfOk-weaker}
 use Rattle.database_commands.specs.Print.{counts_line}
+use Rattle.database_commands.specs.declared.fault.CommandFault.{CommandFault}
 use Rattle.database_commands.specs.declared.fault.CommandFault.TheVariants as command
 use Rattle.database_commands.proofs.BesideLemmas.{service_kept, service_same}
-use Rattle.database_commands.proofs.HeldLemmas.{on_ok, store_known}
+use Rattle.database_commands.proofs.HeldLemmas.{on_ok, store_told}
 use Rattle.database_commands.proofs.intake.kept.Goals as goal
 
 pub returns-in-Ok-clause-taken : goal.returns-in-Ok-clause-taken
@@ -32,9 +33,10 @@ returns-in-Ok-clause-stays_open g c clean = on_ok c.said.result _ (c.in-Ok.ensur
 pub returns-in-Ok-clause-settled : goal.returns-in-Ok-clause-settled
 returns-in-Ok-clause-settled g c clean = on_ok c.said.result _ (c.in-Ok.ensures.effect clean).settled
 
-pub returns-in-Ok-clause-known : goal.returns-in-Ok-clause-known
-returns-in-Ok-clause-known g c =
-    IfErr-weaker c.said.result _ _ (λ f is foreign. let e : command.OutOfMemory ≡ command.Foreign = sym is ∙ foreign in cc) c.said.ensures.fault
+pub returns-in-Ok-clause-fault : goal.returns-in-Ok-clause-fault
+returns-in-Ok-clause-fault g c = IfErr-weaker c.said.result _ _ (λ f is. inl is) c.said.ensures.fault
 
-pub returns-in-Err-clause-known : goal.returns-in-Err-clause-known
-returns-in-Err-clause-known g c foreign = store_known c.in-Err.fault c.in-Err.ensures.call.fault (sym c.of_table.ensures ∙ foreign)
+pub returns-in-Err-clause-fault : goal.returns-in-Err-clause-fault
+returns-in-Err-clause-fault g c =
+    let Told : CommandFault → Type 0 = λ f. (f ≡ command.OutOfMemory) ⊎ (f ≡ command.Store) in
+    subst Told (sym c.of_table.ensures) (store_told c.in-Err.fault c.in-Err.ensures.call.fault)

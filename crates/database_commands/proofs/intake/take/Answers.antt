@@ -6,9 +6,9 @@ use Rattle.sqlite.proofs.StateLemmas.{survives_then, survives_weaker}
 use Rattle.inbox_table.specs.Calls.{IsSettled}
 use Rattle.inbox_table.specs.Rows.{IsInbox}
 use Rattle.database_commands.specs.Fault.{of_table}
-use Rattle.database_commands.specs.Held.{Holds, IsTaken, KeepsOrTakes, KeepsRows, MayHoldMore}
+use Rattle.database_commands.specs.Held.{Holds, IsTaken, IsUntold, KeepsOrTakes, KeepsRows, MayHoldMore}
 use Rattle.database_commands.proofs.BesideLemmas.{service_over, service_same}
-use Rattle.database_commands.proofs.HeldLemmas.{held_may_more, inbox_holds, on_ok, on_okay, table_foreign, took_may_more}
+use Rattle.database_commands.proofs.HeldLemmas.{held_may_more, inbox_holds, known_so, on_ok, on_okay, table_foreign, table_untold, took_may_more, untold_so}
 use Rattle.database_commands.proofs.intake.take.Goals as goal
 
 pub returns-in-Ok-clause-left : goal.returns-in-Ok-clause-left
@@ -82,7 +82,7 @@ returns-in-Ok-clause-taken g c clean =
     (c.kept-outcome.ensures.taken late)
 
 pub returns-in-Ok-clause-foreign : goal.returns-in-Ok-clause-foreign
-returns-in-Ok-clause-foreign g c = IfErr-weaker c.kept-outcome.result _ _ (λ f known is clean. absurd (known is)) c.kept-outcome.ensures.known
+returns-in-Ok-clause-foreign g c = IfErr-weaker c.kept-outcome.result _ _ (λ f told is clean. absurd (known_so f told is)) c.kept-outcome.ensures.fault
 
 pub returns-in-Ok-clause-both : goal.returns-in-Ok-clause-both
 returns-in-Ok-clause-both g c both = absurd (c.in-Ok.ensures.both both)
@@ -92,3 +92,9 @@ returns-in-Err-clause-foreign g c is clean = c.in-Err.ensures.foreign (table_for
 
 pub returns-in-Err-clause-both : goal.returns-in-Err-clause-both
 returns-in-Err-clause-both g c both = ap Err (c.of_table.ensures ∙ ap of_table (c.in-Err.ensures.both both))
+
+pub returns-in-Ok-clause-fault : goal.returns-in-Ok-clause-fault
+returns-in-Ok-clause-fault g c = IfErr-weaker c.kept-outcome.result _ _ (λ f told. untold_so f told) c.kept-outcome.ensures.fault
+
+pub returns-in-Err-clause-fault : goal.returns-in-Err-clause-fault
+returns-in-Err-clause-fault g c = subst IsUntold (sym c.of_table.ensures) (table_untold c.in-Err.refused.fault)

@@ -8,7 +8,7 @@ pub returns-clause-did : goal.returns-clause-did
 returns-clause-did g c =
     let held = c.held-conn.ensures in
     look_made (state g.S.Store c.args.conn) (state g.S.Store c.held-conn.result.conn) c.held-conn.result.outcome c.arrived_pages-outcome.result (λ es pages. pages ≡ drop c.args.after es) (ShowsArrived c.args.after)
-    held.events held.left (λ none. (held.without none).0) held.foreign held.both
+    held.events held.left (λ none. (held.without none).0) held.foreign held.both held.fault
     (λ es pages is shows all holds. is ∙ ap (drop c.args.after) (shows all holds))
     c.arrived_pages-outcome.ensures
 

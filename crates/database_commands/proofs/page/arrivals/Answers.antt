@@ -11,7 +11,7 @@ pub returns-clause-did : goal.returns-clause-did
 returns-clause-did g c =
     let held = c.held-conn.ensures in
     look_made (state g.S.Store c.args.conn) (state g.S.Store c.held-conn.result.conn) c.held-conn.result.outcome c.arrivals_line-outcome.result (λ es text. text ≡ batch_line (page es c.args.after 100)) (ShowsArrivals c.args.after)
-    held.events held.left (λ none. (held.without none).0) held.foreign held.both
+    held.events held.left (λ none. (held.without none).0) held.foreign held.both held.fault
     (λ es text is shows all holds. is ∙ ap (λ (l : List EventValue). batch_line (page l c.args.after 100)) (shows all holds))
     c.arrivals_line-outcome.ensures
 

@@ -13,7 +13,7 @@ pub returns-clause-did : goal.returns-clause-did
 returns-clause-did g c =
     let held = c.held-conn.ensures in
     look_made (state g.S.Store c.args.conn) (state g.S.Store c.held-conn.result.conn) c.held-conn.result.outcome c.lacking_pages-outcome.result (λ es pages. pages ≡ delta (set_of (append_new key_cmp [] es)) c.args.summary) (ShowsLacking c.args.summary)
-    held.events held.left (λ none. (held.without none).0) held.foreign held.both
+    held.events held.left (λ none. (held.without none).0) held.foreign held.both held.fault
     (λ es pages is shows all holds. is ∙ ap (λ (l : List EventValue). delta (set_of l) c.args.summary) (once_shown _ es all shows holds))
     c.lacking_pages-outcome.ensures
 

@@ -1,9 +1,10 @@
-use Rattle.std.proofs.Common.{◌≡◌, ◌∙◌, Err, ap, false, rules, sym}
+use Rattle.std.proofs.Common.{◌≡◌, ◌∙◌, Err, ap, false, rules, subst, sym}
 use Rattle.database_layout.specs.Layout.{has_inbox}
 use Rattle.inbox_table.specs.declared.fault.TableFault.TheVariants as table
 use Rattle.inbox_table.proofs.OpenLemmas.{not_both}
 use Rattle.database_commands.specs.Fault.{of_table}
-use Rattle.database_commands.proofs.HeldLemmas.{table_foreign}
+use Rattle.database_commands.specs.Held.{IsUntold}
+use Rattle.database_commands.proofs.HeldLemmas.{table_foreign, table_untold}
 use Rattle.database_commands.proofs.page.held.Goals as goal
 
 pub returns-then-not-has_inbox-clause-both : goal.returns-then-not-has_inbox-clause-both
@@ -22,3 +23,6 @@ returns-in-Err-clause-both g c both =
     let is = c.in-Err.ensures.both both in
     let foreign : c.in-Err.fault ≡ table.Foreign = cc in
     ap Err (c.of_table.ensures ∙ ap of_table foreign)
+
+pub returns-in-Err-clause-fault : goal.returns-in-Err-clause-fault
+returns-in-Err-clause-fault g c = subst IsUntold (sym c.of_table.ensures) (table_untold c.in-Err.fault)

@@ -1,12 +1,11 @@
-use Rattle.std.proofs.Common.{◌∙◌, Err, IsTrue, Ok, ap, subst, sym}
+use Rattle.std.proofs.Common.{◌∙◌, Err, Ok, ap, subst, sym}
 use Rattle.sqlite.specs.Held.{state}
-use Rattle.sqlite.specs.State.{HasCleanDisk}
 use Rattle.inbox_table.specs.Rows.{IsInbox}
 use Rattle.database_commands.specs.Fault.{of_table}
-use Rattle.database_commands.specs.Held.{Holds}
+use Rattle.database_commands.specs.Held.{Holds, IsUntold}
 use Rattle.database_commands.specs.steps.Made.{ContentsEffect}
 use Rattle.database_commands.proofs.BesideLemmas.{service_same}
-use Rattle.database_commands.proofs.HeldLemmas.{inbox_holds, table_foreign}
+use Rattle.database_commands.proofs.HeldLemmas.{inbox_holds, table_foreign, table_untold}
 use Rattle.database_commands.proofs.page.own_contents.Goals as goal
 
 pub returns-in-Ok : goal.returns-in-Ok
@@ -22,6 +21,7 @@ returns-in-Ok g c =
       crash = of.crash;
       foreign = tt;
       both = λ both. absurd (of.both both);
+      fault = tt;
     })
 
 pub returns-in-Err : goal.returns-in-Err
@@ -36,4 +36,5 @@ returns-in-Err g c =
       crash = of.crash_refused;
       foreign = λ is clean. of.foreign (table_foreign c.in-Err.refused.fault (sym c.of_table.ensures ∙ is)) clean;
       both = λ both. ap Err (c.of_table.ensures ∙ ap of_table (of.both both));
+      fault = subst IsUntold (sym c.of_table.ensures) (table_untold c.in-Err.refused.fault);
     }

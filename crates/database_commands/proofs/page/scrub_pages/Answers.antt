@@ -11,7 +11,7 @@ pub returns-clause-did : goal.returns-clause-did
 returns-clause-did g c =
     let held = c.held-conn.ensures in
     look_made (state g.S.Store c.args.conn) (state g.S.Store c.held-conn.result.conn) c.held-conn.result.outcome c.all_pages-outcome.result (λ es pages. pages ≡ set_of (append_new key_cmp [] es)) ShowsSet
-    held.events held.left (λ none. (held.without none).0) held.foreign held.both
+    held.events held.left (λ none. (held.without none).0) held.foreign held.both held.fault
     (λ es pages is shows all holds. is ∙ ap set_of (once_shown _ es all shows holds))
     c.all_pages-outcome.ensures
 

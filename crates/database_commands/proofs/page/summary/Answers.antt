@@ -1,4 +1,4 @@
-use Rattle.std.proofs.Common.{List, [], subst, sym}
+use Rattle.std.proofs.Common.{List, [], subst}
 use Rattle.sqlite.specs.Held.{state}
 use Rattle.attributes.specs.Event.{EventValue}
 use Rattle.inbox.specs.KeyOrder.{key_cmp}
@@ -12,7 +12,7 @@ pub returns-clause-did : goal.returns-clause-did
 returns-clause-did g c =
     let held = c.held-conn.ensures in
     look_made (state g.S.Store c.args.conn) (state g.S.Store c.held-conn.result.conn) c.held-conn.result.outcome c.summary_line-outcome.result (λ es. SaysSummaryOf (set_of (append_new key_cmp [] es))) ShowsSummary
-    held.events held.left (λ none. (held.without none).0) held.foreign held.both
+    held.events held.left (λ none. (held.without none).0) held.foreign held.both held.fault
     (λ es text is shows all holds. subst (λ (l : List EventValue). SaysSummaryOf (set_of l) text) (once_shown _ es all shows holds) is)
     c.summary_line-outcome.ensures
 

@@ -7,7 +7,7 @@ use Rattle.outbox.specs.Order.{Accepted}
 use Rattle.database_commands.specs.Held.{KeepsEvents, KeepsService, LeavesOrOrders, Orders}
 use Rattle.database_commands.proofs.BesideLemmas.{events_beside, events_over, events_same}
 use Rattle.database_commands.proofs.HeldLemmas.{either_way, on_err, on_ok, on_okay}
-use Rattle.database_commands.proofs.ServedLemmas.{kept_all, kept_served, leaves_or_orders, made_or_orders, ordered, refused_order}
+use Rattle.database_commands.proofs.ServedLemmas.{kept_all, kept_served, leaves_or_orders, made_or_orders, not_another, not_to_be_had, ordered, refused_order}
 use Rattle.database_commands.proofs.service.order.Goals as goal
 
 pub returns-in-Ok-clause-did : goal.returns-in-Ok-clause-did
@@ -29,11 +29,12 @@ returns-in-Ok-clause-did g c =
           (λ same. subst (λ h. KeepsService c.args.source.now old (state g.S.Store h).now) (sym back)
           (kept_served c.args.source.now old (state g.S.Store mid.conn).now mid.source mid.base (c.in-Ok.ensures.served (did.clean (late clean))) (state g.S.Store last.conn).now (same (late clean) (still is_open))))
           did.same;
-      untouched = IfErr-weaker c.command_line-outcome.result _ _ (λ f no is. absurd (no is)) did.fault;
+      untouched = IfErr-weaker c.command_line-outcome.result _ _ (λ f so is. absurd (not_another so.0 (sym so.1 ∙ is))) did.fault;
       refused = λ clean is_open. IfErr-weaker c.command_line-outcome.result _ _
           (λ f refuses no_memory no_store _ _. refused_order c.args.source.now old (state g.S.Store mid.conn).now mid.source mid.base (c.in-Ok.ensures.served (did.clean (late clean))) c.args.status c.args.order f (refuses no_memory no_store))
           (did.refused (late clean) (still is_open));
-      another = IfErr-weaker c.command_line-outcome.result _ _ (λ f no is. absurd (no is)) did.fault;
+      another = IfErr-weaker c.command_line-outcome.result _ _ (λ f so is. absurd (not_another so.0 (sym so.1 ∙ is))) did.fault;
+      fault = IfErr-weaker c.command_line-outcome.result _ _ (λ f so. inr so) did.fault;
       meant = λ named clean. on_ok c.command_line-outcome.result _ (λ s b commands h. sym (c.in-Ok.ensures.served (did.clean (late clean)) s b commands h).0 ∙ c.in-Ok.ensures.named named);
       stays_open = λ clean. on_okay c.command_line-outcome.result _ _ (λ is_open. subst (λ h. IsTrue (state g.S.Store h).is_open) (sym back) is_open) (did.stays_open (late clean));
       settled = λ clean. on_okay c.command_line-outcome.result _ _ (λ leaves. subst (λ h. IsSettled (state g.S.Store h)) (sym back) leaves) (did.settled (late clean));
@@ -67,6 +68,7 @@ returns-in-Err-clause-did g c = record {
     | inr (inr (inr is)) ↦ no_other is
   ]);
   another = c.in-Err.ensures.another;
+  fault = not_to_be_had c.in-Err.refused.fault c.in-Err.ensures.fault;
   meant = λ named clean. tt;
   beside = λ clean still. events_same _ _ (c.in-Err.ensures.back clean still);
   stays_open = λ clean. tt;

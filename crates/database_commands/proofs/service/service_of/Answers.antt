@@ -6,19 +6,8 @@ use Rattle.outbox.specs.declared.fault.OutboxFault.{OutboxFault}
 use Rattle.outbox.specs.declared.fault.OutboxFault.TheVariants as outbox
 use Rattle.database_commands.specs.Fault.{of_outbox}
 use Rattle.database_commands.specs.Held.{IsNoOrders}
-use Rattle.database_commands.specs.declared.fault.CommandFault.TheVariants as command
-use Rattle.database_commands.proofs.ServedLemmas.{opened_beside, opened_other, opened_served}
+use Rattle.database_commands.proofs.ServedLemmas.{not_another, opened_beside, opened_other, opened_served}
 use Rattle.database_commands.proofs.service.service_of.Goals as goal
-
--- an opening isn't refused for another source
-not_another : (f : OutboxFault) → of_outbox f ≡ command.AnotherSource → ⊥
-not_another outbox.OutOfMemory is = cc
-not_another outbox.OrderExists is = cc
-not_another outbox.NoOrder is = cc
-not_another outbox.WrongState is = cc
-not_another outbox.Full is = cc
-not_another outbox.Store is = cc
-not_another outbox.Foreign is = cc
 
 no_orders : (f : OutboxFault) → (f ≡ outbox.OutOfMemory) ⊎ ((f ≡ outbox.Store) ⊎ (f ≡ outbox.Foreign)) → IsNoOrders (of_outbox f)
 no_orders f (inl is) = inl (ap of_outbox is)

@@ -3,3 +3,6 @@ use Rattle.database_commands.proofs.commands.ArrivalPagesCommand.perform.Goals a
 
 pub returns-clause-clean : goal.returns-clause-clean
 returns-clause-clean g c clean = omega (arith, c.arrival_pages.ensures.did.left.clean, clean)
+
+pub returns-clause-fault : goal.returns-clause-fault
+returns-clause-fault g c = c.arrival_pages.ensures.did.fault

@@ -3,3 +3,6 @@ use Rattle.database_commands.proofs.commands.DeltaPageCommand.perform.Goals as g
 
 pub returns-clause-clean : goal.returns-clause-clean
 returns-clause-clean g c clean = omega (arith, c.delta.ensures.did.crash.clean, clean)
+
+pub returns-clause-fault : goal.returns-clause-fault
+returns-clause-fault g c = c.delta.ensures.did.fault

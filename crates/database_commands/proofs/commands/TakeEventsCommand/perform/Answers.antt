@@ -13,7 +13,11 @@ returns-clause-did g c = let it = c.take.ensures in record {
   crash = it.crash;
   foreign = it.foreign;
   both = it.both;
+  fault = it.fault;
 }
 
 pub returns-clause-clean : goal.returns-clause-clean
 returns-clause-clean g c clean = omega (arith, c.take.ensures.crash.clean, clean)
+
+pub returns-clause-fault : goal.returns-clause-fault
+returns-clause-fault g c = c.take.ensures.fault
