@@ -6,6 +6,7 @@ use Rattle.std.specs.Io.KnownBytes.{Consumes, Keeps}
 use Rattle.std.proofs.KnownBytes.{Appends-nil, Consumes-nil, Keeps-refl}
 use Rattle.sqlite.specs.Effect.{Database}
 use Rattle.sqlite.specs.State.{State, HasCleanDisk}
+use Rattle.sqlite_trees.specs.Tree.{Trees}
 use Rattle.attributes.specs.Event.{EventValue}
 use Rattle.inbox_table.specs.Beside.{KeepsService}
 use Rattle.inbox_table.specs.Calls.{IsAsItWas, IsSettled, has_both}
@@ -13,7 +14,7 @@ use Rattle.inbox_table.specs.Rows.{IsInbox}
 use Rattle.inbox_table.specs.declared.fault.TableFault.{TableFault}
 use Rattle.inbox_table.specs.declared.fault.TableFault.TheVariants.{Foreign}
 use Rattle.line_intake.specs.Acknowledged.{AreTold, TellsAll, TellsPart, TellsSome, TellsUntil}
-use Rattle.line_intake.specs.Follow.{IsFollowed, KeepsTurns, Place, StopsStream, Turn}
+use Rattle.line_intake.specs.Follow.{IsFollowed, KeepsTurns, LeavesTurns, Place, StopsBehind, StopsStream, Turn}
 use Rattle.line_intake.specs.Judged.{TakesLines}
 use Rattle.line_intake.specs.Lines.{TakesLine}
 use Rattle.line_intake.specs.declared.answer.Told.{Told}
@@ -21,7 +22,7 @@ use Rattle.line_intake.specs.declared.step.FollowFault.{FollowFault}
 use Rattle.line_intake.specs.declared.step.FollowFault.TheVariants.{Input, Table, Unwritten}
 use Rattle.database_commands.specs.Fault.{of_follow, of_table}
 use Rattle.database_commands.specs.Held.{Holds, IsNoInbox, KeepsRows}
-use Rattle.database_commands.specs.Streams.{AcknowledgesUntil, HoldsTurns, StaysUnread, StopsInto}
+use Rattle.database_commands.specs.Streams.{AcknowledgesUntil, HoldsTurns, LeavesUnturned, StaysUnread, StopsInto}
 use Rattle.database_commands.specs.declared.fault.CommandFault.{CommandFault}
 use Rattle.database_commands.specs.declared.stream.StreamFault.{StreamFault}
 use Rattle.database_commands.specs.declared.stream.StreamFault.TheVariants as stream
@@ -62,13 +63,30 @@ stream_followed ended outcome start out old mid last conn same is box cleaner fo
       faulty = f.faulty;
     }) followed)
 
+-- a stream begins where an opening left off
+abbrev Began : State → Trees → Type 0
+Began mid trees = IsTrue mid.is_open → mid.may_leave trees
+
+leaves_to : (turns : List Turn) (P Q : Trees → Type 0) (db : Database) (trees : Trees) → (P trees → Q trees) → LeavesTurns turns P db trees → LeavesTurns turns Q db trees
+leaves_to [] P Q db trees to left = to left
+leaves_to (t ∷ turns) P Q db trees to left = left
+
+stops_to : (why : FollowFault) (last : Place) (turns : List Turn) (P Q : Trees → Type 0) (db : Database) (new : State) (out : Option (List ℕ)) → (HasCleanDisk new → (trees : Trees) → P trees → Q trees)
+    → StopsBehind why last (LeavesTurns turns P db) db new out → StopsBehind why last (LeavesTurns turns Q db) db new out
+stops_to (Input why) last turns P Q db new out to (same, written, left) = (same, written, λ clean trees may. leaves_to turns P Q db trees (to clean trees) (left clean trees may))
+stops_to (Table why) last turns P Q db new out to (lines, rest, tells, lists, gathered, stop, left) =
+    (lines, rest, tells, lists, gathered, stop, λ clean trees may. elim (left clean trees may) [ inl l ↦ inl (leaves_to turns P Q db trees (to clean trees) l) | inr took ↦ inr took ])
+stops_to Unwritten last turns P Q db new out to (lines, rest, tells, lists, gathered, stop, left) =
+    (lines, rest, tells, lists, gathered, stop, λ clean trees may. elim (left clean trees may) [ inl l ↦ inl (leaves_to turns P Q db trees (to clean trees) l) | inr took ↦ inr took ])
+
 pub stream_stops : (ended : Result ℕ FollowFault) (outcome : Result ℕ StreamFault) (start : Place) (left left' out : Option (List ℕ)) (before mid last conn : State) → conn ≡ last → Outcome ended outcome
     → (HasCleanDisk mid → (held : List EventValue) → Holds before.now held → IsInbox mid.now held) → (HasCleanDisk last → HasCleanDisk mid)
-    → IfErr ended (λ f. StopsStream start out last f (λ turns now. HasCleanDisk last → KeepsTurns turns mid.now now))
+    → (HasCleanDisk mid → (trees : Trees) → Began mid trees → LeavesUnturned before trees)
+    → IfErr ended (λ f. StopsStream start (Began mid) out last f (λ turns now. HasCleanDisk last → KeepsTurns turns mid.now now))
     → IfErr outcome (λ f. StaysUnread left left' start.out out before conn f ⊎ StopsInto start out before conn f)
-stream_stops ended outcome start left left' out before mid last conn same is box cleaner stops =
+stream_stops ended outcome start left left' out before mid last conn same is box cleaner began stops =
     subst (λ (s : State). IfErr outcome (λ f. StaysUnread left left' start.out out before s f ⊎ StopsInto start out before s f)) (sym same)
-    (err_outcome ended outcome (λ f. StopsStream start out last f (λ turns now. HasCleanDisk last → KeepsTurns turns mid.now now)) (λ f. StaysUnread left left' start.out out before last f ⊎ StopsInto start out before last f) is
+    (err_outcome ended outcome (λ f. StopsStream start (Began mid) out last f (λ turns now. HasCleanDisk last → KeepsTurns turns mid.now now)) (λ f. StaysUnread left left' start.out out before last f ⊎ StopsInto start out before last f) is
     (λ f s. inr (record {
       why = f;
       is = refl;
@@ -78,7 +96,7 @@ stream_stops ended outcome start left left' out before mid last conn same is box
         are = s.are;
         mid = s.mid;
         kept = λ clean. holds_turns before.now mid.now s.mid s.turns (box (cleaner clean)) (s.kept clean);
-        stop = s.stop;
+        stop = stops_to f s.last s.turns (Began mid) (LeavesUnturned before) s.mid last out (λ clean. began (cleaner clean)) s.stop;
       };
     })) stops)
 

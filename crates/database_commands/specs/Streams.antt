@@ -3,6 +3,7 @@ use Rattle.std.specs.Prelude.{◌≡◌, ◌⊎◌, ℕ, List, Option, Result, I
 use Rattle.std.specs.Io.KnownBytes.{Keeps}
 use Rattle.sqlite.specs.Effect.{Database}
 use Rattle.sqlite.specs.State.{State, HasCleanDisk}
+use Rattle.sqlite_trees.specs.Tree.{Trees}
 use Rattle.attributes.specs.Event.{EventValue}
 use Rattle.inbox_table.specs.Calls.{IsAsItWas, IsSettled, has_both}
 use Rattle.inbox_table.specs.Rows.{IsInbox}
@@ -12,7 +13,7 @@ use Rattle.line_intake.specs.Acknowledged.{TellsPart, TellsSome}
 use Rattle.line_intake.specs.Follow.{AreKept, IsFollowed, Place, StopsStream, Turn}
 use Rattle.line_intake.specs.declared.step.FollowFault.{FollowFault}
 use Rattle.database_commands.specs.Fault.{of_follow, of_table}
-use Rattle.database_commands.specs.Held.{Holds, IsNoInbox, KeepsRows}
+use Rattle.database_commands.specs.Held.{Holds, IsNoInbox, KeepsRows, MayHold}
 use Rattle.database_commands.specs.declared.stream.StreamFault.{StreamFault}
 use Rattle.database_commands.specs.declared.stream.StreamFault.TheVariants as stream
 
@@ -35,13 +36,18 @@ pub record StaysUnread (left left' out out' : Option (List ℕ)) (old new : Stat
   pub foreign : why ≡ Foreign → HasCleanDisk new → IsNoInbox old.now
   pub both : has_both old.now.schema ≡ true → why ≡ Foreign
 
+-- what a crash leaves before the first turn: what it could leave before the stream, or a database
+-- that holds what was held
+abbrev pub LeavesUnturned : State → Trees → Type 0
+LeavesUnturned old trees = old.may_leave trees ⊎ MayHold old.now trees
+
 -- the stream stopped for this fault: what the turns before it brought is in behind what the
--- database held
+-- database held, and a crash takes none of it
 pub record StopsInto (start : Place) (out : Option (List ℕ)) (old new : State) (f : StreamFault)
     : Type 0 where
   pub why : FollowFault
   pub is : f ≡ of_follow why
-  pub stops : StopsStream start out new why
+  pub stops : StopsStream start (LeavesUnturned old) out new why
       (λ turns mid. HasCleanDisk new → HoldsTurns turns old.now mid)
 
 -- what of the input is acknowledged where the stream ends for this fault

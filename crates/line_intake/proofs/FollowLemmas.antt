@@ -1,19 +1,20 @@
 -- A stream, one turn more.
-use Rattle.std.proofs.Common.{◌≡◌, ◌∙◌, ◌≤◌, ◌+◌, ◌++◌, ℕ, suc, List, [], ◌∷◌, length, cond, Option, None, Some, Bool, IsTrue, true, false, Result, Ok, Err, OnOk, inl, inr, refl, sym, ap, subst, arith}
+use Rattle.std.proofs.Common.{◌≡◌, ◌∙◌, ◌≤◌, ◌+◌, ◌++◌, ◌⊎◌, ℕ, suc, List, [], ◌∷◌, length, cond, Option, None, Some, Bool, IsTrue, true, false, Result, Ok, Err, OnOk, inl, inr, refl, sym, ap, subst, arith}
 use Rattle.std.specs.Prelude.{is_some}
 use Rattle.std.specs.Io.KnownBytes.{Appends, IsAtEnd, prepend_known}
 use Rattle.std.proofs.KnownBytes.{Appends-nil, Appends-trans}
 use Rattle.std.proofs.lemmas.List.Sums.{sum_by-append, sum_by-cons}
 use Rattle.sqlite.specs.Effect.{Database}
 use Rattle.sqlite.specs.State.{State, HasCleanDisk}
+use Rattle.sqlite_trees.specs.Tree.{Trees}
 use Rattle.attributes.specs.Event.{EventValue}
 use Rattle.inbox.specs.KeyOrder.{key_cmp}
 use Rattle.inbox.specs.Ordered.{append_new}
 use Rattle.inbox_table.specs.Beside.{KeepsService}
-use Rattle.inbox_table.specs.Calls.{AreFreshEach, joined}
+use Rattle.inbox_table.specs.Calls.{AreFreshEach, MayTake, joined}
 use Rattle.line_intake.specs.Acknowledged.{AreTold, TellsAll, TellsSome, TellsUntil}
 use Rattle.line_intake.specs.Answers.{answers}
-use Rattle.line_intake.specs.Follow.{AreKept, AreTurns, IsFollowed, IsKept, IsTurn, KeepsTurns, Place, StopsStream, StopsTurn, Turn, faults_of}
+use Rattle.line_intake.specs.Follow.{AreKept, AreTurns, IsFollowed, IsKept, IsTurn, KeepsTurns, LeavesTurns, Place, StopsStream, StopsTurn, Turn, faults_of}
 use Rattle.line_intake.specs.Judged.{AreJudged, IsGathered, faults_in}
 use Rattle.line_intake.specs.declared.answer.Told.{Told}
 use Rattle.line_intake.specs.declared.line.LineFault.{LineFault}
@@ -48,6 +49,35 @@ keeps_on old mid new first then = record {
       record { service = other.service ∙ one.service; orders = other.orders ∙ one.orders; outbox = other.outbox ∙ one.outbox };
 }
 
+-- what a crash leaves before the first turn of a stream, if the database is open then
+abbrev pub Leaves : State → Trees → Type 0
+Leaves s trees = IsTrue s.is_open → s.may_leave trees
+
+-- behind turns a database is open; before the first, if it was
+abbrev IsOpenBehind : List Turn → Bool → Bool → Type 0
+IsOpenBehind [] was is = IsTrue was → IsTrue is
+IsOpenBehind (turn ∷ turns) was is = IsTrue is
+
+leaves_more : (turns : List Turn) (t : Turn) (Was : Trees → Type 0) (db : Database) (trees : Trees) → trees ≡ db.trees → LeavesTurns (turns ++ t ∷ []) Was db trees
+leaves_more [] t Was db trees same = same
+leaves_more (u ∷ turns) t Was db trees same = same
+
+open_more : (turns : List Turn) (t : Turn) (was is : Bool) → IsTrue is → IsOpenBehind (turns ++ t ∷ []) was is
+open_more [] t was is so = so
+open_more (u ∷ turns) t was is so = so
+
+shut : (X : Type 0) → IsTrue false → X
+shut X e = absurd (cc)
+
+leaves_or : (was : Bool) (Left Took : Type 0) → (IsTrue was → Took) → (IsTrue was → Left) ⊎ Took
+leaves_or true Left Took took = inr (took refl)
+leaves_or false Left Took took = inl (shut Left)
+
+-- a crash within a turn that may have taken events leaves what it left before, or them too
+leaves_turn : (turns : List Turn) (old mid : State) (db : Database) (trees : Trees) (Took : Type 0) → IsOpenBehind turns old.is_open mid.is_open → (IsTrue mid.is_open → Took) → LeavesTurns turns (Leaves old) db trees ⊎ Took
+leaves_turn [] old mid db trees Took still took = leaves_or old.is_open (old.may_leave trees) Took (λ was. took (still was))
+leaves_turn (t ∷ turns) old mid db trees Took still took = inr (took still)
+
 -- so far the stream has had these turns
 pub record IsFollowing (start : Place) (lines : ℕ) (left out : Option (List ℕ)) (old now : State) (faults : ℕ) : Type 0 where
   pub turns : List Turn
@@ -57,6 +87,8 @@ pub record IsFollowing (start : Place) (lines : ℕ) (left out : Option (List �
   pub faulty : faults ≡ faults_of turns
   pub few : faults ≤ lines
   pub clean : HasCleanDisk now → HasCleanDisk old
+  pub leaves : HasCleanDisk now → (trees : Trees) → now.may_leave trees → LeavesTurns turns (Leaves old) now.now trees
+  pub still : HasCleanDisk now → IsOpenBehind turns old.is_open now.is_open
   pub tells : List Told
   pub text : List ℕ
   pub told : AreTold start.left left tells text
@@ -73,6 +105,8 @@ following_start left out s = (let none = told_none left in record {
   faulty = refl;
   few = omega arith;
   clean = λ clean. clean;
+  leaves = λ clean trees left was. left;
+  still = λ clean was. was;
   tells = [];
   text = [];
   told = none.0;
@@ -120,6 +154,8 @@ following_more start lines next left left' out out' old mid now faults tells lis
       faulty = (let e : faults + faults_in tells ≡ faults_of (f.turns ++ t ∷ []) = omega (arith, f.faulty, sum_by-append (λ (t : Turn). faults_in t.tells) f.turns (t ∷ []), sum_by-cons (λ (t : Turn). faults_in t.tells) t []) in e);
       few = (let few = few_gathered lines next left left' tells lists g in omega (arith, few, f.few));
       clean = λ clean. f.clean (cleaner clean);
+      leaves = λ clean trees left. leaves_more f.turns t (Leaves old) now.now trees ((kept clean).settled (kept clean).stays_open trees left);
+      still = λ clean. open_more f.turns t old.is_open now.is_open (kept clean).stays_open;
       tells = f.tells ++ tells;
       text = f.text ++ answers tells lists each;
       told = told.0;
@@ -141,7 +177,7 @@ following_done start lines left out old now faults f over = record {
 
 -- the database that the turns left, as a fault behind them tells it
 abbrev Stops : Place → Option (List ℕ) → State → State → FollowFault → Type 0
-Stops start out old now why = StopsStream start out now why (λ turns mid. HasCleanDisk now → KeepsTurns turns old.now mid)
+Stops start out old now why = StopsStream start (Leaves old) out now why (λ turns mid. HasCleanDisk now → KeepsTurns turns old.now mid)
 
 pub following_unread : (start : Place) (lines : ℕ) (left out : Option (List ℕ)) (old now : State) (faults : ℕ) (why : LineFault) → IsFollowing start lines left out old now faults → Stops start out old now (Input why)
 following_unread start lines left out old now faults why f = record {
@@ -150,16 +186,26 @@ following_unread start lines left out old now faults why f = record {
   are = f.are;
   mid = now.now;
   kept = f.kept;
-  stop = (refl, refl);
+  stop = (refl, refl, f.leaves);
 }
 
+-- what a crash leaves of a turn that stopped
+leaves_stop : (start : Place) (lines : ℕ) (left out : Option (List ℕ)) (old mid now : State) (faults : ℕ) (lists : List (List EventValue)) (f : IsFollowing start lines left out old mid faults) → (HasCleanDisk now → HasCleanDisk mid)
+    → (HasCleanDisk now → (trees : Trees) → now.may_leave trees → mid.may_leave trees ⊎ (IsTrue mid.is_open → MayTake (joined lists) mid.now trees))
+    → HasCleanDisk now → (trees : Trees) → now.may_leave trees → LeavesTurns f.turns (Leaves old) mid.now trees ⊎ MayTake (joined lists) mid.now trees
+leaves_stop start lines left out old mid now faults lists f cleaner crash clean trees may = elim (crash clean trees may) [
+  | inl before ↦ inl (f.leaves (cleaner clean) trees before)
+  | inr took ↦ leaves_turn f.turns old mid mid.now trees (MayTake (joined lists) mid.now trees) (f.still (cleaner clean)) took
+]
+
 pub following_stops : (start : Place) (lines next : ℕ) (left left' out out' : Option (List ℕ)) (old mid now : State) (faults : ℕ) (tells : List Told) (lists : List (List EventValue)) (why : FollowFault) → IsFollowing start lines left out old mid faults → IsGathered lines next left left' tells lists
-    → StopsTurn why tells lists mid.now now out out' → (HasCleanDisk now → HasCleanDisk mid) → Stops start out' old now why
-following_stops start lines next left left' out out' old mid now faults tells lists (Input fault) f g stop cleaner = absurd stop
-following_stops start lines next left left' out out' old mid now faults tells lists (Table fault) f g stop cleaner =
-    record { turns = f.turns; last = record { lines = lines; left = left; out = out }; are = f.are; mid = mid.now; kept = λ clean. f.kept (cleaner clean); stop = (next, left', tells, lists, g, stop) }
-following_stops start lines next left left' out out' old mid now faults tells lists Unwritten f g stop cleaner =
-    record { turns = f.turns; last = record { lines = lines; left = left; out = out }; are = f.are; mid = mid.now; kept = λ clean. f.kept (cleaner clean); stop = (next, left', tells, lists, g, stop) }
+    → StopsTurn why tells lists mid.now now out out' → (HasCleanDisk now → HasCleanDisk mid)
+    → (HasCleanDisk now → (trees : Trees) → now.may_leave trees → mid.may_leave trees ⊎ (IsTrue mid.is_open → MayTake (joined lists) mid.now trees)) → Stops start out' old now why
+following_stops start lines next left left' out out' old mid now faults tells lists (Input fault) f g stop cleaner crash = absurd stop
+following_stops start lines next left left' out out' old mid now faults tells lists (Table fault) f g stop cleaner crash =
+    record { turns = f.turns; last = record { lines = lines; left = left; out = out }; are = f.are; mid = mid.now; kept = λ clean. f.kept (cleaner clean); stop = (next, left', tells, lists, g, stop, leaves_stop start lines left out old mid now faults lists f cleaner crash) }
+following_stops start lines next left left' out out' old mid now faults tells lists Unwritten f g stop cleaner crash =
+    record { turns = f.turns; last = record { lines = lines; left = left; out = out }; are = f.are; mid = mid.now; kept = λ clean. f.kept (cleaner clean); stop = (next, left', tells, lists, g, stop, leaves_stop start lines left out old mid now faults lists f cleaner crash) }
 
 -- a turn that stops leaves the service beside the table too
 stop_beside : (mid : Database) (now : State) (out out' : Option (List ℕ)) (tells : List Told) (lists : List (List EventValue)) (why : FollowFault) → StopsTurn why tells lists mid now out out' → HasCleanDisk now → IsTrue now.is_open → KeepsService mid now.now

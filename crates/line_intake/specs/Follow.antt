@@ -3,11 +3,12 @@ use Rattle.std.specs.Prelude.{◌≡◌, ◌⊎◌, ℕ, List, [], ◌∷◌, le
 use Rattle.std.specs.Io.KnownBytes.{Appends, IsAtEnd, Keeps}
 use Rattle.sqlite.specs.Effect.{Database}
 use Rattle.sqlite.specs.State.{State, HasCleanDisk}
+use Rattle.sqlite_trees.specs.Tree.{Trees}
 use Rattle.attributes.specs.Event.{EventValue}
 use Rattle.inbox.specs.KeyOrder.{key_cmp}
 use Rattle.inbox.specs.Ordered.{append_new}
 use Rattle.inbox_table.specs.Beside.{KeepsService}
-use Rattle.inbox_table.specs.Calls.{AreFreshEach, IsSettled, Takes, joined}
+use Rattle.inbox_table.specs.Calls.{AreFreshEach, IsSettled, MayTake, Takes, joined}
 use Rattle.inbox_table.specs.Fault.{IsOfStore}
 use Rattle.inbox_table.specs.Rows.{IsInbox}
 use Rattle.inbox_table.specs.declared.fault.TableFault.TheVariants.{OutOfMemory}
@@ -25,6 +26,7 @@ pub record IsKept (lists : List (List EventValue)) (each : List ℕ) (old : Data
   pub takes : Takes (joined lists) old new.now
   pub fresh : (events : List EventValue) → IsInbox old events → AreFreshEach events lists each
   pub beside : KeepsService old new.now
+  pub stays_open : IsTrue new.is_open
   pub settled : IsSettled new
 
 -- ---- one turn that stops
@@ -96,21 +98,34 @@ pub record IsFollowed (start : Place) (out : Option (List ℕ)) (faults : ℕ) (
   pub kept : K turns
   pub faulty : faults ≡ faults_of turns
 
--- the input couldn't be read on: nothing more was written, and the table is as it was then; or
--- lines were read behind those of the turns, and their turn stopped
-abbrev pub StopsBehind : FollowFault → Place → Database → State → Option (List ℕ) → Type 0
-StopsBehind (fault.Input why) last mid new out = (mid ≡ new.now) × (last.out ≡ out)
-StopsBehind why last mid new out = (lines : ℕ) × (left : Option (List ℕ)) × (tells : List Told)
-    × (lists : List (List EventValue)) × IsGathered last.lines lines last.left left tells lists
+-- what a crash leaves behind turns that were answered and brought the database to this: just that;
+-- where there were none, what was there before
+abbrev pub LeavesTurns : List Turn → (Trees → Type 0) → Database → Trees → Type 0
+LeavesTurns [] Was mid trees = Was trees
+LeavesTurns (turn ∷ turns) Was mid trees = trees ≡ mid.trees
+
+-- the input couldn't be read on: nothing more was written, the table is as it was then, and a crash
+-- leaves it so; or lines were read behind those of the turns, and their turn stopped: then a crash
+-- may leave their events too, all of them
+abbrev pub StopsBehind : FollowFault → Place → (Trees → Type 0) → Database → State
+    → Option (List ℕ) → Type 0
+StopsBehind (fault.Input why) last Leaves mid new out = (mid ≡ new.now) × (last.out ≡ out)
+    × (HasCleanDisk new → (trees : Trees) → new.may_leave trees → Leaves trees)
+StopsBehind why last Leaves mid new out = (lines : ℕ) × (left : Option (List ℕ))
+    × (tells : List Told) × (lists : List (List EventValue))
+    × IsGathered last.lines lines last.left left tells lists
     × StopsTurn why tells lists mid new last.out out
+    × (HasCleanDisk new → (trees : Trees) → new.may_leave trees
+    → Leaves trees ⊎ MayTake (joined lists) mid trees)
 
 -- it stopped before that: each turn before was answered, the database that these turns left is as K
--- says, and what came of the last lines that were read is told by the fault
-pub record StopsStream (start : Place) (out : Option (List ℕ)) (new : State) (why : FollowFault)
-    (K : List Turn → Database → Type 0) : Type 0 where
+-- says, and what came of the last lines that were read is told by the fault. Before the first turn a
+-- crash left what Was says
+pub record StopsStream (start : Place) (Was : Trees → Type 0) (out : Option (List ℕ)) (new : State)
+    (why : FollowFault) (K : List Turn → Database → Type 0) : Type 0 where
   pub turns : List Turn
   pub last : Place
   pub are : AreTurns start turns last
   pub mid : Database
   pub kept : K turns mid
-  pub stop : StopsBehind why last mid new out
+  pub stop : StopsBehind why last (LeavesTurns turns Was mid) mid new out

@@ -38,6 +38,8 @@ pub fn follow<S: Alter, R: Read, W: Write>(
         → OnOk result (IsSettled (state S.Store table.new.conn)) }
     ensures stops { IfErr result (λ f. StopsStream
         (record { lines = 0; left = R.remaining input.old; out = W.contents out.old })
+        (λ trees. IsTrue (state S.Store table.old.conn).is_open
+        → (state S.Store table.old.conn).may_leave trees)
         (W.contents out.new) (state S.Store table.new.conn) f
         (λ turns mid. HasCleanDisk (state S.Store table.new.conn)
         → KeepsTurns turns (state S.Store table.old.conn).now mid)) }

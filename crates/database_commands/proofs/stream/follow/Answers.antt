@@ -13,7 +13,8 @@ returns-in-Ok g c =
       settled = stream_settled c.follow-ended.result c.outcome_of-outcome.result (state g.S.Store c.follow-ended.new.table.conn) _
           (ap (state g.S.Store) c.into_connection-conn.ensures) c.outcome_of-outcome.ensures c.follow-ended.ensures.settled;
       stops = stream_stops c.follow-ended.result c.outcome_of-outcome.result _ _ _ _ (state g.S.Store c.args.conn) (state g.S.Store c.in-Ok.table.conn) (state g.S.Store c.follow-ended.new.table.conn) _
-          (ap (state g.S.Store) c.into_connection-conn.ensures) c.outcome_of-outcome.ensures c.in-Ok.ensures.held c.follow-ended.ensures.clean c.follow-ended.ensures.stops;
+          (ap (state g.S.Store) c.into_connection-conn.ensures) c.outcome_of-outcome.ensures c.in-Ok.ensures.held c.follow-ended.ensures.clean
+          (λ clean trees left. c.in-Ok.ensures.crash.crash clean trees (left (c.in-Ok.ensures.stays_open clean))) c.follow-ended.ensures.stops;
       told = stream_told c.follow-ended.result c.outcome_of-outcome.result _ _ _ c.outcome_of-outcome.ensures c.follow-ended.ensures.told;
       until = stream_until c.follow-ended.result c.outcome_of-outcome.result _ _ _ c.outcome_of-outcome.ensures c.follow-ended.ensures.until;
       beside = stream_beside (state g.S.Store c.args.conn).now (state g.S.Store c.in-Ok.table.conn) (state g.S.Store c.follow-ended.new.table.conn) _

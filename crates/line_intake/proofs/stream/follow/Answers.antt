@@ -21,7 +21,7 @@ acknowledge-requires g c = even_gathered _ _ _ _ _ _ c.in-Ok.ensures.gathered
 pub returns-in-Err-acknowledge-clause-stops : goal.returns-in-Err-acknowledge-clause-stops
 returns-in-Err-acknowledge-clause-stops g c =
     following_stops _ c.loop.lines c.in-Ok.part.gathered.lines _ _ _ _ _ (state g.S.Store c.loop.table.conn) (state g.S.Store c.acknowledge.new.table.conn) c.loop.faults c.in-Ok.part.gathered.tells c.in-Ok.part.gathered.lists c.in-Err-acknowledge.fault
-    c.loop.invariant.0 c.in-Ok.ensures.gathered c.in-Err-acknowledge.ensures.stops (λ clean. omega (arith, c.acknowledge.ensures.crash.clean, clean))
+    c.loop.invariant.0 c.in-Ok.ensures.gathered c.in-Err-acknowledge.ensures.stops (λ clean. omega (arith, c.acknowledge.ensures.crash.clean, clean)) c.acknowledge.ensures.crash.crash
 
 pub returns-in-Err-acknowledge-clause-until : goal.returns-in-Err-acknowledge-clause-until
 returns-in-Err-acknowledge-clause-until g c =
