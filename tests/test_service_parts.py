@@ -12,11 +12,12 @@ import socket
 import subprocess
 import threading
 import time
+from concurrent.futures import ThreadPoolExecutor
 from typing import Any, Callable, Iterator
 from urllib.parse import quote
 
 import pytest
-from serving import HEAD, MANY, ONE, QUESTIONS, Authority, Site, Tries, event, part_of, serving
+from serving import HEAD, MANY, ONE, QUESTIONS, Authority, Site, Told, Tries, event, part_of, serving
 
 pytestmark = [pytest.mark.library, pytest.mark.alone, pytest.mark.slow]
 
@@ -281,6 +282,90 @@ def test_service_of_another_kind(tries: Tries) -> None:
     server.shutdown()
 
 
+class Strange(http.server.BaseHTTPRequestHandler):
+    """What says that it is part 0 of 2, and answers what it is asked in one of several wrong ways."""
+
+    how = ""
+    over = threading.Event()
+    real: Site
+    count = 2**64 - 1
+
+    def head(self, length: int) -> None:
+        self.send_response(200)
+        for name, value in (("Content-Length", length), ("ETag", '"x"'), ("Site-Part", "0/2"), ("Site-Events", self.count)):
+            self.send_header(name, str(value))
+        self.end_headers()
+
+    def do_HEAD(self) -> None:
+        self.head(0)
+
+    def do_GET(self) -> None:
+        given = self.rfile.read(int(self.headers.get("Content-Length", 0)))
+        if self.how == "late":
+            self.over.wait(10)
+        elif self.how == "drips":
+            self.head(1000)
+            with contextlib.suppress(OSError):
+                while not self.over.wait(0.1):
+                    self.wfile.write(b" ")
+        elif self.how == "cut":
+            self.head(1000)
+            self.wfile.write(b'{"new":1,"repeated":0}')
+        else:
+            counts = b'{"new":%d,"repeated":%d}' % (self.count, self.count)
+            other = self.real.ask(self.command, self.path, given, {"Site-Part": "1/2"}).body
+            body = {"another's": other, "too much": counts}.get(self.how, b"{}")
+            self.head(len(body))
+            self.wfile.write(body)
+
+    do_POST = do_GET
+
+    def log_message(self, *_: Any) -> None:
+        pass
+
+
+def test_strange_part(tries: Tries) -> None:
+    """A part that answers late, drop by drop, half, or what is another's is told as such; no answer is made of it, and others go on."""
+    first, second = (next(it for it in SOURCES if part_of(it, 2) == at) for at in range(2))
+    server = http.server.ThreadingHTTPServer(("127.0.0.1", 0), Strange)
+    threading.Thread(target=server.serve_forever, daemon=True).start()
+    quick = QUICK.replace("request_seconds = 5", "request_seconds = 1")
+    with serving(tries, f'part = "1/2"\n{QUICK}', "part") as part:
+        Strange.real = part
+        rows = f'{quick}[[parts]]\nurl = "http://127.0.0.1:{server.server_port}"\n[[parts]]\nurl = "{part.url}"\n'
+        with serving(tries, rows, "front", is_front=True) as front:
+            tries.judge("it is there", front.waits_for(lambda: front.get("/readyz").status == 200), front.get("/readyz"))
+            front.give(event(1, second))
+            for number, (how, asked, given) in enumerate(
+                (
+                    ("late", "part-away", "no answer within 1 seconds"),
+                    ("drips", "part-away", "no whole answer within 1 seconds"),
+                    ("cut", "part-away", "end of file"),
+                    ("another's", "overlap", "missing field"),
+                    ("too much", "uncombined", "more events than it was given"),
+                    ("nothing that is known", "uncombined", "missing field"),
+                ),
+                2,
+            ):
+                Strange.how = how
+                began = time.monotonic()
+                told = front.get("/kinds")
+                tries.judge(f"{how}: no answer", told.problem == asked and told.status in (502, 503), told)
+                told = front.give([event(1, first), event(number, second)])
+                tries.judge(f"{how}: not acknowledged", told.status == 503 and told.problem == "part-away", told)
+                said = told.json["parts"]
+                tries.judge(f"{how}: it says why", [(it["part"], it["sources"]) for it in said] == [(0, [first])] and given in said[0]["why"], said)
+                tries.judge(f"{how}: within its time", time.monotonic() - began < 4, time.monotonic() - began)
+                tries.judge(f"{how}: others go on", front.give(event(number, second)).json["repeated"] == 1)
+                tries.judge(f"{how}: their answers", front.get(f"/get?source={quote(second)}&id={number}").status == 200)
+                tries.judge(f"{how}: it is watched all the same", [front.get(it).status for it in ("/healthz", "/status", "/metrics")] == [200] * 3)
+            Strange.how = "cut"
+            with pytest.raises(http.client.IncompleteRead):
+                front.get(f"/get?source={quote(first)}&id=1")
+            Strange.over.set()
+    server.shutdown()
+
+
 def test_identity(tries: Tries) -> None:
     """What answers in the place of a part and isn't that part gets no event and is no part of an answer."""
     with contextlib.ExitStack() as stack:
@@ -305,14 +390,124 @@ def test_identity(tries: Tries) -> None:
             front.ran.send_signal(signal.SIGHUP)
             tries.judge("a part that moved", front.waits_for(lambda: front.get("/readyz").status == 200), front.get("/readyz"))
             tries.judge("all is taken", front.give(batch).status == 200 and len(front.cover()) == len(SOURCES), front.cover())
-            front.set(tables(parts[:1]))
-            front.ran.send_signal(signal.SIGHUP)
-            kept = front.waits_for(lambda: any(it.get("message") == "the settings stay as they were" for it in front.log()))
-            tries.judge("as many parts for ever", kept and front.get("/readyz").status == 200, front.log()[-2:])
+
+            def refusals() -> list[str]:
+                return [it["why"] for it in front.log() if it.get("message") == "the settings stay as they were"]
+
+            lost = f'[[peers]]\nname = "peer"\nurl = "{whole.url}"\ntoken_file = "{tries.folder}/none"\n'
+            for what, text, why in (
+                ("fewer parts", tables(parts[:1]), "as many"),
+                ("more parts", tables([*parts, third]), "as many"),
+                ("no parts", QUICK, "no database"),
+                ("none, and a database", f'db = "{whole.db}"\n{QUICK}', "as many"),
+                ("other places, and a token that isn't there", tables([third, whole]) + lost, "none"),
+            ):
+                before = len(refusals())
+                front.set(text)
+                front.ran.send_signal(signal.SIGHUP)
+                tries.judge(f"{what}: refused", front.waits_for(lambda: len(refusals()) > before) and why in refusals()[-1], front.log()[-2:])
+                tries.judge(f"{what}: all stays", front.get("/readyz").status == 200 and front.give(batch).status == 200, front.get("/readyz"))
         one = tries.site("both", 'db = "x"\n[[parts]]\nurl = "http://127.0.0.1:1"\n', is_front=True)
         with contextlib.suppress(OSError):
             one.start()
         tries.judge("a front with a database", one.ran.wait(8) == 1 and "db is the business of the parts" in one.text_of_log(), one.text_of_log())
+
+
+class Producer(threading.Thread):
+    """Gives new events of some sources through a front, batch by batch, and notes what it was answered."""
+
+    def __init__(self, front: Site, sources: list[str]) -> None:
+        super().__init__(daemon=True)
+        self.front, self.sources, self.over = front, sources, threading.Event()
+        self.told: list[tuple[float, list[dict[str, Any]], Told]] = []
+
+    def run(self) -> None:
+        while not self.over.wait(0.01):
+            batch = [event(len(self.told) + 1, it) for it in self.sources]
+            began = time.monotonic()
+            self.told.append((began, batch, self.front.give(batch)))
+
+    def since(self, time_: float) -> int:
+        """How many batches were given behind a time."""
+        return sum(it[0] > time_ for it in self.told)
+
+    def batches(self, is_kept: bool) -> list[list[dict[str, Any]]]:
+        """Those that were acknowledged, or those that weren't."""
+        return [it[1] for it in self.told if (it[2].status == 200) == is_kept]
+
+
+def names_part(batch: list[dict[str, Any]], told: Told) -> bool:
+    """Whether an answer refuses the events of part 1 of 4 alone, and says of which sources these are."""
+    own = sorted({it["source"] for it in batch if part_of(it["source"], 4) == 1}, key=str.encode)
+    said = told.json
+    refused = [(it["part"], it["sources"], it["of"]) for it in said.get("parts", [])]
+    others = len(batch) - len(own)
+    return (told.problem, told.status, refused, said["new"], said["repeated"]) == ("part-away", 503, [(1, own, len(own))], others, 0)
+
+
+def file_of(site: Site) -> tuple[bytes, list[str], int]:
+    """A site's database, what lies beside it, and when it was written."""
+    with open(site.db, "rb") as file:
+        return file.read(), sorted(it for it in os.listdir(site.folder) if it.startswith("site.db")), os.stat(site.db).st_mtime_ns
+
+
+def test_part_that_moves(tries: Tries) -> None:
+    """A part moves while events of all parts come: those of the others are taken all the while, and no event is lost or there twice."""
+    with region(tries, 4) as (parts, (front,)), serving(tries, QUICK, "whole") as whole:
+        # Two give events of all parts, and two of all but the one that moves.
+        sources = [[f"/{at}/{it}" for it in range(20)] for at in range(4)]
+        mixed = [Producer(front, it) for it in sources[:2]]
+        others = [Producer(front, [it for it in own if part_of(it, 4) != 1]) for own in sources[2:]]
+        for it in (*mixed, *others):
+            it.start()
+        tries.judge("events come", front.waits_for(lambda: all(len(it.told) > 9 for it in (*mixed, *others))))
+        tries.judge("the part ends", parts[1].stop() == 0)
+        gone, left = time.monotonic(), file_of(parts[1])
+        moved = tries.site("moved", f'part = "1/4"\n{QUICK}')
+        shutil.copy(parts[1].db, moved.db)
+        told = front.waits_for(lambda: all(it.since(gone) > 9 for it in (*mixed, *others)))
+        tries.judge("others go on while it is nowhere", told, [it.since(gone) for it in (*mixed, *others)])
+        back = time.monotonic()
+        moved.start()
+        front.set(tables([parts[0], moved, *parts[2:]]))
+        front.ran.send_signal(signal.SIGHUP)
+        tries.judge("all is taken again", front.waits_for(lambda: all(it.told[-1][2].status == 200 and it.since(back) > 9 for it in mixed)))
+        for it in (*mixed, *others):
+            it.over.set()
+            it.join()
+        meanwhile = sum(it.since(gone) - it.since(back) for it in others)
+        tries.judge("other parts' events were all taken", not any(it.batches(False) for it in others) and meanwhile > 19, meanwhile)
+        refused = [(batch, answer) for it in mixed for _, batch, answer in it.told if answer.status != 200]
+        tries.judge("what was refused is that part's", len(refused) > 19 and all(names_part(*it) for it in refused), refused[:1])
+        kept = {(one["source"], one["id"]) for it in (*mixed, *others) for batch in it.batches(True) for one in batch}
+        has = [(it["source"], it["id"]) for it in map(json.loads, front.get("/shown").body.splitlines())]
+        tries.judge("what was acknowledged is there", kept <= set(has), sorted(kept - set(has))[:9])
+        again = [front.give(batch) for batch, _ in refused]
+        lacked = sum(part_of(one["source"], 4) == 1 for batch, _ in refused for one in batch)
+        tries.judge("given again, all is taken", {it.status for it in again} == {200}, again[:1])
+        tries.judge("which is what that part lacked", sum(it.json["new"] for it in again) == lacked, (len(again), lacked))
+        every = [one for it in (*mixed, *others) for _, batch, _ in it.told for one in batch]
+        for at in range(0, len(every), 1000):
+            whole.give(every[at : at + 1000])
+        tries.judge("all is as in one site", not differences(front, whole), differences(front, whole))
+        tries.judge("each event is there once", front.get("/cover").headers["site-events"] == str(len(every)), len(every))
+        came = moved.get("/arrivals?after=0&limit=2000").body.splitlines()
+        tries.judge("each came once to that part", len(came) == len(set(came)) == sum(part_of(it["source"], 4) == 1 for it in every), len(came))
+        tries.judge("the file of before isn't written", file_of(parts[1]) == left, file_of(parts[1])[1:])
+        tries.judge("it ends well", moved.stop() == 0, moved.text_of_log()[-800:])
+
+
+def test_two_fronts_at_once(tries: Tries) -> None:
+    """The same events given to two fronts at the same time are kept once, and both acknowledge them."""
+    with region(tries, 2, 2) as (_, fronts), ThreadPoolExecutor(2) as pool:
+        for number in range(1, 21):
+            batch = [event(number, it) for it in SOURCES]
+            giving = [pool.submit(it.give, batch) for it in fronts]
+            told = [it.result() for it in giving]
+            fresh = [it.json["new"] for it in told]
+            tries.judge(f"batch {number}", {it.status for it in told} == {200} and sum(fresh) == len(SOURCES), told)
+        for it in fronts:
+            tries.judge("each once", it.cover() == {at: [[1, 20]] for at in SOURCES} and it.get("/kinds").body == b'["t",340]\n', it.cover())
 
 
 def test_tls_before_parts(tries: Tries) -> None:
@@ -365,6 +560,15 @@ def test_tokens_of_parts(tries: Tries) -> None:
         told = bare.get("/readyz")
         tries.judge("a front without its token", told.problem == "part-away" and "401" in told.json["detail"], told)
         tries.judge("is refused nothing itself", bare.give(shops).problem == "part-away", bare.give(shops))
+        # The token is another one, in the same file.
+        with open(file, "w", encoding="ascii") as out:
+            out.write("another")
+        for it in parts:
+            it.ran.send_signal(signal.SIGHUP)
+        tries.judge("the token of before", front.waits_for(lambda: "401" in front.get("/readyz").body.decode()), front.get("/readyz"))
+        front.ran.send_signal(signal.SIGHUP)
+        tries.judge("a token's file is read again", front.waits_for(lambda: front.get("/readyz").status == 200), front.get("/readyz"))
+        tries.judge("and events are taken", front.give([event(2, it["source"]) for it in shops], till).json["new"] == 6)
 
 
 def test_large_answers(tries: Tries) -> None:

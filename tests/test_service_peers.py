@@ -61,12 +61,19 @@ def test_peers(tries: Tries) -> None:
         tries.judge("a peer is taken away", north.waits_for(lambda: not seen(north)), seen(north))
         tries.judge("its metrics too", b'peer="peer"' not in north.get("/metrics").body)
         sha = hashlib.sha256(b"new").hexdigest()
-        north.set(f'webhook_rate = 5\n[[tokens]]\nname = "a"\nroles = ["read"]\nsha256 = "{sha}"\n{quick}[limits]\nfaults = 1\n')
+        north.set(f'webhook_rate = 5\n[[tokens]]\nname = "a"\nroles = ["read", "peer"]\nsha256 = "{sha}"\n{quick}[limits]\nfaults = 1\n')
         north.ran.send_signal(signal.SIGHUP)
         tries.judge("tokens are read again", north.waits_for(lambda: north.get("/kinds").status == 401), north.get("/kinds"))
         told = [it.get("settings") for it in north.log() if "restart" in it.get("message", "")]
         tries.judge("what wants a restart is told", told == ["limits"], told)
         tries.judge("a peer that refuses is told", south.waits_for(lambda: "401" in (seen(south).get("why") or "")), seen(south))
+        file = f"{tries.folder}/south.token"
+        south.set(f'{peer(north)}token_file = "{file}"\n')
+        for token, state in (("old", "down"), ("new", "up")):
+            with open(file, "w", encoding="ascii") as out:
+                out.write(token)
+            south.ran.send_signal(signal.SIGHUP)
+            tries.judge(f"a token's file is read again: {token}", south.waits_for(lambda: seen(south).get("state") == state), seen(south))
 
 
 def test_peer_that_lies(tries: Tries) -> None:

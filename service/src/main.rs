@@ -205,7 +205,7 @@ async fn serve_until_signal(
     let door = connections::Door::new(service.clone())?;
     let listener = connections::listen(settings.listen).map_err(|it| format!("{}: {it}", settings.listen))?;
     let at = listener.local_addr().map_err(|it| it.to_string())?;
-    tasks.set(&settings.peers)?;
+    tasks.set(tasks.peers_of(&settings.peers)?);
     #[cfg(feature = "postgres")]
     let outbox = match (service, settings.postgres.clone()) {
         (Kind::Site(site), Some(it)) => Some(tokio::spawn(postgres::Outbox::new(it, site).run())),
@@ -231,14 +231,15 @@ async fn serve_until_signal(
     connections.await.map_err(|it| it.to_string())
 }
 
-/// Takes up what of the settings may change while the service runs.
+/// Takes up what of the settings may change while the service runs. Where one of them can't be used nothing changes.
 fn reload(flags: &Flags, service: &Kind, tasks: &mut sync::Tasks) -> Result<(), String> {
     let settings = Settings::of(flags)?;
     let live = Live::of(&settings)?;
+    let peers = tasks.peers_of(&settings.peers)?;
     if let Kind::Front(front) = service {
-        front.set(&settings.parts)?;
+        front.set(front.parts_of(&settings.parts)?);
     }
-    tasks.set(&settings.peers)?;
+    tasks.set(peers);
     *service.live.write().unwrap() = Arc::new(live);
     let fixed = service.settings.fixed_changes(&settings);
     if !fixed.is_empty() {

@@ -38,7 +38,14 @@ pub struct Tasks {
     peers: Arc<Peers>,
     ends: watch::Receiver<bool>,
     settings: settings::Sync,
-    running: BTreeMap<String, (settings::Peer, JoinHandle<()>)>,
+    running: BTreeMap<String, Running>,
+}
+
+/// A peer that is pulled from, and the token with which it is.
+struct Running {
+    of: settings::Peer,
+    token: Option<String>,
+    task: JoinHandle<()>,
 }
 
 impl Tasks {
@@ -56,33 +63,34 @@ impl Tasks {
         })
     }
 
-    /// Lets exactly these peers be pulled from: tasks of others end, and those of new or changed ones begin. Where a
-    /// token can't be read nothing changes.
-    pub fn set(&mut self, wanted: &[settings::Peer]) -> Result<(), String> {
-        let mut begin = Vec::new();
-        for peer in wanted {
-            if self.running.get(&peer.name).map_or(true, |it| it.0 != *peer) {
-                begin.push(self.peer(peer)?);
-            }
-        }
-        let gone = |name: &String, has: &settings::Peer| !wanted.iter().any(|it| it.name == *name && it == has);
-        let names: Vec<String> = self.running.iter().filter(|it| gone(it.0, &it.1 .0)).map(|it| it.0.clone()).collect();
-        for name in names {
-            if let Some((_, task)) = self.running.remove(&name) {
-                task.abort();
+    /// The peers of these settings, with their tokens, or why one can't be read.
+    pub fn peers_of(&self, wanted: &[settings::Peer]) -> Result<Vec<Peer>, String> {
+        wanted.iter().map(|it| self.peer(it)).collect()
+    }
+
+    /// Lets exactly these peers be pulled from: tasks of others end, and those of new or changed ones begin.
+    pub fn set(&mut self, wanted: Vec<Peer>) {
+        let same = |has: &Running, it: &Peer| has.of == it.of && has.token == it.token;
+        let stays = |has: &Running| wanted.iter().any(|it| same(has, it));
+        let gone: Vec<String> = self.running.iter().filter(|it| !stays(it.1)).map(|it| it.0.clone()).collect();
+        for name in gone {
+            if let Some(has) = self.running.remove(&name) {
+                has.task.abort();
             }
             self.metrics.peer.forget(&name);
             self.peers.forget(&name);
             tracing::info!(peer = name, "the peer is let go of");
         }
-        for peer in begin {
-            let (name, settings) = (peer.name.clone(), peer.of.clone());
+        for peer in wanted {
+            if self.running.contains_key(&peer.name) {
+                continue;
+            }
+            let (name, of, token) = (peer.name.clone(), peer.of.clone(), peer.token.clone());
             self.peers.note(&name, |it| it.state = "new");
-            tracing::info!(peer = name, url = settings.url, "the peer is pulled from");
+            tracing::info!(peer = name, url = of.url, "the peer is pulled from");
             let task = tokio::spawn(peer.run(self.ends.clone()));
-            self.running.insert(name, (settings, task));
+            self.running.insert(name, Running { of, token, task });
         }
-        Ok(())
     }
 
     fn peer(&self, of: &settings::Peer) -> Result<Peer, String> {
@@ -106,13 +114,14 @@ impl Tasks {
 
     /// Waits until the tasks have ended.
     pub async fn end(self) {
-        for (_, task) in self.running.into_values() {
-            let _ = tokio::time::timeout(Duration::from_secs(1), task).await;
+        for it in self.running.into_values() {
+            let _ = tokio::time::timeout(Duration::from_secs(1), it.task).await;
         }
     }
 }
 
-struct Peer {
+/// A peer, and what is known of it.
+pub struct Peer {
     name: String,
     of: settings::Peer,
     token: Option<String>,

@@ -75,7 +75,7 @@ pub fn joined(what: What, parts: &[OfPart]) -> Result<Joined, Fault> {
         What::Question(question) => combine(question, &answers, &covers),
     };
     let text = text.map_err(Fault::Uncombined)?.into();
-    let count = parts.iter().map(|it| it.count).sum();
+    let count = parts.iter().fold(0, |sum: u64, it| sum.saturating_add(it.count));
     let answer = Arc::new(Answer { text, count, tag: tag.into() });
     Ok(Joined { answer, tags: parts.iter().map(|it| it.tag.clone()).collect() })
 }

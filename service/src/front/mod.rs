@@ -21,6 +21,7 @@ use hyper::{Body, Request, StatusCode};
 use parts::{Part, Table};
 use questions::Cache;
 use std::ops::Deref;
+use std::sync::atomic::AtomicBool;
 use std::sync::{Arc, Mutex, RwLock};
 use std::time::Duration;
 use tokio::sync::watch;
@@ -35,8 +36,8 @@ pub struct Front {
     parts: RwLock<Arc<Vec<Arc<Part>>>>,
     table: Arc<Table>,
     cache: Cache,
-    /// What looks after each part, by the settings that it has.
-    followers: Mutex<Vec<(settings::PartAt, JoinHandle<()>)>>,
+    /// What looks after each part.
+    followers: Mutex<Vec<JoinHandle<()>>>,
 }
 
 impl Deref for Front {
@@ -50,49 +51,48 @@ impl Deref for Front {
 impl Front {
     /// The front of the settings, which looks after its parts from now on, or why it can't.
     pub fn start(common: Common) -> Result<Arc<Front>, String> {
-        let wanted = common.settings.parts.clone();
         let front = Front {
             client: client::new(&common.settings.sync, IDLE)?,
-            table: Arc::new(Table::new(wanted.len(), common.metrics.clone())),
+            table: Arc::new(Table::new(common.settings.parts.len(), common.metrics.clone())),
             parts: RwLock::default(),
             cache: Cache::default(),
             followers: Mutex::default(),
             common,
         };
-        front.set(&wanted)?;
+        front.set(front.parts_of(&front.settings.parts)?);
         Ok(Arc::new(front))
     }
 
-    /// Takes up where the parts are: those that are elsewhere now are looked for there. There are as many as before; where
-    /// a token can't be read nothing changes.
-    pub fn set(&self, wanted: &[settings::PartAt]) -> Result<(), String> {
+    /// The parts of these settings, with their tokens. An error where there aren't as many as before, or where a token can't
+    /// be read.
+    pub fn parts_of(&self, wanted: &[settings::PartAt]) -> Result<Vec<Part>, String> {
+        let had = self.settings.parts.len();
+        if had != wanted.len() {
+            return Err(format!("there are {had} parts, and as many there have to be for ever"));
+        }
+        wanted.iter().enumerate().map(|(index, at)| self.part(index, had, at)).collect()
+    }
+
+    /// Takes up where the parts are: those that are elsewhere now, or want another token, are looked for anew.
+    pub fn set(&self, wanted: Vec<Part>) {
         let mut followers = self.followers.lock().unwrap();
-        if !followers.is_empty() && followers.len() != wanted.len() {
-            return Err(format!("there are {} parts, and as many there have to be for ever", followers.len()));
-        }
         let (had, mut parts) = (self.parts(), Vec::new());
-        for (index, at) in wanted.iter().enumerate() {
-            let same = followers.get(index).filter(|it| it.0 == *at).and_then(|_| had.get(index));
-            parts.push(match same {
-                Some(part) => part.clone(),
-                None => Arc::new(self.part(index, wanted.len(), at)?),
-            });
-        }
-        for (index, (part, at)) in parts.iter().zip(wanted).enumerate() {
-            if had.get(index).is_some_and(|it| Arc::ptr_eq(it, part)) {
+        for (index, part) in wanted.into_iter().enumerate() {
+            if let Some(same) = had.get(index).filter(|it| (&it.url, &it.token) == (&part.url, &part.token)) {
+                parts.push(same.clone());
                 continue;
             }
+            let part = Arc::new(part);
             self.table.note(index, |it| *it = parts::Seen::default());
-            let task = tokio::spawn(part.clone().follow(self.settings.sync.clone(), self.ends.clone()));
-            let follower = (at.clone(), task);
+            let follower = tokio::spawn(part.clone().follow(self.settings.sync.clone(), self.ends.clone()));
             match followers.get_mut(index) {
-                Some(of_before) => std::mem::replace(of_before, follower).1.abort(),
+                Some(of_before) => std::mem::replace(of_before, follower).abort(),
                 None => followers.push(follower),
             }
-            tracing::info!(part = part.name, url = at.url, "the part is looked after");
+            tracing::info!(part = part.name, url = part.url, "the part is looked after");
+            parts.push(part);
         }
         *self.parts.write().unwrap() = Arc::new(parts);
-        Ok(())
     }
 
     fn part(&self, index: usize, of: usize, at: &settings::PartAt) -> Result<Part, String> {
@@ -102,6 +102,7 @@ impl Front {
             name: format!("{index}/{of}"),
             url: at.url.clone(),
             token: token.map(|it| format!("Bearer {}", it.trim())),
+            is_known: AtomicBool::new(false),
             client: self.client.clone(),
             seconds: self.settings.sync.request_seconds,
             table: self.table.clone(),

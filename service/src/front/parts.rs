@@ -11,7 +11,7 @@ use hyper::header::{HeaderMap, HeaderName, AUTHORIZATION, ETAG, IF_NONE_MATCH};
 use hyper::{Body, Method, Request, Response, StatusCode};
 use serde::Serialize;
 use std::future::Future;
-use std::sync::atomic::{AtomicUsize, Ordering::Relaxed};
+use std::sync::atomic::{AtomicBool, AtomicUsize, Ordering::Relaxed};
 use std::sync::{Arc, Mutex};
 use std::time::Duration;
 use tokio::sync::watch;
@@ -33,9 +33,6 @@ pub struct Seen {
     /// The name of its set.
     #[serde(skip)]
     pub tag: String,
-    /// Whether it ever said, where it is now, that it is this part.
-    #[serde(skip)]
-    pub is_known: bool,
 }
 
 /// What was last seen of all parts.
@@ -62,7 +59,7 @@ impl Table {
         }
         self.metrics.part_up.with_label_values(&[&index.to_string()]).set((row.state == "up").into());
         if (row.events, &row.tag) != (before.0, &before.1) {
-            let count = rows.iter().map(|it| it.events).sum();
+            let count = rows.iter().fold(0, |sum: u64, it| sum.saturating_add(it.events));
             self.metrics.events.set(count as i64);
             self.count.send_replace(count);
         }
@@ -88,6 +85,9 @@ pub struct Part {
     pub name: String,
     pub url: String,
     pub token: Option<String>,
+    /// Whether it ever said, where it is now, that it is this part. It stands here and not in the table, where what the one
+    /// of before still answers is noted too.
+    pub is_known: AtomicBool,
     pub client: Client,
     /// How long an answer may take, beside what it waits for.
     pub seconds: u64,
@@ -164,10 +164,12 @@ impl Part {
 
     /// Refuses where no answer ever said that what is there is this part.
     pub fn known(&self) -> Result<(), Away> {
-        let seen = self.table.get(self.index);
-        match seen.is_known {
+        match self.is_known.load(Relaxed) {
             true => Ok(()),
-            false => Err(self.away(seen.why.unwrap_or_else(|| "it hasn't answered yet".into()))),
+            false => {
+                let why = self.table.get(self.index).why;
+                Err(self.away(why.unwrap_or_else(|| "it hasn't answered yet".into())))
+            }
         }
     }
 
@@ -245,7 +247,7 @@ impl Part {
     pub async fn follow(self: Arc<Self>, settings: settings::Sync, mut ends: watch::Receiver<bool>) {
         let mut failed = 0;
         while !*ends.borrow() {
-            let wait = if failed == 0 && self.table.get(self.index).is_known { settings.wait_seconds } else { 0 };
+            let wait = if failed == 0 && self.is_known.load(Relaxed) { settings.wait_seconds } else { 0 };
             let looked = tokio::select! {
                 looked = self.look(wait) => looked,
                 _ = ends.changed() => return,
@@ -283,9 +285,10 @@ impl Part {
                 }
                 let events = number_of(answer.headers(), "site-events").unwrap_or(0);
                 let tag = tag_of(answer.headers());
+                self.is_known.store(true, Relaxed);
                 self.table.note(self.index, |it| {
                     (it.state, it.why, it.last_success) = ("up", None, Some(now()));
-                    (it.is_known, it.events, it.tag) = (true, events, tag);
+                    (it.events, it.tag) = (events, tag);
                 });
                 Ok(())
             }
@@ -366,6 +369,9 @@ mod tests {
         table.note(1, |it| *it = Seen::default());
         table.note(2, |it| it.events = 9);
         assert_eq!((*counted.borrow(), table.get(1).state, table.all().len()), (3, "new", 2));
+        // One that says more than can be counted.
+        table.note(1, |it| it.events = u64::MAX);
+        assert_eq!(*counted.borrow(), u64::MAX);
     }
 
     #[test]

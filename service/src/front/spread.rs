@@ -142,9 +142,17 @@ struct Counts {
     repeated: u64,
 }
 
+impl Counts {
+    /// Whether a batch of so many bytes may have had so many events: each has some bytes.
+    fn can_be_of(&self, bytes: usize) -> bool {
+        self.new.checked_add(self.repeated).is_some_and(|it| it <= bytes as u64)
+    }
+}
+
 /// Gives a part its events. One that never said that it is the part gets none.
 async fn give(part: &Part, batch: Bytes) -> Result<Counts, Away> {
     part.known()?;
+    let bytes = batch.len();
     let answer = part.ask(&Asked::post("/events", batch).with(CONTENT_TYPE, BATCH)).await?;
     let status = answer.status();
     if status != StatusCode::OK {
@@ -153,7 +161,11 @@ async fn give(part: &Part, batch: Bytes) -> Result<Counts, Away> {
     part.note(answer.headers());
     // The head says that all is kept; the counts are a line.
     let body = part.read(answer, &Budget::new(LINE)).await?.unwrap_or_default();
-    serde_json::from_slice(&body).map_err(|it| part.away(it.to_string()))
+    let counts: Counts = serde_json::from_slice(&body).map_err(|it| part.away(it.to_string()))?;
+    match counts.can_be_of(bytes) {
+        true => Ok(counts),
+        false => Err(part.away("it says that it took more events than it was given")),
+    }
 }
 
 /// The status of a body that these didn't take: that it be smaller, that it come later where they have no room for it, or
@@ -189,6 +201,12 @@ mod tests {
             let of: Vec<Refused> = of.iter().map(|it| refused(*it)).collect();
             assert_eq!(status_of(&of).as_u16(), status);
         }
+    }
+
+    #[test]
+    fn a_part_takes_no_more_than_it_was_given() {
+        let can_be = |new, repeated, bytes| Counts { new, repeated }.can_be_of(bytes);
+        assert!(can_be(0, 0, 0) && can_be(3, 2, 5) && !can_be(3, 3, 5) && !can_be(u64::MAX, 2, 1 << 20));
     }
 
     #[test]

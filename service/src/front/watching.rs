@@ -26,6 +26,17 @@ struct Figures {
     queue: u64,
 }
 
+impl Figures {
+    /// Adds those of a part, as far as can be counted.
+    fn add(&mut self, part: &Figures) {
+        self.sources = self.sources.saturating_add(part.sources);
+        self.gaps = self.gaps.saturating_add(part.gaps);
+        self.conflicts = self.conflicts.saturating_add(part.conflicts);
+        self.commits = self.commits.saturating_add(part.commits);
+        self.queue = self.queue.saturating_add(part.queue);
+    }
+}
+
 impl Front {
     /// `GET /healthz`.
     pub fn health(&self) -> Answered {
@@ -65,11 +76,7 @@ impl Front {
         let said = each(&parts, figures_of).await;
         let mut all = Figures::default();
         for it in said.into_iter().flatten() {
-            all.sources += it.sources;
-            all.gaps += it.gaps;
-            all.conflicts += it.conflicts;
-            all.commits += it.commits;
-            all.queue += it.queue;
+            all.add(&it);
         }
         let (away, seen) = (self.all_away(), self.table.all());
         let status = json!({
