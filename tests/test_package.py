@@ -3,7 +3,7 @@
     tools/run_tests.py --by-hand tests/test_package.py [--root FOLDER]
 
 Two packages are made that differ in their revision. Their bytes are the same when they are made again; lintian finds no error;
-systemd-analyze takes the unit. In a root of debootstrap the first is installed; its program, its service, its library and its settings
+systemd-analyze takes the units. In a root of debootstrap the first is installed; its program, its service, its library and its settings
 are used there, docs/SERVICE.md is typed in, and the page shows both regions; then it is upgraded with changed settings and events in
 its database, removed, installed again, and purged. --root keeps the fresh root's files for later runs.
 """
@@ -162,14 +162,15 @@ def live(checks: Counts, root: Root, first: str, second: str) -> None:
     root.does("its settings can be used", "jumbetaid", "--config", f"/{SETTINGS}", "--check")
     checks.judge("the loader knows the library", "libjumbetai.so.0" in root.does("ldconfig", "sh", "-c", "ldconfig -p | grep jumbetai"))
     if shutil.which("systemd-analyze"):
-        # The unit as it is, but for a program that this machine has.
+        # The units as they are, but for a program that this machine has.
         with tempfile.TemporaryDirectory() as at:
-            with open(f"{at}/jumbetaid.service", "w", encoding="utf-8") as out:
-                out.write(root.read("lib/systemd/system/jumbetaid.service").replace("/usr/bin/jumbetaid", "/bin/true"))
-            said = run_well(checks, "systemd-analyze verify", ["systemd-analyze", "verify", "--man=no", f"{at}/jumbetaid.service"])
-            checks.judge("it says nothing of the unit", "jumbetaid" not in said, said)
-            said = run_well(checks, "systemd-analyze security", ["systemd-analyze", "security", "--offline=true", f"{at}/jumbetaid.service"])
-            print(f"systemd-analyze security: {said.strip().splitlines()[-1]}")
+            for unit in debian.UNITS:
+                with open(f"{at}/{unit}", "w", encoding="utf-8") as out:
+                    out.write(root.read(f"lib/systemd/system/{unit}").replace("/usr/bin/jumbetaid", "/bin/true"))
+                said = run_well(checks, f"systemd-analyze verify {unit}", ["systemd-analyze", "verify", "--man=no", f"{at}/{unit}"])
+                checks.judge(f"it says nothing of {unit}", "jumbetaid" not in said, said)
+                said = run_well(checks, f"systemd-analyze security {unit}", ["systemd-analyze", "security", "--offline=true", f"{at}/{unit}"])
+                print(f"systemd-analyze security: {said.strip().splitlines()[-1]}")
     look_at_page(checks, root)
     with running(root):
         checks.judge("an event is taken", '"new":1' in answer("/events", EVENT % (1, 1)), answer("/status"))
@@ -184,7 +185,8 @@ def live(checks: Counts, root: Root, first: str, second: str) -> None:
         checks.judge("the event is there", '"name":"north"' in answer("/status") and '"events":1' in answer("/status"), answer("/status"))
         checks.judge("and one more", '"new":1' in answer("/events", EVENT % (2, 2)))
     root.does("dpkg removes it", "dpkg", "-r", "jumbetai")
-    gone = [it for it in ("usr/bin/site", "usr/bin/jumbetaid", "lib/systemd/system/jumbetaid.service", "usr/include/jumbetai.h") if root.has(it)]
+    units = [f"lib/systemd/system/{it}" for it in debian.UNITS]
+    gone = [it for it in ("usr/bin/site", "usr/bin/jumbetaid", *units, "usr/include/jumbetai.h") if root.has(it)]
     checks.judge("its programs are gone", not gone, gone)
     checks.judge("settings and events stay", root.has(SETTINGS) and root.has("var/lib/jumbetai/site.db"))
     root.does("dpkg installs it again", "dpkg", "-i", first)

@@ -51,6 +51,7 @@ FILES = (
     "docs/SCALING.md",
     "service/Cargo.toml",
     "service/src/main.rs",
+    "service/jumbetaid@.service",
     "contrib/prometheus/jumbetai.rules.yml",
     "ABOUT",
 )
@@ -66,6 +67,7 @@ PACKAGED = (
     "usr/lib/python3/dist-packages/jumbetai/__init__.py",
     "etc/jumbetai/jumbetaid.toml",
     "lib/systemd/system/jumbetaid.service",
+    "lib/systemd/system/jumbetaid@.service",
     "usr/share/man/man8/jumbetaid.8.gz",
     "usr/share/bash-completion/completions/site",
     "usr/share/doc/jumbetai/copyright",

@@ -10,10 +10,13 @@ import socket
 import subprocess
 import time
 from concurrent.futures import ThreadPoolExecutor
+from pathlib import Path
 from typing import Any
 
 import pytest
 import service as maker
+from debian import UNITS
+from harness import Counts
 from library import version
 from serving import ONE, Tries, event, serving
 from shell import TOP
@@ -218,6 +221,45 @@ def test_disk_that_hangs(tries: Tries) -> None:
         ends = [it.result() for it in waits]
     tries.judge("what waited is kept", {it.status for it in ends} == {200} and site.cover() == {"/a": [[1, 4]]}, ends)
     tries.judge("it ends well", site.stop() == 0)
+
+
+def test_units(checks: Counts, tmp_path: Path) -> None:
+    """The units of systemd: of a site, and of the parts by their numbers, which has no other rights."""
+    texts = {}
+    for unit in UNITS:
+        with open(f"{TOP}/service/{unit}", encoding="utf-8") as file:
+            texts[unit] = file.read()
+        (tmp_path / unit).write_text(texts[unit].replace("/usr/local/bin/jumbetaid", "/bin/true"), encoding="utf-8")
+    lines = [{it for it in text.splitlines() if it and not it.startswith("#")} for text in texts.values()]
+    own = {
+        "Description=Part %i of a region of CloudEvents",
+        "ExecStart=/usr/local/bin/jumbetaid --config /etc/jumbetai/part-%i.toml",
+        "StateDirectory=jumbetai/part-%i",
+    }
+    checks.judge("they differ in name, settings and state alone", lines[1] - lines[0] == own and len(lines[0] - lines[1]) == len(own), lines)
+    if not shutil.which("systemd-analyze"):
+        checks.skip("the units by systemd-analyze", "it isn't there")
+        return
+    for unit in UNITS:
+        ran = subprocess.run(["systemd-analyze", "verify", "--man=no", str(tmp_path / unit)], capture_output=True, text=True, check=False)
+        checks.judge(f"systemd-analyze verify {unit}", ran.returncode == 0 and "jumbetaid" not in ran.stdout + ran.stderr, ran)
+
+
+def test_settings_of_parts(tries: Tries) -> None:
+    """The lines in the head of the parts' unit make settings of sixteen parts that can be used."""
+    with open(f"{TOP}/service/{UNITS[1]}", encoding="utf-8") as file:
+        script = "".join(line[2:] for line in file if line.startswith(("# for", "#     ")))
+    with open(f"{tries.folder}/tokens.toml", "w", encoding="utf-8") as out:
+        out.write(f'[[tokens]]\nname = "front"\nroles = ["write", "read", "peer"]\nsha256 = "{"0" * 64}"\n')
+    script = script.replace("/etc/jumbetai/", "").replace("/var/lib/jumbetai/", "")
+    subprocess.run(["bash", "-c", script], cwd=tries.folder, check=True)
+    for at in (0, 5, 15):
+        with open(f"{tries.folder}/part-{at}.toml", encoding="utf-8") as file:
+            text = file.read()
+        tries.judge(f"part {at}", text.startswith(f'part = "{at}/64"\n') and f":{8100 + at}" in text, text)
+        words = [str(tries.program), "--config", f"part-{at}.toml", "--check"]
+        ran = subprocess.run(words, cwd=tries.folder, capture_output=True, text=True, check=False)
+        tries.judge(f"part {at}: its settings can be used", ran.returncode == 0 and "can be used" in ran.stdout, ran)
 
 
 def test_in_rust(request: pytest.FixtureRequest, pytestconfig: pytest.Config) -> None:

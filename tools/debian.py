@@ -37,6 +37,8 @@ EXAMPLES = (
     *("service/jumbetaid.toml", "contrib/prometheus/jumbetai.rules.yml", "contrib/prometheus/dashboard.json"),
     *("examples/batch.json", "examples/orders.json"),
 )
+# A site or a front, and the parts of a region by their numbers.
+UNITS = ("jumbetaid.service", "jumbetaid@.service")
 CONTROL = """Package: jumbetai
 Version: {version}
 Section: net
@@ -101,6 +103,11 @@ The settings of the package's service.
 .TP
 .I /var/lib/jumbetai
 Its database and backups.
+.TP
+.I /etc/jumbetai/part\-N.toml, /var/lib/jumbetai/part\-N
+The same of part N of a region, which the service
+.B jumbetaid@N
+runs.
 .SH SETTINGS
 .nf
 {settings}
@@ -227,8 +234,8 @@ def fill(room: Room, program: str, service: str, folder: str, changes: str) -> N
         with open(f"{words}/site.1", encoding="utf-8") as manual_page:
             room.put("usr/share/man/man1/site.1.gz", packed(manual_page.read()))
     room.put("usr/share/man/man8/jumbetaid.8.gz", packed(manual(service)))
-    unit = text_of("service/jumbetaid.service").replace("/usr/local/bin/jumbetaid", "/usr/bin/jumbetaid")
-    room.put("lib/systemd/system/jumbetaid.service", unit)
+    for unit in UNITS:
+        room.put(f"lib/systemd/system/{unit}", text_of(f"service/{unit}").replace("/usr/local/bin/jumbetaid", "/usr/bin/jumbetaid"))
     room.put("etc/jumbetai/jumbetaid.toml", settings())
     for page in PAGES:
         room.put(f"{DOCUMENTS}/{page}", text_of(page))
