@@ -5,7 +5,8 @@
     bench/load_service.py [--program FILE] --sync N
     bench/load_service.py [--program FILE] --ask N
     bench/load_service.py [--program FILE] --backup N
-    bench/load_service.py [--program FILE] [--rounds N] [--seconds N] [--shapes LIST] --parts LIST [--events N]
+    bench/load_service.py [--program FILE] [--rounds N] [--seconds N] [--shapes LIST] --parts LIST [--events N] [--settings TEXT]
+    bench/load_service.py [--program FILE] [--seconds N] --rest LIST [--settings TEXT]
 
 A shape is CONNECTIONSxBATCH, by default 1x1,16x1,64x1,256x1,16x100. By turns each gets events of 350 bytes for so many
 seconds, 3 rounds of 3: the service by wrk, each event answered once it is synced; PostgreSQL by pgbench, prepared, with
@@ -18,8 +19,11 @@ answer. --sync tells how long two services take to come to one view, where one h
 memory; --backup how long a backup of N events takes while 1,000 a second come, what it does to their answers, and how long
 it takes a site whose disk is lost to be restored from it and to catch up from its peer: status 1 where an event that was
 acknowledged isn't there then; --parts how a front before each of these counts of parts does, all on this machine (0: a
-site without a front): events of 64 sources a second, the time to their answers, and that of GET /kinds; with --events N
-where they hold N events of 640 sources before, and then also how long they take to start and their memory. It wants wrk and,
+site without a front): events of 64 sources a second, the time to their answers, for how many microseconds an event the
+front and all parts were on a processor, and the time of GET /kinds; with --events N where they hold N events of 640 sources
+before, and then also how long they take to start and their memory; --rest how long each of these counts of empty parts takes
+to start side by side, and what one costs that does nothing: memory, threads, and how long a second it is on a processor;
+--settings 'cache_mib = 1' is what each part's settings have beside its number. It wants wrk and,
 for the comparison, initdb and pgbench, redis-server and redis-benchmark, rabbitmq-server and librabbitmq (on Debian wrk,
 postgresql-15, redis-server, redis-tools, rabbitmq-server, librabbitmq-dev); as root PostgreSQL runs as the user postgres. No part of a gate.
 """
@@ -36,7 +40,7 @@ import sys
 import tempfile
 import threading
 import time
-from typing import Callable, Optional
+from typing import Callable, Iterable, Optional, Sequence
 
 sys.dont_write_bytecode = True
 TOP = os.path.dirname(os.path.dirname(os.path.realpath(__file__)))
@@ -93,21 +97,33 @@ def found(pattern: str, text: str) -> "re.Match[str]":
 
 def of_service(tries: Tries, folder: str, shape: Shape, seconds: int) -> Rates:
     site = tries.site(f"s{time.monotonic_ns()}").start()
-    rates = by_wrk(site, folder, shape, seconds, 1)
+    rates, _ = by_wrk(site, folder, shape, seconds, 1)
     site.stop(seconds=30)
     shutil.rmtree(site.folder)
     return rates
 
 
-def by_wrk(site: Site, folder: str, shape: Shape, seconds: int, sources: int) -> Rates:
-    """What a service takes of events that nobody gave before, of so many sources for each of two threads of wrk."""
+def processor_seconds(sites: Iterable[Site]) -> float:
+    """For how long services were on a processor so far, in the program and in the system."""
+    ticks = 0
+    for it in sites:
+        with open(f"/proc/{it.ran.pid}/stat", encoding="utf-8") as stat:
+            ticks += sum(map(int, stat.read().rpartition(")")[2].split()[11:13]))
+    return ticks / os.sysconf("SC_CLK_TCK")
+
+
+def by_wrk(site: Site, folder: str, shape: Shape, seconds: int, sources: int, behind: Sequence[Site] = ()) -> tuple[Rates, list[float]]:
+    """What a service takes of events that nobody gave before, of so many sources for each of two threads of wrk; and for how
+    many microseconds an event it was on a processor, and those behind it."""
     connections, batch = shape
     had = int(site.get("/kinds").headers["site-events"])
     with open(f"{folder}/load.lua", "w", encoding="ascii") as out:
         out.write(SCRIPT.replace("BATCH", str(batch)).replace("SOURCES", str(sources)).replace("RUN", str(had)))
     threads = str(min(2, connections))
     words = ["wrk", "-t", threads, "-c", str(connections), "-d", f"{seconds}s", "--latency", "-s", f"{folder}/load.lua", f"http://127.0.0.1:{site.port}"]
+    before = [processor_seconds(it) for it in ([site], behind)]
     said = subprocess.run(words, capture_output=True, text=True, check=True, timeout=seconds + 30).stdout
+    costs = [processor_seconds(it) - had for it, had in zip(([site], behind), before)]
     count = int(site.get("/kinds").headers["site-events"])
     refused = re.search(r"Non-2xx or 3xx responses: (\d+)", said)
     if refused:
@@ -118,7 +134,8 @@ def by_wrk(site: Site, folder: str, shape: Shape, seconds: int, sources: int) ->
         value, unit = found(rf"^\s+{percent}%\s+([\d.]+)(us|ms|s)$", said).groups()
         return float(value) * {"us": 0.001, "ms": 1.0, "s": 1000.0}[unit]
 
-    return (count - had) / took, milliseconds(50), milliseconds(99)
+    rates = (count - had) / took, milliseconds(50), milliseconds(99)
+    return rates, [it / max(1, count - had) * 1e6 for it in costs]
 
 
 class LoadedPostgres(Postgres):
@@ -294,11 +311,15 @@ class Writer(threading.Thread):
         return f"p50 {times[len(times) // 2]:.1f}, p99 {times[int((len(times) - 1) * 0.99)]:.1f}, at most {times[-1]:.1f} ms of {len(times)}"
 
 
+def field(site: Site, file: str, name: str) -> int:
+    """A number in a file that the system has of a service's process."""
+    with open(f"/proc/{site.ran.pid}/{file}", encoding="ascii") as it:
+        return int(found(rf"^{name}:\s+(\d+)", it.read())[1])
+
+
 def resident(site: Site) -> list[int]:
     """How many MiB of memory a service has, and how many it had at most."""
-    with open(f"/proc/{site.ran.pid}/status", encoding="ascii") as status:
-        text = status.read()
-    return [int(found(rf"{name}:\s+(\d+)", text)[1]) >> 10 for name in ("VmRSS", "VmHWM")]
+    return [field(site, "status", name) >> 10 for name in ("VmRSS", "VmHWM")]
 
 
 def wait_for_one_view(sites: list[Site]) -> float:
@@ -338,10 +359,14 @@ def begin(sites: list[Site]) -> float:
     return time.monotonic() - began
 
 
-def hold_all(tries: Tries, name: str, count: int, events: int) -> tuple[list[Site], str]:
-    """So many parts, or a site where there are none, that hold events and have started again; how long that took."""
-    settings = [f'part = "{it}/{count}"\n' for it in range(count)] or [""]
-    sites = [tries.site(f"{name}-{at}", it) for at, it in enumerate(settings)]
+def parts_of(tries: Tries, name: str, count: int, more: str) -> list[Site]:
+    """So many parts with more settings, or a site where there are none, that don't run yet."""
+    settings = [f'part = "{it}/{count}"\n{more}\n' for it in range(count)] or [f"{more}\n"]
+    return [tries.site(f"{name}-{at}", it) for at, it in enumerate(settings)]
+
+
+def hold_all(sites: list[Site], events: int) -> tuple[list[Site], str]:
+    """Services that hold events and have started again; how long that took."""
     begin(sites)
     if not events:
         return sites, ""
@@ -359,18 +384,22 @@ def hold_all(tries: Tries, name: str, count: int, events: int) -> tuple[list[Sit
     return sites, f"{held:,} events held, start {took:.1f} s, {sum(resident(it)[0] for it in sites):,} MiB"
 
 
-def of_region(tries: Tries, folder: str, count: int, shapes: list[Shape], given: argparse.Namespace) -> list[tuple[Rates, list[float]]]:
-    """What a front before so many parts takes of each shape in turn, and the milliseconds of GET /kinds behind that: first
-    where nothing came between two, then where an event did."""
+# What a region takes, the microseconds of a processor that an event costs its front and its parts, and the milliseconds of
+# GET /kinds behind that: first where nothing came between two, then where an event did.
+Row = tuple[Rates, list[float], list[float]]
+
+
+def of_region(tries: Tries, folder: str, count: int, shapes: list[Shape], given: argparse.Namespace) -> list[Row]:
+    """How a front before so many parts does with each shape in turn."""
     name = f"p{time.monotonic_ns()}"
-    parts, told = hold_all(tries, name, count, given.events)
+    parts, told = hold_all(parts_of(tries, name, count, given.settings), given.events)
     if told:
         print(f"{count or 'no'} parts: {told}", file=sys.stderr, flush=True)
     rows = "".join(f'[[parts]]\nurl = "{it.url}"\n' for it in parts)
     front = tries.site(name, rows, is_front=True).start(60) if count else parts[0]
-    found: list[tuple[Rates, list[float]]] = []
+    found: list[Row] = []
     for shape in shapes:
-        rates = by_wrk(front, folder, shape, given.seconds, 32)
+        rates, costs = by_wrk(front, folder, shape, given.seconds, 32, parts if count else [])
         times: list[list[float]] = [[], []]
         for turn in range(100):
             if turn % 2:
@@ -378,7 +407,7 @@ def of_region(tries: Tries, folder: str, count: int, shapes: list[Shape], given:
             began = time.monotonic()
             front.get("/kinds")
             times[turn % 2].append((time.monotonic() - began) * 1000)
-        found.append((rates, [statistics.median(it) for it in times]))
+        found.append((rates, costs, [statistics.median(it) for it in times]))
     for it in {front, *parts}:
         it.stop(seconds=120)
         shutil.rmtree(it.folder)
@@ -386,8 +415,9 @@ def of_region(tries: Tries, folder: str, count: int, shapes: list[Shape], given:
 
 
 def of_parts(tries: Tries, folder: str, given: argparse.Namespace, shapes: list[Shape]) -> None:
-    print("| connections x batch | parts | events a second | p50, p99 ms | GET /kinds, nothing new, and new: ms |\n|---|---|---|---|---|")
-    got: dict[tuple[Shape, int], list[tuple[Rates, list[float]]]] = {}
+    heads = ["connections x batch", "parts", "events a second", "p50, p99 ms", "front, parts: us an event", "GET /kinds, nothing new, and new: ms"]
+    print(f"| {' | '.join(heads)} |\n{'|---' * len(heads)}|")
+    got: dict[tuple[Shape, int], list[Row]] = {}
     for _ in range(given.rounds):
         for count in map(int, given.parts.split(",")):
             for shape, row in zip(shapes, of_region(tries, folder, count, shapes, given)):
@@ -395,10 +425,34 @@ def of_parts(tries: Tries, folder: str, given: argparse.Namespace, shapes: list[
     for shape in shapes:
         for (_, count), rows in ((at, rows) for at, rows in got.items() if at[0] == shape):
             rates = [[row[0][at] for row in rows] for at in range(3)]
-            kinds = [statistics.median(row[1][at] for row in rows) for at in range(2)]
+            costs, kinds = ([statistics.median(row[of][at] for row in rows) for at in range(2)] for of in (1, 2))
             told = f"{statistics.median(rates[0]):,.0f} ({min(rates[0]):,.0f}..{max(rates[0]):,.0f})"
-            told += f" | {statistics.median(rates[1]):.1f}, {statistics.median(rates[2]):.1f} | {kinds[0]:.1f}, {kinds[1]:.1f}"
+            told += f" | {statistics.median(rates[1]):.1f}, {statistics.median(rates[2]):.1f}"
+            # A site stands behind no front.
+            told += f" | {costs[0]:.1f}, {costs[1]:.1f}" if count else f" | none, {costs[0]:.1f}"
+            told += f" | {kinds[0]:.1f}, {kinds[1]:.1f}"
             print(f"| {shape[0]} x {shape[1]} | {count or 'a site'} | {told} |", flush=True)
+
+
+def of_rest(tries: Tries, given: argparse.Namespace) -> None:
+    """What parts cost that hold nothing and that nobody asks but the front before them."""
+    print("| empty parts | start of all, s | RSS, PSS each, KiB | threads each | processor of all, ms a second |\n|---|---|---|---|---|")
+    for count in map(int, given.rest.split(",")):
+        name = f"r{time.monotonic_ns()}"
+        parts = parts_of(tries, name, count, given.settings)
+        took = begin(parts)
+        front = tries.site(name, "".join(f'[[parts]]\nurl = "{it.url}"\n' for it in parts), is_front=True).start(60)
+        # The thread that opened the database goes after ten seconds.
+        time.sleep(11)
+        before = processor_seconds(parts)
+        time.sleep(given.seconds)
+        busy = (processor_seconds(parts) - before) / given.seconds * 1000
+        memory = [statistics.median(field(it, "smaps_rollup", kind) for it in parts) for kind in ("Rss", "Pss")]
+        threads = statistics.median(field(it, "status", "Threads") for it in parts)
+        print(f"| {count} | {took:.2f} | {memory[0]:,.0f}, {memory[1]:,.0f} | {threads:.0f} | {busy:.1f} |", flush=True)
+        for it in (front, *parts):
+            it.stop(seconds=60)
+            shutil.rmtree(it.folder)
 
 
 def of_backup(tries: Tries, count: int) -> bool:
@@ -478,9 +532,11 @@ def main() -> int:
     words.add_argument("--ask", type=int, metavar="N")
     words.add_argument("--backup", type=int, metavar="N")
     words.add_argument("--parts", metavar="LIST")
+    words.add_argument("--rest", metavar="LIST")
     words.add_argument("--events", type=int, default=0, metavar="N", help="what parts hold before they are measured")
+    words.add_argument("--settings", default="", metavar="TEXT", help="lines of the parts' settings")
     given = words.parse_args()
-    if given.sync or given.ask or given.backup:
+    if given.sync or given.ask or given.backup or given.rest:
         with tempfile.TemporaryDirectory() as folder, contextlib.ExitStack() as end:
             tries = Tries(folder, os.path.abspath(given.program))
             end.callback(tries.end)
@@ -488,6 +544,8 @@ def main() -> int:
                 of_sync(tries, given.sync)
             if given.ask:
                 of_questions(tries, given.ask)
+            if given.rest:
+                of_rest(tries, given)
             if given.backup and not of_backup(tries, given.backup):
                 return 1
         return 0

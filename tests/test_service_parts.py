@@ -494,6 +494,7 @@ def test_part_that_moves(tries: Tries) -> None:
         came = moved.get("/arrivals?after=0&limit=2000").body.splitlines()
         tries.judge("each came once to that part", len(came) == len(set(came)) == sum(part_of(it["source"], 4) == 1 for it in every), len(came))
         tries.judge("the file of before isn't written", file_of(parts[1]) == left, file_of(parts[1])[1:])
+        tries.judge("it is asked there alone", front.get("/readyz").status == 200, front.get("/readyz"))
         tries.judge("it ends well", moved.stop() == 0, moved.text_of_log()[-800:])
 
 
