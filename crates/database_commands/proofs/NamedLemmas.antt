@@ -30,3 +30,7 @@ pub closed_fails : {X A : Type 0} (ended : Result X CommandFault) (outcome : X �
     → MatchResult ended (λ e. result ≡ outcome e) (λ f. result ≡ Err f) → IfOk ended (λ e. IfErr (outcome e) Fails) → IfErr ended IsOfNamed → IfErr result (OrOfNamed Fails)
 closed_fails (Ok e) outcome result Fails is fails named = subst (λ r. IfErr r (OrOfNamed Fails)) (sym is) (IfErr-weaker (outcome e) _ _ (λ f so. inl so) fails)
 closed_fails (Err f) outcome result Fails is fails named = subst (λ r. IfErr r (OrOfNamed Fails)) (sym is) (inr named)
+
+-- so a command isn't begun
+pub not_begun : {A B F : Type 0} (opened : Result A F) (r : Result B F) (f : F) (x : B) → MatchResult opened (λ _. IsOk r) (λ why. r ≡ Err why) → opened ≡ Err f → r ≡ Ok x → ⊥
+not_begun {A} {B} {F} opened r f x begun none is = let e : ◌≡◌ {A = Result B F} (Ok x) (Err f) = sym is ∙ same_on opened r f begun none in cc

@@ -165,7 +165,9 @@ pub trait Databases {
 
     /// As [`crate::describe`]. A file that isn't there is not made: `CannotRead`.
     fn describe(&self, alloc: Global, name: &str) -> Result<Text, Trouble>
-        ensures answer { IfOk result (SaysDatabase name.now) };
+        ensures answer { IfOk result (SaysDatabase name.now) }
+        ensures none { IsNoFile name.now → IsErrOf result trouble.NoFile }
+        ensures name { IfErr result (λ why. why ≡ trouble.NoFile → IsNoFile name.now) };
 
     /// As [`crate::relay`], and whether the service was made.
     fn relay(
