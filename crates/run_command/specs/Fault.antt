@@ -1,4 +1,5 @@
 -- The faults of the crates below, as those of runs.
+pub use Rattle.database_commands.specs.Fault.{IsOfNamed}
 use Rattle.std.specs.Prelude.{ℕ, zero, suc, Option, None, Some}
 use Rattle.database_commands.specs.declared.fault.CommandFault.{CommandFault}
 use Rattle.database_commands.specs.declared.fault.CommandFault.TheVariants as command
@@ -45,16 +46,7 @@ IsRunFault (run.Database why) = IsOfDatabase why
 IsRunFault run.NoThread = Unit {0}
 IsRunFault (run.Feed feed fault) = Unit {0}
 
--- so is one of the file of a name: of the database, or of its opening
-abbrev pub IsOfNamed : CommandFault → Type 0
-IsOfNamed command.OutOfMemory = Unit {0}
-IsOfNamed command.Store = Unit {0}
-IsOfNamed command.Foreign = Unit {0}
-IsOfNamed command.CannotRead = Unit {0}
-IsOfNamed command.Cache = Unit {0}
-IsOfNamed _ = ⊥
-
--- a fault that is told of the file of a name is such a one
+-- a fault that is told of the file of a name is one of it
 abbrev pub IsNamedFault : RunFault → Type 0
 IsNamedFault (run.Database why) = IsOfNamed why
 IsNamedFault run.NoThread = Unit {0}

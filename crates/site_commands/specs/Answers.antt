@@ -1,6 +1,6 @@
 -- What the plans of the program are answered with, and why they are refused. C says what a name is
 -- read as, U why a name isn't read.
-use Rattle.std.specs.Prelude.{◌≡◌, ◌≤◌, ◌<◌, Bool, IfSome, List, ℕ, length, false, true, Option, None, Some}
+use Rattle.std.specs.Prelude.{◌≡◌, ◌≢◌, ◌≤◌, ◌<◌, Bool, IfSome, List, ℕ, length, false, true, Option, None, Some}
 use Rattle.std.specs.Option.{is_some}
 use Rattle.attributes.specs.Character.{is_filled}
 use Rattle.attributes.specs.Event.{EventValue}
@@ -15,10 +15,14 @@ use Rattle.command_words.specs.declared.request.Action.{Action}
 use Rattle.command_words.specs.declared.request.Action.TheVariants as action
 use Rattle.command_words.specs.declared.request.Pages.{Pages}
 use Rattle.command_words.specs.declared.request.Pages.TheVariants as pages
-use Rattle.database_commands.specs.Held.{HasArrived, HasDelta, HasEvents, SaysAllRows, SaysArrivals, SaysDelta, SaysOrder, SaysPage, SaysRows, SaysSummary}
+use Rattle.database_commands.specs.Fault.{IsOfOrder, OrOfNamed}
+use Rattle.database_commands.specs.Held.{HasArrived, HasDelta, HasEvents, IsNoOrders, IsUntold, SaysAllRows, SaysArrivals, SaysDelta, SaysOrder, SaysPage, SaysRows, SaysSummary}
 use Rattle.database_commands.specs.Pages.{pages_text}
 use Rattle.database_commands.specs.Print.{WithoutLineEnd, counts_line}
 use Rattle.database_commands.specs.Service.{SaysService}
+use Rattle.database_commands.specs.declared.fault.CommandFault.{CommandFault}
+use Rattle.database_commands.specs.declared.fault.CommandFault.TheVariants as command
+use Rattle.inbox_table.specs.Rows.{AreNumbered}
 use Rattle.command_words.specs.declared.request.Request.{Request}
 use Rattle.command_words.specs.declared.request.Plan.{Plan}
 use Rattle.command_words.specs.declared.request.Plan.TheVariants as plan
@@ -41,15 +45,16 @@ use Rattle.site_commands.specs.Checks.{FindsNone, RefusesCheck}
 use Rattle.site_commands.specs.declared.line.Refusal.{Refusal}
 use Rattle.site_commands.specs.declared.line.Refusal.TheVariants as refusal
 
--- the text is the report of the files' contents, and of some events of the database where one is
--- given
+-- the text is the report of the files' contents, and of some events with numbers of the database
+-- where one is given
 abbrev pub AnswersQuery : (List ℕ → List ℕ → Type 0) → Query → Bool → Option (List ℕ)
     → List (List ℕ) → List ℕ → Type 0
 AnswersQuery C query has_lines None files text = (contents : List (List ℕ))
     × AreContents C files contents × IsReport query (pieces_of has_lines contents) text
 AnswersQuery C query has_lines (Some db) files text = (contents : List (List ℕ))
     × AreContents C files contents
-    × (held : List EventValue) × IsReportWith query held (pieces_of has_lines contents) text
+    × (held : List EventValue) × AreNumbered held
+    × IsReportWith query held (pieces_of has_lines contents) text
 
 -- the files were read, and this is the first of them at fault, or the first line at fault
 abbrev pub RefusesPiece : (List ℕ → List ℕ → Type 0) → Bool → List (List ℕ) → Refusal → Type 0
@@ -67,7 +72,8 @@ RefusesQuery C U has_lines db files (refusal.Line refused) =
     RefusesPiece C has_lines files (refusal.Line refused)
 RefusesQuery C U has_lines (Some db) files (refusal.Database why) =
     (contents : List (List ℕ)) × AreContents C files contents
-    × (lists : List (List EventValue)) × EachReads (pieces_of has_lines contents) lists
+    × ((lists : List (List EventValue)) × EachReads (pieces_of has_lines contents) lists)
+    × OrOfNamed IsUntold why
 RefusesQuery C U has_lines db files _ = ⊥
 
 -- the text is a page of rows behind a number, or all pages
@@ -112,7 +118,8 @@ RefusesTake C U has_lines files (refusal.Line refused) =
     RefusesPiece C has_lines files (refusal.Line refused)
 RefusesTake C U has_lines files (refusal.Database why) =
     (contents : List (List ℕ)) × AreContents C files contents
-    × (events : List EventValue) × SpellAll (pieces_of has_lines contents) events
+    × ((events : List EventValue) × SpellAll (pieces_of has_lines contents) events)
+    × OrOfNamed IsUntold why
 RefusesTake C U has_lines files _ = ⊥
 
 -- the file's bytes, but for one LF at their end, are the text of this summary
@@ -149,13 +156,18 @@ abbrev pub RefusesDelta : (List ℕ → List ℕ → Type 0) → (List ℕ → U
 RefusesDelta C U file (refusal.Unread at) = U file at.why
 RefusesDelta C U file (refusal.Summary why) = (bytes : List ℕ) × C file bytes
     × (words : List ℕ) × WithoutLineEnd bytes words × summaries.Refuses words why
-RefusesDelta C U file (refusal.Database why) = (s : Sources) × HasSummary C file s
+RefusesDelta C U file (refusal.Database why) =
+    ((s : Sources) × HasSummary C file s) × OrOfNamed IsUntold why
 RefusesDelta C U file _ = ⊥
 
--- the database is the cause
-abbrev pub IsOfDatabase : Refusal → Type 0
-IsOfDatabase (refusal.Database why) = Unit {0}
-IsOfDatabase _ = ⊥
+-- the database is the cause, by such a fault of the command or by one of its file
+abbrev pub IsOfDatabase : (CommandFault → Type 0) → Refusal → Type 0
+IsOfDatabase Fails (refusal.Database why) = OrOfNamed Fails why
+IsOfDatabase Fails _ = ⊥
+
+-- the fault isn't that a service has another source, since none was named
+abbrev pub IsOfAny : CommandFault → Type 0
+IsOfAny why = why ≢ command.AnotherSource
 
 -- all files were read, and the text tells of a run of the feeds
 abbrev pub AnswersRun : (List ℕ → List ℕ → Type 0) → Option (List ℕ) → List (List ℕ) → Bool
@@ -202,15 +214,16 @@ abbrev pub RefusesOnce : (List ℕ → List ℕ → Type 0) → (List ℕ → Un
     → Once → Refusal → Type 0
 RefusesOnce C U (once.Ask query db files has_lines) refusal =
     RefusesQuery C U has_lines db files refusal
-RefusesOnce C U (once.Summary db) refusal = IsOfDatabase refusal
+RefusesOnce C U (once.Summary db) refusal = IsOfDatabase IsUntold refusal
 RefusesOnce C U (once.Take db files has_lines) refusal =
     RefusesTake C U has_lines files refusal
 RefusesOnce C U (once.Delta db which summary) refusal = RefusesDelta C U summary refusal
-RefusesOnce C U (once.Scrub db which) refusal = IsOfDatabase refusal
-RefusesOnce C U (once.Arrivals db after is_all) refusal = IsOfDatabase refusal
-RefusesOnce C U (once.Service db source is_named base) refusal = IsOfDatabase refusal
-RefusesOnce C U (once.Order request) refusal = IsOfDatabase refusal
-RefusesOnce C U (once.Relay db after is_all) refusal = IsOfDatabase refusal
+RefusesOnce C U (once.Scrub db which) refusal = IsOfDatabase IsUntold refusal
+RefusesOnce C U (once.Arrivals db after is_all) refusal = IsOfDatabase IsUntold refusal
+RefusesOnce C U (once.Service db source is_named base) refusal =
+    IsOfDatabase IsNoOrders refusal
+RefusesOnce C U (once.Order request) refusal = IsOfDatabase IsOfOrder refusal
+RefusesOnce C U (once.Relay db after is_all) refusal = IsOfDatabase IsOfAny refusal
 RefusesOnce C U (once.Part count place files has_lines) refusal =
     RefusesQuery C U has_lines None files refusal
 

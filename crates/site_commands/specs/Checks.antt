@@ -4,9 +4,10 @@ use Rattle.std.specs.Prelude.{◌≡◌, ◌≢◌, ◌⊎◌, ℕ, Bool, true, 
 use Rattle.attributes.specs.Event.{EventValue}
 use Rattle.command_words.specs.declared.request.Check.{Check}
 use Rattle.database_commands.specs.Described.{SaysDatabase}
+use Rattle.database_commands.specs.Name.{IsNoFile}
 use Rattle.database_commands.specs.Trouble.{trouble_line}
 use Rattle.database_commands.specs.declared.trouble.Trouble.{Trouble}
-use Rattle.database_commands.specs.declared.trouble.Trouble.TheVariants.{OutOfMemory}
+use Rattle.database_commands.specs.declared.trouble.Trouble.TheVariants.{NoFile, OutOfMemory}
 use Rattle.event_json.specs.declared.fault.ReadFault.TheVariants as read
 use Rattle.fault_lines.specs.Lines.{IsFaultText, line_with, string_text}
 use Rattle.fault_lines.specs.Words.{hint, whole_hint}
@@ -80,10 +81,12 @@ abbrev pub RefusesCheck : (List ℕ → List ℕ → Type 0) → (List ℕ → U
 RefusesCheck C U files (refusal.Unread at) = IsUnreadAt C U files at
 RefusesCheck C U files _ = ⊥
 
--- the text tells of the database of this name, and it is sound; or says what is the matter with it
+-- the text tells of the database of this name, and it is sound; or says what is the matter with it,
+-- which is a name that is no file's only where this is one
 abbrev pub TellsDatabase : List ℕ → Bool → List ℕ → Type 0
 TellsDatabase db true text = SaysDatabase db text
-TellsDatabase db false text = (why : Trouble) × (why ≢ OutOfMemory) × (text ≡ trouble_line db why)
+TellsDatabase db false text = (why : Trouble) × (why ≢ OutOfMemory) × (why ≡ NoFile → IsNoFile db)
+    × (text ≡ trouble_line db why)
 
 -- so it does where a database is given; where none is, it is empty
 abbrev pub TellsGiven : Option (List ℕ) → Bool → List ℕ → Type 0

@@ -112,8 +112,8 @@ RefusesFeeds has_lines first contents peers (refusal.File refused) = (feeds : Li
 RefusesFeeds has_lines first contents peers (refusal.Database why) = IsOfNamed why
     × ((why ≡ command.OutOfMemory)
     ⊎ ((feeds : List (List ℕ)) × AreFeeds has_lines first contents feeds))
-RefusesFeeds has_lines first contents peers refusal.NoThread =
-    (feeds : List (List ℕ)) × AreFeeds has_lines first contents feeds
+RefusesFeeds has_lines first contents peers refusal.NoThread = (feeds : List (List ℕ))
+    × AreFeeds has_lines first contents feeds × IsOutcome feeds peers (Err run.NoThread)
 RefusesFeeds has_lines first contents peers _ = ⊥
 
 -- ---- jobs

@@ -2,9 +2,10 @@
 ghost use Rattle.std.specs.Prelude.{◌≡◌, ◌≤◌, IfErr, IfOk, IfSome, false, length, true};
 ghost use Rattle.attributes.specs.Character.{is_filled};
 ghost use Rattle.attributes.specs.Sequence.{max_sequence};
-ghost use Rattle.database_commands.specs.Held.{SaysSummary};
+ghost use Rattle.database_commands.specs.Fault.{IsOfOrder, OrOfNamed};
+ghost use Rattle.database_commands.specs.Held.{IsNoOrders, IsUntold, SaysSummary};
 ghost use Rattle.database_commands.specs.Service.{SaysService};
-ghost use Rattle.site_commands.specs.Answers.{AnswersDelta, AnswersOrder, AnswersTake, HasSummary, IsAllowedRequest, IsOfDatabase, RefusesDelta, RefusesTake, SaysArrived, SaysLacking, SaysPages, SaysRelay, status_of};
+ghost use Rattle.site_commands.specs.Answers.{AnswersDelta, AnswersOrder, AnswersTake, HasSummary, IsAllowedRequest, IsOfAny, IsOfDatabase, RefusesDelta, RefusesTake, SaysArrived, SaysLacking, SaysPages, SaysRelay, status_of};
 ghost use Rattle.site_commands.specs.Printed.{printed};
 
 use crate::line::Refusal;
@@ -100,7 +101,8 @@ fn lacking<D: Databases>(
     pages: Pages,
     summary: Summary,
 ) -> Result<Printed, CommandFault>
-    ensures { IfOk result (λ p. SaysLacking summary pages (printed p)) }
+    ensures ok { IfOk result (λ p. SaysLacking summary pages (printed p)) }
+    ensures err { IfErr result (OrOfNamed IsUntold) }
 {
     match pages {
         Pages::Behind(passed) => match databases.delta(alloc, db, &summary, passed) {
@@ -122,7 +124,7 @@ pub fn scrub<D: Databases>(
     pages: Pages,
 ) -> Result<Printed, Refusal>
     ensures ok { IfOk result (λ p. SaysPages pages (printed p)) }
-    ensures err { IfErr result IsOfDatabase }
+    ensures err { IfErr result (IsOfDatabase IsUntold) }
 {
     match pages {
         Pages::Behind(passed) => match databases.scrub(alloc, db, passed) {
@@ -146,7 +148,7 @@ pub fn arrivals<D: Databases>(
     is_all: bool,
 ) -> Result<Printed, Refusal>
     ensures ok { IfOk result (λ p. SaysArrived after is_all (printed p)) }
-    ensures err { IfErr result IsOfDatabase }
+    ensures err { IfErr result (IsOfDatabase IsUntold) }
 {
     if is_all {
         return match databases.arrival_pages(alloc, db, after) {
@@ -163,7 +165,7 @@ pub fn arrivals<D: Databases>(
 /// Which events a database has, as a summary.
 pub fn summary<D: Databases>(alloc: Global, databases: &D, db: &str) -> Result<Text, Refusal>
     ensures ok { IfOk result SaysSummary }
-    ensures err { IfErr result IsOfDatabase }
+    ensures err { IfErr result (IsOfDatabase IsUntold) }
 {
     match databases.summary(alloc, db) {
         Ok(text) => Ok(text),
@@ -194,7 +196,7 @@ pub fn service<D: Databases>(
     requires source { (is_filled source.now ≡ true) × (length source.now ≤ 1024) }
     requires base { IfSome base (λ n. n ≤ max_sequence) }
     ensures ok { IfOk result (SaysService is_source_named source.now base) }
-    ensures err { IfErr result IsOfDatabase }
+    ensures err { IfErr result (IsOfDatabase IsNoOrders) }
 {
     match databases.service(alloc, db, source, is_source_named, base) {
         Ok(text) => Ok(text),
@@ -206,7 +208,7 @@ pub fn service<D: Databases>(
 pub fn order<D: Databases>(alloc: Global, databases: &D, request: &Request) -> Result<Text, Refusal>
     requires { IsAllowedRequest request.now }
     ensures ok { IfOk result (AnswersOrder request.now) }
-    ensures err { IfErr result IsOfDatabase }
+    ensures err { IfErr result (IsOfDatabase IsOfOrder) }
 {
     let status = status_of(request.action);
     match databases.order(
@@ -233,7 +235,7 @@ pub fn relay<D: Databases>(
     is_all: bool,
 ) -> Result<Printed, Refusal>
     ensures ok { IfOk result (λ p. SaysRelay after is_all (printed p)) }
-    ensures err { IfErr result IsOfDatabase }
+    ensures err { IfErr result (IsOfDatabase IsOfAny) }
 {
     if is_all {
         return match databases.relay_all(alloc, db, after) {
@@ -252,7 +254,7 @@ fn next_rows<D: Databases>(
     after: u64,
 ) -> Result<Printed, Refusal>
     ensures ok { IfOk result (λ p. SaysRelay after false (printed p)) }
-    ensures err { IfErr result IsOfDatabase }
+    ensures err { IfErr result (IsOfDatabase IsOfAny) }
 {
     let Ok(source) = Text::of(alloc, "/orders") else {
         return Err(Refusal::Database(CommandFault::OutOfMemory));

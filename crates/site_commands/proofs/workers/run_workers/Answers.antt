@@ -20,3 +20,8 @@ returns-in-Err-Feed-clause-err g c =
       c.in-Ok.ensures.ok,
       record { feed = c.in-Err-Feed.feed; at = at; bytes = refused.0; is_there = refused.1; fault = c.in-Err-Feed.fault; why = refl; refuses = refused.2; told = left },
     )
+
+pub returns-in-Err-NoThread-clause-err : goal.returns-in-Err-NoThread-clause-err
+returns-in-Err-NoThread-clause-err g c =
+    let left : IsOutcome c.in-Ok.feeds c.args.peers (Err run.NoThread) = search rules in
+    (c.in-Ok.feeds, c.in-Ok.ensures.ok, left)
