@@ -44,6 +44,8 @@ enum Wanted<'a> {
     Number(&'a str, &'a str, u64),
     /// The parts of these files' sources, or the events of one, of so many, or those of their lines.
     Part(u64, Option<u64>, &'a [&'a str], bool),
+    /// The events of these files, or of their lines, in so many parts, into files with this prefix.
+    Split(u64, &'a str, &'a [&'a str], bool),
     /// The answers in these files, with these covers beside them.
     Combine(Query, &'a [&'a str], &'a [&'a str]),
     /// None: the words are at fault.
@@ -159,6 +161,12 @@ fn is_plan(plan: &Plan, wanted: Wanted<'_>) -> bool {
                 && are(asked.covers.as_slice(), covers)
                 && are(asked.files.as_slice(), names)
         }
+        (Plan::Alone(Alone::Split(asked)), Wanted::Split(count, prefix, names, by_line)) => {
+            asked.count == count
+                && asked.prefix.as_str() == prefix
+                && are(asked.files.as_slice(), names)
+                && asked.has_lines == by_line
+        }
         _ => false,
     }
 }
@@ -186,7 +194,7 @@ fn asks(alloc: Global, words: &[&str], wanted: Wanted<'_>, wait: u64) -> bool {
 }
 
 /// Words, and what they come to.
-static WORDS: [(&[&str], Wanted<'static>); 43] = [
+static WORDS: [(&[&str], Wanted<'static>); 47] = [
     (
         &["shown", "f", "-", "--", "-g"],
         Wanted::Ask(Query::Shown, "", &["f", "-", "-g"], false),
@@ -284,6 +292,19 @@ static WORDS: [(&[&str], Wanted<'static>); 43] = [
         &["part", "--lines", "--part", "0", "--of", "1", "-"],
         Wanted::Part(1, Some(0), &["-"], true),
     ),
+    (
+        &["part", "--of", "4", "--into", "p/", "f", "g"],
+        Wanted::Split(4, "p/", &["f", "g"], false),
+    ),
+    (
+        &["part", "--lines", "--into=", "--of", "1", "-"],
+        Wanted::Split(1, "", &["-"], true),
+    ),
+    (
+        &["part", "--of", "4", "--part", "1", "--into", "p", "f"],
+        Wanted::Fault,
+    ),
+    (&["part", "--of", "0", "--into", "p", "f"], Wanted::Fault),
     (&["part", "--of", "4", "--part", "4", "f"], Wanted::Fault),
     (&["part", "--of", "65537", "f"], Wanted::Fault),
     (&["part", "--part", "0", "f"], Wanted::Fault),

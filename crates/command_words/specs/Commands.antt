@@ -118,8 +118,9 @@ own_app Relay =
     with_rule (with_rule (with_db Relay) (needed_rule (codes "after"))) (flag_rule (codes "all"))
 own_app Number = with_rule (with_rule (with_rule (with_db Number) (option_rule (codes "aside")))
     (default_rule (codes "base") (codes "0"))) lines_rule
-own_app Part = with_rule (with_rule (with_rule (with_rule (new_app (word_of Part))
-    (needed_rule (codes "of"))) (option_rule (codes "part"))) (flag_rule (codes "lines"))) files_rule
+own_app Part = with_rule (with_rule (with_rule (with_rule (with_rule (new_app (word_of Part))
+    (needed_rule (codes "of"))) (option_rule (codes "part"))) (option_rule (codes "into")))
+    (flag_rule (codes "lines"))) files_rule
 own_app Combine = with_rule (with_rule (with_rule (new_app (word_of Combine)) covers_rule)
     (place_rule (codes "question"))) files_rule
 

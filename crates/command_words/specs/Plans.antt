@@ -46,6 +46,7 @@ command_of (plan.Alone (alone.Follow lines)) = command.Follow
 command_of (plan.Alone (alone.Check judged)) = command.Check
 command_of (plan.Alone (alone.Number lines)) = command.Number
 command_of (plan.Alone (alone.Combine asked)) = command.Combine
+command_of (plan.Alone (alone.Split asked)) = command.Part
 command_of (plan.Run files) = command.Run
 
 -- ---- values
@@ -185,6 +186,7 @@ HasTextsOnce rows (once.Relay db after is_all) = (db ≡ text_in rows (codes "db
 HasTextsOnce rows (once.Part count part files has_lines) =
     IsPartCount (text_in rows (codes "of")) count × IsPart (first_of (codes "part") rows) count part
     × (files ≡ texts_in rows (codes "file")) × (has_lines ≡ is_given rows (codes "lines"))
+    × (first_of (codes "into") rows ≡ None)
 
 -- and so has any plan
 abbrev pub HasTextsOf : List Row → Plan → Type 0
@@ -201,6 +203,12 @@ HasTextsOf rows (plan.Alone (alone.Number lines)) = (lines.db ≡ text_in rows (
 HasTextsOf rows (plan.Alone (alone.Combine asked)) =
     (text_in rows (codes "question") ≡ word_of (command.Ask asked.query))
     × (asked.covers ≡ texts_in rows (codes "cover")) × (asked.files ≡ texts_in rows (codes "file"))
+HasTextsOf rows (plan.Alone (alone.Split asked)) =
+    IsPartCount (text_in rows (codes "of")) asked.count
+    × (first_of (codes "into") rows ≡ Some asked.prefix)
+    × (asked.files ≡ texts_in rows (codes "file"))
+    × (asked.has_lines ≡ is_given rows (codes "lines"))
+    × (first_of (codes "part") rows ≡ None)
 HasTextsOf rows (plan.Run files) =
     (files.db ≡ text_in rows (codes "db")) × (files.peer ≡ first_of (codes "peer") rows)
     × (files.files ≡ texts_in rows (codes "file"))

@@ -373,6 +373,19 @@ pub fn part<'a>(alloc: Global) -> Arg<'a>
         .help("The part whose events are printed as a batch, from 0")
 }
 
+/// `--into PREFIX`
+pub fn into<'a>(alloc: Global) -> Arg<'a>
+    ensures rule { rule_of result ≡ option_rule (codes "into") }
+    ensures local { result.global ≡ false }
+{
+    Arg::new(alloc, "into")
+        .long("into")
+        .value_name("PREFIX")
+        .help(
+            "Write each part's batch into a file of its own, PREFIX0.json and so on, and print how many events it has",
+        )
+}
+
 /// `--wait SECONDS`
 pub fn wait<'a>(alloc: Global) -> Arg<'a>
     ensures rule { rule_of result ≡ wait_rule }

@@ -6,9 +6,9 @@ ghost use Rattle.command_words.specs.declared.command.Command.{Command};
 
 use crate::argument::{
     action, after, all, answers, arrived, aside, at, base, by_line, checked_db, checked_files,
-    covers, db, files, for_number, from, lines, numbered_files, numbers_base, numbers_db, order,
-    paged_db, part, part_count, peer, question, question_db, question_files, read_db, source,
-    summary, wait,
+    covers, db, files, for_number, from, into, lines, numbered_files, numbers_base, numbers_db,
+    order, paged_db, part, part_count, peer, question, question_db, question_files, read_db,
+    source, summary, wait,
 };
 use clap::Arg;
 use std::alloc::{AllocError, Global};
@@ -46,7 +46,8 @@ pub enum Command {
     Relay,
     /// `number --db NUMBERS [--aside NAME] [--base N] [FILE]`: gives each event of lines its number.
     Number,
-    /// `part --of N [--part I] [--lines] FILE..`: the part of each source, or the events of one part.
+    /// `part --of N [--part I | --into PREFIX] [--lines] FILE..`: the part of each source, the
+    /// events of one part, or the events of each part into a file of its own.
     Part,
     /// `combine [--cover FILE].. QUESTION FILE..`: the answer of a region from those of its parts.
     Combine,
@@ -189,7 +190,7 @@ impl Command {
             Command::Number =>
                 "Gives each event of lines its number, for producers that send none, and prints it once it is kept",
             Command::Part =>
-                "Prints which part of a region each source falls to, or the events of one part",
+                "Prints which part of a region each source falls to, or the events of one part, or writes those of each",
             Command::Combine =>
                 "Prints the answer of a whole region, from the answers of its parts to a question",
         }
@@ -248,6 +249,7 @@ impl Command {
             }
             Command::Part => {
                 let begun = with(with(bare, part_count(alloc)), part(alloc));
+                let begun = with(begun, into(alloc));
                 with(with(begun, by_line(alloc)), numbered_files(alloc))
             }
             Command::Combine => {

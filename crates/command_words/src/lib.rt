@@ -15,5 +15,6 @@ pub use command::Command;
 pub use fault::Faulty;
 pub use request::{
     Action, Alone, Check, Combine, Follow, Invocation, Number, Once, Pages, Plan, Request, Run,
+    Split,
 };
 pub use words::invocation;

@@ -33,6 +33,8 @@ pub enum Alone {
     Number(Number),
     /// The answers of a region's parts as that of the whole.
     Combine(Combine),
+    /// The events of files in parts, a file each.
+    Split(Split),
 }
 
 /// A command with one answer.
@@ -145,6 +147,19 @@ pub struct Combine {
     pub query: Query,
     pub covers: Texts,
     pub files: Texts,
+}
+
+/// The events of files in parts by their sources, each part's written into a file of its own: its
+/// name is the prefix, the number of the part, from 0, and `.json`.
+#[derive(Drop)]
+pub struct Split {
+    /// 1 to 65,536.
+    pub count: u64,
+    /// Any text.
+    pub prefix: Text,
+    pub files: Texts,
+    /// Whether each line of the files is an event or a batch.
+    pub has_lines: bool,
 }
 
 /// Files taken side by side into a database, each by a thread of its own, and with them the events

@@ -273,6 +273,14 @@ pub fn both_pages(alloc: Global) -> Faulty {
     )
 }
 
+/// What is said of words that ask for one part and for all.
+pub fn both_parts(alloc: Global) -> Faulty {
+    said(
+        alloc,
+        "error: the argument '--part <I>' cannot be used with '--into <PREFIX>'\n\nFor more information, try '--help'.\n",
+    )
+}
+
 /// The source of a service.
 pub fn source(alloc: Global, text: &str) -> Result<Text, Faulty>
     ensures ok { IfOk result (λ source. source ≡ text.now) }

@@ -1,5 +1,5 @@
 //! From the words of the command line to a plan.
-ghost use Rattle.std.specs.Prelude.{◌≡◌, ℕ, IfOk, IfErr, Option, codes, map};
+ghost use Rattle.std.specs.Prelude.{◌≡◌, ℕ, IfOk, IfErr, None, Option, Some, codes, map};
 ghost use Rattle.clap.specs.Words.{first_of, found_of, rows_of};
 ghost use Rattle.command_words.specs.Commands.{word_of};
 ghost use Rattle.command_words.specs.Plans.{AreFaulty, AreSome, Blames, HasPages, HasRequestOf, HasTextsOf, HasValuesOf, HaveNoInvocation, HaveNoPlan, IsBase, IsInvocation, IsInvocationFor, IsPart, IsPartCount, command_of, text_in};
@@ -15,11 +15,11 @@ use crate::fault::Faulty;
 use crate::matched::{given_text_of, is_given, str_of, text_of, texts_of};
 use crate::program::{faulty_of, no_command};
 use crate::request::{
-    Alone, Check, Combine, Follow, Invocation, Number, Once, Pages, Plan, Request, Run,
+    Alone, Check, Combine, Follow, Invocation, Number, Once, Pages, Plan, Request, Run, Split,
 };
 use crate::value::{
-    action, base, both_pages, no_events, number, order_number, part_count, part_number, question,
-    source, time, wait, workers,
+    action, base, both_pages, both_parts, no_events, number, order_number, part_count, part_number,
+    question, source, time, wait, workers,
 };
 use attributes::Text;
 use clap::ArgMatches;
@@ -280,8 +280,46 @@ fn given_base(alloc: Global, matches: &ArgMatches<'_>) -> Result<Option<u64>, Fa
     }
 }
 
-/// The plan of a region's parts. Its values are tested in this order: the count, the part.
+/// The plan of a region's parts: with a prefix they go into files.
 fn part(alloc: Global, matches: &ArgMatches<'_>) -> Result<Plan, Faulty>
+    ensures command { IfOk result (λ plan. command_of plan ≡ command.Part) }
+    ensures texts { IfOk result (HasTextsOf (rows_of (found_of matches.now))) }
+    ensures err { IfErr result (Blames (HaveNoPlan (rows_of (found_of matches.now)) command.Part)) }
+{
+    match given_text_of(alloc, matches, "into")? {
+        Some(prefix) => parts_into(alloc, matches, prefix),
+        None => parts_shown(alloc, matches),
+    }
+}
+
+/// The plan of parts that go into files whose names begin with this prefix. That no part is asked
+/// for is tested first, then the count.
+fn parts_into(alloc: Global, matches: &ArgMatches<'_>, prefix: Text) -> Result<Plan, Faulty>
+    requires { first_of (codes "into") (rows_of (found_of matches.now)) ≡ Some prefix }
+    ensures command { IfOk result (λ plan. command_of plan ≡ command.Part) }
+    ensures texts { IfOk result (HasTextsOf (rows_of (found_of matches.now))) }
+    ensures err { IfErr result (Blames (HaveNoPlan (rows_of (found_of matches.now)) command.Part)) }
+{
+    let part = given_text_of(alloc, matches, "part")?;
+    if part.is_some() {
+        return Err(both_parts(alloc));
+    }
+    let files = texts_of(alloc, matches, "file")?;
+    let has_lines = is_given(matches, "lines");
+    match part_count(alloc, str_of(matches, "of")) {
+        Ok(count) => Ok(Plan::Alone(Alone::Split(Split {
+            count,
+            prefix,
+            files,
+            has_lines,
+        }))),
+        Err(faulty) => Err(faulty),
+    }
+}
+
+/// The plan of parts that are printed. Its values are tested in this order: the count, the part.
+fn parts_shown(alloc: Global, matches: &ArgMatches<'_>) -> Result<Plan, Faulty>
+    requires { first_of (codes "into") (rows_of (found_of matches.now)) ≡ None }
     ensures command { IfOk result (λ plan. command_of plan ≡ command.Part) }
     ensures texts { IfOk result (HasTextsOf (rows_of (found_of matches.now))) }
     ensures err { IfErr result (Blames (HaveNoPlan (rows_of (found_of matches.now)) command.Part)) }

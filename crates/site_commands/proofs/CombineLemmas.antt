@@ -14,7 +14,7 @@ use Rattle.site_commands.specs.steps.Combines.{IsContentsEnding, IsRefusalLine}
 use Rattle.site_commands.specs.declared.combine.TextFault.{TextFault}
 use Rattle.site_commands.specs.declared.combine.TextFault.TheVariants as text
 use Rattle.site_commands.specs.declared.ending.Ending.{Ending}
-use Rattle.site_commands.specs.declared.ending.Ending.TheVariants.{Answer, Told, Pages, Findings, Help, Faulty, Refused, Uncombined, NoMemory}
+use Rattle.site_commands.specs.declared.ending.Ending.TheVariants.{Answer, Told, Pages, Findings, Help, Faulty, Refused, Uncombined, Unsaved, NoMemory}
 
 module _ (C : List ℕ → List ℕ → Type 0) (U : List ℕ → Unread → Type 0) (asked : Combine) where
   -- an answer wasn't read
@@ -28,6 +28,7 @@ module _ (C : List ℕ → List ℕ → Type 0) (U : List ℕ → Unread → Typ
   answer_unread at (Faulty text) unread h = absurd h
   answer_unread at (Refused text hint) unread h = absurd h
   answer_unread at (Uncombined text hint) unread h = inl (record { at = at; unread = unread; is_line = h })
+  answer_unread at (Unsaved text hint) unread h = absurd h
   answer_unread at NoMemory unread h = tt
 
   -- a cover wasn't read
@@ -43,6 +44,7 @@ module _ (C : List ℕ → List ℕ → Type 0) (U : List ℕ → Unread → Typ
   cover_unread answers at (Refused text hint) read unread h = absurd h
   cover_unread answers at (Uncombined text hint) read unread h =
       inr (inl (record { answers = answers; answers_read = read; told = record { at = at; unread = unread; is_line = h } }))
+  cover_unread answers at (Unsaved text hint) read unread h = absurd h
   cover_unread answers at NoMemory read unread h = tt
 
   -- all files were read
@@ -59,6 +61,7 @@ module _ (C : List ℕ → List ℕ → Type 0) (U : List ℕ → Unread → Typ
   contents_ending answers covers (Refused text hint) read beside h = absurd h
   contents_ending answers covers (Uncombined text hint) read beside h =
       inr (inr (record { answers = answers; covers = covers; answers_read = read; covers_read = beside; told = h }))
+  contents_ending answers covers (Unsaved text hint) read beside h = absurd h
   contents_ending answers covers NoMemory read beside h = tt
 
 -- the line of a fault of the files that are to blame
@@ -74,6 +77,7 @@ fault_ending q files cover_files answers covers blamed f is_of_covers (Faulty te
 fault_ending q files cover_files answers covers blamed f is_of_covers (Refused text hint) is refused of_covers h = absurd h
 fault_ending q files cover_files answers covers blamed f is_of_covers (Uncombined text hint) is refused of_covers h =
     record { fault = f; refused = refused; is_of_covers = is_of_covers; blamed = of_covers; is_line = h ∙ ap (λ l. combine_line l f) is }
+fault_ending q files cover_files answers covers blamed f is_of_covers (Unsaved text hint) is refused of_covers h = absurd h
 fault_ending q files cover_files answers covers blamed f is_of_covers NoMemory is refused of_covers h = tt
 
 -- the place that a fault names

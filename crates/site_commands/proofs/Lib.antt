@@ -6,6 +6,7 @@ mod LineLemmas
 mod PartLemmas
 mod PieceLemmas
 mod RunLemmas
+mod SplitLemmas
 mod StreamLemmas
 mod WorkerLemmas
 mod NumberLemmas

@@ -12,10 +12,10 @@ use Rattle.site_commands.specs.Lines.{line_of, made_lines, memory_line}
 use Rattle.site_commands.specs.Names.{Names, of_follow, of_number, of_plan}
 use Rattle.site_commands.specs.Checks.{IsCheckEnding}
 use Rattle.site_commands.specs.Parts.{IsCombineEnding}
-use Rattle.site_commands.specs.Runs.{ComesTo, IsEnding, IsLine, IsTold, PrintsAnswer, RunsAlone, RunsBeside, RunsPlan, RunsWords, said}
+use Rattle.site_commands.specs.Runs.{ComesTo, IsEnding, IsLine, IsSplitEnding, IsTold, PrintsAnswer, RunsAlone, RunsBeside, RunsPlan, RunsWords, said}
 use Rattle.site_commands.specs.Answers.{AnswersPlan, IsAllowed, IsAllowedAlone, IsAllowedPlan, RefusesPlan}
 use Rattle.site_commands.specs.declared.ending.Ending.{Ending}
-use Rattle.site_commands.specs.declared.ending.Ending.TheVariants.{Answer, Told, Pages, Findings, Help, Faulty, Refused, Uncombined, NoMemory}
+use Rattle.site_commands.specs.declared.ending.Ending.TheVariants.{Answer, Told, Pages, Findings, Help, Faulty, Refused, Uncombined, Unsaved, NoMemory}
 use Rattle.database_commands.specs.Pages.{pages_text}
 use Rattle.site_commands.specs.declared.line.Refusal.{Refusal}
 use Rattle.command_words.specs.declared.request.Alone.{Alone}
@@ -28,6 +28,7 @@ use Rattle.number_lines.specs.Texts.{numbered_text}
 use Rattle.command_words.specs.declared.request.Once.{Once}
 use Rattle.command_words.specs.declared.request.Once.TheVariants as once
 use Rattle.command_words.specs.declared.request.Run.{Run}
+use Rattle.command_words.specs.declared.request.Split.{Split}
 use Rattle.command_words.specs.declared.request.Plan.{Plan}
 use Rattle.command_words.specs.declared.request.Plan.TheVariants as plan
 use Rattle.command_words.specs.Plans.{IsPlan}
@@ -51,6 +52,7 @@ module _ (C : List ℕ → List ℕ → Type 0) (U : List ℕ → Unread → Typ
   status_within (Faulty text) h = written_within r 2 err err' text (omega arith) h.0
   status_within (Refused text hint) h = written_within r 1 err err' text (omega arith) h.0
   status_within (Uncombined text hint) h = written_within r 1 err err' text (omega arith) h.0
+  status_within (Unsaved text hint) h = written_within r 1 err err' text (omega arith) h.0
   status_within NoMemory h = written_within r 1 err err' memory_line (omega arith) h.0
 
   pub answer_printed : (e : Ending) → IsEnding C U words e → Ends e r out out' err err' → r ≡ 0 → PrintsAnswer C words out out'
@@ -62,6 +64,7 @@ module _ (C : List ℕ → List ℕ → Type 0) (U : List ℕ → Unread → Typ
   answer_printed (Faulty text) i h done = never_ends r 2 0 err err' text _ h.0 (λ e. omega arith) (λ e. omega arith) done
   answer_printed (Refused text hint) i h done = never_ends r 1 0 err err' text _ h.0 (λ e. omega arith) (λ e. omega arith) done
   answer_printed (Uncombined text hint) i h done = never_ends r 1 0 err err' text _ h.0 (λ e. omega arith) (λ e. omega arith) done
+  answer_printed (Unsaved text hint) i h done = never_ends r 1 0 err err' text _ h.0 (λ e. omega arith) (λ e. omega arith) done
   answer_printed NoMemory i h done = never_ends r 1 0 err err' memory_line _ h.0 (λ e. omega arith) (λ e. omega arith) done
 
   pub words_faulty : (e : Ending) → IsEnding C U words e → Ends e r out out' err err' → r ≡ 2 → AreFaulty words
@@ -73,6 +76,7 @@ module _ (C : List ℕ → List ℕ → Type 0) (U : List ℕ → Unread → Typ
   words_faulty (Faulty text) i h done = i
   words_faulty (Refused text hint) i h done = never_ends r 1 2 err err' text _ h.0 (λ e. omega arith) (λ e. omega arith) done
   words_faulty (Uncombined text hint) i h done = never_ends r 1 2 err err' text _ h.0 (λ e. omega arith) (λ e. omega arith) done
+  words_faulty (Unsaved text hint) i h done = never_ends r 1 2 err err' text _ h.0 (λ e. omega arith) (λ e. omega arith) done
   words_faulty NoMemory i h done = never_ends r 1 2 err err' memory_line _ h.0 (λ e. omega arith) (λ e. omega arith) done
 
 -- ---- streams
@@ -163,6 +167,7 @@ refused_ending A R n refusal (Help text) r line = absurd line
 refused_ending A R n refusal (Faulty text) r line = absurd line
 refused_ending A R n refusal (Refused text hint) r line = (refusal, r, line)
 refused_ending A R n refusal (Uncombined text hint) r line = absurd line
+refused_ending A R n refusal (Unsaved text hint) r line = absurd line
 refused_ending A R n refusal NoMemory r line = tt
 
 pub named_ending : (A : List ℕ → Type 0) (R : Refusal → Type 0) (m n : Names) (refusal : Refusal) (e : Ending)
@@ -180,6 +185,7 @@ told_ending A R n m file service text (Help printed) is a it = absurd it
 told_ending A R n m file service text (Faulty printed) is a it = absurd it
 told_ending A R n m file service text (Refused printed hint) is a it = absurd it
 told_ending A R n m file service text (Uncombined printed hint) is a it = absurd it
+told_ending A R n m file service text (Unsaved printed hint) is a it = absurd it
 told_ending A R n m file service text NoMemory is a it = tt
 
 -- what the plan comes to, its words come to
@@ -193,6 +199,7 @@ planned_ending C U words plan (Help text) p h = absurd h
 planned_ending C U words plan (Faulty text) p h = absurd h
 planned_ending C U words plan (Refused text hint) p h = record { plan = plan; planned = p; refusal = h.0; refused = h.1; is_line = h.2 }
 planned_ending C U words plan (Uncombined text hint) p h = absurd h
+planned_ending C U words plan (Unsaved text hint) p h = absurd h
 planned_ending C U words plan NoMemory p h = tt
 
 -- what a check comes to, its words come to
@@ -206,6 +213,7 @@ checked_ending C U words judged (Help text) p h = absurd h
 checked_ending C U words judged (Faulty text) p h = absurd h
 checked_ending C U words judged (Refused text hint) p h = record { plan = plan.Alone (alone.Check judged); planned = p; refusal = h.0; refused = h.1; is_line = h.2 }
 checked_ending C U words judged (Uncombined text hint) p h = absurd h
+checked_ending C U words judged (Unsaved text hint) p h = absurd h
 checked_ending C U words judged NoMemory p h = tt
 
 -- what answers of parts come to, their words come to
@@ -219,7 +227,33 @@ combined_ending C U words asked (Help text) p h = absurd h
 combined_ending C U words asked (Faulty text) p h = absurd h
 combined_ending C U words asked (Refused text hint) p h = absurd h
 combined_ending C U words asked (Uncombined text hint) p h = record { asked = asked; planned = p; refused = h }
+combined_ending C U words asked (Unsaved text hint) p h = absurd h
 combined_ending C U words asked NoMemory p h = tt
+
+-- what parts that are saved come to, their words come to
+split_ending : (C : List ℕ → List ℕ → Type 0) (U : List ℕ → Unread → Type 0) (words : List (List ℕ)) (asked : Split) (e : Ending)
+    → IsPlan words (plan.Alone (alone.Split asked)) → IsSplitEnding C U asked None None e → IsEnding C U words e
+split_ending C U words asked (Answer text) p (inl h) = record { plan = plan.Alone (alone.Split asked); planned = p; answered = (h.0, h.1, h.2.0) }
+split_ending C U words asked (Answer text) p (inr h) = absurd h.0
+split_ending C U words asked (Told text made) p (inl h) = absurd h.2
+split_ending C U words asked (Told text made) p (inr h) = absurd h.0.0
+split_ending C U words asked (Pages events) p (inl h) = absurd h.2
+split_ending C U words asked (Pages events) p (inr h) = absurd h.0
+split_ending C U words asked (Findings text) p (inl h) = absurd h.2
+split_ending C U words asked (Findings text) p (inr h) = absurd h.0
+split_ending C U words asked (Help text) p (inl h) = absurd h.2
+split_ending C U words asked (Help text) p (inr h) = absurd h.0
+split_ending C U words asked (Faulty text) p (inl h) = absurd h.2
+split_ending C U words asked (Faulty text) p (inr h) = absurd h.0
+split_ending C U words asked (Refused text hint) p (inl h) = absurd h.2
+split_ending C U words asked (Refused text hint) p (inr h) =
+    record { plan = plan.Alone (alone.Split asked); planned = p; refusal = h.0.0; refused = h.0.1; is_line = h.0.2 }
+split_ending C U words asked (Uncombined text hint) p (inl h) = absurd h.2
+split_ending C U words asked (Uncombined text hint) p (inr h) = absurd h.0
+split_ending C U words asked (Unsaved text hint) p (inl h) =
+    record { asked = asked; planned = p; refused = (h.0, h.1, h.2.0, h.2.1, h.2.2) }
+split_ending C U words asked (Unsaved text hint) p (inr h) = absurd h.0
+split_ending C U words asked NoMemory p h = tt
 
 -- a plan that one thread carried out is what its words come to
 pub planned_alone : (C : List ℕ → List ℕ → Type 0) (U : List ℕ → Unread → Type 0) (words : List (List ℕ)) (p : Alone) (r : ℕ) (out out' err err' : Option (List ℕ)) → IsPlan words (plan.Alone p) → RunsAlone C U p r out out' err err' → RunsWords C U words r out out' err err'
@@ -228,6 +262,7 @@ planned_alone C U words (alone.Follow lines) r out out' err err' planned w = inr
 planned_alone C U words (alone.Number lines) r out out' err err' planned w = inr (inr (record { lines = lines; planned = planned; ends = w }))
 planned_alone C U words (alone.Check judged) r out out' err err' planned w = inl (record { ending = w.0; is_ending = checked_ending C U words judged w.0 planned w.1; ends = w.2 })
 planned_alone C U words (alone.Combine asked) r out out' err err' planned w = inl (record { ending = w.0; is_ending = combined_ending C U words asked w.0 planned w.1; ends = w.2 })
+planned_alone C U words (alone.Split asked) r out out' err err' planned w = inl (record { ending = w.0; is_ending = split_ending C U words asked w.0 planned w.1; ends = w.2 })
 
 -- and so is a run
 pub planned_run : (C : List ℕ → List ℕ → Type 0) (U : List ℕ → Unread → Type 0) (words : List (List ℕ)) (p : Run) (r : ℕ) (out out' err err' : Option (List ℕ)) → IsPlan words (plan.Run p) → RunsBeside C U p r out out' err err' → RunsWords C U words r out out' err err'
@@ -286,6 +321,7 @@ alone_allowed words (alone.Follow lines) h = tt
 alone_allowed words (alone.Check judged) h = tt
 alone_allowed words (alone.Number lines) h = tt
 alone_allowed words (alone.Combine asked) h = tt
+alone_allowed words (alone.Split asked) h = let t = h.1.texts in (t.0.low, t.0.high)
 
 -- and so many files are few
 pub run_allowed : (words : List (List ℕ)) (p : Run) → IsPlan words (plan.Run p) → AreFew (is_some p.peer) (length p.files)

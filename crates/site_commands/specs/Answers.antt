@@ -40,6 +40,7 @@ use Rattle.site_commands.specs.Names.{files_of_run}
 use Rattle.site_commands.specs.Numbers.{AnswersNumber}
 use Rattle.site_commands.specs.Parts.{AnswersCombine, AnswersPart}
 use Rattle.site_commands.specs.Pieces.{IsRefused, pieces_of}
+use Rattle.site_commands.specs.Splits.{AnswersSplit}
 use Rattle.site_commands.specs.Streams.{AnswersFollow}
 use Rattle.site_commands.specs.Checks.{FindsNone, RefusesCheck}
 use Rattle.site_commands.specs.declared.line.Refusal.{Refusal}
@@ -207,6 +208,7 @@ AnswersPlan C (plan.Alone (alone.Follow lines)) text = AnswersFollow C lines.fil
 AnswersPlan C (plan.Alone (alone.Check judged)) text = FindsNone C judged text
 AnswersPlan C (plan.Alone (alone.Number lines)) text = AnswersNumber C lines text
 AnswersPlan C (plan.Alone (alone.Combine asked)) text = AnswersCombine C asked text
+AnswersPlan C (plan.Alone (alone.Split asked)) text = AnswersSplit C asked text
 AnswersPlan C (plan.Run run) text = AnswersRun C run.peer run.files run.has_lines text
 
 -- this is why the plan, which would have one answer, has none
@@ -236,6 +238,8 @@ RefusesPlan C U (plan.Alone (alone.Follow lines)) refusal = ⊥
 RefusesPlan C U (plan.Alone (alone.Check judged)) refusal = RefusesCheck C U judged.files refusal
 RefusesPlan C U (plan.Alone (alone.Number lines)) refusal = ⊥
 RefusesPlan C U (plan.Alone (alone.Combine asked)) refusal = ⊥
+RefusesPlan C U (plan.Alone (alone.Split asked)) refusal =
+    RefusesQuery C U asked.has_lines None asked.files refusal
 RefusesPlan C U (plan.Run run) refusal = RefusesRun C U run.peer run.files run.has_lines refusal
 
 -- what is asked of a service, an order or parts is within what is allowed
@@ -259,6 +263,7 @@ IsAllowedAlone (alone.Follow lines) = Unit {0}
 IsAllowedAlone (alone.Check judged) = Unit {0}
 IsAllowedAlone (alone.Number lines) = Unit {0}
 IsAllowedAlone (alone.Combine asked) = Unit {0}
+IsAllowedAlone (alone.Split asked) = IsCount asked.count
 
 -- and what a plan is
 abbrev pub IsAllowedPlan : Plan → Type 0

@@ -50,6 +50,8 @@ Ends (ending.Faulty text) result out out' err err' = Writes result 2 err err' te
 Ends (ending.Refused text hint) result out out' err err' = Writes result 1 err err' text × Keeps out out'
 Ends (ending.Uncombined text hint) result out out' err err' =
     Writes result 1 err err' text × Keeps out out'
+Ends (ending.Unsaved text hint) result out out' err err' =
+    Writes result 1 err err' text × Keeps out out'
 Ends ending.NoMemory result out out' err err' =
     Writes result 1 err err' memory_line × Keeps out out'
 

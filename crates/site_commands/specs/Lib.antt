@@ -7,6 +7,8 @@ pub mod Streams
 pub mod Numbers
 pub mod Checks
 pub mod Parts
+pub mod Outputs
+pub mod Splits
 pub mod Answers
 pub mod Printed
 pub mod Endings

@@ -11,6 +11,7 @@ use Rattle.command_words.specs.declared.request.Once.TheVariants as once
 use Rattle.command_words.specs.declared.request.Plan.{Plan}
 use Rattle.command_words.specs.declared.request.Plan.TheVariants as plan
 use Rattle.command_words.specs.declared.request.Run.{Run}
+use Rattle.command_words.specs.declared.request.Split.{Split}
 use Rattle.site_commands.specs.declared.names.Names.{Names as Lent}
 
 -- the files of a run, its peer's first, where it has one
@@ -53,6 +54,10 @@ of_check judged = record { db = []; order = 0; files = judged.files }
 abbrev pub of_combine : Combine → Names
 of_combine asked = record { db = []; order = 0; files = asked.files }
 
+-- what a plan of parts names where it is refused for a file that it reads
+abbrev pub of_split : Split → Names
+of_split asked = record { db = []; order = 0; files = asked.files }
+
 -- what a run names, its peer's file first
 abbrev pub of_run : Run → Names
 of_run run = record { db = run.db; order = 0; files = files_of_run run.peer run.files }
@@ -64,6 +69,7 @@ of_plan (plan.Alone (alone.Follow lines)) = of_follow lines
 of_plan (plan.Alone (alone.Check judged)) = of_check judged
 of_plan (plan.Alone (alone.Number lines)) = of_number lines
 of_plan (plan.Alone (alone.Combine asked)) = of_combine asked
+of_plan (plan.Alone (alone.Split asked)) = of_split asked
 of_plan (plan.Run run) = of_run run
 
 -- the files, one of them before the others where there is one

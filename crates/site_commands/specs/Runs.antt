@@ -1,6 +1,7 @@
 -- What the words after the program's name come to.
-use Rattle.std.specs.Prelude.{◌≡◌, ◌⊎◌, Bool, ℕ, List, Option, false, true}
+use Rattle.std.specs.Prelude.{◌≡◌, ◌⊎◌, Bool, ℕ, List, [], None, Option, false, true}
 use Rattle.std.specs.Io.KnownBytes.{Appends}
+use Rattle.attributes.specs.Event.{EventValue}
 use Rattle.command_words.specs.Plans.{AreFaulty, IsPlan}
 use Rattle.command_words.specs.declared.fault.Faulty.{Faulty}
 use Rattle.command_words.specs.declared.fault.Faulty.TheVariants as faulty
@@ -14,14 +15,17 @@ use Rattle.command_words.specs.declared.request.Plan.{Plan}
 use Rattle.command_words.specs.declared.request.Plan.TheVariants as plan
 use Rattle.command_words.specs.declared.request.Run.{Run}
 use Rattle.command_words.specs.declared.request.Once.{Once}
+use Rattle.command_words.specs.declared.request.Split.{Split}
 use Rattle.database_commands.specs.Pages.{pages_text}
 use Rattle.file_reports.specs.declared.input.Unread.{Unread}
-use Rattle.site_commands.specs.Answers.{AnswersOnce, AnswersPlan, AnswersRun, RefusesOnce, RefusesPlan, RefusesRun}
+use Rattle.site_commands.specs.Answers.{AnswersOnce, AnswersPlan, AnswersRun, RefusesOnce, RefusesPlan, RefusesQuery, RefusesRun}
 use Rattle.site_commands.specs.Checks.{FindsSome, IsCheckEnding}
 use Rattle.site_commands.specs.Endings.{Ends, EndsNumbers, EndsStream}
 use Rattle.site_commands.specs.Lines.{arguments_line, line_of, made_lines}
-use Rattle.site_commands.specs.Names.{Names, of_once, of_plan, of_run}
+use Rattle.site_commands.specs.Names.{Names, of_once, of_plan, of_run, of_split}
 use Rattle.site_commands.specs.Parts.{IsCombineEnding, RefusesCombine}
+use Rattle.site_commands.specs.Outputs.{GrewBy, Output}
+use Rattle.site_commands.specs.Splits.{EndsParts, RefusesSplit, SpellFiles}
 use Rattle.site_commands.specs.declared.ending.Ending.{Ending}
 use Rattle.site_commands.specs.declared.ending.Ending.TheVariants as ending
 use Rattle.site_commands.specs.declared.line.Refusal.{Refusal}
@@ -68,6 +72,13 @@ pub record UncombinedWords (C : List ℕ → List ℕ → Type 0) (U : List ℕ 
   pub planned : IsPlan words (plan.Alone (alone.Combine asked))
   pub refused : RefusesCombine C U asked text
 
+-- the words ask for parts in files, and the text is the line of the first that wasn't saved
+pub record UnsavedWords (C : List ℕ → List ℕ → Type 0) (words : List (List ℕ))
+    (text : List ℕ) : Type 0 where
+  pub asked : Split
+  pub planned : IsPlan words (plan.Alone (alone.Split asked))
+  pub refused : RefusesSplit C asked text
+
 -- the line of a refusal of a plan that names these, or want of memory for it
 abbrev pub IsLine : Names → Refusal → Ending → Type 0
 IsLine names refusal (ending.Refused text hint) = text ≡ line_of names refusal
@@ -106,6 +117,16 @@ abbrev pub IsRunEnding : (List ℕ → List ℕ → Type 0) → (List ℕ → Un
 IsRunEnding C U run ending = ComesTo (AnswersRun C run.peer run.files run.has_lines)
     (RefusesRun C U run.peer run.files run.has_lines) (of_run run) ending
 
+-- what a plan of parts comes to, where old and new are the outputs before and after: the files were
+-- read, and their events come to it; or they are refused, and no file was asked to be saved
+abbrev pub IsSplitEnding : (List ℕ → List ℕ → Type 0) → (List ℕ → Unread → Type 0)
+    → Split → Option (List Output) → Option (List Output) → Ending → Type 0
+IsSplitEnding C U asked old new ending =
+    ((events : List EventValue) × SpellFiles C asked.has_lines asked.files events
+    × EndsParts asked events old new ending)
+    ⊎ (ComesTo (λ _. ⊥) (RefusesQuery C U asked.has_lines None asked.files) (of_split asked) ending
+    × GrewBy old new [])
+
 -- what the words come to
 abbrev pub IsEnding : (List ℕ → List ℕ → Type 0) → (List ℕ → Unread → Type 0)
     → List (List ℕ) → Ending → Type 0
@@ -117,6 +138,7 @@ IsEnding C U words (ending.Help text) = AreFaulty words
 IsEnding C U words (ending.Faulty text) = AreFaulty words
 IsEnding C U words (ending.Refused text hint) = RefusesWords C U words text
 IsEnding C U words (ending.Uncombined text hint) = UncombinedWords C U words text
+IsEnding C U words (ending.Unsaved text hint) = UnsavedWords C words text
 IsEnding C U words ending.NoMemory = Unit {0}
 
 -- what is said of faulty words
@@ -125,7 +147,8 @@ said (faulty.Words text true) = ending.Help text
 said (faulty.Words text false) = ending.Faulty text
 said faulty.OutOfMemory = ending.NoMemory
 
--- the plan comes to an ending, and it is written; or it is a stream, which is written as it goes
+-- the plan comes to an ending, and it is written; or it is a stream, which is written as it goes.
+-- Of the system's files it isn't known which are saved
 abbrev pub RunsAlone : (List ℕ → List ℕ → Type 0) → (List ℕ → Unread → Type 0) → Alone → ℕ
     → Option (List ℕ) → Option (List ℕ) → Option (List ℕ) → Option (List ℕ) → Type 0
 RunsAlone C U (alone.Once asked) status out out' err err' =
@@ -138,6 +161,8 @@ RunsAlone C U (alone.Check judged) status out out' err err' =
     (ending : Ending) × IsCheckEnding C U judged ending × Ends ending status out out' err err'
 RunsAlone C U (alone.Combine asked) status out out' err err' =
     (ending : Ending) × IsCombineEnding C U asked ending × Ends ending status out out' err err'
+RunsAlone C U (alone.Split asked) status out out' err err' = (ending : Ending)
+    × IsSplitEnding C U asked None None ending × Ends ending status out out' err err'
 
 -- the run comes to an ending, and it is written
 abbrev pub RunsBeside : (List ℕ → List ℕ → Type 0) → (List ℕ → Unread → Type 0) → Run → ℕ

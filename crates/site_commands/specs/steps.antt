@@ -2,3 +2,4 @@
 pub mod Feeds
 pub mod Checks
 pub mod Combines
+pub mod Splits

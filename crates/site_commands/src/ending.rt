@@ -51,6 +51,9 @@ pub enum Ending {
     /// Why the answers of parts make none of the whole, one line for standard error: status 1. Who
     /// looks on gets the hint too, where there is one.
     Uncombined { line: Text, hint: Option<Hint> },
+    /// Which part's file couldn't be written, one line for standard error: status 1. Who looks on
+    /// gets the hint too, where there is one.
+    Unsaved { line: Text, hint: Option<Hint> },
     /// Memory ran out, which a line on standard error says: status 1.
     NoMemory,
 }
@@ -89,6 +92,7 @@ pub fn finish<O: Write, E: Write, P: Progress>(
         Ending::Faulty(text) => print(err, text.as_str(), FAULTY),
         Ending::Refused { line, hint } => refuse(err, line.as_str(), hint, progress),
         Ending::Uncombined { line, hint } => refuse(err, line.as_str(), hint, progress),
+        Ending::Unsaved { line, hint } => refuse(err, line.as_str(), hint, progress),
         Ending::NoMemory => print(err, NO_MEMORY, REFUSED),
     }
 }

@@ -13,6 +13,7 @@ mod line;
 mod look;
 mod names;
 mod number;
+mod outputs;
 mod part;
 mod pieces;
 mod printed;
@@ -20,6 +21,7 @@ mod progress;
 mod query;
 mod refusal;
 mod run;
+mod split;
 mod stream;
 mod workers;
 

@@ -1,10 +1,10 @@
 //! What a plan names, for the lines that say why it has no answer.
 ghost use Rattle.std.specs.Prelude.{◌≡◌, [], unwrap_or};
 ghost use Rattle.site_commands.specs.Lines.{name_at};
-ghost use Rattle.site_commands.specs.Names.{lent, of_check, of_follow, of_number, of_once, of_run};
+ghost use Rattle.site_commands.specs.Names.{lent, of_check, of_follow, of_number, of_once, of_run, of_split};
 
 use attributes::Text;
-use command_words::{Check, Follow, Number, Once, Run};
+use command_words::{Check, Follow, Number, Once, Run, Split};
 
 /// What a plan names.
 #[derive(Clone, Copy)]
@@ -115,6 +115,13 @@ impl<'a> Names<'a> {
             first: None,
             files: plan.files.as_slice(),
         }
+    }
+
+    /// What a plan of parts names where it is refused for a file that it reads.
+    pub fn of_split(plan: &'a Split) -> Names<'a>
+        ensures { lent result ≡ of_split plan.now }
+    {
+        Names::of_files(plan.files.as_slice())
     }
 
     /// What a run names, its peer's file first.

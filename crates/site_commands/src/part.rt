@@ -7,6 +7,7 @@ ghost use Rattle.parts.specs.Part.{IsCount, part, part_of};
 ghost use Rattle.views.specs.Line.{kind_lines};
 ghost use Rattle.site_commands.specs.Answers.{RefusesQuery};
 ghost use Rattle.site_commands.specs.Parts.{AnswersPart, SaysSources, placed};
+ghost use Rattle.site_commands.specs.Splits.{SpellFiles};
 
 use crate::line::Refusal;
 use crate::pieces::{Pieces, memory_refusal, pieces_of, refusal_at};
@@ -95,12 +96,31 @@ fn events_of_part<S: Shelf, F: EventReader>(
     ensures err { IfErr result
         (RefusesQuery (S.is_content shelf.now) (S.is_unread shelf.now) has_lines None files.now) }
 {
+    match events_of_files(alloc, shelf, reader, files, has_lines) {
+        Ok(events) => match part_line(alloc, events, count, place) {
+            Ok(text) => Ok(text),
+            Err(_) => Err(memory_refusal(has_lines)),
+        },
+        Err(refusal) => Err(refusal),
+    }
+}
+
+/// The events of the files, one file behind the other. All are read before one is judged.
+pub(crate) fn events_of_files<S: Shelf, F: EventReader>(
+    alloc: Global,
+    shelf: &S,
+    reader: &F,
+    files: &[Text],
+    has_lines: bool,
+) -> Result<Batch, Refusal>
+    requires { F.can_read reader.now }
+    ensures ok { IfOk result (SpellFiles (S.is_content shelf.now) has_lines files.now) }
+    ensures err { IfErr result
+        (RefusesQuery (S.is_content shelf.now) (S.is_unread shelf.now) has_lines None files.now) }
+{
     match pieces_of(alloc, shelf, files, has_lines) {
         Ok(Pieces { texts, places }) => match events_of(alloc, reader, texts.as_slice()) {
-            Ok(events) => match part_line(alloc, events, count, place) {
-                Ok(text) => Ok(text),
-                Err(_) => Err(memory_refusal(has_lines)),
-            },
+            Ok(events) => Ok(events),
             Err(refused) => Err(refusal_at(has_lines, places.as_slice(), refused)),
         },
         Err(at) => Err(Refusal::Unread(at)),
@@ -114,7 +134,14 @@ fn part_line(alloc: Global, events: Batch, count: u64, place: u64) -> Result<Tex
     ensures { IfOk result (λ text. text ≡ batch_line (part (part_of count) place events)) }
 {
     let batches = split(alloc, events, count)?;
-    let mut line = write_sequenced(alloc, &batches[place as usize])?.into_string();
+    batch_line(alloc, &batches[place as usize])
+}
+
+/// A batch as a line.
+pub(crate) fn batch_line(alloc: Global, events: &Batch) -> Result<Text, AllocError>
+    ensures { IfOk result (λ text. text ≡ batch_line events.now) }
+{
+    let mut line = write_sequenced(alloc, events)?.into_string();
     line.push_str("\n")?;
     Ok(Text::from_string(line))
 }

@@ -18,10 +18,12 @@ use crate::hint::hint_of;
 use crate::line::Refusal;
 use crate::names::Names;
 use crate::number::number;
+use crate::outputs::SystemOutputs;
 use crate::part::part;
 use crate::printed::Printed;
 use crate::progress::Progress;
 use crate::query::ask;
+use crate::split::ending_of_split;
 use crate::stream::follow;
 use crate::workers::run;
 use attributes::Text;
@@ -208,6 +210,21 @@ fn perform_with<
         Alone::Combine(plan) => {
             let shelf = SystemFiles::new(rt, progress, 0);
             let ending = ending_of_combine(rt.alloc(), &shelf, databases, plan, progress);
+            progress.over();
+            finish(ending, out, err, progress)
+        }
+        Alone::Split(plan) => {
+            let shelf = SystemFiles::new(rt, progress, 0);
+            let mut outputs = SystemOutputs::new(rt);
+            let ending = ending_of_split(
+                rt.alloc(),
+                &shelf,
+                reader,
+                &mut outputs,
+                databases,
+                plan,
+                progress,
+            );
             progress.over();
             finish(ending, out, err, progress)
         }
