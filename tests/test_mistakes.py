@@ -205,6 +205,7 @@ test_answers_of_parts = rows(
     *refused("combine cover good.json", "good.json: NotACover", "what site cover prints"),
     *refused("combine shown good.json", "good.json: NotAnAnswer", "what site QUESTION prints"),
     *refused("combine kinds good.kinds", "0 covers beside 1 answers: CoverCount", "--cover FILE, in the same order"),
+    *refused("part --of 2 --into nothere/p good.json", "nothere/p0.json: cannot write", "is there such a folder"),
     *refused("combine cover good.cover good.cover", "good.cover: Overlap with good.cover: /orders", "site part --of N FILE says"),
 )
 

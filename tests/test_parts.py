@@ -1,11 +1,12 @@
 """The parts of a region: to which a source falls, and the answer of the whole from those of the parts."""
 import hashlib
 import json
+import os
 import random
 
 import pytest
 from events import QUESTIONS, batch, event, lines, page
-from shell import As, Has, Room, Row, Said, answers, refuses, rejects, rows
+from shell import As, Has, Room, Row, Said, answers, fails, refuses, rejects, rows
 
 # Questions whose answers show each source of their part, so that no covers stand beside them.
 ALONE = ("cover", "shown")
@@ -20,6 +21,12 @@ def part_of(source: str, count: int) -> int:
 def placed(count: int, *sources: str) -> str:
     """The lines of these sources, which stand in the order of their bytes, with their parts."""
     return lines(*(json.dumps([it, part_of(it, count)], ensure_ascii=False, separators=(",", ":")) for it in sources))
+
+
+def counted(prefix: str, count: int, *sources: str) -> str:
+    """The lines of the files of so many parts of events that have these sources, each with its count of events."""
+    found = [sum(part_of(source, count) == it for source in sources) for it in range(count)]
+    return lines(*(json.dumps([f"{prefix}{it}.json", events], ensure_ascii=False, separators=(",", ":")) for it, events in enumerate(found)))
 
 
 def random_events(chance: random.Random) -> list[tuple[str, str]]:
@@ -42,15 +49,20 @@ def random_events(chance: random.Random) -> list[tuple[str, str]]:
 @pytest.mark.parametrize("count", [1, 2, 4, 7])
 @pytest.mark.parametrize("seed", range(4))
 def test_whole_of_parts(seed: int, count: int, room: Room) -> None:
-    """Each question to the parts, in any order, comes to what it is answered with over the whole."""
+    """Each question to the parts, in any order, comes to what it is answered with over the whole; their files are what is printed."""
     chance = random.Random(f"{seed} {count}")
     events = random_events(chance)
-    room.put({"whole.json": batch(*(text for _, text in events))})
+    room.put({"whole.json": batch(*(text for _, text in events)), "whole.lines": lines(*(text for _, text in events)), "in/": ""})
     sources = sorted({it for it, _ in events}, key=str.encode)
     assert room.run(f"site part --of {count} whole.json") == Said(0, placed(count, *sources))
+    told = counted("in/ä", count, *(source for source, _ in events))
+    assert room.run(f"site part --of {count} --into in/ä whole.json") == Said(0, told)
+    assert room.run(f"site part --of {count} --into in/l --lines whole.lines") == Said(0, told.replace("ä", "l"))
+    assert len(os.listdir(room.at("in"))) == 2 * count
     for it in range(count):
         wanted = page(*(text for source, text in events if part_of(source, count) == it))
         assert room.run(f"site part --of {count} --part {it} whole.json | tee {it}.json") == Said(0, wanted)
+        assert set(room.contents(f"in/ä{it}.json", f"in/l{it}.json").values()) == {wanted.encode()}
     order = chance.sample(range(count), count)
     covers = " ".join(f"--cover {it}.cover" for it in order)
     for question in QUESTIONS:
@@ -98,6 +110,61 @@ test_parts = rows(
     rejects("a part behind the last", "site part --of 2 --part 2 a.json", Has("invalid value '2' for '--part <I>'", "below that of --of")),
     rejects("a part that is no number", "site part --of 2 --part one a.json", Has("invalid value 'one' for '--part <I>'")),
     rejects("a database", "site part --of 2 --db x.db a.json", Has("unexpected argument '--db'"), lacks="x.db"),
+)
+
+# Of four parts the first has all of the north, the third all of the south.
+EACH = counted("p", 4, "/north", "/north", "/north", "/south")
+# To root every folder is open.
+USER = pytest.mark.skipif(os.geteuid() == 0, reason="root writes into every folder")
+# A file has at most 1,024 bytes, and whoever writes more is told so.
+SMALL = "trap '' XFSZ; ulimit -f 1; "
+
+# The events of each part in a file of its own.
+test_parts_in_files = rows(
+    FILES,
+    answers("a file for each part", "site part --of 4 --into p a.json b.json", EACH),
+    answers("the events of each", "cat p0.json p1.json p2.json p3.json", page(NORTH, LATER, OTHER) + page() + page(SOUTH) + page()),
+    answers("they are all that is there", "ls p*", lines(*(f"p{it}.json" for it in range(4)))),
+    answers("the same once more", "site part --of 4 --into p a.json b.json", EACH, keeps="p0.json p1.json p2.json p3.json"),
+    answers("what has the name is replaced", "ln -sf b.json p0.json; site part --of 4 --into p none.json", counted("p", 4), keeps="b.json"),
+    answers("also by a part without events", "cat p0.json p1.json p2.json p3.json", page() * 4),
+    answers("of lines", "site part --of 1 --into l --lines some.lines && cat l0.json", '["l0.json",3]\n' + page(SOUTH, NORTH, LATER)),
+    answers("no prefix", "site part --of 1 --into '' b.json && cat 0.json", '["0.json",1]\n' + page(SOUTH)),
+    answers("a prefix that looks like an option", "site part --of 1 --into=--of b.json && cat ./--of0.json", '["--of0.json",1]\n' + page(SOUTH)),
+    answers("a name with a quote and a line feed", r"""site part --of 1 --into $'"\n' none.json""", r'["\"\n0.json",0]' + "\n"),
+    answers("a part in the place of the whole", "cp a.json w0.json; site part --of 1 --into w w0.json b.json", '["w0.json",4]\n'),
+    answers("it has all", "cat w0.json", page(NORTH, LATER, OTHER, SOUTH)),
+    answers("standard input", "site part --of 1 --into i - <b.json && cat i0.json", '["i0.json",1]\n' + page(SOUTH)),
+    answers("a thousand parts", "mkdir m; site part --of 1000 --into m/ none.json | wc -l; ls m | wc -l", "1000\n" * 2, is_slow=True),
+    refuses("no such folder", "site part --of 2 --into no/p a.json", "no/p0.json: cannot write", lacks="no"),
+    refuses("a name with a control character", r"site part --of 2 --into $'no/\t' a.json", r"no/\t0.json: cannot write"),
+    refuses("a folder has a part's name", "mkdir q1.json; site part --of 3 --into q a.json", "q1.json: cannot write", lacks="q1.json.new q2.json"),
+    answers("the parts before it are there", "site part --of 3 --part 0 a.json | cmp - q0.json"),
+    refuses("a folder has the name beside", "mkdir r1.json.new; site part --of 2 --into r a.json", "r1.json: cannot write", lacks="r1.json"),
+    refuses("a file beside a folder's name", "site part --of 2 --into a.json/ a.json", "a.json/0.json: cannot write", keeps="a.json"),
+    refuses(
+        "a folder that is closed",
+        "mkdir closed && echo old >closed/p0.json && chmod 555 closed; site part --of 2 --into closed/p a.json",
+        "closed/p0.json: cannot write",
+        lacks="closed/p0.json.new",
+        wants=(USER,),
+    ),
+    refuses(
+        "no room on the disk",
+        f"{SMALL}site part --of 4 --into p big.json",
+        "p2.json: cannot write",
+        files={"big.json": batch(*(event(f"s{it}", it, "sold", "/south") for it in range(1, 20)), NORTH)},
+        keeps="p1.json p2.json p3.json",
+        lacks="p2.json.new p3.json.new",
+    ),
+    answers("the part before it is there", "cat p0.json", page(NORTH)),
+    refuses("a member at fault", "site part --of 2 --into f b.json bad.json", "bad.json: event 1: SpecVersion", lacks="f0.json f1.json"),
+    refuses("a file that isn't there", "site part --of 2 --into f bad.json missing", "missing: cannot read", lacks="f0.json f1.json"),
+    fails("the counts to nobody", "site part --of 4 --into o a.json b.json >&-"),
+    answers("the files are there all the same", "cat o0.json o2.json", page(NORTH, LATER, OTHER) + page(SOUTH)),
+    rejects("one part too", "site part --of 2 --part 0 --into f a.json", Has("'--part <I>' cannot be used with '--into <PREFIX>'"), lacks="f0.json"),
+    rejects("no prefix at all", "site part --of 2 a.json --into", Has("a value is required for '--into <PREFIX>'"), lacks="0.json.new"),
+    rejects("no count of parts", "site part --into f a.json", Has("--of <N>"), lacks="f0.json"),
 )
 
 COVERS = "--cover a.cover --cover b.cover"

@@ -128,6 +128,7 @@ ROWS_OF_ALL = [
     *[Row([it, "asked.json"]) for it in ("cover", "gaps", "shown", "latest", "kinds", "days", "conflicts")],
     Row(["part", "--of", "2", "asked.json"]),
     Row(["part", "--of", "1", "--part", "0", "--lines", "lines"]),
+    Row(["part", "--of", "2", "--into", "p", "asked.json"], [], ["shown", "p0.json", "p1.json"]),
     *[Row(["combine", it, f"one.{it}", f"other.{it}"], [answers_of_parts]) for it in ("cover", "shown")],
     *[Row(["combine", *COVERS, it, f"one.{it}", f"other.{it}"], [answers_of_parts]) for it in ("gaps", "latest", "kinds", "days", "conflicts")],
     Row(["combine", "cover", "one.cover", "one.cover"], [answers_of_parts]),
@@ -264,6 +265,8 @@ class Trial:
                 with self.lock:
                     self.behind.add(count)
                 said = (said[0], b"", said[2])
+            if begun := [it for it in os.listdir(room) if it.endswith(".new")]:
+                return [f"allocation {at} leaves {begun}"]
             if said != REFUSED and ("--all" in self.row.words or said != OTHER_WORDS.get(self.row.words[0])):
                 return [f"allocation {at}: {said}"]
             if not self.row.told:

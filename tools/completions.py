@@ -23,8 +23,8 @@ COMMAND = re.compile(r"^\s+(\w+)\s\s+(\S.*)$")
 CHOICE = re.compile(r": ((?:\w+, )*\w+ or \w+)$")
 # A row of the table of exit statuses.
 STATUS = re.compile(r"^\| (\d) \| (.*?) \|", re.M)
-# The values that are files, and those that aren't.
-FILES = {"DB", "FILE", "NUMBERS", "SUMMARY"}
+# The values that are files or begin the names of some, and those that aren't.
+FILES = {"DB", "FILE", "NUMBERS", "PREFIX", "SUMMARY"}
 NO_FILES = {"ACTION", "I", "NAME", "N", "ORDER", "QUESTION", "S", "SECONDS", "TIME"}
 
 
