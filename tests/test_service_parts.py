@@ -17,7 +17,7 @@ from typing import Any, Callable, Iterator
 from urllib.parse import quote
 
 import pytest
-from serving import HEAD, MANY, ONE, QUESTIONS, Authority, Site, Told, Tries, event, part_of, serving
+from serving import HEAD, MANY, ONE, QUESTIONS, Authority, Producer, Site, Told, Tries, event, part_of, serving
 
 pytestmark = [pytest.mark.library, pytest.mark.alone, pytest.mark.slow]
 
@@ -413,29 +413,6 @@ def test_identity(tries: Tries) -> None:
         tries.judge("a front with a database", one.ran.wait(8) == 1 and "db is the business of the parts" in one.text_of_log(), one.text_of_log())
 
 
-class Producer(threading.Thread):
-    """Gives new events of some sources through a front, batch by batch, and notes what it was answered."""
-
-    def __init__(self, front: Site, sources: list[str]) -> None:
-        super().__init__(daemon=True)
-        self.front, self.sources, self.over = front, sources, threading.Event()
-        self.told: list[tuple[float, list[dict[str, Any]], Told]] = []
-
-    def run(self) -> None:
-        while not self.over.wait(0.01):
-            batch = [event(len(self.told) + 1, it) for it in self.sources]
-            began = time.monotonic()
-            self.told.append((began, batch, self.front.give(batch)))
-
-    def since(self, time_: float) -> int:
-        """How many batches were given behind a time."""
-        return sum(it[0] > time_ for it in self.told)
-
-    def batches(self, is_kept: bool) -> list[list[dict[str, Any]]]:
-        """Those that were acknowledged, or those that weren't."""
-        return [it[1] for it in self.told if (it[2].status == 200) == is_kept]
-
-
 def names_part(batch: list[dict[str, Any]], told: Told) -> bool:
     """Whether an answer refuses the events of part 1 of 4 alone, and says of which sources these are."""
     own = sorted({it["source"] for it in batch if part_of(it["source"], 4) == 1}, key=str.encode)
@@ -494,7 +471,10 @@ def test_part_that_moves(tries: Tries) -> None:
         came = moved.get("/arrivals?after=0&limit=2000").body.splitlines()
         tries.judge("each came once to that part", len(came) == len(set(came)) == sum(part_of(it["source"], 4) == 1 for it in every), len(came))
         tries.judge("the file of before isn't written", file_of(parts[1]) == left, file_of(parts[1])[1:])
-        tries.judge("it is asked there alone", front.get("/readyz").status == 200, front.get("/readyz"))
+        # Longer than whoever looked after the place of before would rest.
+        time.sleep(0.6)
+        said = [it["message"] for it in front.log() if it.get("part") == "1/4"]
+        tries.judge("it is looked for there alone", said.count("the part is away") == 1 and front.get("/readyz").status == 200, said)
         tries.judge("it ends well", moved.stop() == 0, moved.text_of_log()[-800:])
 
 

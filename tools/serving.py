@@ -12,6 +12,7 @@ import ssl
 import subprocess
 import sys
 import tempfile
+import threading
 import time
 from typing import Any, Callable, Iterable, Iterator, Optional
 
@@ -201,6 +202,29 @@ class Site:
                 return False
             time.sleep(0.02)
         return True
+
+
+class Producer(threading.Thread):
+    """Gives new events of some sources to a service, batch by batch, and notes what it was answered."""
+
+    def __init__(self, site: Site, sources: list[str]) -> None:
+        super().__init__(daemon=True)
+        self.site, self.sources, self.over = site, sources, threading.Event()
+        self.told: list[tuple[float, list[dict[str, Any]], Told]] = []
+
+    def run(self) -> None:
+        while not self.over.wait(0.01):
+            batch = [event(len(self.told) + 1, it) for it in self.sources]
+            began = time.monotonic()
+            self.told.append((began, batch, self.site.give(batch)))
+
+    def since(self, time_: float) -> int:
+        """How many batches were given behind a time."""
+        return sum(it[0] > time_ for it in self.told)
+
+    def batches(self, is_kept: bool) -> list[list[dict[str, Any]]]:
+        """Those that were acknowledged, or those that weren't."""
+        return [it[1] for it in self.told if (it[2].status == 200) == is_kept]
 
 
 class Tries(Counts):
