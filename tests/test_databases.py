@@ -1,8 +1,10 @@
 """Events in a database: what is taken, handed on page by page, and answered, and what that leaves in the file."""
 from typing import Iterator
 
-from events import AT, E1, E2, E3, QUESTIONS, batch, cover, lines, numbered_events, page, pages
-from shell import SOME, As, Row, answers, asks, fails, lacks, refuses, rejects, rows
+from blocks import summary_of
+from events import AT, E1, E2, E3, QUESTIONS, batch, cover, event, lines, numbered_events, page, pages
+from old_files import sqlite
+from shell import SOME, As, Row, answers, asks, fails, finds, lacks, refuses, rejects, rows
 
 MANY = numbered_events(250, 3)
 FILES = {
@@ -121,6 +123,52 @@ test_pages = rows(
     answers("nothing lacks", "site delta --db s.db --all three.summary"),
     answers("a line is a batch", "site take --db first.db page.json", "read 100 new 100 repeated 0\n"),
     fails("all pages to a closed stream", "site scrub --db many.db --all >&-"),
+)
+
+
+def rising(other: int = 0) -> list[str]:
+    """250 events of two blocks, of which one may be of another type."""
+    return [event(f"{it:020d}", it, "t.b" if it == other else "t.a") for it in range(900, 1150)]
+
+
+RISING, OTHER = rising(), rising(1100)
+
+# Events of two blocks, which came with the greatest number first.
+test_blocks = rows(
+    {
+        "falling.json": batch(*RISING[::-1]),
+        "other.json": batch(*OTHER),
+        "some.summary": '{"sources":{"/orders":[[900,1000],[1120,2000]]},"version":1}',
+        "all.summary": '{"sources":{"/orders":[[900,1149]]},"version":1}',
+    },
+    answers("events in falling order", "site take --db s.db falling.json", "read 250 new 250 repeated 0\n"),
+    "site take --db other.db other.json",
+    answers("a summary is that of the events", "site summary --db s.db | tee s.summary", f"{summary_of(*RISING)}\n"),
+    answers("and of one that is another", "site summary --db other.db | tee other.summary", f"{summary_of(*OTHER)}\n"),
+    finds("which isn't the same", "cmp s.summary other.summary", SOME),
+    answers("all events, page after page", "site scrub --db s.db --all", pages(*RISING)),
+    answers("what a summary of numbers lacks", "site delta --db s.db --all some.summary", pages(*RISING[101:220])),
+    answers("of events under the same numbers it says nothing", "site delta --db s.db --all all.summary"),
+    answers("a block with another event comes whole", "site delta --db s.db --all other.summary", pages(*RISING[124:])),
+    answers("blocks that are the same don't", "site delta --db s.db --all s.summary"),
+)
+
+
+def without_inbox(name: str, count: int) -> Iterator[Row]:
+    """A database without an inbox holds nothing, and none is made in it. A file of no bytes gets its first page."""
+    keeps = name * (name != "empty.db")
+    yield answers(f"the events of {name}", f"site shown --db {name}", keeps=keeps)
+    yield answers(f"its summary: {name}", f"site summary --db {name}", f"{summary_of()}\n", keeps=keeps)
+    yield answers(f"all pages of it: {name}", f"site scrub --db {name} --all", keeps=keeps)
+    yield answers(f"what a summary lacks of it: {name}", f"site delta --db {name} --all some.summary", keeps=keeps)
+    yield asks(f"its tables: {name}", name, "SELECT count(*) FROM sqlite_schema", f"{count}\n")
+
+
+test_databases_without_an_inbox = rows(
+    {"some.summary": cover(7), "empty.db": ""},
+    "site service --db served.db",
+    sqlite("vacant.db", "CREATE TABLE t (a)", "DROP TABLE t"),
+    *(row for name, count in (("empty.db", 0), ("vacant.db", 0), ("served.db", 3)) for row in without_inbox(name, count)),
 )
 
 

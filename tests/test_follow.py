@@ -1,6 +1,11 @@
 """Lines that are kept as they come: what `follow` acknowledges, and what of them is kept."""
+import array
+import fcntl
 import os
 import subprocess
+import termios
+import time
+from typing import IO, Iterator
 
 import pytest
 from events import E1, E2, E3, E4, acknowledgement, batch, event, lines, numbered_events, page
@@ -53,6 +58,81 @@ test_lines = rows(
     refuses("a folder in place of lines", "site follow --db unmade.db lines.folder", "lines.folder: cannot read"),
     lacks("it makes no database either", "unmade.db"),
 )
+
+# A line may have 33,554,432 bytes; a longer one is passed over, and the one behind it is there.
+test_long_lines = rows(
+    {},
+    *(
+        finds(
+            f"a line of {count} letters",
+            f"(head -c {count} /dev/zero | tr '\\0' a; echo; echo b) | site follow --db l.db",
+            f'{{"line":1,"fault":"{why}"}}\n{{"line":2,"fault":"not JSON"}}\n',
+            err="site: 2 lines refused\n",
+        )
+        for count, why in ((33_554_432, "not JSON"), (33_554_433, "too large"), (40_000_000, "too large"))
+    ),
+)
+
+
+def pieces(text: bytes, step: int) -> Iterator[bytes]:
+    return (text[at : at + step] for at in range(0, len(text), step))
+
+
+def give(stream: IO[bytes], text: bytes, step: int) -> None:
+    """Writes so many bytes at a time to a pipe, each once whoever reads it has taken those before, so that as many come a read."""
+    left = array.array("i", [0])
+    for it in pieces(text, step):
+        os.write(stream.fileno(), it)
+        until = time.monotonic() + 30
+        while fcntl.ioctl(stream.fileno(), termios.FIONREAD, left) == 0 and left[0]:
+            assert time.monotonic() < until, "nobody reads"
+            time.sleep(0.0002)
+
+
+CUT = f"{E1}\n\n{E2}\r\nhalf a li\n{batch(E2, E3)}"
+CUT_SAID = lines(
+    '{"line":1,"new":1,"repeated":0}', '{"line":3,"new":1,"repeated":0}', '{"line":4,"fault":"not JSON"}', '{"line":5,"new":1,"repeated":1}'
+)
+
+
+@pytest.mark.parametrize("step", [1, 2, 5, 100, 1000])
+@pytest.mark.parametrize(("text", "said"), [(CUT, CUT_SAID), (f"{CUT}\n", CUT_SAID), ("\n", ""), ("", "")], ids=["cut", "whole", "empty", "none"])
+def test_however_many_bytes_come_a_read(room: Room, text: str, said: str, step: int) -> None:
+    """LF ends a line, and the last one needs none; CR is of its line."""
+    with room.start("site follow --db p.db", stdin=subprocess.PIPE) as ran:
+        assert ran.stdin
+        give(ran.stdin, text.encode(), step)
+        out, _ = ran.communicate(timeout=30)
+    assert (out.decode(), ran.returncode) == (said, int("fault" in said))
+
+
+TEN = [event(f"{it:04d}", it) for it in range(1, 11)]
+
+
+def commits(log: bytes) -> int:
+    """How many transactions a log of SQLite has: pages whose header says how many the database has then."""
+    size = int.from_bytes(log[8:12], "big")
+    return sum(int.from_bytes(log[at + 4 : at + 8], "big") > 0 for at in range(32, len(log), size + 24))
+
+
+@pytest.mark.parametrize(("whole", "more", "turns"), [(0, 1, 10), (1, 0, 10), (3, 0, 4), (3, 7, 4), (10, 0, 1)])
+def test_lines_that_come_at_once_share_a_turn(room: Room, whole: int, more: int, turns: int) -> None:
+    """Of ten lines so many come a read, and so many bytes of the next: those that stand whole are kept in one transaction."""
+    text = lines(*TEN)
+    with room.start("exec site follow --db t.db", stdin=subprocess.PIPE) as ran:
+        assert ran.stdin and ran.stdout
+        # The first line has the table made, and so its own turns.
+        give(ran.stdin, lines(E1).encode(), 1000)
+        assert ran.stdout.readline().decode() == acknowledgement(1, 1, 0)
+        before = commits(room.contents("t.db-wal")["t.db-wal"])
+        give(ran.stdin, text.encode(), len(lines(TEN[0])) * whole + more)
+        said = [ran.stdout.readline().decode() for _ in TEN]
+        behind = commits(room.contents("t.db-wal")["t.db-wal"])
+        ran.stdin.close()
+        assert ran.wait(30) == 0
+    assert said == [acknowledgement(it, 1, 0) for it in range(2, 12)]
+    assert behind - before == turns
+
 
 # Pages of a site are lines, each a batch.
 test_pipes = rows(

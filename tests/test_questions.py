@@ -1,8 +1,12 @@
 """Questions about files: what each of the seven answers."""
+import json
+import random
 import re
 
+import pytest
+from blocks import intervals
 from events import QUESTIONS, batch, cover, event, lines
-from shell import TOP, answers, refuses, rows
+from shell import TOP, Room, answers, refuses, rows
 
 
 def example(question: str) -> str:
@@ -77,3 +81,33 @@ test_lines = rows(
     answers("a file of one event", "site shown --lines one", lines(FIRST)),
     answers("lines on standard input", "site shown --lines - <one", lines(FIRST)),
 )
+
+# A hundred files have the answer of one.
+test_many_files = rows(
+    {"f": FIRST},
+    answers("cover of a hundred files", f"site cover {'f ' * 100}", f"{cover(1)}\n"),
+    answers("shown of a hundred files", f"site shown {'f ' * 100}", lines(FIRST)),
+)
+
+
+def numbers_of(of: set[int]) -> str:
+    """What `cover` prints of the numbers of /orders."""
+    return json.dumps({"sources": {"/orders": list(intervals(sorted(of)))}, "version": 1}, separators=(",", ":")) + "\n"
+
+
+@pytest.mark.parametrize("seed", range(12))
+def test_random_numbers_beside_sets(room: Room, seed: int) -> None:
+    """Numbers up to 900, some of which come again: their union, gaps and difference, and which are new, as sets of Python have them."""
+    dice = random.Random(seed)
+    first, second = ([dice.randint(1, 900) for _ in range(125 * (1 + seed % 4))] for _ in range(2))
+    room.put({name: batch(*(event(f"{it:04d}", it) for it in of)) for name, of in (("first", first), ("second", second))})
+    one, other = set(first), set(second)
+    said = {it: room.run(f"site {it}") for it in ("cover first", "cover second", "cover second first", "gaps first", "gaps first second")}
+    assert [said[it].out for it in said if "cover" in it] == [numbers_of(one), numbers_of(other), numbers_of(one | other)]
+    for words, of in (("gaps first", one), ("gaps first second", one | other)):
+        gaps = list(intervals(sorted(set(range(1, max(of))) - of)))
+        assert said[words].out == json.dumps(["/orders", gaps], separators=(",", ":")) + "\n"
+    assert room.run("site take --db s.db first").out == f"read {len(first)} new {len(one)} repeated {len(first) - len(one)}\n"
+    fresh = len(other - one)
+    assert room.run("site cover second >c && site delta --db s.db --all c | site cover --lines -").out == (numbers_of(one - other))
+    assert room.run("site take --db s.db second").out == f"read {len(second)} new {fresh} repeated {len(second) - fresh}\n"

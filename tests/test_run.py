@@ -50,6 +50,19 @@ def many(first: int, last: int) -> str:
     return batch(*(event(f"{it:04d}", it) for it in range(first, last + 1)))
 
 
+# Two feeds, of which one is at fault or both are: the other is kept whole, and the first one at fault is told.
+test_feeds_at_fault = rows(
+    {"good.json": many(1, 1500), "cut.json": "[", "three.json": "3"},
+    refuses("a feed behind 1,500 events", "site run --db behind.db good.json cut.json", "cut.json: not JSON"),
+    answers("they were kept", "site take --db behind.db good.json", "read 1500 new 0 repeated 1500\n"),
+    refuses("a feed before 1,500 events", "site run --db before.db cut.json good.json", "cut.json: not JSON"),
+    answers("they were kept too", "site take --db before.db good.json", "read 1500 new 0 repeated 1500\n"),
+    refuses("two feeds at fault", "site run --db first.db cut.json three.json", "cut.json: not JSON"),
+    answers("nothing came of them", "site shown --db first.db"),
+    refuses("the other way round", "site run --db second.db three.json cut.json", "three.json: not an event or a batch"),
+    answers("nor then", "site shown --db second.db"),
+)
+
 # More events than a batch, in two feeds, and an answer that nobody reads.
 test_many_events = rows(
     {"low.json": many(1, 950), "high.json": many(901, 1850)},

@@ -3,7 +3,7 @@ import os
 
 import pytest
 from events import AT, E1, E2, E3, QUESTIONS, batch, cover, event
-from shell import TOP, As, Has, Room, answers, lacks, refuses, rejects, rows, tells
+from shell import TOP, As, Has, Room, Row, answers, lacks, refuses, rejects, rows, tells
 from version import version
 
 EVENT = event("a1", 1, "t.a")
@@ -106,6 +106,78 @@ test_faulty_words_of_databases = rows(
     rejects("a source with a control character", rf"site order --db w.db --source $'a\tb' --at {AT} place 7"),
     rejects("a source of 1,025 bytes", f"site order --db w.db --source {'0' * 1025} --at {AT} place 7"),
     lacks("faulty words make no file", "w.db"),
+)
+
+BARE = event("b", None, "t", "/web")
+
+
+def alike(typed: str, plain: str) -> Row:
+    """Words that come to the same as others, whose options stand in front."""
+    return answers(typed, f"site {typed}", As(f"site {plain}"))
+
+
+def unlike(typed: str) -> Row:
+    """Words at fault, which make no file."""
+    return rejects(typed, f"site {typed}", lacks="x.db x0.json")
+
+
+# Options before and behind names, names that look like options, numbers with zeros in front.
+test_orders_of_words = rows(
+    {"f": E1, "g": batch(E2, E3), "-g": E3, "bare": f"{BARE}\n", "far": batch(event("a", 2, source="/far"), event("b", 5, source="/far")), "p/": "", "q/": ""},
+    "site take --db d g",
+    answers("a file, standard input, and a name with a dash", "site shown f - -- -g <g", f"{E1}\n{E2}\n{E3}\n"),
+    alike("gaps f --db d", "gaps --db d f"),
+    alike("cover f --lines", "cover --lines f"),
+    answers("take f --db behind", "site take f --db behind.db", "read 1 new 1 repeated 0\n"),
+    answers("lines of two files", "site take --db behind.db --lines f g", "read 3 new 2 repeated 1\n"),
+    answers("a run with its database behind", "site run f g --db run.db", f"read 3 refused 0 held 3\n{cover(3)}\n"),
+    alike("scrub --from 0001 --db d", "scrub --db d --from 1"),
+    alike("scrub --all --db d", "scrub --db d --all"),
+    alike("arrivals --after 1 --db d", "arrivals --db d --after 01"),
+    answers("the second of two that came", "site arrivals --after 1 --db d", f"{batch(E3)}\n"),
+    alike("arrivals --all --db d --after 0", "arrivals --db d --after 0 --all"),
+    answers("a stream with its database behind", "site follow f --db d", '{"line":1,"new":1,"repeated":0}\n'),
+    answers("a service, its source first", "site service --source /o --db s.db --base 100", '{"base":100,"orders":0,"rows":0,"source":"/o"}\n'),
+    alike("service --db s.db", "service --base 100 --db s.db --source /o"),
+    answers("numbers, each option in front", "site number --aside seq --base 7 --db n.db bare", f'[{event("b", 8, "t", "/web")}]\n'),
+    answers("numbers of standard input", "site number --db n.db --base 7 <bare", f'[{event("b", 8, "t", "/web")}]\n'),
+    answers("a check of lines of standard input", "site check --lines - <f"),
+    answers("a check behind its file", "site check bare --numbers"),
+    alike("part f --of 65536 g", "part --of 65536 f g"),
+    answers("part 0 of one, lines of standard input", "site part --lines --part 0 --of 1 - <f", f"{batch(E1)}\n"),
+    answers("parts of two files into a folder", "site part --of 1 --into p/ f g", '["p/0.json",3]\n'),
+    answers("an empty prefix by =", "cd q; site part --lines --into= --of 1 - <../f", '["0.json",1]\n'),
+    "site cover f >c; site cover far >cg; site gaps f >none; site gaps far >gaps; site latest f >kinds",
+    alike("combine cover c cg", "cover f far"),
+    alike("combine --cover c gaps none gaps --cover cg", "gaps f far"),
+    alike("combine --cover=c latest kinds", "latest f"),
+    answers("a second to wait", "site follow --wait 1 --db d f", '{"line":1,"new":0,"repeated":1}\n'),
+    answers("a day to wait, with zeros in front", "site follow --wait 00086400 --db d f", '{"line":1,"new":0,"repeated":1}\n'),
+    *map(
+        unlike,
+        (
+            "kinds",
+            "kinds --lines",
+            "summary --db x.db --lines",
+            "scrub --db x.db --all --from 0",
+            "arrivals --db x.db --all",
+            "follow --db x.db f g",
+            "service --db x.db --base 9223372036854775808",
+            "service --db x.db --source ''",
+            "number --db x.db --base -1",
+            "take --db x.db f --numbers",
+            "part --of 4 --part 1 --into x f",
+            "part --of 0 --into x f",
+            "part --of 4 --part 4 f",
+            "part --of 65537 f",
+            "part --part 0 f",
+            "combine count f",
+            "combine kinds",
+            "follow --wait 86401 --db x.db f",
+            "follow --wait -1 --db x.db f",
+            "follow --wait 1.5 --db x.db f",
+        ),
+    ),
 )
 
 # Help is what was asked for, and yet no answer.

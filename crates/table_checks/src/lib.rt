@@ -10,8 +10,8 @@ mod fixture;
 #[cfg(test)]
 mod memory;
 #[cfg(test)]
-mod numberers;
-#[cfg(test)]
 mod region;
+#[cfg(test)]
+mod runs;
 #[cfg(test)]
 mod watches;

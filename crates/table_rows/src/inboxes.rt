@@ -2,7 +2,6 @@
 
 use crate::acts::{End, Tried, done, refused};
 use crate::known::Known;
-use crate::lines;
 use attributes::{Batch, List};
 use inbox_table::{Loaded, NotMade, Table, TableFault, Unwatched};
 use rows::said::{Said, line};
@@ -209,7 +208,6 @@ fn call<S: Alter>(
         "keep" => keep(alloc, known, table, text, said),
         "block" => block(known, table, text, &mut said.text),
         "each" => keep_each(alloc, known, table, text, &mut said.text),
-        "follow" => lines::followed(alloc, known, table, text, &mut said.text),
         "load" => load(known, table, &mut said.text),
         _ => {
             let (end, rows) = (if word == "create" { "d" } else { "ed" }, table.rows());

@@ -1,4 +1,4 @@
-//! Plays rows of calls on inboxes and services, their relays, keepers and streams of lines, over
+//! Plays rows of calls on inboxes and services, their relays and keepers, over
 //! databases in memory and over files that fail.
 #![tactic(auto)]
 
@@ -7,7 +7,6 @@ mod disks;
 mod inboxes;
 mod keepers;
 mod known;
-mod lines;
 mod memory;
 mod play;
 mod relays;

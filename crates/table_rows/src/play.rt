@@ -5,7 +5,7 @@ use crate::disks::{Act, Image};
 use crate::known::Known;
 use crate::memory::Base;
 use crate::relays::FailsOnce;
-use crate::{disks, inboxes, keepers, lines, memory, relays, services, stops};
+use crate::{disks, inboxes, keepers, memory, relays, services, stops};
 use relay::Relay;
 use rows::player::Player;
 use rows::said::Said;
@@ -158,7 +158,6 @@ fn of_words<R>(
         ("event", _) => values.known.event(alloc, words),
         ("memory", _) => memory::begin(alloc, &mut values.bases, &values.known, words, out),
         ("files", [name]) => disks::begin(alloc, &mut values.images, name),
-        ("turn", _) => lines::turn(alloc, &values.known, words, out),
         _ => of_relays(alloc, values, word, words, out),
     }
 }
@@ -171,7 +170,6 @@ impl<'a, R: AllocGlobal + Wait> Player for Values<'a, R> {
             "event"
             | "memory"
             | "files"
-            | "turn"
             | "relay"
             | "route"
             | "accepted"
@@ -187,9 +185,6 @@ impl<'a, R: AllocGlobal + Wait> Player for Values<'a, R> {
             }
             "statement" => self.known.statement(alloc, text),
             "faults" => faults(text, &mut said.text),
-            "lines" => lines::lines(alloc, text, &mut said.text),
-            "letters" => lines::long_line(alloc, text, &mut said.text),
-            "broken" => lines::unread(alloc, &mut said.text),
             _ => of_base(self.rt, self, word, text, said),
         }
     }

@@ -1,29 +1,44 @@
-//! What no contract says of runs: that with ample memory and a good disk they come to an answer,
-//! that what workers handed over is kept beside a feed at fault, and that it is kept while they
-//! work.
+//! What comes is kept while workers work, where a gate of the test holds one of them up.
 
 ghost use Rattle.std.specs.Prelude.{⊤, ◌≤◌, ◌+◌, length};
 
-use crate::fixture::{batch, database, octets};
+use crate::fixture::database;
 use attributes::{List, Octets};
-use event_json::ReadFault;
 use feeds::Jobs;
-use inbox_table::{Table, Unwatched, Watch};
-use run_command::{RunEnd, RunFault, run};
-use site::{Gate, GateShut, Wide};
+use inbox_table::{Table, Watch};
+use run_command::{RunEnd, run};
+use site::{Gate, GateShut};
 use sqlite::MemStore;
 use std::process::Abort;
-use std::sync::Wait;
 use std::sync::atomic::{AtomicU64, Ordering};
 use std::thread;
-use std::thread::Threads;
 
 /// How often a gate looks before it lets a worker go on. Whoever looks lets others run.
 const LOOKS: u64 = 1_000_000;
 
-/// The bytes of a batch of so many events.
+/// The bytes of a text.
+fn octets<R: AllocGlobal + Abort>(rt: &R, text: &str) -> Octets {
+    Octets::of(rt.alloc(), text.as_bytes()).expect(rt, "memory")
+}
+
+/// Adds the event of a number to the text of a batch, which isn't closed.
+fn add<R: AllocGlobal + Abort>(rt: &R, text: &mut String, number: u64) {
+    let mark = if text.is_empty() { "[" } else { "," };
+    let event = format!(in rt.alloc();
+        "{{\"id\":\"{number:020}\",\"sequence\":\"{number:020}\",\"source\":\"/orders\",\"specversion\":\"1.0\",\"type\":\"t.a\"}}"
+    );
+    let event = event.expect(rt, "memory");
+    assert!(rt; text.push_str(mark).is_ok() && text.push_str(event.as_str()).is_ok());
+}
+
+/// The bytes of a batch of so many events, of which there are some.
 fn feed_of<R: AllocGlobal + Abort>(rt: &R, count: u64) -> Octets {
-    octets(rt, batch(rt, 1, count.saturating_add(1)).as_str())
+    let mut text = String::new(rt.alloc());
+    for number in 1..=count {
+        add(rt, &mut text, number);
+    }
+    assert!(rt; text.push_str("]").is_ok());
+    octets(rt, text.as_str())
 }
 
 /// The jobs of two feeds.
@@ -40,66 +55,19 @@ fn two<R: AllocGlobal + Abort>(rt: &R, first: Octets, second: Octets) -> Jobs
     }
 }
 
-/// How many events the inbox has where a run ended so, with all kept.
-fn rows_after<R: AllocGlobal + Abort>(
-    rt: &R,
-    ended: RunEnd<MemStore>,
-    fault: Option<RunFault>,
-) -> u64 {
+/// How many events the inbox has where a run ended well, with all kept.
+fn rows_after<R: AllocGlobal + Abort>(rt: &R, ended: RunEnd<MemStore>) -> u64 {
     let RunEnd {
         conn,
         outcome,
         stopped,
     } = ended;
-    assert!(rt; outcome.err() == fault);
+    assert!(rt; outcome.is_ok());
     assert!(rt; stopped.is_none());
     match Table::adopt(rt.alloc(), conn) {
         Ok(table) => table.rows(),
         Err(_) => panic!(rt; "no table"),
     }
-}
-
-/// How many events the inbox has where a run over two feeds and a new database ends with this
-/// fault.
-fn rows_beside<R: AllocGlobal + Threads + Wait + Abort + Sync>(
-    rt: &R,
-    first: Octets,
-    second: Octets,
-    feed: u64,
-    fault: ReadFault,
-) -> u64 {
-    let jobs = two(rt, first, second);
-    let ended = run(rt, rt.alloc(), database(rt, ""), jobs, &Wide, &Unwatched);
-    rows_after(rt, ended, Some(RunFault::Feed { feed, fault }))
-}
-
-#[test]
-fn what_came_beside_a_feed_at_fault_is_kept(rt: HostRuntime) {
-    let not_json = ReadFault::NotJson;
-    let rows = rows_beside(&rt, feed_of(&rt, 1500), octets(&rt, "["), 1, not_json);
-    assert!(rt; rows == 1500);
-    let rows = rows_beside(&rt, octets(&rt, "["), feed_of(&rt, 1500), 0, not_json);
-    assert!(rt; rows == 1500);
-}
-
-#[test]
-fn the_first_of_two_feeds_at_fault_is_told(rt: HostRuntime) {
-    let rows = rows_beside(
-        &rt,
-        octets(&rt, "["),
-        octets(&rt, "3"),
-        0,
-        ReadFault::NotJson,
-    );
-    assert!(rt; rows == 0);
-    let rows = rows_beside(
-        &rt,
-        octets(&rt, "3"),
-        octets(&rt, "["),
-        0,
-        ReadFault::NotEvent,
-    );
-    assert!(rt; rows == 0);
 }
 
 /// It holds a worker up before its second call until a watch was told that a hundred events are in
@@ -152,8 +120,8 @@ fn what_comes_is_kept_while_workers_work(rt: HostRuntime) {
         in_vain: AtomicU64::new(0),
     };
     let jobs = two(&rt, feed_of(&rt, 150), octets(&rt, "[]"));
-    let conn = database(&rt, "");
+    let conn = database(&rt);
     let ended = run(&rt, rt.alloc(), conn, jobs, &awaiting, &awaiting);
-    assert!(rt; rows_after(&rt, ended, None) == 150);
+    assert!(rt; rows_after(&rt, ended) == 150);
     assert!(rt; awaiting.in_vain.load(Ordering::SeqCst) == 0);
 }
