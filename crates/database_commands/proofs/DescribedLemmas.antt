@@ -1,10 +1,6 @@
 -- What is told of a database.
-use Rattle.std.proofs.Common.{◌≡◌, inl, inr, ℕ, List, [], ◌∷◌, ◌++◌, false, length, refl, sym, subst, append-nil}
-use Rattle.std.specs.Prelude.{None, codes, decimal}
-use Rattle.json.specs.Token.{begin_object, end_object, key, number, string}
-use Rattle.json.specs.Print.{print}
-use Rattle.serde_json.specs.Written.{compact_text}
-use Rattle.serde_json.proofs.Texts.{print-outline}
+use Rattle.std.proofs.Common.{◌≡◌, inl, inr, ℕ, List, [], ◌++◌, false, length, refl, sym, subst, append-nil}
+use Rattle.std.specs.Prelude.{None}
 use Rattle.sqlite.specs.Effect.{Database}
 use Rattle.attributes.specs.Event.{EventValue}
 use Rattle.database_layout.specs.Layout.{has_name}
@@ -15,22 +11,14 @@ use Rattle.inbox_table.specs.declared.fault.TableFault.TheVariants as table
 use Rattle.inbox_table.specs.declared.version.Version.{Version}
 use Rattle.inbox_table.specs.declared.version.Version.TheVariants.{One, Two}
 use Rattle.inbox_table.proofs.UpgradeLemmas.{any_named}
-use Rattle.database_commands.specs.declared.fault.CommandFault.{CommandFault}
-use Rattle.database_commands.specs.declared.fault.CommandFault.TheVariants as command
-use Rattle.database_commands.specs.Described.{CountsSources, Describes, SaysDatabase, IsToldVersion, SaysInbox, TellsInbox, TellsOfService, version_number}
-use Rattle.database_commands.specs.Fault.{of_table}
-use Rattle.database_commands.specs.Held.{Holds, IsNoOrders, IsUntold}
-use Rattle.database_commands.specs.Print.{database_data}
-use Rattle.database_commands.specs.Service.{SaysService}
-use Rattle.database_commands.specs.Trouble.{trouble_data}
+use Rattle.databases.specs.declared.fault.CommandFault.{CommandFault}
+use Rattle.databases.specs.declared.fault.CommandFault.TheVariants as command
+use Rattle.databases.specs.Described.{CountsSources, Describes, SaysDatabase, IsToldVersion, SaysInbox, TellsInbox, TellsOfService, version_number}
+use Rattle.databases.specs.Fault.{of_table}
+use Rattle.databases.specs.Held.{Holds, IsNoOrders, IsUntold}
+use Rattle.databases.specs.Service.{SaysService}
 use Rattle.database_commands.specs.steps.Told.{TellsEvents}
-use Rattle.database_commands.proofs.HeldLemmas.{any_holds, held_once}
-
-pub print-database : (db : List ℕ) (events sources version : ℕ) → print (begin_object ∷ key (codes "db") ∷ string db ∷ key (codes "events") ∷ number (decimal events) ∷ key (codes "sources") ∷ number (decimal sources) ∷ key (codes "version") ∷ number (decimal version) ∷ end_object ∷ []) ≡ compact_text (database_data db events sources version)
-print-database db events sources version = print-outline (database_data db events sources version)
-
-pub print-trouble : (db fault hint : List ℕ) → print (begin_object ∷ key (codes "db") ∷ string db ∷ key (codes "fault") ∷ string fault ∷ key (codes "hint") ∷ string hint ∷ end_object ∷ []) ≡ compact_text (trouble_data db fault hint)
-print-trouble db fault hint = print-outline (trouble_data db fault hint)
+use Rattle.databases.proofs.HeldLemmas.{any_holds, held_once}
 
 -- ---- the inbox
 

@@ -1,10 +1,8 @@
-mod HeldLemmas
 mod MadeLemmas
 mod StreamLemmas
-mod PageLemmas
 mod ServedLemmas
 mod RowLemmas
 mod ToldLemmas
 mod DescribedLemmas
-mod BesideLemmas
 mod NamedLemmas
+mod RunLemmas

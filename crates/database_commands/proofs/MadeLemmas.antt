@@ -11,11 +11,11 @@ use Rattle.database_layout.specs.Layout.{has_inbox}
 use Rattle.inbox_table.specs.Calls.{has_both}
 use Rattle.outbox.specs.Call.{Leaves}
 use Rattle.database_commands.specs.Effect.{LookEffect, PageEffect}
-use Rattle.database_commands.specs.Held.{Holds, IsNoInbox, IsUntold, ShowsEvents}
-use Rattle.database_commands.specs.declared.fault.CommandFault.{CommandFault}
-use Rattle.database_commands.specs.declared.fault.CommandFault.TheVariants as command
+use Rattle.databases.specs.Held.{Holds, IsNoInbox, IsUntold, ShowsEvents}
+use Rattle.databases.specs.declared.fault.CommandFault.{CommandFault}
+use Rattle.databases.specs.declared.fault.CommandFault.TheVariants as command
 use Rattle.database_commands.specs.steps.Made.{ContentsEffect, IsMadeOf}
-use Rattle.database_commands.proofs.HeldLemmas.{at_okay, held_once}
+use Rattle.databases.proofs.HeldLemmas.{at_okay, held_once}
 
 -- what is said of all that was made is said of what was made
 pub made_says : {A B : Type 0} (given : Result A CommandFault) (made : Result B CommandFault) (Is : A → B → Type 0) (Says : B → Type 0)

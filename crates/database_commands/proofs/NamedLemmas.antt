@@ -2,11 +2,11 @@
 use Rattle.std.proofs.Common.{◌≡◌, ◌∙◌, Result, Ok, Err, IfErr, IfOk, IsOk, ap, inl, inr, subst, sym}
 use Rattle.std.specs.Prelude.{MatchResult}
 use Rattle.std.proofs.lemmas.Result.{IfErr-weaker}
-use Rattle.database_commands.specs.Fault.{IsOfNamed, OrOfNamed}
-use Rattle.database_commands.specs.Trouble.{IsOfOpening}
-use Rattle.database_commands.specs.declared.fault.CommandFault.{CommandFault}
-use Rattle.database_commands.specs.declared.trouble.Trouble.{Trouble}
-use Rattle.database_commands.specs.declared.trouble.Trouble.TheVariants as trouble
+use Rattle.databases.specs.Fault.{IsOfNamed, OrOfNamed}
+use Rattle.databases.specs.Trouble.{IsOfOpening}
+use Rattle.databases.specs.declared.fault.CommandFault.{CommandFault}
+use Rattle.databases.specs.declared.trouble.Trouble.{Trouble}
+use Rattle.databases.specs.declared.trouble.Trouble.TheVariants as trouble
 
 none_refused : {A F : Type 0} (r : Result A F) (P : F → Type 0) → IsOk r → IfErr r P
 none_refused (Ok x) P ok = tt

@@ -15,12 +15,12 @@ use Rattle.outbox.specs.Service.{IsService}
 use Rattle.outbox.specs.Shown.{HasNoOther, StandsFor}
 use Rattle.outbox.proofs.FoundLemmas.{has_all}
 use Rattle.relay.proofs.ReadLemmas.{same_none, same_then, service_then}
-use Rattle.database_commands.specs.Held.{ForAllRows, IsBehind, ShowsAllRows}
-use Rattle.database_commands.specs.Pages.{max_page, pages_below, pages_text}
-use Rattle.database_commands.specs.Print.{batch_line}
-use Rattle.database_commands.specs.steps.Left.{IsNextPage}
+use Rattle.databases.specs.Held.{ForAllRows, IsBehind, ShowsAllRows}
+use Rattle.databases.specs.Pages.{max_page, pages_below, pages_text}
+use Rattle.databases.specs.Print.{batch_line}
+use Rattle.database_commands.specs.steps.Sent.{IsNextPage}
 use Rattle.database_commands.specs.steps.Served.{LeavesRead}
-use Rattle.database_commands.proofs.PageLemmas.{all_pages}
+use Rattle.databases.proofs.PageLemmas.{all_pages}
 
 -- ---- the texts of pages
 

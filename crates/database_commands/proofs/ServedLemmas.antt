@@ -15,14 +15,14 @@ use Rattle.outbox.specs.declared.fault.OutboxFault.{OutboxFault}
 use Rattle.outbox.specs.declared.fault.OutboxFault.TheVariants as outbox
 use Rattle.outbox.specs.declared.status.Status.{Status}
 use Rattle.relay.specs.Relay.{ForNextRows}
-use Rattle.database_commands.specs.Fault.{IsOfOrder, of_outbox}
-use Rattle.database_commands.specs.Held.{HasAnother, IsNoOrders, IsOrdered, IsServed, KeepsEvents, KeepsService, LeavesOrOrders, MayOrder, Orders, RefusesOrder, Serves, ShowsRows}
-use Rattle.database_commands.specs.Print.{batch_line, event_line}
-use Rattle.database_commands.specs.Service.{LeavesOrFounds}
-use Rattle.database_commands.specs.declared.fault.CommandFault.{CommandFault}
-use Rattle.database_commands.specs.declared.fault.CommandFault.TheVariants as command
+use Rattle.databases.specs.Fault.{IsOfOrder, of_outbox}
+use Rattle.databases.specs.Held.{HasAnother, IsNoOrders, IsOrdered, IsServed, KeepsEvents, KeepsService, LeavesOrOrders, MayOrder, Orders, RefusesOrder, Serves, ShowsRows}
+use Rattle.databases.specs.Print.{batch_line, event_line}
+use Rattle.databases.specs.Service.{LeavesOrFounds}
+use Rattle.databases.specs.declared.fault.CommandFault.{CommandFault}
+use Rattle.databases.specs.declared.fault.CommandFault.TheVariants as command
 use Rattle.database_commands.specs.steps.Served.{LeavesOrAccepts}
-use Rattle.database_commands.proofs.BesideLemmas.{events_beside, events_gained, events_over, events_same}
+use Rattle.databases.proofs.BesideLemmas.{events_beside, events_gained, events_over, events_same}
 use Rattle.database_commands.proofs.RowLemmas.{no_service}
 
 -- a service that is new

@@ -20,13 +20,13 @@ use Rattle.line_intake.specs.Lines.{TakesLine}
 use Rattle.line_intake.specs.declared.answer.Told.{Told}
 use Rattle.line_intake.specs.declared.step.FollowFault.{FollowFault}
 use Rattle.line_intake.specs.declared.step.FollowFault.TheVariants.{Input, Table, Unwritten}
-use Rattle.database_commands.specs.Fault.{of_follow, of_table}
-use Rattle.database_commands.specs.Held.{Holds, IsNoInbox, KeepsRows}
-use Rattle.database_commands.specs.Streams.{AcknowledgesUntil, HoldsTurns, LeavesUnturned, StaysUnread, StopsInto}
-use Rattle.database_commands.specs.declared.fault.CommandFault.{CommandFault}
-use Rattle.database_commands.specs.declared.stream.StreamFault.{StreamFault}
-use Rattle.database_commands.specs.declared.stream.StreamFault.TheVariants as stream
-use Rattle.database_commands.proofs.BesideLemmas.{service_kept, service_over}
+use Rattle.databases.specs.Fault.{of_follow, of_table}
+use Rattle.databases.specs.Held.{Holds, IsNoInbox, KeepsRows}
+use Rattle.databases.specs.Streams.{AcknowledgesUntil, HoldsTurns, LeavesUnturned, StaysUnread, StopsInto}
+use Rattle.databases.specs.declared.fault.CommandFault.{CommandFault}
+use Rattle.databases.specs.declared.stream.StreamFault.{StreamFault}
+use Rattle.databases.specs.declared.stream.StreamFault.TheVariants as stream
+use Rattle.databases.proofs.BesideLemmas.{service_kept, service_over}
 
 abbrev Outcome : Result ℕ FollowFault → Result ℕ StreamFault → Type 0
 Outcome ended outcome = MatchResult ended (λ n. outcome ≡ Ok n) (λ f. outcome ≡ Err (of_follow f))

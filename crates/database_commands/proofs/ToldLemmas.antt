@@ -1,10 +1,7 @@
 -- What is told of the service of a database.
 use Rattle.std.proofs.Common.{◌≡◌, ◌⊎◌, ◌≤◌, inl, inr, Bool, ℕ, List, Ok, Err, IfOk, OnErr, OnOk, Result, [], ◌∷◌, ◌++◌, true, false, refl, sym, ap, ap₂, subst, ◌∙◌}
-use Rattle.std.specs.Prelude.{IfSome, None, Option, Some, codes, decimal, unwrap_or}
-use Rattle.json.specs.Token.{begin_object, end_object, key, number, string}
-use Rattle.json.specs.Print.{print}
+use Rattle.std.specs.Prelude.{IfSome, None, Option, Some, unwrap_or}
 use Rattle.serde_json.specs.Written.{compact_text}
-use Rattle.serde_json.proofs.Texts.{print-outline}
 use Rattle.sqlite.specs.Effect.{Database}
 use Rattle.attributes.specs.Sequence.{max_sequence}
 use Rattle.outbox.specs.Service.{IsService}
@@ -12,15 +9,12 @@ use Rattle.outbox.specs.Shown.{CountsOrders, CountsRows, HasNoOther, Stands}
 use Rattle.database_layout.specs.Layout.{has_name}
 use Rattle.outbox.specs.declared.fault.OutboxFault.{OutboxFault}
 use Rattle.outbox.specs.declared.fault.OutboxFault.TheVariants as outbox
-use Rattle.database_commands.specs.declared.fault.CommandFault.TheVariants as command
-use Rattle.database_commands.specs.Fault.{of_outbox}
-use Rattle.database_commands.specs.Print.{service_data, service_line}
-use Rattle.database_commands.specs.Service.{IsTold, TellsOrFounds, TellsService}
+use Rattle.databases.specs.declared.fault.CommandFault.TheVariants as command
+use Rattle.databases.specs.Fault.{of_outbox}
+use Rattle.databases.specs.Print.{service_data, service_line}
+use Rattle.databases.specs.Service.{IsTold, TellsOrFounds, TellsService}
 use Rattle.database_commands.specs.steps.Told.{TellsEach}
 use Rattle.database_commands.proofs.RowLemmas.{no_service}
-
-pub print-service : (source : List ℕ) (base orders rows : ℕ) → print (begin_object ∷ key (codes "base") ∷ number (decimal base) ∷ key (codes "orders") ∷ number (decimal orders) ∷ key (codes "rows") ∷ number (decimal rows) ∷ key (codes "source") ∷ string source ∷ end_object ∷ []) ≡ compact_text (service_data source base orders rows)
-print-service source base orders rows = print-outline (service_data source base orders rows)
 
 pub line_is : (source : List ℕ) (base orders rows : ℕ) (text : List ℕ) → text ≡ compact_text (service_data source base orders rows) → text ++ 10 ∷ [] ≡ service_line source base orders rows
 unfolding service_line

@@ -11,14 +11,14 @@ use Rattle.inbox_table.specs.Rows.{IsAnyInbox}
 use Rattle.outbox.specs.Call.{IsAsItWas, IsFounded, IsSettled, Leaves}
 use Rattle.outbox.specs.Order.{Accepted}
 use Rattle.outbox.specs.Shown.{IsNoService}
-use Rattle.database_commands.specs.Described.{Describes}
-use Rattle.database_commands.specs.Done.{OpenIfDone, SettledIfDone}
-use Rattle.database_commands.specs.Fault.{IsOfOrder}
-use Rattle.database_commands.specs.Held.{HasAnother, IsMeant, IsNoInbox, IsNoOrders, IsUntold, KeepsEvents, KeepsOrTakes, KeepsRows, KeepsService, LeavesOrOrders, MayHold, MayHoldMore, Orders, RefusesOrder, ShowsAllRows, ShowsEvents, ShowsRows, TakesInto, TellsUpgrade}
-use Rattle.database_commands.specs.Service.{HasOtherBase, LeavesOrFounds, TellsOrFounds}
-use Rattle.database_commands.specs.Service as service
-use Rattle.database_commands.specs.declared.fault.CommandFault.{CommandFault}
-use Rattle.database_commands.specs.declared.fault.CommandFault.TheVariants as command
+use Rattle.databases.specs.Described.{Describes}
+use Rattle.databases.specs.Done.{OpenIfDone, SettledIfDone}
+use Rattle.databases.specs.Fault.{IsOfOrder}
+use Rattle.databases.specs.Held.{HasAnother, IsMeant, IsNoInbox, IsNoOrders, IsUntold, KeepsEvents, KeepsOrTakes, KeepsRows, KeepsService, LeavesOrOrders, MayHold, MayHoldMore, Orders, RefusesOrder, ShowsAllRows, ShowsEvents, ShowsRows, TakesInto, TellsUpgrade}
+use Rattle.databases.specs.Service.{HasOtherBase, LeavesOrFounds, TellsOrFounds}
+use Rattle.databases.specs.Service as service
+use Rattle.databases.specs.declared.fault.CommandFault.{CommandFault}
+use Rattle.databases.specs.declared.fault.CommandFault.TheVariants as command
 
 -- ---- the inbox
 

@@ -14,10 +14,10 @@ use Rattle.sqlite.specs.Files.{FailsToClose, FailsToOpenFiles, IsCleanLeft, IsCl
 use Rattle.sqlite.specs.Start.{FindsIn}
 use Rattle.sqlite.specs.declared.error.Error.{Error}
 use Rattle.sqlite.specs.declared.file.Leftover.{Leftover}
-use Rattle.database_commands.specs.Trouble.{IsOfSystem, fault_of, of_error}
+use Rattle.databases.specs.Trouble.{IsOfSystem, fault_of, of_error}
 use Rattle.database_commands.specs.declared.command.CommandEnd.{CommandEnd}
-use Rattle.database_commands.specs.declared.fault.CommandFault.{CommandFault}
-use Rattle.database_commands.specs.declared.trouble.Trouble.{Trouble}
+use Rattle.databases.specs.declared.fault.CommandFault.{CommandFault}
+use Rattle.databases.specs.declared.trouble.Trouble.{Trouble}
 
 module _ {D : Type 0} {g : disk.Ghosts D} where
   -- the connection was opened over files that held this: while the disk gives back what was

@@ -1,6 +1,5 @@
 -- Words of private clauses and lemmas alone: whoever reads what is promised needs none of them.
-pub mod Left
+pub mod Sent
 pub mod Told
 pub mod Served
 pub mod Made
-pub mod Tokens

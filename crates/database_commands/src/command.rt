@@ -2,10 +2,10 @@
 ghost use Rattle.std.specs.Prelude.{Result, IfErr, IfOk, ⊤};
 ghost use Rattle.sqlite.specs.Held.{state};
 ghost use Rattle.sqlite.specs.State.{State, HasCleanDisk};
-ghost use Rattle.database_commands.specs.Held.{IsUntold};
-ghost use Rattle.database_commands.specs.declared.fault.CommandFault.{CommandFault};
+ghost use Rattle.databases.specs.Held.{IsUntold};
+ghost use Rattle.databases.specs.declared.fault.CommandFault.{CommandFault};
 
-use crate::fault::CommandFault;
+use databases::CommandFault;
 use sqlite::{Alter, Connection};
 use std::alloc::Global;
 

@@ -1,14 +1,13 @@
 //! The files of a database, opened by their name.
 ghost use Rattle.std.specs.Prelude.{◌≡◌, ◌≤◌, IfErr, IfOk, IfSome, IsErrOf, IsTrue};
 ghost use Rattle.sqlite_wal.specs.Files.{image_at};
-ghost use Rattle.database_commands.specs.Name.{IsNoFile};
+ghost use Rattle.databases.specs.Name.{IsNoFile};
 ghost use Rattle.database_commands.specs.OfFile.{Closes, IsOver, RefusesFiles, RefusesFilesFor};
-ghost use Rattle.database_commands.specs.Trouble.{IsOfOpening, IsOfSystem};
-ghost use Rattle.database_commands.specs.declared.fault.CommandFault.TheVariants as CommandFault;
-ghost use Rattle.database_commands.specs.declared.trouble.Trouble.TheVariants as trouble;
+ghost use Rattle.databases.specs.Trouble.{IsOfOpening, IsOfSystem};
+ghost use Rattle.databases.specs.declared.fault.CommandFault.TheVariants as CommandFault;
+ghost use Rattle.databases.specs.declared.trouble.Trouble.TheVariants as trouble;
 
-use crate::fault::CommandFault;
-use crate::trouble::{Trouble, of_error, of_kind, of_open};
+use databases::{CommandFault, Trouble, of_error, of_kind, of_open};
 use sqlite::Connection;
 use sqlite_disk::{Start, Unknown};
 use sqlite_pager::Options;

@@ -5,20 +5,19 @@
 ghost use Rattle.std.specs.Prelude.{◌≡◌, Err, IfErr, IfOk, IsErrOf, IsOk, MatchResult};
 ghost use Rattle.sqlite_wal.specs.Files.{image_at};
 ghost use Rattle.line_intake.specs.Acknowledged.{TellsAll};
-ghost use Rattle.database_commands.specs.Described.{SaysDatabase};
+ghost use Rattle.databases.specs.Described.{SaysDatabase};
 ghost use Rattle.database_commands.specs.Effect.{DescribeEffect};
-ghost use Rattle.database_commands.specs.Name.{IsNoFile};
+ghost use Rattle.databases.specs.Name.{IsNoFile};
 ghost use Rattle.database_commands.specs.OfFile.{DoesOver, IsOver, RefusesCommand, RefusesLook};
-ghost use Rattle.database_commands.specs.Streams.{AcknowledgesUntil, FollowsOver};
-ghost use Rattle.database_commands.specs.declared.trouble.Trouble.TheVariants as trouble;
+ghost use Rattle.databases.specs.Streams.{AcknowledgesUntil, FollowsOver};
+ghost use Rattle.databases.specs.declared.trouble.Trouble.TheVariants as trouble;
 
 use crate::command::{Command, CommandEnd};
 use crate::commands::Describe;
-use crate::fault::CommandFault;
 use crate::file::{found, open_over, open_there};
-use crate::stream::{StreamFault, Streamed, begun, follow};
-use crate::trouble::Trouble;
+use crate::stream::{Streamed, begun, follow};
 use attributes::Text;
+use databases::{CommandFault, StreamFault, Trouble};
 use sqlite::Connection;
 use sqlite_disk::Start;
 use sqlite_std_file::FileFrom;

@@ -1,16 +1,15 @@
-//! Databases of the operating system, opened by the names of their files, for which one may wait.
+//! The opener of databases of the operating system, which may wait for one.
 ghost use Rattle.std.specs.Prelude.{◌≡◌, IfErr, IfOk, IsErrOf};
 ghost use Rattle.sqlite_wal.specs.Files.{image_at};
-ghost use Rattle.database_commands.specs.Fault.{IsOfNamed};
-ghost use Rattle.database_commands.specs.Name.{IsNoFile};
+ghost use Rattle.databases.specs.Fault.{IsOfNamed};
+ghost use Rattle.databases.specs.Name.{IsNoFile};
 ghost use Rattle.database_commands.specs.OfFile.{IsOver, RefusesFiles, RefusesFilesFor};
-ghost use Rattle.database_commands.specs.Trouble.{IsOfOpening};
-ghost use Rattle.database_commands.specs.declared.fault.CommandFault.TheVariants as CommandFault;
-ghost use Rattle.database_commands.specs.declared.trouble.Trouble.TheVariants as trouble;
+ghost use Rattle.databases.specs.Trouble.{IsOfOpening};
+ghost use Rattle.databases.specs.declared.fault.CommandFault.TheVariants as CommandFault;
+ghost use Rattle.databases.specs.declared.trouble.Trouble.TheVariants as trouble;
 
-use crate::fault::CommandFault;
 use crate::file::{is_no_file, is_there, opened};
-use crate::trouble::Trouble;
+use databases::{CommandFault, Trouble};
 use sqlite::Connection;
 use sqlite_disk::{Start, Unknown};
 use sqlite_std_file::File;

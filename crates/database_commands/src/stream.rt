@@ -6,35 +6,20 @@ ghost use Rattle.sqlite.specs.Held.{state};
 ghost use Rattle.sqlite.specs.State.{HasCleanDisk};
 ghost use Rattle.line_intake.specs.Acknowledged.{TellsAll};
 ghost use Rattle.line_intake.specs.Follow.{IsFollowed};
-ghost use Rattle.database_commands.specs.Fault.{of_follow};
-ghost use Rattle.database_commands.specs.Streams.{AcknowledgesUntil, HoldsTurns, StaysUnread, StopsInto};
-ghost use Rattle.database_commands.specs.Done.{LeavesRows, SettledIfDone};
+ghost use Rattle.databases.specs.Fault.{of_follow};
+ghost use Rattle.databases.specs.Streams.{AcknowledgesUntil, HoldsTurns, StaysUnread, StopsInto};
+ghost use Rattle.databases.specs.Done.{LeavesRows, SettledIfDone};
 
-use crate::fault::{CommandFault, of_table};
 use crate::intake::adopted;
+use databases::{StreamFault, of_table};
 use inbox_table::{NotMade, Unwatched};
 use line_intake::{FollowFault, LineFault};
 use sqlite::{Alter, Connection};
 use std::alloc::Global;
 use std::io::{BufRead, BufReader, Read, Write};
-use thiserror::Error;
 
 /// The most bytes of an input that are read before its database is opened, 64 KiB.
 const FIRST: usize = 65_536;
-
-/// Why a stream ended before its input.
-#[derive(Clone, Copy, PartialEq, Eq, Debug, Drop, Error)]
-pub enum StreamFault {
-    /// The input couldn't be read on.
-    #[error("{0}")]
-    Input(LineFault),
-    /// The database refused lines, or memory for their acknowledgements was refused.
-    #[error("{0}")]
-    Database(CommandFault),
-    /// An acknowledgement couldn't be written.
-    #[error("unwritten")]
-    Unwritten,
-}
 
 /// A stream that came to its end: the connection, and how many lines were at fault, or why it ended
 /// before its input.

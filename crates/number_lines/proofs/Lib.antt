@@ -1,4 +1,4 @@
 mod GatherLemmas
 mod TextLemmas
 mod NumberingLemmas
-mod OverLemmas
+pub mod OverLemmas

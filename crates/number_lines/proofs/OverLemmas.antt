@@ -13,7 +13,7 @@ use Rattle.inbox_table.specs.Calls.{IsSettled, joined}
 use Rattle.inbox_table.specs.Opening.{Opens}
 use Rattle.inbox_table.specs.Rows.{IsInbox}
 use Rattle.database_layout.specs.Layout.{has_inbox}
-use Rattle.database_commands.specs.Held.{Holds}
+use Rattle.databases.specs.Held.{Holds}
 use Rattle.numbers.specs.Counts.{Counts}
 use Rattle.number_table.specs.Calls.{Stands}
 use Rattle.number_table.specs.Each.{AreNumberedEach}

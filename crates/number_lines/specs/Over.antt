@@ -8,7 +8,7 @@ use Rattle.inbox.specs.KeyOrder.{key_cmp}
 use Rattle.inbox.specs.Ordered.{append_new}
 use Rattle.inbox_table.specs.Calls.{IsSettled, joined}
 use Rattle.inbox_table.specs.Rows.{IsInbox}
-use Rattle.database_commands.specs.Held.{Holds}
+use Rattle.databases.specs.Held.{Holds}
 use Rattle.numbers.specs.Numbered.{AreBare, HaveNumbers}
 use Rattle.numbers.specs.Numberer.{IsEachOnce, number}
 use Rattle.number_table.specs.Calls.{RejectsNumbers, from}

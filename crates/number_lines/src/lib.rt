@@ -9,7 +9,7 @@ mod text;
 mod turn;
 mod words;
 
-pub use named::{NumberEnd, Numberers, number_opened};
+pub use named::{NumberEnd, Numberers};
 pub use over::{NumberedStream, number_over};
 pub use refusal::{LineRefusal, Told};
 pub use stream::{NumberingFault, number_gathered, number_lines};

@@ -10,8 +10,8 @@ use Rattle.sqlite.specs.Held.{Held}
 use Rattle.sqlite.specs.State.{State, HasCleanDisk, Survives}
 use Rattle.sqlite.proofs.StateLemmas.{survives_weaker}
 use Rattle.attributes.specs.Event.{EventValue}
-use Rattle.database_commands.specs.Fault.{of_table}
-use Rattle.database_commands.specs.declared.fault.CommandFault.TheVariants as command
+use Rattle.databases.specs.Fault.{of_table}
+use Rattle.databases.specs.declared.fault.CommandFault.TheVariants as command
 use Rattle.feeds.specs.declared.report.WorkerEnd.{WorkerEnd}
 use Rattle.feeds.specs.declared.report.WorkerEnd.TheVariants.{BadInput, Done, GateShut, OutOfMemory}
 use Rattle.feeds.specs.declared.report.Report.{Report}
@@ -23,7 +23,7 @@ use Rattle.inbox_table.specs.Rows.{IsInbox}
 use Rattle.inbox_table.specs.declared.fault.TableFault.{TableFault}
 use Rattle.inbox_table.specs.declared.fault.TableFault.TheVariants as table
 use Rattle.keeper.specs.Keep.{Grows, HasAll, HasFirst, KeepsUp, MayGrow}
-use Rattle.keeper.specs.steps.Flushes.{grows_none, grows_on, survives_none, survives_on}
+use Rattle.keeper.specs.steps.Flushes.{grows_none, grows_on, survives_on}
 use Rattle.keeper.specs.declared.fault.KeepFault.{KeepFault}
 use Rattle.keeper.specs.declared.fault.KeepFault.TheVariants as keep
 use Rattle.run_command.specs.Ending.{KeepsRest, workers_of}
@@ -38,7 +38,7 @@ use Rattle.run_command.specs.declared.fault.RunFault.{RunFault}
 use Rattle.run_command.specs.declared.fault.RunFault.TheVariants as run
 use Rattle.views.specs.declared.query.Query.{Query}
 use Rattle.inbox_table.proofs.UpgradeLemmas.{any_named}
-use Rattle.database_commands.specs.Held.{Holds, MayHold}
+use Rattle.databases.specs.Held.{Holds, MayHold}
 use Rattle.run_command.proofs.ToldLemmas.{AreFed, all_pulled, are_fed, blamed, no_first, told}
 
 -- the text of reports without a fault

@@ -1,6 +1,5 @@
-mod EndLemmas
+pub mod EndLemmas
 mod FedLemmas
-mod NamedLemmas
 mod SharedLemmas
 mod TallyLemmas
 mod ToldLemmas

@@ -1,7 +1,7 @@
 -- What is left where the workers of a run have ended.
-use Rattle.std.proofs.Common.{◌≡◌, ◌≤◌, ℕ, List, ◌++◌, length, sym, ap, subst, ◌∙◌, append_assoc, Option, None, Result, Ok, Err, IfOk, IsTrue}
+use Rattle.std.proofs.Common.{◌≡◌, ◌≤◌, ℕ, List, ◌++◌, length, sym, ap, subst, ◌∙◌, append_assoc, Result, Ok, Err, IfOk, IsTrue}
 use Rattle.sqlite.specs.Held.{Held}
-use Rattle.sqlite.specs.State.{State, HasCleanDisk}
+use Rattle.sqlite.specs.State.{State}
 use Rattle.atomic_table.specs.Seated.{TableId}
 use Rattle.attributes.specs.Event.{EventValue}
 use Rattle.inbox_table.specs.Calls.{Kept}

@@ -1,8 +1,8 @@
 -- The faults of the crates below, as those of runs.
-pub use Rattle.database_commands.specs.Fault.{IsOfNamed}
+pub use Rattle.databases.specs.Fault.{IsOfNamed}
 use Rattle.std.specs.Prelude.{ℕ, zero, suc, Option, None, Some}
-use Rattle.database_commands.specs.declared.fault.CommandFault.{CommandFault}
-use Rattle.database_commands.specs.declared.fault.CommandFault.TheVariants as command
+use Rattle.databases.specs.declared.fault.CommandFault.{CommandFault}
+use Rattle.databases.specs.declared.fault.CommandFault.TheVariants as command
 use Rattle.feeds.specs.declared.report.WorkerEnd.{WorkerEnd}
 use Rattle.feeds.specs.declared.report.WorkerEnd.TheVariants.{BadInput, Done, GateShut, OutOfMemory}
 use Rattle.feeds.specs.declared.serving.ServeFault.{ServeFault}

@@ -16,7 +16,7 @@ use Rattle.inbox_table.specs.Rows.{IsInbox}
 use Rattle.run_command.specs.Peer.{ArePulled}
 use Rattle.run_command.specs.declared.fault.RunFault.{RunFault}
 use Rattle.run_command.specs.declared.fault.RunFault.TheVariants as run
-use Rattle.database_commands.specs.Held as database
+use Rattle.databases.specs.Held as database
 
 -- the first line: how many events were read, how many of them had no number, how many there are
 abbrev pub run_line : ℕ → ℕ → ℕ → List ℕ

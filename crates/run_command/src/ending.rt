@@ -13,7 +13,7 @@ ghost use Rattle.run_command.specs.Outcome.{HasRun, MayRun, RunsTo, Tells, fault
 ghost use Rattle.run_command.specs.Run.{IsFeedFault, IsRun, IsRunText, RunsInto, SaysRun};
 ghost use Rattle.run_command.specs.Tally.{read_in, refused_in};
 ghost use Rattle.run_command.specs.Through.{DoneThrough, IsToldOfRest};
-ghost use Rattle.database_commands.specs.declared.fault.CommandFault.TheVariants.{OutOfMemory};
+ghost use Rattle.databases.specs.declared.fault.CommandFault.TheVariants.{OutOfMemory};
 ghost use Rattle.run_command.specs.declared.fault.RunFault.TheVariants.{Database};
 
 use crate::fault::{RunFault, of_keep, of_serve};
@@ -21,7 +21,7 @@ use crate::shared::{Closed, share};
 use crate::tally::{counts, first_fault};
 use crate::text::run_text;
 use attributes::{Batch, Text};
-use database_commands::{CommandFault, loaded, of_table};
+use databases::{CommandFault, loaded, of_table};
 use feeds::{Jobs, Report, ServeFault, Served};
 use inbox_table::{Loaded, NotMade, Table, Watch};
 use keeper::{Keeper, Kept, NotKept, Stop};

@@ -2,7 +2,7 @@
 ghost use Rattle.std.specs.Prelude.{◌≡◌};
 ghost use Rattle.run_command.specs.Fault.{of_keep, of_serve};
 
-use database_commands::CommandFault;
+use databases::CommandFault;
 use event_json::ReadFault;
 use feeds::ServeFault;
 use keeper::{KeepFault, Stop};

@@ -3,8 +3,8 @@
 
 mod ending;
 mod fault;
-mod file;
 mod progress;
+mod runs;
 mod shared;
 mod tally;
 mod text;
@@ -12,4 +12,4 @@ mod text;
 pub use ending::{RunEnd, run};
 pub use fault::RunFault;
 pub use feeds::Jobs;
-pub use file::Runs;
+pub use runs::Runs;

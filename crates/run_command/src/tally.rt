@@ -4,7 +4,7 @@ ghost use Rattle.run_command.specs.Fault.{of_end};
 ghost use Rattle.run_command.specs.Tally.{first_fault, read_in, refused_in};
 
 use crate::fault::RunFault;
-use database_commands::CommandFault;
+use databases::CommandFault;
 use feeds::{Report, WorkerEnd};
 
 /// The fault of a worker, by its place and why it ended; so many of those from its place on are

@@ -4,8 +4,8 @@ use Rattle.std.specs.Prelude.{Option, None, Some, unwrap_or}
 use Rattle.std.specs.Io.KnownBytes.{Appends, Keeps}
 use Rattle.std.proofs.KnownBytes.{Appends-nil, Appends-trans}
 use Rattle.attributes.specs.Event.{EventValue}
-use Rattle.database_commands.specs.Pages.{first_page, max_page, pages_below, pages_text}
-use Rattle.database_commands.specs.Print.{batch_line}
+use Rattle.databases.specs.Pages.{first_page, max_page, pages_below, pages_text}
+use Rattle.databases.specs.Print.{batch_line}
 use Rattle.line_intake.specs.Written.{Wrote}
 
 -- ---- pages

@@ -16,7 +16,7 @@ use Rattle.site_commands.specs.Runs.{ComesTo, IsEnding, IsLine, IsSplitEnding, I
 use Rattle.site_commands.specs.Answers.{AnswersPlan, IsAllowed, IsAllowedAlone, IsAllowedPlan, RefusesPlan}
 use Rattle.site_commands.specs.declared.ending.Ending.{Ending}
 use Rattle.site_commands.specs.declared.ending.Ending.TheVariants.{Answer, Told, Pages, Findings, Help, Faulty, Refused, Uncombined, Unsaved, NoMemory}
-use Rattle.database_commands.specs.Pages.{pages_text}
+use Rattle.databases.specs.Pages.{pages_text}
 use Rattle.site_commands.specs.declared.line.Refusal.{Refusal}
 use Rattle.command_words.specs.declared.request.Alone.{Alone}
 use Rattle.command_words.specs.declared.request.Alone.TheVariants as alone

@@ -9,9 +9,9 @@ use Rattle.line_intake.specs.Acknowledged.{AreTold, TellsAll, TellsPart, TellsSo
 use Rattle.line_intake.specs.Judged.{TakesLines}
 use Rattle.line_intake.specs.Lines.{IsPlain}
 use Rattle.line_intake.specs.declared.answer.Told.{Told}
-use Rattle.database_commands.specs.Streams.{AcknowledgesUntil}
-use Rattle.database_commands.specs.declared.stream.StreamFault.{StreamFault}
-use Rattle.database_commands.specs.declared.stream.StreamFault.TheVariants as stream
+use Rattle.databases.specs.Streams.{AcknowledgesUntil}
+use Rattle.databases.specs.declared.stream.StreamFault.{StreamFault}
+use Rattle.databases.specs.declared.stream.StreamFault.TheVariants as stream
 use Rattle.site_commands.specs.Endings.{EndsStream, SaysRefusal}
 use Rattle.site_commands.specs.Inputs.{MayGive}
 use Rattle.site_commands.specs.Names.{Names, of_follow}

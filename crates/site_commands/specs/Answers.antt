@@ -15,13 +15,13 @@ use Rattle.command_words.specs.declared.request.Action.{Action}
 use Rattle.command_words.specs.declared.request.Action.TheVariants as action
 use Rattle.command_words.specs.declared.request.Pages.{Pages}
 use Rattle.command_words.specs.declared.request.Pages.TheVariants as pages
-use Rattle.database_commands.specs.Fault.{IsOfOrder, OrOfNamed}
-use Rattle.database_commands.specs.Held.{HasArrived, HasDelta, HasEvents, IsNoOrders, IsUntold, SaysAllRows, SaysArrivals, SaysDelta, SaysOrder, SaysPage, SaysRows, SaysSummary}
-use Rattle.database_commands.specs.Pages.{pages_text}
-use Rattle.database_commands.specs.Print.{WithoutLineEnd, counts_line}
-use Rattle.database_commands.specs.Service.{SaysService}
-use Rattle.database_commands.specs.declared.fault.CommandFault.{CommandFault}
-use Rattle.database_commands.specs.declared.fault.CommandFault.TheVariants as command
+use Rattle.databases.specs.Fault.{IsOfOrder, OrOfNamed}
+use Rattle.databases.specs.Held.{HasArrived, HasDelta, HasEvents, IsNoOrders, IsUntold, SaysAllRows, SaysArrivals, SaysDelta, SaysOrder, SaysPage, SaysRows, SaysSummary}
+use Rattle.databases.specs.Pages.{pages_text}
+use Rattle.databases.specs.Print.{WithoutLineEnd, counts_line}
+use Rattle.databases.specs.Service.{SaysService}
+use Rattle.databases.specs.declared.fault.CommandFault.{CommandFault}
+use Rattle.databases.specs.declared.fault.CommandFault.TheVariants as command
 use Rattle.inbox_table.specs.Rows.{AreNumbered}
 use Rattle.command_words.specs.declared.request.Request.{Request}
 use Rattle.command_words.specs.declared.request.Plan.{Plan}

@@ -3,11 +3,11 @@
 use Rattle.std.specs.Prelude.{◌≡◌, ◌≢◌, ◌⊎◌, ℕ, Bool, true, false, List, [], ◌∷◌, ◌++◌, codes, Option, None, Some}
 use Rattle.attributes.specs.Event.{EventValue}
 use Rattle.command_words.specs.declared.request.Check.{Check}
-use Rattle.database_commands.specs.Described.{SaysDatabase}
-use Rattle.database_commands.specs.Name.{IsNoFile}
-use Rattle.database_commands.specs.Trouble.{trouble_line}
-use Rattle.database_commands.specs.declared.trouble.Trouble.{Trouble}
-use Rattle.database_commands.specs.declared.trouble.Trouble.TheVariants.{NoFile, OutOfMemory}
+use Rattle.databases.specs.Described.{SaysDatabase}
+use Rattle.databases.specs.Name.{IsNoFile}
+use Rattle.databases.specs.Trouble.{trouble_line}
+use Rattle.databases.specs.declared.trouble.Trouble.{Trouble}
+use Rattle.databases.specs.declared.trouble.Trouble.TheVariants.{NoFile, OutOfMemory}
 use Rattle.event_json.specs.declared.fault.ReadFault.TheVariants as read
 use Rattle.fault_lines.specs.Lines.{IsFaultText, line_with, string_text}
 use Rattle.fault_lines.specs.Words.{hint, whole_hint}

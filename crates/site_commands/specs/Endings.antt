@@ -1,7 +1,7 @@
 -- What each ending writes, to which stream, with which status.
 use Rattle.std.specs.Prelude.{◌≡◌, ◌⊎◌, ℕ, List, Option}
 use Rattle.attributes.specs.Event.{EventValue}
-use Rattle.database_commands.specs.Pages.{pages_below, pages_text}
+use Rattle.databases.specs.Pages.{pages_below, pages_text}
 use Rattle.std.specs.Io.KnownBytes.{Appends, Keeps}
 use Rattle.site_commands.specs.declared.ending.Ending.{Ending}
 use Rattle.site_commands.specs.declared.ending.Ending.TheVariants as ending

@@ -1,7 +1,7 @@
 -- What the files of a run come to: the events of its peer, and what its feeds read.
 use Rattle.std.specs.Prelude.{◌≡◌, ◌+◌, ◌⊎◌, Bool, true, false, ℕ, suc, List, [], ◌∷◌, ◌++◌, Ok, Err, Some, drop, take, slice_get}
 use Rattle.attributes.specs.Event.{EventValue}
-use Rattle.database_commands.specs.declared.fault.CommandFault.TheVariants as command
+use Rattle.databases.specs.declared.fault.CommandFault.TheVariants as command
 use Rattle.event_json.specs.BatchText.{batch_text}
 use Rattle.event_json.specs.Reading.{Reads, Refuses}
 use Rattle.event_json.specs.declared.fault.ReadFault.{ReadFault}

@@ -12,8 +12,8 @@ use Rattle.file_reports.specs.declared.refusal.ReportFault.TheVariants as report
 use Rattle.line_intake.specs.Words.{words_of}
 use Rattle.coverage.specs.declared.fault.SummaryFault.{SummaryFault}
 use Rattle.coverage.specs.declared.fault.SummaryFault.TheVariants as summary
-use Rattle.database_commands.specs.declared.fault.CommandFault.{CommandFault}
-use Rattle.database_commands.specs.declared.fault.CommandFault.TheVariants as database
+use Rattle.databases.specs.declared.fault.CommandFault.{CommandFault}
+use Rattle.databases.specs.declared.fault.CommandFault.TheVariants as database
 use Rattle.site_commands.specs.Names.{Names}
 use Rattle.site_commands.specs.declared.line.Refusal.{Refusal}
 use Rattle.site_commands.specs.declared.line.Refusal.TheVariants as refusal

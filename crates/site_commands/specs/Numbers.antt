@@ -4,7 +4,7 @@ use Rattle.std.specs.Prelude.{◌≡◌, ◌≢◌, ◌⊎◌, ℕ, List, Option
 use Rattle.std.specs.Io.KnownBytes.{IsAtEnd, Keeps}
 use Rattle.attributes.specs.Event.{EventValue}
 use Rattle.command_words.specs.declared.request.Number.{Number}
-use Rattle.database_commands.specs.declared.fault.CommandFault.TheVariants as command
+use Rattle.databases.specs.declared.fault.CommandFault.TheVariants as command
 use Rattle.file_reports.specs.declared.input.Unread.{Unread}
 use Rattle.line_intake.specs.declared.line.LineFault.{LineFault}
 use Rattle.number_table.specs.Each.{AreNumberedEach}

@@ -6,7 +6,7 @@ use Rattle.std.specs.Str.{IsUtf8}
 use Rattle.attributes.specs.Event.{EventValue}
 use Rattle.command_words.specs.declared.request.Combine.{Combine}
 use Rattle.coverage.specs.Summary.{Sources, sources_of}
-use Rattle.database_commands.specs.Print.{batch_line}
+use Rattle.databases.specs.Print.{batch_line}
 use Rattle.file_reports.specs.Reports.{EachReads, SpellAll, joined}
 use Rattle.file_reports.specs.Shelves.{AreContents, IsUnreadAt}
 use Rattle.file_reports.specs.declared.input.Unread.{Unread}

@@ -1,6 +1,6 @@
 -- The text of an answer.
 use Rattle.std.specs.Prelude.{ℕ, List}
-use Rattle.database_commands.specs.Pages.{pages_text}
+use Rattle.databases.specs.Pages.{pages_text}
 use Rattle.site_commands.specs.declared.printed.Printed.{Printed}
 use Rattle.site_commands.specs.declared.printed.Printed.TheVariants as answer
 

@@ -16,7 +16,7 @@ use Rattle.command_words.specs.declared.request.Plan.TheVariants as plan
 use Rattle.command_words.specs.declared.request.Run.{Run}
 use Rattle.command_words.specs.declared.request.Once.{Once}
 use Rattle.command_words.specs.declared.request.Split.{Split}
-use Rattle.database_commands.specs.Pages.{pages_text}
+use Rattle.databases.specs.Pages.{pages_text}
 use Rattle.file_reports.specs.declared.input.Unread.{Unread}
 use Rattle.site_commands.specs.Answers.{AnswersOnce, AnswersPlan, AnswersRun, RefusesOnce, RefusesPlan, RefusesQuery, RefusesRun}
 use Rattle.site_commands.specs.Checks.{FindsSome, IsCheckEnding}

@@ -5,7 +5,7 @@ use Rattle.std.specs.Fmt.{decimal}
 use Rattle.std.specs.List.{range_with_len}
 use Rattle.attributes.specs.Event.{EventValue}
 use Rattle.command_words.specs.declared.request.Split.{Split}
-use Rattle.database_commands.specs.Print.{batch_line}
+use Rattle.databases.specs.Print.{batch_line}
 use Rattle.file_reports.specs.Reports.{SpellAll}
 use Rattle.file_reports.specs.Shelves.{AreContents}
 use Rattle.parts.specs.Part.{part, part_of}

@@ -10,8 +10,8 @@ use Rattle.line_intake.specs.Judged.{faults_in}
 use Rattle.line_intake.specs.declared.answer.Told.{Told}
 use Rattle.line_intake.specs.declared.line.LineFault.{LineFault}
 use Rattle.line_intake.specs.declared.line.LineFault.TheVariants as line
-use Rattle.database_commands.specs.declared.stream.StreamFault.{StreamFault}
-use Rattle.database_commands.specs.declared.stream.StreamFault.TheVariants as stream
+use Rattle.databases.specs.declared.stream.StreamFault.{StreamFault}
+use Rattle.databases.specs.declared.stream.StreamFault.TheVariants as stream
 use Rattle.site_commands.specs.declared.line.Refusal.{Refusal}
 use Rattle.site_commands.specs.declared.line.Refusal.TheVariants as refusal
 use Rattle.site_commands.specs.declared.stream.StreamEnd.{StreamEnd}

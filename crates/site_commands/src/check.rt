@@ -13,7 +13,7 @@ use crate::progress::Progress;
 use crate::refusal::refusal_line;
 use attributes::{Octets, Text};
 use command_words::Check;
-use database_commands::{Databases, Trouble, trouble_line};
+use databases::{Databases, Trouble, trouble_line};
 use fault_lines::fault_lines;
 use file_reports::{Shelf, Unread, UnreadAt};
 use std::alloc::{AllocError, Global};

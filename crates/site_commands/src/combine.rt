@@ -13,7 +13,7 @@ use crate::names::{Names, name_at};
 use crate::progress::Progress;
 use attributes::{Octets, Text};
 use command_words::Combine;
-use database_commands::Databases;
+use databases::Databases;
 use file_reports::{UnreadAt, contents_of};
 use parts::{CombineFault, combine};
 use std::alloc::{AllocError, AllocFailed, Global};

@@ -2,9 +2,9 @@
 ghost use Rattle.std.specs.Prelude.{◌≡◌, ◌≤◌, IfErr, IfOk, IfSome, false, length, true};
 ghost use Rattle.attributes.specs.Character.{is_filled};
 ghost use Rattle.attributes.specs.Sequence.{max_sequence};
-ghost use Rattle.database_commands.specs.Fault.{IsOfOrder, OrOfNamed};
-ghost use Rattle.database_commands.specs.Held.{IsNoOrders, IsUntold, SaysSummary};
-ghost use Rattle.database_commands.specs.Service.{SaysService};
+ghost use Rattle.databases.specs.Fault.{IsOfOrder, OrOfNamed};
+ghost use Rattle.databases.specs.Held.{IsNoOrders, IsUntold, SaysSummary};
+ghost use Rattle.databases.specs.Service.{SaysService};
 ghost use Rattle.site_commands.specs.Answers.{AnswersDelta, AnswersOrder, AnswersTake, HasSummary, IsAllowedRequest, IsOfAny, IsOfDatabase, RefusesDelta, RefusesTake, SaysArrived, SaysLacking, SaysPages, SaysRelay, status_of};
 ghost use Rattle.site_commands.specs.Printed.{printed};
 
@@ -14,7 +14,7 @@ use crate::printed::Printed;
 use attributes::Text;
 use command_words::{Action, Pages, Request};
 use coverage::Summary;
-use database_commands::{CommandFault, Databases, Relayed, Status, summary_of};
+use databases::{CommandFault, Databases, Relayed, Status, summary_of};
 use file_reports::{EventReader, Shelf, UnreadAt, events_of};
 use inbox_table::Watch;
 use std::alloc::Global;

@@ -11,7 +11,7 @@ use crate::line::{Refusal, line_of, made_lines};
 use crate::names::Names;
 use crate::progress::Progress;
 use attributes::Text;
-use database_commands::EventPages;
+use databases::EventPages;
 use line_intake::put;
 use std::alloc::Global;
 use std::io::Write;

@@ -7,7 +7,7 @@ use crate::names::Names;
 use crate::progress::Progress;
 use attributes::Text;
 use coverage::SummaryFault;
-use database_commands::{CommandFault, Databases, Trouble};
+use databases::{CommandFault, Databases, Trouble};
 use event_json::ReadFault;
 use file_reports::{ReportFault, Unread};
 use std::alloc::Global;

@@ -9,7 +9,7 @@ use crate::names::Names;
 use crate::pieces::RefusedLine;
 use attributes::Text;
 use coverage::SummaryFault;
-use database_commands::CommandFault;
+use databases::CommandFault;
 use event_json::ReadFault;
 use file_reports::{Refused, ReportFault, Unread, UnreadAt};
 use line_intake::words_of;

@@ -11,7 +11,7 @@ use crate::names::Names;
 use crate::progress::Progress;
 use crate::stream::{StreamEnd, end_of, unread_of};
 use command_words::Number;
-use database_commands::{CommandFault, Databases};
+use databases::{CommandFault, Databases};
 use file_reports::UnreadAt;
 use number_lines::{NumberEnd, Numberers, NumberingFault};
 use number_table::NumbererFault;

@@ -1,7 +1,7 @@
 //! The command that says which part of a region a source falls to, and prints the events of a part.
 ghost use Rattle.std.specs.Prelude.{◌≡◌, ◌<◌, IfErr, IfOk, IfSome, None, Some};
 ghost use Rattle.coverage.specs.Summary.{sources_of};
-ghost use Rattle.database_commands.specs.Print.{batch_line};
+ghost use Rattle.databases.specs.Print.{batch_line};
 ghost use Rattle.inbox.specs.Sets.{set_of};
 ghost use Rattle.parts.specs.Part.{IsCount, part, part_of};
 ghost use Rattle.views.specs.Line.{kind_lines};

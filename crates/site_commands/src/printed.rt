@@ -1,6 +1,6 @@
 //! What a plan is answered with.
 use attributes::Text;
-use database_commands::EventPages;
+use databases::EventPages;
 
 /// What is to be written of an answer.
 #[derive(Drop)]

@@ -5,7 +5,7 @@ ghost use Rattle.site_commands.specs.Answers.{AnswersQuery, RefusesQuery};
 use crate::line::Refusal;
 use crate::pieces::{Pieces, pieces_of, refusal_at};
 use attributes::Text;
-use database_commands::{CommandFault, Databases};
+use databases::{CommandFault, Databases};
 use file_reports::{EventReader, Query, Shelf, report, report_with, site_of};
 use std::alloc::Global;
 use std::mem;

@@ -28,7 +28,7 @@ use crate::stream::follow;
 use crate::workers::run;
 use attributes::Text;
 use command_words::{Alone, Faulty, Once, Pages, Plan, Run, invocation};
-use database_commands::Databases;
+use databases::Databases;
 use file_reports::{EventReader, SequentialReader, Shelf};
 use number_lines::Numberers;
 use parallel_reader::ParallelReader;

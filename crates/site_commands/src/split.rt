@@ -18,7 +18,7 @@ use crate::part::{batch_line, events_of_files};
 use crate::progress::Progress;
 use attributes::{Batch, Text};
 use command_words::Split;
-use database_commands::Databases;
+use databases::Databases;
 use file_reports::EventReader;
 use parts::split;
 use std::alloc::{AllocError, Global};

@@ -10,7 +10,7 @@ use crate::line::Refusal;
 use crate::names::Names;
 use crate::progress::Progress;
 use command_words::Follow;
-use database_commands::{Databases, StreamFault};
+use databases::{Databases, StreamFault};
 use file_reports::{Unread, UnreadAt};
 use line_intake::LineFault;
 use std::alloc::Global;

@@ -12,7 +12,7 @@ use crate::batches::{FeedFault, append, feeds_of};
 use crate::line::Refusal;
 use crate::pieces::{Pieces, memory_refusal, pieces_in, refusal_at};
 use attributes::{Batch, List, Octets, Text, Texts};
-use database_commands::CommandFault;
+use databases::CommandFault;
 use file_reports::{
     Refused, ReportFault, SequentialReader, Shelf, Unread, UnreadAt, contents_of, events_of,
 };

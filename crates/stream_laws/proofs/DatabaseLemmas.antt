@@ -10,8 +10,8 @@ use Rattle.inbox_table.specs.Rows as rows
 use Rattle.block_digests.specs.Number.{AreNumbered}
 use Rattle.database_layout.specs.Layout.{has_inbox}
 use Rattle.line_intake.specs.Follow.{AreTurns}
-use Rattle.database_commands.specs.Held.{Holds}
-use Rattle.database_commands.specs.Pages.{pages_text}
+use Rattle.databases.specs.Held.{Holds}
+use Rattle.databases.specs.Pages.{pages_text}
 use Rattle.inbox_table.proofs.UpgradeLemmas.{any_named}
 use Rattle.site.specs.Delta.{delta}
 use Rattle.stream_laws.specs.Stream.{CommandsTell, CommandsUnite, IsTold, Sends}

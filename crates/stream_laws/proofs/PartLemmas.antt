@@ -27,7 +27,7 @@ use Rattle.block_digests.proofs.ListLemmas.{all_kept, any_filter, found, item_is
 use Rattle.line_intake.specs.Follow.{AreKept, AreTurns, Place, Turn, faults_of}
 use Rattle.line_intake.specs.Judged.{AreJudged, TakesLines, faults_in}
 use Rattle.line_intake.specs.declared.answer.Told.{Told}
-use Rattle.database_commands.specs.Pages.{pages_text}
+use Rattle.databases.specs.Pages.{pages_text}
 use Rattle.stream_laws.specs.Stream.{CommandsTell, IsTold, PagesAreTaken, parts}
 use Rattle.stream_laws.specs.Part.{AllPagesCome, CutsHeal, FrontsAreTaken, OverlapsBring, ScrubsBring}
 use Rattle.stream_laws.proofs.LineLemmas.{Splits, TextIsOneLine, lines_of, plain_batch, splits}

@@ -25,8 +25,8 @@ use Rattle.coverage.specs.SummaryText.{summary_text}
 use Rattle.line_intake.specs.Follow.{AreKept, AreTurns, Place, Turn, faults_of}
 use Rattle.line_intake.specs.Judged.{AreJudged, TakesLines, faults_in}
 use Rattle.site.specs.Delta.{delta}
-use Rattle.database_commands.specs.Pages.{pages_text}
-use Rattle.database_commands.specs.Print.{WithoutLineEnd}
+use Rattle.databases.specs.Pages.{pages_text}
+use Rattle.databases.specs.Print.{WithoutLineEnd}
 use Rattle.stream_laws.specs.Stream.{AreUnited, CommandsTell, CommandsUnite, IsTold, PagesAreLines, PagesAreTaken, parts}
 use Rattle.stream_laws.proofs.LineLemmas.{Splits, TextIsOneLine, at_end, head_or, lines_of, splits, tail_of}
 use Rattle.stream_laws.proofs.PageLemmas.{IsGood, PartsMakeEvents, ReadsApart, ReadsBack, ReadsOnce, judged_pages, pages_are, parts_good, parts_join}

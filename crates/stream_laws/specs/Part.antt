@@ -11,7 +11,7 @@ use Rattle.event_json.specs.BatchText.{batch_text}
 use Rattle.line_intake.specs.Follow.{AreKept, AreTurns, IsFollowed, Place, Turn, faults_of}
 use Rattle.line_intake.specs.Judged.{AreJudged, TakesLines}
 use Rattle.line_intake.specs.declared.answer.Told.{Told}
-use Rattle.database_commands.specs.Pages.{pages_text}
+use Rattle.databases.specs.Pages.{pages_text}
 use Rattle.stream_laws.specs.Stream.{Sends, parts}
 
 -- the lines of the pages can be taken from their text, to its end, and be judged as the pages

@@ -9,16 +9,14 @@ ghost use Rattle.inbox.specs.Sets.{AreEvents, set_of};
 ghost use Rattle.inbox_table.specs.Rows.{IsInbox};
 ghost use Rattle.block_digests.specs.Lacking.{lacking};
 ghost use Rattle.block_digests.specs.Number.{AreNumbered};
-ghost use Rattle.database_commands.specs.Held.{Holds};
-ghost use Rattle.database_commands.specs.Pages.{pages_text};
+ghost use Rattle.databases.specs.Held.{Holds};
+ghost use Rattle.databases.specs.Pages.{pages_text};
 
 use crate::laws::pages_are_taken;
 use coverage::Summary;
 use coverage::laws::{summaries_stand_for_sets, texts_tell_summaries};
-use database_commands::{
-    CommandEnd, CommandFault, EventPages, StreamFault, Streamed, delta_pages, follow, summary,
-    summary_of,
-};
+use database_commands::{CommandEnd, Streamed, delta_pages, follow, summary};
+use databases::{CommandFault, EventPages, StreamFault, summary_of};
 use sqlite::{Alter, Connection};
 use std::alloc::{AllocError, Global};
 use std::io::{Read, Write};

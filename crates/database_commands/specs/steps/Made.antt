@@ -4,9 +4,9 @@ use Rattle.sqlite.specs.State.{State, HasCleanDisk, Survives}
 use Rattle.attributes.specs.Event.{EventValue}
 use Rattle.inbox_table.specs.Calls.{has_both}
 use Rattle.outbox.specs.Call.{IsSettled}
-use Rattle.database_commands.specs.Held.{IsNoInbox, IsUntold, KeepsEvents, KeepsRows, MayHold, ShowsEvents}
-use Rattle.database_commands.specs.declared.fault.CommandFault.{CommandFault}
-use Rattle.database_commands.specs.declared.fault.CommandFault.TheVariants.{Foreign, OutOfMemory}
+use Rattle.databases.specs.Held.{IsNoInbox, IsUntold, KeepsEvents, KeepsRows, MayHold, ShowsEvents}
+use Rattle.databases.specs.declared.fault.CommandFault.{CommandFault}
+use Rattle.databases.specs.declared.fault.CommandFault.TheVariants.{Foreign, OutOfMemory}
 
 module _ {A B : Type 0} where
   -- what was made comes of what was given, where that was to be had; else it is refused so. It is

@@ -8,9 +8,9 @@ use Rattle.inbox.specs.Ordered.{append_new}
 use Rattle.outbox.specs.Order.{Accepted}
 use Rattle.outbox.specs.Service.{IsService}
 use Rattle.outbox.specs.Shown.{CountsOrders, CountsRows}
-use Rattle.database_commands.specs.Described.{CountsSources}
-use Rattle.database_commands.specs.Print.{database_line, service_line}
-use Rattle.database_commands.specs.Service.{TellsService}
+use Rattle.databases.specs.Described.{CountsSources}
+use Rattle.databases.specs.Print.{database_line, service_line}
+use Rattle.databases.specs.Service.{TellsService}
 
 -- a service with this source and base has so many orders and so many rows
 abbrev pub Counts : State → List ℕ → ℕ → ℕ → ℕ → Type 0

@@ -6,8 +6,8 @@ use Rattle.sqlite.specs.State.{State, HasCleanDisk}
 use Rattle.database_layout.specs.Layout.{has_name}
 use Rattle.outbox.specs.Call.{Leaves}
 use Rattle.outbox.specs.Shown.{IsNoService}
-use Rattle.database_commands.specs.Service.{IsTold}
-use Rattle.database_commands.specs.declared.fault.CommandFault.TheVariants as command
+use Rattle.databases.specs.Service.{IsTold}
+use Rattle.databases.specs.declared.fault.CommandFault.TheVariants as command
 use Rattle.database_commands.proofs.DescribedLemmas.{describes, describes_one, says_both, says_one, untold}
 use Rattle.database_commands.proofs.described.describe.Goals as goal
 

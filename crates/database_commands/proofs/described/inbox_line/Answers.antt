@@ -1,7 +1,7 @@
 use Rattle.std.proofs.Common.{◌∙◌, inl, inr, ap, length, refl, subst, sym}
 use Rattle.std.proofs.lemmas.Result.{IfOk-weaker}
 use Rattle.sqlite.specs.Held.{state}
-use Rattle.database_commands.specs.Described.{SaysInbox, TellsInbox}
+use Rattle.databases.specs.Described.{SaysInbox, TellsInbox}
 use Rattle.database_commands.specs.steps.Told.{TellsEvents}
 use Rattle.database_commands.proofs.DescribedLemmas.{foreign_table, says_events, tells_found}
 use Rattle.database_commands.proofs.described.inbox_line.Goals as goal

@@ -3,7 +3,7 @@ use Rattle.std.proofs.lemmas.Result.{IfErr-weaker, IfOk-weaker}
 use Rattle.sqlite.specs.Held.{state}
 use Rattle.sqlite.proofs.StateLemmas.{survives_weaker}
 use Rattle.inbox_table.specs.Rows.{IsInbox}
-use Rattle.database_commands.proofs.HeldLemmas.{no_inbox, opened_events, opened_holds, opened_may_hold, opened_rows, opened_tells}
+use Rattle.databases.proofs.HeldLemmas.{no_inbox, opened_events, opened_holds, opened_may_hold, opened_rows, opened_tells}
 use Rattle.database_commands.proofs.intake.adopted.Goals as goal
 
 pub returns-clause-held : goal.returns-clause-held

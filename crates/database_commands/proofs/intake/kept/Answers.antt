@@ -1,10 +1,10 @@
 use Rattle.std.proofs.Common.{◌≡◌, ◌⊎◌, ◌∙◌, ap, inl, subst, sym}
 use Rattle.std.proofs.lemmas.Result.{IfErr-weaker, IfOk-weaker}
-use Rattle.database_commands.specs.Print.{counts_line}
-use Rattle.database_commands.specs.declared.fault.CommandFault.{CommandFault}
-use Rattle.database_commands.specs.declared.fault.CommandFault.TheVariants as command
-use Rattle.database_commands.proofs.BesideLemmas.{service_kept, service_same}
-use Rattle.database_commands.proofs.HeldLemmas.{on_ok, store_told}
+use Rattle.databases.specs.Print.{counts_line}
+use Rattle.databases.specs.declared.fault.CommandFault.{CommandFault}
+use Rattle.databases.specs.declared.fault.CommandFault.TheVariants as command
+use Rattle.databases.proofs.BesideLemmas.{service_kept, service_same}
+use Rattle.databases.proofs.HeldLemmas.{on_ok, store_told}
 use Rattle.database_commands.proofs.intake.kept.Goals as goal
 
 pub returns-in-Ok-clause-taken : goal.returns-in-Ok-clause-taken

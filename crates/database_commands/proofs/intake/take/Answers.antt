@@ -5,10 +5,10 @@ use Rattle.sqlite.specs.State.{HasCleanDisk, Survives}
 use Rattle.sqlite.proofs.StateLemmas.{survives_then, survives_weaker}
 use Rattle.inbox_table.specs.Calls.{IsSettled}
 use Rattle.inbox_table.specs.Rows.{IsInbox}
-use Rattle.database_commands.specs.Fault.{of_table}
-use Rattle.database_commands.specs.Held.{Holds, IsTaken, IsUntold, KeepsOrTakes, KeepsRows, MayHoldMore}
-use Rattle.database_commands.proofs.BesideLemmas.{service_over, service_same}
-use Rattle.database_commands.proofs.HeldLemmas.{held_may_more, inbox_holds, known_so, on_ok, on_okay, table_foreign, table_untold, took_may_more, untold_so}
+use Rattle.databases.specs.Fault.{of_table}
+use Rattle.databases.specs.Held.{Holds, IsTaken, IsUntold, KeepsOrTakes, KeepsRows, MayHoldMore}
+use Rattle.databases.proofs.BesideLemmas.{service_over, service_same}
+use Rattle.databases.proofs.HeldLemmas.{held_may_more, inbox_holds, known_so, on_ok, on_okay, table_foreign, table_untold, took_may_more, untold_so}
 use Rattle.database_commands.proofs.intake.take.Goals as goal
 
 pub returns-in-Ok-clause-left : goal.returns-in-Ok-clause-left

@@ -1,6 +1,6 @@
 use Rattle.std.proofs.Common.{◌≡◌, ◌∙◌, ap, drop}
 use Rattle.sqlite.specs.Held.{state}
-use Rattle.database_commands.specs.Held.{HasArrived, ShowsArrived}
+use Rattle.databases.specs.Held.{HasArrived, ShowsArrived}
 use Rattle.database_commands.proofs.MadeLemmas.{look_made, made_says}
 use Rattle.database_commands.proofs.page.arrival_pages.Goals as goal
 

@@ -2,8 +2,8 @@ use Rattle.std.proofs.Common.{◌≡◌, ◌∙◌, List, ap}
 use Rattle.sqlite.specs.Held.{state}
 use Rattle.attributes.specs.Event.{EventValue}
 use Rattle.site.specs.Page.{page}
-use Rattle.database_commands.specs.Held.{SaysArrivals, ShowsArrivals}
-use Rattle.database_commands.specs.Print.{batch_line}
+use Rattle.databases.specs.Held.{SaysArrivals, ShowsArrivals}
+use Rattle.databases.specs.Print.{batch_line}
 use Rattle.database_commands.proofs.MadeLemmas.{look_made, made_says}
 use Rattle.database_commands.proofs.page.arrivals.Goals as goal
 

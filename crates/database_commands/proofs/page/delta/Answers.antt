@@ -6,8 +6,8 @@ use Rattle.inbox.specs.Ordered.{append_new}
 use Rattle.inbox.specs.Sets.{set_of}
 use Rattle.site.specs.Delta.{delta}
 use Rattle.site.specs.Page.{page}
-use Rattle.database_commands.specs.Held.{SaysDelta, ShowsDelta}
-use Rattle.database_commands.specs.Print.{batch_line}
+use Rattle.databases.specs.Held.{SaysDelta, ShowsDelta}
+use Rattle.databases.specs.Print.{batch_line}
 use Rattle.database_commands.proofs.MadeLemmas.{made_says, once_shown, page_made}
 use Rattle.database_commands.proofs.page.delta.Goals as goal
 

@@ -5,7 +5,7 @@ use Rattle.inbox.specs.KeyOrder.{key_cmp}
 use Rattle.inbox.specs.Ordered.{append_new}
 use Rattle.inbox.specs.Sets.{set_of}
 use Rattle.site.specs.Delta.{delta}
-use Rattle.database_commands.specs.Held.{HasDelta, ShowsLacking}
+use Rattle.databases.specs.Held.{HasDelta, ShowsLacking}
 use Rattle.database_commands.proofs.MadeLemmas.{look_made, made_says, once_shown}
 use Rattle.database_commands.proofs.page.delta_pages.Goals as goal
 

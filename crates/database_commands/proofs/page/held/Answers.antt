@@ -2,9 +2,9 @@ use Rattle.std.proofs.Common.{◌≡◌, ◌∙◌, Err, ap, false, rules, subst
 use Rattle.database_layout.specs.Layout.{has_inbox}
 use Rattle.inbox_table.specs.declared.fault.TableFault.TheVariants as table
 use Rattle.inbox_table.proofs.OpenLemmas.{not_both}
-use Rattle.database_commands.specs.Fault.{of_table}
-use Rattle.database_commands.specs.Held.{IsUntold}
-use Rattle.database_commands.proofs.HeldLemmas.{table_foreign, table_untold}
+use Rattle.databases.specs.Fault.{of_table}
+use Rattle.databases.specs.Held.{IsUntold}
+use Rattle.databases.proofs.HeldLemmas.{table_foreign, table_untold}
 use Rattle.database_commands.proofs.page.held.Goals as goal
 
 pub returns-then-not-has_inbox-clause-both : goal.returns-then-not-has_inbox-clause-both

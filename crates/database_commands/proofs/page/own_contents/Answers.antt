@@ -1,11 +1,11 @@
 use Rattle.std.proofs.Common.{◌∙◌, Err, Ok, ap, subst, sym}
 use Rattle.sqlite.specs.Held.{state}
 use Rattle.inbox_table.specs.Rows.{IsInbox}
-use Rattle.database_commands.specs.Fault.{of_table}
-use Rattle.database_commands.specs.Held.{Holds, IsUntold}
+use Rattle.databases.specs.Fault.{of_table}
+use Rattle.databases.specs.Held.{Holds, IsUntold}
 use Rattle.database_commands.specs.steps.Made.{ContentsEffect}
-use Rattle.database_commands.proofs.BesideLemmas.{service_same}
-use Rattle.database_commands.proofs.HeldLemmas.{inbox_holds, table_foreign, table_untold}
+use Rattle.databases.proofs.BesideLemmas.{service_same}
+use Rattle.databases.proofs.HeldLemmas.{inbox_holds, table_foreign, table_untold}
 use Rattle.database_commands.proofs.page.own_contents.Goals as goal
 
 pub returns-in-Ok : goal.returns-in-Ok

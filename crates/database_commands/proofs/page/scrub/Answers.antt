@@ -5,8 +5,8 @@ use Rattle.inbox.specs.KeyOrder.{key_cmp}
 use Rattle.inbox.specs.Ordered.{append_new}
 use Rattle.inbox.specs.Sets.{set_of}
 use Rattle.site.specs.Page.{page}
-use Rattle.database_commands.specs.Held.{SaysPage, ShowsPage}
-use Rattle.database_commands.specs.Print.{batch_line}
+use Rattle.databases.specs.Held.{SaysPage, ShowsPage}
+use Rattle.databases.specs.Print.{batch_line}
 use Rattle.database_commands.proofs.MadeLemmas.{made_says, once_shown, page_made}
 use Rattle.database_commands.proofs.page.scrub.Goals as goal
 

@@ -3,7 +3,7 @@ use Rattle.sqlite.specs.Held.{state}
 use Rattle.inbox.specs.KeyOrder.{key_cmp}
 use Rattle.inbox.specs.Ordered.{append_new}
 use Rattle.inbox.specs.Sets.{set_of}
-use Rattle.database_commands.specs.Held.{HasEvents, ShowsSet}
+use Rattle.databases.specs.Held.{HasEvents, ShowsSet}
 use Rattle.database_commands.proofs.MadeLemmas.{look_made, made_says, once_shown}
 use Rattle.database_commands.proofs.page.scrub_pages.Goals as goal
 

@@ -4,7 +4,7 @@ use Rattle.attributes.specs.Event.{EventValue}
 use Rattle.inbox.specs.KeyOrder.{key_cmp}
 use Rattle.inbox.specs.Ordered.{append_new}
 use Rattle.inbox.specs.Sets.{set_of}
-use Rattle.database_commands.specs.Held.{SaysSummary, SaysSummaryOf, ShowsSummary}
+use Rattle.databases.specs.Held.{SaysSummary, SaysSummaryOf, ShowsSummary}
 use Rattle.database_commands.proofs.MadeLemmas.{look_made, made_says, once_shown}
 use Rattle.database_commands.proofs.page.summary.Goals as goal
 

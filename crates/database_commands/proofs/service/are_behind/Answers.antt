@@ -1,5 +1,5 @@
 use Rattle.std.proofs.Common.{◌∙◌, ◌<◌, ℕ, Some, ap, sym, rules}
-use Rattle.database_commands.specs.Held.{IsBehind}
+use Rattle.databases.specs.Held.{IsBehind}
 use Rattle.database_commands.proofs.RowLemmas.{each_next}
 use Rattle.database_commands.proofs.service.are_behind.Goals as goal
 

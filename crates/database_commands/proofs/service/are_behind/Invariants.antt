@@ -1,6 +1,6 @@
 use Rattle.std.proofs.Common.{take}
 use Rattle.std.specs.List.{AllByRecursion}
-use Rattle.database_commands.specs.Held.{IsBehind}
+use Rattle.databases.specs.Held.{IsBehind}
 use Rattle.database_commands.proofs.service.are_behind.Given as goal
 
 abbrev pub invariant-loop-i : goal.invariant-loop-i

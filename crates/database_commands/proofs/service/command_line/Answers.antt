@@ -1,6 +1,6 @@
 use Rattle.std.proofs.Common.{inl, inr, sym, ap, ◌∙◌}
 use Rattle.outbox.specs.declared.fault.OutboxFault.TheVariants as outbox
-use Rattle.database_commands.specs.Print.{event_line}
+use Rattle.databases.specs.Print.{event_line}
 use Rattle.database_commands.proofs.service.command_line.Goals as goal
 
 pub returns-in-Ok-command-clause-accepted : goal.returns-in-Ok-command-clause-accepted

@@ -3,7 +3,7 @@ use Rattle.std.proofs.lemmas.Result.{IfOk-weaker}
 use Rattle.sqlite.specs.Held.{state}
 use Rattle.sqlite.specs.State.{HasCleanDisk}
 use Rattle.outbox.specs.Call.{IsSettled, Leaves}
-use Rattle.database_commands.proofs.HeldLemmas.{on_okay}
+use Rattle.databases.proofs.HeldLemmas.{on_okay}
 use Rattle.database_commands.proofs.RowLemmas.{read_leaves, read_settled, shown_all}
 use Rattle.database_commands.proofs.service.found_rows.Goals as goal
 

@@ -4,9 +4,9 @@ use Rattle.sqlite.specs.Held.{state}
 use Rattle.sqlite.specs.State.{HasCleanDisk}
 use Rattle.outbox.specs.Call.{IsSettled}
 use Rattle.outbox.specs.Order.{Accepted}
-use Rattle.database_commands.specs.Held.{KeepsEvents, KeepsService, LeavesOrOrders, Orders}
-use Rattle.database_commands.proofs.BesideLemmas.{events_beside, events_over, events_same}
-use Rattle.database_commands.proofs.HeldLemmas.{either_way, on_err, on_ok, on_okay}
+use Rattle.databases.specs.Held.{KeepsEvents, KeepsService, LeavesOrOrders, Orders}
+use Rattle.databases.proofs.BesideLemmas.{events_beside, events_over, events_same}
+use Rattle.databases.proofs.HeldLemmas.{either_way, on_err, on_ok, on_okay}
 use Rattle.database_commands.proofs.ServedLemmas.{kept_all, kept_served, leaves_or_orders, made_or_orders, not_another, not_to_be_had, ordered, refused_order}
 use Rattle.database_commands.proofs.service.order.Goals as goal
 

@@ -3,10 +3,10 @@ use Rattle.std.proofs.lemmas.Result.{IfOk-weaker}
 use Rattle.sqlite.specs.Held.{state}
 use Rattle.sqlite.specs.State.{HasCleanDisk}
 use Rattle.outbox.specs.Call.{IsSettled}
-use Rattle.database_commands.specs.Held.{KeepsEvents, KeepsService}
-use Rattle.database_commands.specs.Service.{LeavesOrFounds}
-use Rattle.database_commands.proofs.BesideLemmas.{events_same}
-use Rattle.database_commands.proofs.HeldLemmas.{on_okay}
+use Rattle.databases.specs.Held.{KeepsEvents, KeepsService}
+use Rattle.databases.specs.Service.{LeavesOrFounds}
+use Rattle.databases.proofs.BesideLemmas.{events_same}
+use Rattle.databases.proofs.HeldLemmas.{on_okay}
 use Rattle.database_commands.proofs.ServedLemmas.{beside_read, kept_all, kept_read, made_or_founds, read_or_founds, shown_rows}
 use Rattle.database_commands.proofs.service.relay.Goals as goal
 

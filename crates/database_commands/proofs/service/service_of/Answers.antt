@@ -4,8 +4,8 @@ use Rattle.sqlite.specs.State.{HasCleanDisk}
 use Rattle.outbox.specs.Opening.{LeavesOrMakes}
 use Rattle.outbox.specs.declared.fault.OutboxFault.{OutboxFault}
 use Rattle.outbox.specs.declared.fault.OutboxFault.TheVariants as outbox
-use Rattle.database_commands.specs.Fault.{of_outbox}
-use Rattle.database_commands.specs.Held.{IsNoOrders}
+use Rattle.databases.specs.Fault.{of_outbox}
+use Rattle.databases.specs.Held.{IsNoOrders}
 use Rattle.database_commands.proofs.ServedLemmas.{not_another, opened_beside, opened_other, opened_served}
 use Rattle.database_commands.proofs.service.service_of.Goals as goal
 

@@ -1,7 +1,7 @@
 use Rattle.std.proofs.Common.{ap, arith, inl, subst}
 use Rattle.sqlite.specs.Held.{state}
 use Rattle.sqlite.specs.State.{HasCleanDisk}
-use Rattle.database_commands.proofs.BesideLemmas.{service_same}
+use Rattle.databases.proofs.BesideLemmas.{service_same}
 use Rattle.database_commands.proofs.StreamLemmas.{stays_unread, stream_beside, stream_followed, stream_settled, stream_stops, stream_told, stream_until, tells_none}
 use Rattle.database_commands.proofs.stream.follow.Goals as goal
 

@@ -5,10 +5,10 @@ use Rattle.sqlite.specs.Held.{state}
 use Rattle.attributes.specs.Sequence.{max_sequence}
 use Rattle.database_layout.specs.Layout.{has_name}
 use Rattle.outbox.specs.Call.{IsFounded}
-use Rattle.database_commands.specs.declared.fault.CommandFault.{CommandFault}
-use Rattle.database_commands.specs.declared.fault.CommandFault.TheVariants as command
-use Rattle.database_commands.specs.Held.{IsNoOrders}
-use Rattle.database_commands.specs.Service.{LeavesOrFounds, TellsOrFounds}
+use Rattle.databases.specs.declared.fault.CommandFault.{CommandFault}
+use Rattle.databases.specs.declared.fault.CommandFault.TheVariants as command
+use Rattle.databases.specs.Held.{IsNoOrders}
+use Rattle.databases.specs.Service.{LeavesOrFounds, TellsOrFounds}
 use Rattle.database_commands.proofs.ToldLemmas.{base_high, base_is, each_err, made_tells, made_told, there_tells, there_told, with_ok}
 use Rattle.database_commands.proofs.told.tell_service.Goals as goal
 

@@ -3,9 +3,9 @@ use Rattle.sqlite.specs.Held.{Held, state}
 use Rattle.sqlite.specs.State.{HasCleanDisk, Survives}
 use Rattle.attributes.specs.Event.{EventValue}
 use Rattle.inbox_table.specs.Rows.{IsInbox}
-use Rattle.database_commands.specs.Fault.{of_table}
-use Rattle.database_commands.specs.Held.{Holds, IsNoInbox, KeepsEvents}
-use Rattle.database_commands.specs.declared.fault.CommandFault.TheVariants as command
+use Rattle.databases.specs.Fault.{of_table}
+use Rattle.databases.specs.Held.{Holds, IsNoInbox, KeepsEvents}
+use Rattle.databases.specs.declared.fault.CommandFault.TheVariants as command
 use Rattle.run_command.specs.Outcome.{MayRun}
 use Rattle.run_command.proofs.EndLemmas.{inbox_holds, ran_on, table_foreign, unbegun_may}
 use Rattle.run_command.proofs.ending.run.Goals as goal

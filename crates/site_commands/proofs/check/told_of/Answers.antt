@@ -1,5 +1,5 @@
 use Rattle.std.proofs.Common.{◌≡◌, rules}
-use Rattle.database_commands.specs.declared.trouble.Trouble.TheVariants.{OutOfMemory}
+use Rattle.databases.specs.declared.trouble.Trouble.TheVariants.{OutOfMemory}
 use Rattle.site_commands.proofs.check.told_of.Goals as goal
 
 pub returns-in_ok-text-in-Err : goal.returns-in_ok-text-in-Err

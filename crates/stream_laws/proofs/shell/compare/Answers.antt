@@ -3,8 +3,8 @@ use Rattle.sqlite.specs.Held.{state}
 use Rattle.attributes.specs.Event.{EventValue}
 use Rattle.inbox.specs.Sets.{set_of}
 use Rattle.block_digests.specs.Lacking.{lacking}
-use Rattle.database_commands.specs.Held.{Holds, ShowsLacking, ShowsSummary}
-use Rattle.database_commands.specs.Print.{WithoutLineEnd}
+use Rattle.databases.specs.Held.{Holds, ShowsLacking, ShowsSummary}
+use Rattle.databases.specs.Print.{WithoutLineEnd}
 use Rattle.stream_laws.proofs.ShellLemmas.{each_ok, lacked}
 use Rattle.stream_laws.proofs.shell.compare.Goals as goal
 

@@ -3,8 +3,8 @@ use Rattle.sqlite.specs.Held.{state}
 use Rattle.attributes.specs.Event.{EventValue}
 use Rattle.inbox.specs.Sets.{set_of}
 use Rattle.block_digests.specs.Lacking.{lacking}
-use Rattle.database_commands.specs.Held.{Holds}
-use Rattle.database_commands.specs.Pages.{pages_text}
+use Rattle.databases.specs.Held.{Holds}
+use Rattle.databases.specs.Pages.{pages_text}
 use Rattle.stream_laws.proofs.ShellLemmas.{each_ok, lacking_events}
 use Rattle.stream_laws.proofs.shell.send.Goals as goal
 

@@ -1,5 +1,5 @@
 use Rattle.std.proofs.Common.{◌≡◌, ◌∙◌, Bool, true, false, inl, refl, rules, sym}
-use Rattle.database_commands.specs.declared.trouble.Trouble.TheVariants as trouble
+use Rattle.databases.specs.declared.trouble.Trouble.TheVariants as trouble
 use Rattle.database_commands.proofs.opener.Opener.open.Goals as goal
 
 pub returns-then-is_no_file-clause-refused : goal.returns-then-is_no_file-clause-refused

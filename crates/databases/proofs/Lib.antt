@@ -1,0 +1,4 @@
+pub mod BesideLemmas
+pub mod HeldLemmas
+pub mod PageLemmas
+mod PrintLemmas

@@ -1,0 +1,11 @@
+pub mod Fault
+pub mod Name
+pub mod Print
+pub mod Pages
+pub mod Held
+pub mod Done
+pub mod Service
+pub mod Described
+pub mod Trouble
+pub mod Streams
+pub mod steps
