@@ -9,6 +9,7 @@ from typing import IO, Iterator
 
 import pytest
 from events import E1, E2, E3, E4, acknowledgement, batch, event, lines, numbered_events, page
+from logs import commits
 from shell import As, Room, answers, asks, finds, lacks, refuses, rows
 
 NONE = event("a", None, source="/")
@@ -90,9 +91,7 @@ def give(stream: IO[bytes], text: bytes, step: int) -> None:
 
 
 CUT = f"{E1}\n\n{E2}\r\nhalf a li\n{batch(E2, E3)}"
-CUT_SAID = lines(
-    '{"line":1,"new":1,"repeated":0}', '{"line":3,"new":1,"repeated":0}', '{"line":4,"fault":"not JSON"}', '{"line":5,"new":1,"repeated":1}'
-)
+CUT_SAID = lines('{"line":1,"new":1,"repeated":0}', '{"line":3,"new":1,"repeated":0}', '{"line":4,"fault":"not JSON"}', '{"line":5,"new":1,"repeated":1}')
 
 
 @pytest.mark.parametrize("step", [1, 2, 5, 100, 1000])
@@ -109,12 +108,6 @@ def test_however_many_bytes_come_a_read(room: Room, text: str, said: str, step: 
 TEN = [event(f"{it:04d}", it) for it in range(1, 11)]
 
 
-def commits(log: bytes) -> int:
-    """How many transactions a log of SQLite has: pages whose header says how many the database has then."""
-    size = int.from_bytes(log[8:12], "big")
-    return sum(int.from_bytes(log[at + 4 : at + 8], "big") > 0 for at in range(32, len(log), size + 24))
-
-
 @pytest.mark.parametrize(("whole", "more", "turns"), [(0, 1, 10), (1, 0, 10), (3, 0, 4), (3, 7, 4), (10, 0, 1)])
 def test_lines_that_come_at_once_share_a_turn(room: Room, whole: int, more: int, turns: int) -> None:
     """Of ten lines so many come a read, and so many bytes of the next: those that stand whole are kept in one transaction."""
@@ -124,10 +117,10 @@ def test_lines_that_come_at_once_share_a_turn(room: Room, whole: int, more: int,
         # The first line has the table made, and so its own turns.
         give(ran.stdin, lines(E1).encode(), 1000)
         assert ran.stdout.readline().decode() == acknowledgement(1, 1, 0)
-        before = commits(room.contents("t.db-wal")["t.db-wal"])
+        before = commits(room.at("t.db-wal"))
         give(ran.stdin, text.encode(), len(lines(TEN[0])) * whole + more)
         said = [ran.stdout.readline().decode() for _ in TEN]
-        behind = commits(room.contents("t.db-wal")["t.db-wal"])
+        behind = commits(room.at("t.db-wal"))
         ran.stdin.close()
         assert ran.wait(30) == 0
     assert said == [acknowledgement(it, 1, 0) for it in range(2, 12)]

@@ -1,6 +1,10 @@
 """The command `run`: what it prints of feeds and a peer, and what its database then holds."""
+import os
+import time
+
 from events import E1, E2, E3, E4, batch, cover, event, lines, page
-from shell import answers, fails, lacks, refuses, rejects, rows
+from logs import commits
+from shell import Room, answers, fails, lacks, refuses, rejects, rows
 
 BARE = event("z", None)
 FILES = {
@@ -70,6 +74,20 @@ test_many_events = rows(
     fails("standard output closed", "site run --db closed.db low.json high.json >&-"),
     answers("all was kept", "site take --db closed.db low.json high.json", "read 1900 new 0 repeated 1900\n"),
 )
+
+
+def test_what_comes_is_kept_while_workers_work(room: Room) -> None:
+    """A run that is killed once its fifth transaction is written has kept some events, and not all."""
+    room.put({name: batch(*(event(f"{it:06d}", it, source=f"/{name}") for it in range(1, 100_001))) for name in ("a", "b")})
+    with room.start("exec site run --db k.db a b") as ran:
+        until = time.monotonic() + 60
+        while not os.path.exists(room.at("k.db-wal")) or commits(room.at("k.db-wal")) < 5:
+            assert ran.poll() is None and time.monotonic() < until
+            time.sleep(0.0005)
+        ran.kill()
+    kept = room.run("site shown --db k.db").out.count("\n")
+    assert 0 < kept < 200_000
+
 
 # Lines, each an event or a batch. All are judged before a database is opened.
 LINES = {

@@ -12,6 +12,4 @@ mod memory;
 #[cfg(test)]
 mod region;
 #[cfg(test)]
-mod runs;
-#[cfg(test)]
 mod watches;
