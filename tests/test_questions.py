@@ -90,6 +90,36 @@ test_many_files = rows(
 )
 
 
+MANY = [event(f"n{it:05d}", it, f"n{it:05d}", subject=f"n{it:05d}", time="2024-02-29T00:00:00Z") for it in range(1, 1501)]
+ODD = [event(f"{it:05d}", it) for it in range(1, 3001, 2)]
+SOURCES = [event("a", it + 1, source=f"/s{it}") for it in range(1500)]
+
+# Nothing gives up above a size, nor where there is nothing to tell.
+test_sizes = rows(
+    {"many": batch(*MANY), "odd": batch(*ODD), "sources": batch(*SOURCES), "first": FIRST},
+    *(answers(f"{it} of 1,500 types and subjects", f"site {it} many | wc -l", "1500\n") for it in ("kinds", "days", "latest", "shown")),
+    answers("cover of one source", "site cover many", f"{cover(1500)}\n"),
+    answers(
+        "cover of 1,500 intervals", "site cover odd", f'{{"sources":{{"/orders":{[[it, it] for it in range(1, 3001, 2)]}}},"version":1}}\n'.replace(" ", "")
+    ),
+    answers("gaps of 1,500 intervals", "site gaps odd", f'["/orders",{[[it, it] for it in range(2, 2999, 2)]}]\n'.replace(" ", "")),
+    "site take --db sources.db sources; site cover sources >sources.cover; site summary --db sources.db >sources.summary",
+    answers("a summary of 1,500 sources is read back", "site delta --db sources.db --all sources.summary"),
+    answers("a cover of them too", "site delta --db sources.db --all sources.cover"),
+    answers("no day without a time", "site days first"),
+    answers("no conflict of one event", "site conflicts first"),
+    *(
+        refuses(
+            f"a comment of {count} letters",
+            "site cover large",
+            "large: event 0: TooLarge",
+            files={"large": event("a", None, source="/s", comment="a" * count)},
+        )
+        for count in (262_144, 300_000, 1_048_576)
+    ),
+)
+
+
 def numbers_of(of: set[int]) -> str:
     """What `cover` prints of the numbers of /orders."""
     return json.dumps({"sources": {"/orders": list(intervals(sorted(of)))}, "version": 1}, separators=(",", ":")) + "\n"
