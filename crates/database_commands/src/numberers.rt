@@ -1,5 +1,5 @@
 //! Numberers in the files of the operating system.
-ghost use Rattle.std.specs.Prelude.{IfErr, IfOk};
+ghost use Rattle.std.specs.Prelude.{IfErr, IfOk, IsErrOf};
 ghost use Rattle.sqlite_wal.specs.Files.{image_at};
 ghost use Rattle.number_table.specs.Each.{AreNumberedEach};
 ghost use Rattle.number_lines.specs.Numbering.{NumbersAll, NumbersSome, NumbersUntil};
@@ -41,6 +41,7 @@ pub fn number_opened<T: Start, R: Read, W: Write, E: Write>(
     ensures until { IfOk result (λ s. IfErr s.outcome (λ f. NumbersUntil aside.now AreNumberedEach f
         (R.remaining input.old) (W.contents out.old) (W.contents out.new)
         (E.contents err.old) (E.contents err.new))) }
+    ensures refused { IfErr result (IsErrOf opened) }
     ensures unopened { IfErr result (λ _. NumbersSome aside.now AreNumberedEach
         (R.remaining input.old) (W.contents out.old) (W.contents out.new)
         (E.contents err.old) (E.contents err.new)) }
