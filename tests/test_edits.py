@@ -304,6 +304,16 @@ def test_kept_result_that_is_damaged(damage: str, folder: str) -> None:
     assert (status, said[-2:], len(checks)) == (0, ["edits: 2 kept, 1 tried anew", ALL_KEPT[1]], 1), said
 
 
+def test_one_that_is_not_read_beside_others(folder: str) -> None:
+    copy = Copy(folder)
+    copy.write("top/crates/small/edits/four.edit", "only: fourth\nclause: right\nfile: src/lib.rt\nold: fn second() -> u8\nnew: fn second() -> u8 \n")
+    copy.table("four", "one", "three", "two")
+    status, said, checks = copy.run()
+    is_told = any(it.startswith("small/edits/four.edit: ERROR: the edit did not reach the prover") for it in said)
+    # Both halves, of which one is read; what is left of the other is tried alone.
+    assert (status, is_told, said[-1], len(checks), checks[-2:]) == (1, True, "3 passed, 1 failed", 5, ["fourth", "first"]), (said, checks)
+
+
 def test_copy_that_is_not_faithful(folder: str) -> None:
     copy = Copy(folder)
     copy.write("asked.faithless", "")

@@ -416,8 +416,9 @@ def tried(crates: Crates, file: str, folders: dict[str, str], kept: str) -> tupl
 
 
 def tried_of(crates: Crates, files: list[str], folders: dict[str, str]) -> list[tuple[str, bool, str, float]]:
-    """What came of a crate's edits. All are tried in one check, as far as they go into one, without other bodies; where that
-    isn't read, once more with them, and without copies; and what isn't shown refused at its clause is tried alone."""
+    """What came of a crate's edits. All are tried in one check, as far as they go into one, without other bodies. Where that
+    isn't read, each half is tried, so that one edit at fault leaves the others together; where most isn't, all once more with
+    their bodies, and without copies. What isn't shown refused at its clause is tried alone."""
     found, edits = {}, []
     for file in files:
         with contextlib.suppress(BadEdit, OSError):
@@ -425,16 +426,23 @@ def tried_of(crates: Crates, files: list[str], folders: dict[str, str]) -> list[
     with tempfile.TemporaryDirectory(prefix="edits-kept-") as kept:
         has_further = len({only for _, (only, _, _) in edits}) < len(edits)
         for has_copies, is_hollow in ((True, True), (has_further, False), *([(False, False)] * has_further)):
-            todo = [(file, edit) for file, edit in edits if file not in found]
-            while len(todo) > 1:
-                try:
-                    name = todo[0][0].split(os.sep)[-3]
+            groups = [[(file, edit) for file, edit in edits if file not in found]]
+            unread, most = 0, 2 * len(edits).bit_length()
+            while groups:
+                todo = groups.pop()
+                if len(todo) < 2:
+                    continue
+                name = todo[0][0].split(os.sep)[-3]
+                lines: list[str] = []
+                with contextlib.suppress(BadEdit, OSError):
                     status, lines, seconds, goals, left = checked(crates, name, todo, folders, kept, has_copies, is_hollow)
-                except (BadEdit, OSError):
-                    break
-                if asked_and_proved(status, lines) is None:
-                    break
-                todo = left
+                if not lines or asked_and_proved(status, lines) is None:
+                    unread += 1
+                    if unread > most:
+                        break
+                    groups += [todo[: len(todo) // 2], todo[len(todo) // 2 :]]
+                    continue
+                groups.append(left)
                 controls = {it.control for it, _ in goals if it.control}
                 if is_hollow and not (controls and all(is_faithful(name, it, lines) for it in controls)):
                     continue
