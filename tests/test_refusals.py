@@ -177,7 +177,7 @@ ROWS_OF_ALL = [
 
 # Tests that have to pass whichever allocation is refused, by their crate. Rows of drivers are tried by tests/test_rows.py.
 TESTS = {
-    "worker_checks": [
+    "site_checks": [
         "refused::a_caller_takes_a_batch_or_its_front",
         "refused::a_desk_takes_a_batch_or_its_front",
         "refused::a_refused_call_has_its_turn_and_adds_nothing",

@@ -9,7 +9,7 @@ from harness import Counts
 from refuse_allocations import Refuser
 from shell import TOP
 
-DRIVERS = ("event_rows", "inbox_rows", "site_rows", "table_rows")
+DRIVERS = ("inbox_rows", "site_rows", "table_rows")
 
 
 def pytest_generate_tests(metafunc: pytest.Metafunc) -> None:

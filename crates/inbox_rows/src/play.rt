@@ -1,7 +1,9 @@
 //! What has a name, and the calls by their words.
 
-use crate::{digests, divisions, inboxes, numbers, summaries, texts};
-use attributes::Sequenced;
+use crate::{
+    digests, divisions, inboxes, members, numbers, offers, readers, summaries, texts, values,
+};
+use attributes::{Event, Sequenced};
 use block_digests::Blocks;
 use coverage::{Intervals, Summary};
 use inbox::Inbox;
@@ -14,6 +16,7 @@ use std::alloc::Global;
 /// What has a name.
 #[derive(Drop)]
 pub struct Values {
+    built: Shelf<Event>,
     events: Shelf<Sequenced>,
     inboxes: Shelf<Inbox>,
     sets: Shelf<Intervals>,
@@ -25,12 +28,35 @@ impl Values {
     /// Nothing yet.
     pub fn empty(alloc: Global) -> Values {
         Values {
+            built: Shelf::empty(alloc),
             events: Shelf::empty(alloc),
             inboxes: Shelf::empty(alloc),
             sets: Shelf::empty(alloc),
             summaries: Shelf::empty(alloc),
             blocks: Shelf::empty(alloc),
         }
+    }
+}
+
+/// A call of an event by itself.
+fn of_event(
+    alloc: Global,
+    values: &mut Values,
+    word: &str,
+    words: &[&str],
+    out: &mut String,
+) -> bool {
+    match (word, words) {
+        ("attribute", _) => readers::attribute(&values.built, words, out),
+        ("duplicate", _) => readers::duplicate(alloc, &mut values.built, words),
+        ("compare", _) => readers::compare(&values.built, words, out),
+        ("number", _) => readers::number(&values.built, words, out),
+        ("list", _) => readers::list(alloc, &values.built, words, out),
+        ("queue", _) => readers::queue(alloc, &values.built, words, out),
+        ("comment", _) => readers::comment(alloc, words, out),
+        ("event-faults", []) => readers::faults(out),
+        (_, [name]) => readers::own(alloc, &values.built, word, name, out),
+        _ => false,
     }
 }
 
@@ -52,7 +78,7 @@ fn of_blocks(
         ("digest", _) => digests::digest(alloc, &values.events, words, out),
         ("digits", _) => digests::digits(alloc, &values.summaries, words, out),
         ("sum", _) => digests::sum(alloc, &values.inboxes, &mut values.summaries, words),
-        _ => false,
+        _ => of_event(alloc, values, word, words, out),
     }
 }
 
@@ -129,29 +155,56 @@ fn call(alloc: Global, values: &mut Values, word: &str, words: &[&str], said: &m
     }
 }
 
+/// Makes a call whose last word is a text, which may have spaces; none where it is another call.
+fn of_text(
+    alloc: Global,
+    values: &mut Values,
+    word: &str,
+    text: &str,
+    out: &mut String,
+) -> Option<bool> {
+    match word {
+        "build" => Some(match text.split_once(' ') {
+            Some((name, text)) => offers::call(alloc, &mut values.built, name, text, out),
+            None => false,
+        }),
+        "read" => Some(match text.split_once(' ') {
+            Some((name, text)) => summaries::read(alloc, &mut values.summaries, name, text, out),
+            None => false,
+        }),
+        "moment" => Some(values::moment(alloc, text, out)),
+        "sequence" => Some(values::sequence(text, out)),
+        "twenty" => Some(values::twenty(alloc, text, out)),
+        "keep" => Some(values::keep(alloc, text, out)),
+        "members" => Some(members::members(alloc, text, out)),
+        "hints" => Some(members::hints(alloc, text, out)),
+        "bytes" => Some(values::bytes(alloc, text, out)),
+        _ => texts::call(alloc, word, text, out),
+    }
+}
+
+/// Makes a call by its words.
+fn by_words(alloc: Global, values: &mut Values, text: &str, said: &mut Said) -> bool {
+    let words: Result<Vec<&str>, _> = text.split_whitespace().collect(alloc);
+    match words {
+        Ok(words) => match words.as_slice() {
+            [word, words @ ..] => call(alloc, values, word, words, said),
+            _ => false,
+        },
+        Err(_) => false,
+    }
+}
+
 impl Player for Values {
-    fn play(&mut self, rt: &HostRuntime, text: &str, said: &mut Said) -> bool {
+    fn play(&mut self, rt: &HostRuntime, call: &str, said: &mut Said) -> bool {
         let alloc = rt.alloc();
-        if let Some((word, text)) = text.split_once(' ') {
-            if let Some(is_told) = texts::call(alloc, word, text, &mut said.text) {
-                return is_told;
-            }
-        }
-        if let Some(text) = text.strip_prefix("read ") {
-            return match text.split_once(' ') {
-                Some((name, text)) => {
-                    summaries::read(alloc, &mut self.summaries, name, text, &mut said.text)
-                }
-                None => false,
-            };
-        }
-        let words: Result<Vec<&str>, _> = text.split_whitespace().collect(alloc);
-        match words {
-            Ok(words) => match words.as_slice() {
-                [word, words @ ..] => call(alloc, self, word, words, said),
-                _ => false,
-            },
-            Err(_) => false,
+        let (word, text) = match call.split_once(' ') {
+            Some((word, text)) => (word, text),
+            None => (call, ""),
+        };
+        match of_text(alloc, self, word, text, &mut said.text) {
+            Some(is_told) => is_told,
+            None => by_words(alloc, self, call, said),
         }
     }
 }

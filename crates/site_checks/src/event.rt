@@ -1,6 +1,6 @@
-//! Events of rows.
+//! Events, as values and as JSON texts.
 
-use attributes::{Event, Given, Parts, Sequenced, Text};
+use attributes::{Batch, Event, Given, Parts, Sequenced, Text};
 use std::alloc::{AllocError, Global};
 
 /// The id, the sequence number, the type, the subject and the time of an event of the source
@@ -8,7 +8,7 @@ use std::alloc::{AllocError, Global};
 pub type Row<'a> = (&'a str, u64, &'a str, &'a str, &'a str);
 
 /// Sets an attribute.
-pub fn set(alloc: Global, parts: &mut Parts, name: &str, text: &str) -> Result<(), AllocError> {
+fn set(alloc: Global, parts: &mut Parts, name: &str, text: &str) -> Result<(), AllocError> {
     parts.set(name, Given::Words(Text::of(alloc, text)?))
 }
 
@@ -51,4 +51,49 @@ pub fn event(alloc: Global, row: Row<'_>) -> Option<Sequenced> {
     } else {
         None
     }
+}
+
+/// Adds the event of a row to a batch, and answers whether it did.
+pub fn add(alloc: Global, batch: &mut Batch, row: Row<'_>) -> bool {
+    match event(alloc, row) {
+        Some(event) => batch.push(event).is_ok(),
+        None => false,
+    }
+}
+
+/// Adds events with these ids and numbers, of type t.a and subject x, and answers whether it did.
+pub fn add_all(alloc: Global, batch: &mut Batch, rows: &[(&str, u64)]) -> bool {
+    for (id, number) in rows {
+        if !add(alloc, batch, (*id, *number, "t.a", "x", "")) {
+            return false;
+        }
+    }
+    true
+}
+
+/// The JSON text of an event with a number.
+fn json(alloc: Global, number: u64) -> Result<Text, AllocError> {
+    let text = format!(in alloc;
+        "{{\"specversion\":\"1.0\",\"id\":\"e{number}\",\"source\":\"/orders\",\"type\":\"t.a\",\"sequence\":\"{number:020}\"}}"
+    )?;
+    Ok(Text::from_string(text))
+}
+
+/// The JSON text of the batch of so many events, with the numbers from `first` on.
+pub fn json_batch(alloc: Global, first: u64, count: u64) -> Result<Text, AllocError> {
+    let mut text = String::new(alloc);
+    text.push('[')?;
+    for i in 0..count {
+        if i > 0 {
+            text.push(',')?;
+        }
+        text.push_str(json(alloc, first.saturating_add(i))?.as_str())?;
+    }
+    text.push(']')?;
+    Ok(Text::from_string(text))
+}
+
+/// Whether there is a text, and it is this one.
+pub fn is_text(text: Result<Text, AllocError>, wanted: &str) -> bool {
+    matches!(text, Ok(text) if text.as_str() == wanted)
 }

@@ -1,15 +1,30 @@
-//! What no contract says of sites and their exchange, and no row of `site_rows`: random schedules,
-//! held against sets, and that laws can be called. Only public calls are used, so that no library is
+//! What no contract says of sites, their exchange, their threads and their workers, and no row can:
+//! random schedules, held against sets; that calls succeed with ample memory; that gates are asked;
+//! that turns come; that laws can be called. Only public calls are used, so that no library is
 //! proved a second time for its tests.
 #![tactic(auto)]
 
+#[cfg(test)]
+mod desk;
 #[cfg(test)]
 mod event;
 #[cfg(test)]
 mod laws;
 #[cfg(test)]
+mod order;
+#[cfg(test)]
+mod refused;
+#[cfg(test)]
+mod serving;
+#[cfg(test)]
+mod shared;
+#[cfg(test)]
 mod taking;
 #[cfg(test)]
+mod threads;
+#[cfg(test)]
 mod wants;
+#[cfg(test)]
+mod worker;
 #[cfg(test)]
 mod worlds;

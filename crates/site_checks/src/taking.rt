@@ -1,19 +1,9 @@
-//! What tests do to sites: they take the events of rows.
+//! What tests do to sites.
 
-use crate::event::{Row, event};
 use attributes::Batch;
 use exchange::{Step, Steps};
 use inbox::Counts;
 use site::Site;
-use std::alloc::Global;
-
-/// Adds the event of a row to a batch, and answers whether it did.
-pub fn add(alloc: Global, batch: &mut Batch, row: Row<'_>) -> bool {
-    match event(alloc, row) {
-        Some(event) => batch.push(event).is_ok(),
-        None => false,
-    }
-}
 
 /// Counts of new and repeated events.
 pub fn counts(fresh: u64, repeated: u64) -> Counts {

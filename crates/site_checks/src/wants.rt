@@ -1,7 +1,8 @@
 //! That no exchange gives up above a size or at a small one while there is memory: no contract can say
 //! so, since memory may be refused wherever something is made.
 
-use crate::taking::{add, counts, take_all, then};
+use crate::event::add;
+use crate::taking::{counts, take_all, then};
 use crate::worlds::world_of;
 use attributes::Batch;
 use exchange::{Step, Steps, gossip};

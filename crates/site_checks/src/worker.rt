@@ -3,7 +3,6 @@
 ghost use Rattle.std.specs.Prelude.{◌+◌, ◌<◌, ◌^◌};
 
 use crate::event::{is_text, json_batch};
-use event_json::ReadFault;
 use feeds::{Answers, Report, WorkerEnd, ask, feed, pull, pull_from};
 use site::{Gate, GateShut, Site, Wide};
 use std::alloc::Global;
@@ -33,17 +32,6 @@ impl Gate for First {
     fn after(&self, _worker: u64, _call: u64) {}
 }
 
-/// Feeds a site these bytes.
-fn fed_bytes<G: Gate>(
-    alloc: Global,
-    site: &mut Site,
-    gate: &G,
-    worker: u64,
-    bytes: &[u8],
-) -> Report {
-    feed(alloc, site, gate, worker, bytes)
-}
-
 /// Feeds a site the batch of so many events, with the numbers from `first` on.
 fn fed<G: Gate>(
     alloc: Global,
@@ -54,7 +42,7 @@ fn fed<G: Gate>(
     count: u64,
 ) -> Option<Report> {
     let text = json_batch(alloc, first, count).ok()?;
-    Some(fed_bytes(alloc, site, gate, worker, text.as_str().as_bytes()))
+    Some(feed(alloc, site, gate, worker, text.as_str().as_bytes()))
 }
 
 /// A site takes so many events, with the numbers from `first` on; answers whether it did.
@@ -90,28 +78,6 @@ fn a_shut_gate_ends_a_feed(rt: HostRuntime) {
         ends_at_its_gate(rt.alloc(), &mut site)
     };
     assert!(rt; is_so);
-}
-
-/// Whether a feed of these bytes ends so, and leaves a site without events with so many.
-fn feeds_bytes(alloc: Global, text: &str, wanted: Report, arrived: u64) -> bool {
-    let mut site = Site::empty(alloc);
-    let told = fed_bytes(alloc, &mut site, &Wide, 0, text.as_bytes());
-    told == wanted && site.arrived() == arrived
-}
-
-#[test]
-fn an_event_without_a_number_is_refused(rt: HostRuntime) {
-    let text = "[{\"specversion\":\"1.0\",\"id\":\"x\",\"source\":\"/orders\",\"type\":\"t.a\"},
-        {\"specversion\":\"1.0\",\"id\":\"e1\",\"source\":\"/orders\",\"type\":\"t.a\",
-        \"sequence\":\"00000000000000000001\"}]";
-    let wanted = report(1, 0, 1, WorkerEnd::Done);
-    assert!(rt; wanted.read == 2 && feeds_bytes(rt.alloc(), text, wanted, 1));
-}
-
-#[test]
-fn an_input_that_spells_no_events_is_named(rt: HostRuntime) {
-    let wanted = report(0, 0, 0, WorkerEnd::BadInput(ReadFault::NotJson));
-    assert!(rt; feeds_bytes(rt.alloc(), "[1", wanted, 0));
 }
 
 /// A pull by worker 7, of which so many calls are let through.

@@ -8,9 +8,9 @@ use Rattle.std.proofs.Crossing.{sync}
 use Rattle.std.specs.contracts.alloc.Global as heap
 use Rattle.site_lock.specs.contracts.pass.Pass as pass
 use Rattle.site_lock.specs.contracts.shared.SharedSite as shared
-use Rattle.worker_checks.specs.contracts.threads.Work as work
-use Rattle.worker_checks.proofs.CaptureLemmas.{closure_is_send}
-use Rattle.worker_checks.proofs.threads.+levels.Goals as goal
+use Rattle.site_checks.specs.contracts.threads.Work as work
+use Rattle.site_checks.proofs.CaptureLemmas.{closure_is_send}
+use Rattle.site_checks.proofs.threads.+levels.Goals as goal
 
 -- what the closure captures: the runtime, the memory, the site, the pass, the number, the work and the levels
 pub join-first-requires-send-F : goal.join-first-requires-send-F

@@ -1,5 +1,5 @@
 //! What a shared site answers where an allocation is refused: what it would answer else, or that
-//! memory is wanted, and then it has what it had and the call had its turn. tools/try_refusals.py
+//! memory is wanted, and then it has what it had and the call had its turn. tests/test_refusals.py
 //! runs these tests with each allocation refused; with ample memory they compare the whole answers.
 
 ghost use Rattle.std.specs.Prelude.{◌≡◌};

@@ -29,8 +29,8 @@ pub fn sequence(text: &str, out: &mut String) -> bool {
     }
 }
 
-/// `digits NUMBER`: the twenty digits of a sequence number, and how it is shown, or none.
-pub fn digits(alloc: Global, text: &str, out: &mut String) -> bool {
+/// `twenty NUMBER`: the twenty digits of a sequence number, and how it is shown, or none.
+pub fn twenty(alloc: Global, text: &str, out: &mut String) -> bool {
     let Ok(number) = text.parse::<u64>() else {
         return false;
     };

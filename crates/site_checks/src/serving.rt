@@ -3,6 +3,7 @@
 ghost use Rattle.std.specs.Prelude.{◌≡◌, ◌+◌, ◌≤◌, length, IfSome};
 
 use crate::event::{is_text, json_batch};
+use crate::shared::begun;
 use crate::worker::{fill, report};
 use attributes::{List, Octets};
 use feeds::{Aside, Idle, Jobs, Questions, ServeFault, Served, WorkerEnd, serve};
@@ -247,13 +248,6 @@ fn nothing(alloc: Global) -> Jobs
         peers: List::empty(alloc),
         asks: List::empty(alloc),
     }
-}
-
-/// An empty shared site and its first pass.
-fn begun(alloc: Global) -> Option<Begun>
-    ensures { IfSome result (λ b. b.pass.table ≡ b.shared) }
-{
-    SharedSite::begin(alloc, Site::empty(alloc)).ok()
 }
 
 /// Whether each worker did what it was to do.

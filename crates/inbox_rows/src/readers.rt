@@ -48,7 +48,7 @@ fn add_content(alloc: Global, out: &mut String, content: Payload<'_>) -> bool {
 /// What an event tells of itself by one of its readers.
 fn add_own(alloc: Global, event: &Event, word: &str, out: &mut String) -> bool {
     match word {
-        "text" => line(out, event.text()),
+        "canonical" => line(out, event.text()),
         "length" => {
             let len = event.text().len();
             write!(out, "{len}\n").is_ok()
@@ -58,13 +58,13 @@ fn add_own(alloc: Global, event: &Event, word: &str, out: &mut String) -> bool {
         "kind" => line(out, event.kind()),
         "subject" => add_some(out, event.subject()),
         "time" => add_some(out, event.time()),
-        "day" => add_day(out, event.day()),
+        "day-of" => add_day(out, event.day()),
         "data" => add_content(alloc, out, event.content()),
         _ => false,
     }
 }
 
-/// `text|length|id|source|kind|subject|time|day|data NAME`: what an event tells by its readers.
+/// `canonical|length|id|source|kind|subject|time|day-of|data NAME`: what an event tells by its readers.
 pub fn own(alloc: Global, events: &Shelf<Event>, word: &str, name: &str, out: &mut String) -> bool {
     match events.get(name) {
         Some(event) => add_own(alloc, event, word, out),
@@ -72,8 +72,8 @@ pub fn own(alloc: Global, events: &Shelf<Event>, word: &str, name: &str, out: &m
     }
 }
 
-/// `of NAME [ATTRIBUTE]`: an attribute by its name, which may be empty.
-pub fn of(events: &Shelf<Event>, words: &[&str], out: &mut String) -> bool {
+/// `attribute NAME [ATTRIBUTE]`: an attribute by its name, which may be empty.
+pub fn attribute(events: &Shelf<Event>, words: &[&str], out: &mut String) -> bool {
     match words {
         [name, attribute] => match events.get(name) {
             Some(event) => add_attribute(out, event.attribute(attribute)),
@@ -87,8 +87,8 @@ pub fn of(events: &Shelf<Event>, words: &[&str], out: &mut String) -> bool {
     }
 }
 
-/// `copy ONE NAME`: a copy of an event has that name from now on.
-pub fn copy(alloc: Global, events: &mut Shelf<Event>, words: &[&str]) -> bool {
+/// `duplicate ONE NAME`: a copy of an event has that name from now on.
+pub fn duplicate(alloc: Global, events: &mut Shelf<Event>, words: &[&str]) -> bool {
     let [one, name] = words else {
         return false;
     };
@@ -217,9 +217,9 @@ fn add_fronts(out: &mut String, batch: &mut Batch) -> bool {
     batch.is_empty() && batch.take_front().is_none() && out.push('\n').is_ok()
 }
 
-/// `fronts NAME..`: how many events a batch of numbered copies has, and their numbers as they are
+/// `queue NAME..`: how many events a batch of numbered copies has, and their numbers as they are
 /// taken from its front, until there is none.
-pub fn fronts(alloc: Global, events: &Shelf<Event>, words: &[&str], out: &mut String) -> bool {
+pub fn queue(alloc: Global, events: &Shelf<Event>, words: &[&str], out: &mut String) -> bool {
     let mut batch = Batch::empty(alloc);
     for name in words {
         let is_pushed = match events.get(name) {
@@ -233,8 +233,8 @@ pub fn fronts(alloc: Global, events: &Shelf<Event>, words: &[&str], out: &mut St
     add_fronts(out, &mut batch)
 }
 
-/// `long LETTERS`: the length of an event whose comment has so many letters, or its fault.
-pub fn long(alloc: Global, words: &[&str], out: &mut String) -> bool {
+/// `comment LETTERS`: the length of an event whose comment has so many letters, or its fault.
+pub fn comment(alloc: Global, words: &[&str], out: &mut String) -> bool {
     let [letters] = words else {
         return false;
     };
@@ -269,7 +269,7 @@ static FAULTS: [Fault; 18] = [
     Fault::BadSequence,
 ];
 
-/// `faults`: the number and the name of each fault of an event.
+/// `event-faults`: the number and the name of each fault of an event.
 pub fn faults(out: &mut String) -> bool {
     for fault in &FAULTS {
         if !add_fault(out, *fault) {

@@ -1,5 +1,5 @@
 use Rattle.std.proofs.Common.{◌-◌, ◌*◌}
-use Rattle.worker_checks.proofs.threads.+levels.Given as goal
+use Rattle.site_checks.proofs.threads.+levels.Given as goal
 
 abbrev pub decreases-join+arg2 : goal.decreases-join+arg2
 decreases-join+arg2 g l = 2 * l.levels - 1
