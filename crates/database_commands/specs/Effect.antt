@@ -14,7 +14,7 @@ use Rattle.outbox.specs.Shown.{IsNoService}
 use Rattle.databases.specs.Described.{Describes}
 use Rattle.databases.specs.Done.{OpenIfDone, SettledIfDone}
 use Rattle.databases.specs.Fault.{IsOfOrder}
-use Rattle.databases.specs.Held.{HasAnother, IsMeant, IsNoInbox, IsNoOrders, IsUntold, KeepsEvents, KeepsOrTakes, KeepsRows, KeepsService, LeavesOrOrders, MayHold, MayHoldMore, Orders, RefusesOrder, ShowsAllRows, ShowsEvents, ShowsRows, TakesInto, TellsUpgrade}
+use Rattle.databases.specs.Held.{HasAnother, IsMeant, IsNoInbox, IsNoOrders, IsNoRows, IsUntold, KeepsEvents, KeepsOrTakes, KeepsRows, KeepsService, LeavesOrOrders, MayHold, MayHoldMore, Orders, RefusesOrder, ShowsAllRows, ShowsEvents, ShowsRows, TakesInto, TellsUpgrade}
 use Rattle.databases.specs.Service.{HasOtherBase, LeavesOrFounds, TellsOrFounds}
 use Rattle.databases.specs.Service as service
 use Rattle.databases.specs.declared.fault.CommandFault.{CommandFault}
@@ -163,7 +163,7 @@ pub record RelayEffect (given : List ℕ) (after : ℕ) (outcome : Result (List 
   -- before, or that with a new service
   pub clean : HasCleanDisk new → HasCleanDisk old
   pub crash : LeavesOrFounds given 0 old new
-  pub fault : IfErr outcome (λ f. f ≢ command.AnotherSource)
+  pub fault : IfErr outcome IsNoRows
 
 -- all rows after a number were asked for
 pub record RelayAllEffect (after : ℕ) (outcome : Result (List ℕ) CommandFault) (old new : State)
@@ -176,4 +176,4 @@ pub record RelayAllEffect (after : ℕ) (outcome : Result (List ℕ) CommandFaul
   -- where there is one, it was answered by the last commit, which is all that a crash leaves
   pub stays_open : has_name old.now.schema ≡ true → OpenIfDone new outcome
   pub settled : has_name old.now.schema ≡ true → SettledIfDone new outcome
-  pub fault : IfErr outcome (λ f. f ≢ command.AnotherSource)
+  pub fault : IfErr outcome IsUntold

@@ -1,16 +1,15 @@
 //! The commands, each as a value. What each does, and how it is refused, stands at the function of
 //! the crate that it calls.
-ghost use Rattle.std.specs.Prelude.{◌≡◌, ◌≢◌, ◌≤◌, ℕ, length, true, IfSome};
+ghost use Rattle.std.specs.Prelude.{◌≡◌, ◌≤◌, ℕ, length, true, IfSome};
 ghost use Rattle.attributes.specs.Character.{is_filled};
 ghost use Rattle.attributes.specs.Sequence.{max_sequence};
 ghost use Rattle.inbox_table.specs.Rows.{AreNumbered};
 ghost use Rattle.databases.specs.Described.{SaysDatabase};
 ghost use Rattle.database_commands.specs.Effect.{DescribeEffect, HeldEffect, LookEffect, OrderEffect, PageEffect, RelayAllEffect, RelayEffect, ServiceEffect, TakeEffect};
 ghost use Rattle.databases.specs.Fault.{IsOfOrder};
-ghost use Rattle.databases.specs.Held.{HasArrived, HasDelta, HasEvents, IsNoOrders, SaysAllRows, SaysArrivals, SaysDelta, SaysOrder, SaysPage, SaysRows, SaysSummary, ShowsArrivals, ShowsArrived, ShowsDelta, ShowsLacking, ShowsPage, ShowsSet, ShowsSummary};
+ghost use Rattle.databases.specs.Held.{HasArrived, HasDelta, HasEvents, IsNoOrders, IsNoRows, SaysAllRows, SaysArrivals, SaysDelta, SaysOrder, SaysPage, SaysRows, SaysSummary, ShowsArrivals, ShowsArrived, ShowsDelta, ShowsLacking, ShowsPage, ShowsSet, ShowsSummary};
 ghost use Rattle.databases.specs.Print.{counts_line};
 ghost use Rattle.databases.specs.Service.{SaysService};
-ghost use Rattle.databases.specs.declared.fault.CommandFault.TheVariants as command;
 
 use crate::command::{Command, CommandEnd};
 use crate::described::describe;
@@ -292,7 +291,7 @@ impl<'a> Command for RelayPage<'a> {
 
     ghost says = { λ c. SaysRows c.after };
 
-    ghost fails = { λ _ f. f ≢ command.AnotherSource };
+    ghost fails = { λ _. IsNoRows };
 
     fn perform<S: Alter + Drop>(self, alloc: Global, conn: Connection<S>) -> CommandEnd<S, Text> {
         relay(alloc, conn, self.source, self.after)
@@ -311,8 +310,6 @@ impl Command for RelayAll {
     ghost does = { λ c. RelayAllEffect c.after };
 
     ghost says = { λ c. SaysAllRows c.after };
-
-    ghost fails = { λ _ f. f ≢ command.AnotherSource };
 
     fn perform<S: Alter + Drop>(self, alloc: Global, conn: Connection<S>) -> CommandEnd<S, Text> {
         relay_all(alloc, conn, self.after)

@@ -17,7 +17,7 @@ ghost use Rattle.relay.specs.Relay.{ForNextRows};
 ghost use Rattle.databases.specs.declared.fault.CommandFault.TheVariants as command;
 ghost use Rattle.databases.specs.Fault.{of_outbox};
 ghost use Rattle.database_commands.specs.Effect.{OrderEffect};
-ghost use Rattle.databases.specs.Held.{ForAllRows, HasAnother, IsBehind, IsNoOrders, IsServed, KeepsEvents, KeepsService, SaysAllRows, SaysOrder, SaysRows, ShowsAllRows, ShowsRows};
+ghost use Rattle.databases.specs.Held.{ForAllRows, HasAnother, IsBehind, IsNoOrders, IsNoRows, IsServed, IsUntold, KeepsEvents, KeepsService, SaysAllRows, SaysOrder, SaysRows, ShowsAllRows, ShowsRows};
 ghost use Rattle.databases.specs.Pages.{max_page, pages_text};
 ghost use Rattle.databases.specs.Print.{batch_line, event_line};
 ghost use Rattle.databases.specs.Service.{LeavesOrFounds};
@@ -279,7 +279,7 @@ pub fn relay<S: Alter + Drop>(
     ensures settled { SettledIfDone (state S.Store result.conn) result.outcome }
     ensures clean { HasCleanDisk (state S.Store result.conn) → HasCleanDisk (state S.Store conn) }
     ensures crash { LeavesOrFounds source.now 0 (state S.Store conn) (state S.Store result.conn) }
-    ensures fault { IfErr result.outcome (λ f. f ≢ command.AnotherSource) }
+    ensures fault { IfErr result.outcome IsNoRows }
     ensures line { IfOk result.outcome (SaysRows after) }
 {
     match service_of(alloc, conn, source, false) {
@@ -312,7 +312,7 @@ fn rows_line<S: Alter>(
     ensures settled { SettledIfDone (state S.Store service.new.conn) result }
     ensures crash { LeavesAsBefore (state S.Store service.old.conn)
         (state S.Store service.new.conn) }
-    ensures fault { IfErr result (λ f. f ≢ command.AnotherSource) }
+    ensures fault { IfErr result IsNoRows }
     ensures line { IfOk result (SaysRows after) }
 {
     let mut route = MemoryRoute::empty(alloc);
@@ -359,7 +359,7 @@ pub fn relay_all<S: Alter + Drop>(
         → OpenIfDone (state S.Store result.conn) result.outcome }
     ensures settled { has_name (state S.Store conn).now.schema ≡ true
         → SettledIfDone (state S.Store result.conn) result.outcome }
-    ensures fault { IfErr result.outcome (λ f. f ≢ command.AnotherSource) }
+    ensures fault { IfErr result.outcome IsUntold }
     ensures line { IfOk result.outcome (SaysAllRows after) }
 {
     if has_name(conn.schema()) {
@@ -382,7 +382,7 @@ fn found_rows<S: Alter + Drop>(
     ensures left { Leaves (state S.Store conn) (state S.Store result.conn) }
     ensures stays_open { OpenIfDone (state S.Store result.conn) result.outcome }
     ensures settled { SettledIfDone (state S.Store result.conn) result.outcome }
-    ensures fault { IfErr result.outcome (λ f. f ≢ command.AnotherSource) }
+    ensures fault { IfErr result.outcome IsUntold }
     ensures line { IfOk result.outcome (SaysAllRows after) }
 {
     match Service::adopt(alloc, conn) {
@@ -420,7 +420,7 @@ fn row_lines<S: Alter>(
     ensures same { IsSame (state S.Store service.old.conn) (state S.Store service.new.conn) }
     ensures crash { LeavesRead (state S.Store service.old.conn) (state S.Store service.new.conn) }
     ensures stays_open { OpenIfDone (state S.Store service.new.conn) result }
-    ensures fault { IfErr result (λ f. f ≢ command.AnotherSource) }
+    ensures fault { IfErr result IsUntold }
 {
     let mut lines = String::new(alloc);
     let mut mark = first_mark(service.base(), after);
@@ -454,7 +454,7 @@ fn next_page<S: Alter>(
     ensures same { IsSame (state S.Store service.old.conn) (state S.Store service.new.conn) }
     ensures crash { LeavesAsBefore (state S.Store service.old.conn)
         (state S.Store service.new.conn) }
-    ensures fault { IfErr result (λ f. f ≢ command.AnotherSource) }
+    ensures fault { IfErr result IsUntold }
 {
     let rows = match service.rows_after(mark, MAX_PAGE) {
         Ok(rows) => rows,

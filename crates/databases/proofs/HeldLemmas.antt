@@ -15,10 +15,14 @@ use Rattle.inbox_table.specs.Fault.{IsOfStore}
 use Rattle.inbox_table.specs.declared.fault.TableFault.{TableFault}
 use Rattle.inbox_table.specs.declared.fault.TableFault.TheVariants as table
 use Rattle.inbox_table.proofs.UpgradeLemmas.{any_named}
-use Rattle.databases.specs.Fault.{of_table}
+use Rattle.outbox.specs.declared.fault.OutboxFault.{OutboxFault}
+use Rattle.outbox.specs.declared.fault.OutboxFault.TheVariants as outbox
+use Rattle.relay.specs.declared.fault.RelayFault.{RelayFault}
+use Rattle.relay.specs.declared.fault.RelayFault.TheVariants as relay
+use Rattle.databases.specs.Fault.{of_outbox, of_relay, of_table}
 use Rattle.databases.specs.declared.fault.CommandFault.TheVariants as command
 use Rattle.databases.specs.declared.fault.CommandFault.{CommandFault}
-use Rattle.databases.specs.Held.{Holds, IsNoInbox, IsUntold, KeepsRows, MayHold, MayHoldMore, TellsUpgrade}
+use Rattle.databases.specs.Held.{Holds, IsNoInbox, IsNoRows, IsUntold, KeepsRows, MayHold, MayHoldMore, TellsUpgrade}
 use Rattle.databases.proofs.BesideLemmas.{service_gained, service_kept, service_over, service_same, service_upgraded}
 
 -- where there was no table, the one that was made has what the database held
@@ -186,6 +190,21 @@ pub table_untold : (fault : TableFault) → IsUntold (of_table fault)
 table_untold table.OutOfMemory = inl refl
 table_untold table.Store = inr (inl refl)
 table_untold table.Foreign = inr (inr refl)
+
+-- a service is refused so where its rows are read
+pub outbox_untold : (fault : OutboxFault) → (fault ≡ outbox.OutOfMemory) ⊎ ((fault ≡ outbox.Store) ⊎ (fault ≡ outbox.Foreign)) → IsUntold (of_outbox fault)
+outbox_untold fault (inl is) = inl (ap of_outbox is)
+outbox_untold fault (inr (inl is)) = inr (inl (ap of_outbox is))
+outbox_untold fault (inr (inr is)) = inr (inr (ap of_outbox is))
+
+-- and a relay
+pub relay_untold : (fault : RelayFault) → IsNoRows (of_relay fault)
+relay_untold relay.OutOfMemory = inl (inl refl)
+relay_untold relay.RouteFailed = inr refl
+relay_untold relay.Stranger = inl (inr (inl refl))
+relay_untold relay.Store = inl (inr (inl refl))
+relay_untold relay.NoThread = inl (inr (inl refl))
+relay_untold relay.GateShut = inl (inr (inl refl))
 
 -- and keeping
 pub store_told : (fault : TableFault) → IsOfStore fault → (of_table fault ≡ command.OutOfMemory) ⊎ (of_table fault ≡ command.Store)

@@ -198,6 +198,10 @@ IsNoOrders f = (f ≡ command.OutOfMemory) ⊎ ((f ≡ command.Store)
 abbrev pub IsUntold : CommandFault → Type 0
 IsUntold f = (f ≡ command.OutOfMemory) ⊎ ((f ≡ command.Store) ⊎ (f ≡ command.Foreign))
 
+-- nor of the next rows of its service, which what they were sent to didn't take
+abbrev pub IsNoRows : CommandFault → Type 0
+IsNoRows f = IsUntold f ⊎ (f ≡ command.RouteFailed)
+
 -- a service accepted one command more, and the text is the event of its row
 pub record IsOrdered (source : List ℕ) (base : ℕ) (commands : List Accepted) (c : Accepted)
     (new : Database) (text : List ℕ) : Type 0 where

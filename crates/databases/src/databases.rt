@@ -1,17 +1,16 @@
 //! Databases by the names of their files.
-ghost use Rattle.std.specs.Prelude.{◌≡◌, ◌≢◌, ◌≤◌, ℕ, length, true, IfErr, IfOk, IfSome, IsErrOf};
+ghost use Rattle.std.specs.Prelude.{◌≡◌, ◌≤◌, ℕ, length, true, IfErr, IfOk, IfSome, IsErrOf};
 ghost use Rattle.attributes.specs.Character.{is_filled};
 ghost use Rattle.attributes.specs.Sequence.{max_sequence};
 ghost use Rattle.inbox_table.specs.Rows.{AreNumbered};
 ghost use Rattle.line_intake.specs.Acknowledged.{TellsAll};
 ghost use Rattle.databases.specs.Described.{SaysDatabase};
 ghost use Rattle.databases.specs.Fault.{IsOfOrder, OrOfNamed};
-ghost use Rattle.databases.specs.Held.{HasArrived, HasDelta, HasEvents, IsNoOrders, IsUntold, SaysAllRows, SaysArrivals, SaysDelta, SaysOrder, SaysPage, SaysRows, SaysSummary};
+ghost use Rattle.databases.specs.Held.{HasArrived, HasDelta, HasEvents, IsNoOrders, IsNoRows, IsUntold, SaysAllRows, SaysArrivals, SaysDelta, SaysOrder, SaysPage, SaysRows, SaysSummary};
 ghost use Rattle.databases.specs.Name.{IsNoFile};
 ghost use Rattle.databases.specs.Print.{counts_line};
 ghost use Rattle.databases.specs.Service.{SaysService};
 ghost use Rattle.databases.specs.Streams.{AcknowledgesUntil};
-ghost use Rattle.databases.specs.declared.fault.CommandFault.TheVariants as command;
 ghost use Rattle.databases.specs.declared.trouble.Trouble.TheVariants as trouble;
 
 use crate::fault::CommandFault;
@@ -162,12 +161,12 @@ pub trait Databases {
     ) -> Result<Relayed, CommandFault>
         requires { (is_filled source.now ≡ true) × (length source.now ≤ 1024) }
         ensures answer { IfOk result (λ r. SaysRows after r.text) }
-        ensures fault { IfErr result (OrOfNamed (λ f. f ≢ command.AnotherSource)) };
+        ensures fault { IfErr result (OrOfNamed IsNoRows) };
 
     /// As [`crate::relay_all`]. A file that isn't there is not made: `CannotRead`.
     fn relay_all(&self, alloc: Global, name: &str, after: u64) -> Result<Text, CommandFault>
         ensures answer { IfOk result (SaysAllRows after) }
-        ensures fault { IfErr result (OrOfNamed (λ f. f ≢ command.AnotherSource)) };
+        ensures fault { IfErr result (OrOfNamed IsUntold) };
 
     /// Whether there is something of that name, so that no command makes it.
     fn is_there(&self, name: &str) -> bool;

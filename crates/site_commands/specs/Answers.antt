@@ -1,6 +1,6 @@
 -- What the plans of the program are answered with, and why they are refused. C says what a name is
 -- read as, U why a name isn't read.
-use Rattle.std.specs.Prelude.{◌≡◌, ◌≢◌, ◌≤◌, ◌<◌, Bool, IfSome, List, ℕ, length, false, true, Option, None, Some}
+use Rattle.std.specs.Prelude.{◌≡◌, ◌≤◌, ◌<◌, Bool, IfSome, List, ℕ, length, false, true, Option, None, Some}
 use Rattle.std.specs.Option.{is_some}
 use Rattle.attributes.specs.Character.{is_filled}
 use Rattle.attributes.specs.Event.{EventValue}
@@ -16,12 +16,11 @@ use Rattle.command_words.specs.declared.request.Action.TheVariants as action
 use Rattle.command_words.specs.declared.request.Pages.{Pages}
 use Rattle.command_words.specs.declared.request.Pages.TheVariants as pages
 use Rattle.databases.specs.Fault.{IsOfOrder, OrOfNamed}
-use Rattle.databases.specs.Held.{HasArrived, HasDelta, HasEvents, IsNoOrders, IsUntold, SaysAllRows, SaysArrivals, SaysDelta, SaysOrder, SaysPage, SaysRows, SaysSummary}
+use Rattle.databases.specs.Held.{HasArrived, HasDelta, HasEvents, IsNoOrders, IsNoRows, IsUntold, SaysAllRows, SaysArrivals, SaysDelta, SaysOrder, SaysPage, SaysRows, SaysSummary}
 use Rattle.databases.specs.Pages.{pages_text}
 use Rattle.databases.specs.Print.{WithoutLineEnd, counts_line}
 use Rattle.databases.specs.Service.{SaysService}
 use Rattle.databases.specs.declared.fault.CommandFault.{CommandFault}
-use Rattle.databases.specs.declared.fault.CommandFault.TheVariants as command
 use Rattle.inbox_table.specs.Rows.{AreNumbered}
 use Rattle.command_words.specs.declared.request.Request.{Request}
 use Rattle.command_words.specs.declared.request.Plan.{Plan}
@@ -166,10 +165,6 @@ abbrev pub IsOfDatabase : (CommandFault → Type 0) → Refusal → Type 0
 IsOfDatabase Fails (refusal.Database why) = OrOfNamed Fails why
 IsOfDatabase Fails _ = ⊥
 
--- the fault isn't that a service has another source, since none was named
-abbrev pub IsOfAny : CommandFault → Type 0
-IsOfAny why = why ≢ command.AnotherSource
-
 -- all files were read, and the text tells of a run of the feeds
 abbrev pub AnswersRun : (List ℕ → List ℕ → Type 0) → Option (List ℕ) → List (List ℕ) → Bool
     → List ℕ → Type 0
@@ -225,7 +220,7 @@ RefusesOnce C U (once.Arrivals db after is_all) refusal = IsOfDatabase IsUntold 
 RefusesOnce C U (once.Service db source is_named base) refusal =
     IsOfDatabase IsNoOrders refusal
 RefusesOnce C U (once.Order request) refusal = IsOfDatabase IsOfOrder refusal
-RefusesOnce C U (once.Relay db after is_all) refusal = IsOfDatabase IsOfAny refusal
+RefusesOnce C U (once.Relay db after is_all) refusal = IsOfDatabase IsNoRows refusal
 RefusesOnce C U (once.Part count place files has_lines) refusal =
     RefusesQuery C U has_lines None files refusal
 

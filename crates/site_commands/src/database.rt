@@ -3,9 +3,9 @@ ghost use Rattle.std.specs.Prelude.{◌≡◌, ◌≤◌, IfErr, IfOk, IfSome, f
 ghost use Rattle.attributes.specs.Character.{is_filled};
 ghost use Rattle.attributes.specs.Sequence.{max_sequence};
 ghost use Rattle.databases.specs.Fault.{IsOfOrder, OrOfNamed};
-ghost use Rattle.databases.specs.Held.{IsNoOrders, IsUntold, SaysSummary};
+ghost use Rattle.databases.specs.Held.{IsNoOrders, IsNoRows, IsUntold, SaysSummary};
 ghost use Rattle.databases.specs.Service.{SaysService};
-ghost use Rattle.site_commands.specs.Answers.{AnswersDelta, AnswersOrder, AnswersTake, HasSummary, IsAllowedRequest, IsOfAny, IsOfDatabase, RefusesDelta, RefusesTake, SaysArrived, SaysLacking, SaysPages, SaysRelay, status_of};
+ghost use Rattle.site_commands.specs.Answers.{AnswersDelta, AnswersOrder, AnswersTake, HasSummary, IsAllowedRequest, IsOfDatabase, RefusesDelta, RefusesTake, SaysArrived, SaysLacking, SaysPages, SaysRelay, status_of};
 ghost use Rattle.site_commands.specs.Printed.{printed};
 
 use crate::line::Refusal;
@@ -235,7 +235,7 @@ pub fn relay<D: Databases>(
     is_all: bool,
 ) -> Result<Printed, Refusal>
     ensures ok { IfOk result (λ p. SaysRelay after is_all (printed p)) }
-    ensures err { IfErr result (IsOfDatabase IsOfAny) }
+    ensures err { IfErr result (IsOfDatabase IsNoRows) }
 {
     if is_all {
         return match databases.relay_all(alloc, db, after) {
@@ -254,7 +254,7 @@ fn next_rows<D: Databases>(
     after: u64,
 ) -> Result<Printed, Refusal>
     ensures ok { IfOk result (λ p. SaysRelay after false (printed p)) }
-    ensures err { IfErr result (IsOfDatabase IsOfAny) }
+    ensures err { IfErr result (IsOfDatabase IsNoRows) }
 {
     let Ok(source) = Text::of(alloc, "/orders") else {
         return Err(Refusal::Database(CommandFault::OutOfMemory));

@@ -3,7 +3,8 @@ use Rattle.std.proofs.lemmas.Result.{IfOk-weaker}
 use Rattle.sqlite.specs.Held.{state}
 use Rattle.sqlite.specs.State.{HasCleanDisk}
 use Rattle.outbox.specs.Call.{IsSettled, Leaves}
-use Rattle.databases.proofs.HeldLemmas.{on_okay}
+use Rattle.databases.specs.Held.{IsUntold}
+use Rattle.databases.proofs.HeldLemmas.{on_okay, outbox_untold}
 use Rattle.database_commands.proofs.RowLemmas.{read_leaves, read_settled, shown_all}
 use Rattle.database_commands.proofs.service.found_rows.Goals as goal
 
@@ -44,3 +45,6 @@ returns-in-Ok-clause-settled g c clean =
     (read_settled (state g.S.Store mid.conn) (state g.S.Store last.conn) mid.source mid.base mid.last late c.in-Ok.ensures.open c.in-Ok.ensures.settled c.in-Ok.ensures.stands
     c.row_lines-outcome.ensures.same c.row_lines-outcome.ensures.crash) in
     on_okay c.row_lines-outcome.result _ _ (λ _. settled) (c.row_lines-outcome.ensures.stays_open late)
+
+pub returns-in-Err-clause-fault : goal.returns-in-Err-clause-fault
+returns-in-Err-clause-fault g c = subst IsUntold (sym c.of_outbox.ensures) (outbox_untold c.in-Err.refused.fault c.in-Err.ensures.fault)

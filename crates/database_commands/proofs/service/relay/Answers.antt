@@ -1,4 +1,4 @@
-use Rattle.std.proofs.Common.{IsTrue, arith, subst, sym}
+use Rattle.std.proofs.Common.{◌≡◌, Bool, IsTrue, arith, false, inl, subst, sym, true}
 use Rattle.std.proofs.lemmas.Result.{IfOk-weaker}
 use Rattle.sqlite.specs.Held.{state}
 use Rattle.sqlite.specs.State.{HasCleanDisk}
@@ -7,6 +7,7 @@ use Rattle.databases.specs.Held.{KeepsEvents, KeepsService}
 use Rattle.databases.specs.Service.{LeavesOrFounds}
 use Rattle.databases.proofs.BesideLemmas.{events_same}
 use Rattle.databases.proofs.HeldLemmas.{on_okay}
+use Rattle.database_commands.proofs.DescribedLemmas.{untold}
 use Rattle.database_commands.proofs.ServedLemmas.{beside_read, kept_all, kept_read, made_or_founds, read_or_founds, shown_rows}
 use Rattle.database_commands.proofs.service.relay.Goals as goal
 
@@ -72,3 +73,7 @@ returns-in-Ok-clause-crash g c =
 
 pub returns-in-Err-clause-crash : goal.returns-in-Err-clause-crash
 returns-in-Err-clause-crash g c = made_or_founds c.args.source.now (state g.S.Store c.args.conn) (state g.S.Store c.in-Err.refused.conn) c.in-Err.ensures.crash_refused
+
+-- no source is named
+pub returns-in-Err-clause-fault : goal.returns-in-Err-clause-fault
+returns-in-Err-clause-fault g c = inl (untold c.in-Err.refused.fault c.in-Err.ensures.fault (λ is. let bad : ◌≡◌ {A = Bool} false true = (c.in-Err.ensures.another is).0 in cc))
