@@ -21,7 +21,7 @@ use crate::command::CommandEnd;
 use attributes::{Batch, Text};
 use coverage::Summary;
 use database_layout::has_inbox;
-use databases::{CommandFault, EventPages, batch_line, loaded, of_table, page_behind};
+use databases::{CommandFault, EventPages, batch_line, load_table, of_table, page_behind};
 use inbox_table::{Inspected, Loaded, NotMade, inspect};
 use site::{MAX_PAGE, Site};
 use sqlite::{Alter, Connection};
@@ -31,7 +31,7 @@ use std::alloc::{AllocError, Global};
 fn own_contents<S: Alter + Drop>(alloc: Global, conn: Connection<S>) -> CommandEnd<S, Batch>
     ensures { ContentsEffect result.outcome (state S.Store conn) (state S.Store result.conn) }
 {
-    match loaded(alloc, conn) {
+    match load_table(alloc, conn) {
         Ok(loaded) => {
             let Loaded { table, events } = loaded;
             let conn = table.into_connection();

@@ -15,6 +15,6 @@ pub use fault::{CommandFault, of_outbox, of_relay, of_table};
 pub use outbox::Status;
 pub use pages::{EventPages, page_behind};
 pub use stream::StreamFault;
-pub use table::loaded;
+pub use table::load_table;
 pub use text::{batch_line, counts_line, database_line, event_line, service_line, summary_of};
 pub use trouble::{Trouble, of_error, of_fault, of_kind, of_open, trouble_line};

@@ -21,7 +21,7 @@ use crate::shared::{Closed, share};
 use crate::tally::{counts, first_fault};
 use crate::text::run_text;
 use attributes::{Batch, Text};
-use databases::{CommandFault, loaded, of_table};
+use databases::{CommandFault, load_table, of_table};
 use feeds::{Jobs, Report, ServeFault, Served};
 use inbox_table::{Loaded, NotMade, Table, Watch};
 use keeper::{Keeper, Kept, NotKept, Stop};
@@ -83,7 +83,7 @@ pub fn run<R: Threads + Wait + Sync, S: Alter + Drop, G: Gate + Sync, W: Watch>(
     ensures crash { Survives (state S.Store conn) (state S.Store result.conn)
         (MayRun (state S.Store conn).now) }
 {
-    match loaded(alloc, conn) {
+    match load_table(alloc, conn) {
         Ok(loaded) => {
             let Loaded { table, events } = loaded;
             run_table(rt, alloc, table, events, jobs, gate, watch)

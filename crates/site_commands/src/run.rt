@@ -298,7 +298,7 @@ fn ending_of<S: Looks, F: EventReader, D: Databases + Drop, P: Progress>(
         Some(db) => !databases.is_there(db),
         None => false,
     };
-    match carried_out(alloc, shelf, reader, databases, plan, progress) {
+    match answer_once(alloc, shelf, reader, databases, plan, progress) {
         Ok(Printed::Line(text)) => answered(alloc, names.db, text, is_made, false),
         Ok(Printed::Founded(text)) => answered(alloc, names.db, text, is_made, true),
         Ok(Printed::Pages(events)) => Ending::Pages(events),
@@ -340,7 +340,7 @@ fn ending_of_run<
 }
 
 /// The answer to a plan that has one.
-fn carried_out<S: Shelf, F: EventReader, D: Databases, P: Progress>(
+fn answer_once<S: Shelf, F: EventReader, D: Databases, P: Progress>(
     alloc: Global,
     shelf: &S,
     reader: &F,
@@ -360,7 +360,7 @@ fn carried_out<S: Shelf, F: EventReader, D: Databases, P: Progress>(
             db,
             files,
             has_lines,
-        } => lined(ask(
+        } => printed_line(ask(
             alloc,
             shelf,
             reader,
@@ -374,7 +374,7 @@ fn carried_out<S: Shelf, F: EventReader, D: Databases, P: Progress>(
             db,
             files,
             has_lines,
-        } => lined(take(
+        } => printed_line(take(
             alloc,
             shelf,
             reader,
@@ -384,7 +384,7 @@ fn carried_out<S: Shelf, F: EventReader, D: Databases, P: Progress>(
             *has_lines,
             progress,
         )),
-        Once::Summary { db } => lined(summary(alloc, databases, db.as_str())),
+        Once::Summary { db } => printed_line(summary(alloc, databases, db.as_str())),
         Once::Delta { db, pages, summary } => delta(
             alloc,
             shelf,
@@ -402,7 +402,7 @@ fn carried_out<S: Shelf, F: EventReader, D: Databases, P: Progress>(
             source,
             is_source_named,
             base,
-        } => lined(service(
+        } => printed_line(service(
             alloc,
             databases,
             db.as_str(),
@@ -410,7 +410,7 @@ fn carried_out<S: Shelf, F: EventReader, D: Databases, P: Progress>(
             *is_source_named,
             *base,
         )),
-        Once::Order(request) => lined(order(alloc, databases, request)),
+        Once::Order(request) => printed_line(order(alloc, databases, request)),
         Once::Relay { db, after, is_all } => {
             relay(alloc, databases, db.as_str(), *after, *is_all)
         }
@@ -419,7 +419,7 @@ fn carried_out<S: Shelf, F: EventReader, D: Databases, P: Progress>(
             part: place,
             files,
             has_lines,
-        } => lined(part(
+        } => printed_line(part(
             alloc,
             shelf,
             reader,
@@ -432,7 +432,7 @@ fn carried_out<S: Shelf, F: EventReader, D: Databases, P: Progress>(
 }
 
 /// An answer that is one text.
-fn lined(answer: Result<Text, Refusal>) -> Result<Printed, Refusal>
+fn printed_line(answer: Result<Text, Refusal>) -> Result<Printed, Refusal>
     ensures { MatchResult answer (λ text. result ≡ Ok (Printed.Line text)) (λ e. result ≡ Err e) }
 {
     match answer {

@@ -1,7 +1,7 @@
 use Rattle.std.proofs.lemmas.Result.{IfErr-weaker, IfOk-weaker}
 use Rattle.sqlite.proofs.StateLemmas.{survives_weaker}
 use Rattle.databases.proofs.HeldLemmas.{no_inbox, opened_events, opened_holds, opened_may_hold, opened_rows}
-use Rattle.databases.proofs.table.loaded.Goals as goal
+use Rattle.databases.proofs.table.load_table.Goals as goal
 
 pub returns : goal.returns
 returns g c =
