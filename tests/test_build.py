@@ -196,7 +196,10 @@ def test_source_below_the_archive_that_changed(archived: Built) -> None:
         pytest.param(0, 7, 4, id="the crate for which most waits has a process for each processor"),
         pytest.param(1, 7, 1, id="another has one where enough others wait"),
         pytest.param(1, 4, 1, id="and where there are as many as processors"),
-        pytest.param(2, 3, 4, id="where there are fewer it has one for each"),
+        pytest.param(1, 2, 2, id="where there are fewer they share the processors"),
+        pytest.param(0, 3, 2, id="what is left over is the first one's"),
+        pytest.param(2, 3, 1, id="and not the last one's"),
+        pytest.param(0, 1, 4, id="a crate alone has all"),
     ],
 )
 def test_processes(place: int, ready: int, wanted: int) -> None:

@@ -4,10 +4,9 @@
     tools/build.py [--jobs N] [CRATE..]      by default site_cli, with what it stands on
 
 As many crates at once as there are processors and memory (2 GB each). The one for which most waits is proved by as many
-processes as there are processors, and so are the others where there are fewer of them than processors; else each of
-these has one process, since several do some work twice. Of crates side by side the system gives that the most time for
-which most waits, and what it leaves goes to the others. What is built as its sources are is left as it is, also where `rt ci` left it (crates/NAME/out/rlib).
-A library goes to crates/NAME/out/built, as the statements that the crates above it rest on, which is what `rt ci` makes
+processes as there are processors, and each other by one, since several do some work twice; fewer crates than processors
+share them. Of crates side by side the system gives that the most time for which most waits, and what it leaves goes to
+the others. What is built as its sources are is left as it is, also where `rt ci` left it (crates/NAME/out/rlib). A library goes to crates/NAME/out/built, as the statements that the crates above it rest on, which is what `rt ci` makes
 too; the program, and a static library as libNAME.a, go to crates/NAME/out. `rt` itself lets one command at a time work
 in a crate and in those below it, so `rattle` is called as `rt` calls it.
 
@@ -331,8 +330,10 @@ class Plan:
     @staticmethod
     def processes(ahead: int, crowd: int, lanes: int) -> int:
         """By how many processes a crate is proved, where for so many of those that run more waits, and so many run or wait for
-        a lane alone."""
-        return lanes if ahead == 0 or crowd < lanes else 1
+        a lane alone. Fewer crates than lanes share them."""
+        if crowd < lanes:
+            return lanes // crowd + (1 if ahead < lanes % crowd else 0)
+        return lanes if ahead == 0 else 1
 
     def start(self, lanes: int, where: str) -> None:
         ready = self.ready()
