@@ -17,12 +17,10 @@ use Rattle.inbox_table.specs.declared.fault.TableFault.TheVariants as table
 use Rattle.inbox_table.proofs.UpgradeLemmas.{any_named}
 use Rattle.outbox.specs.declared.fault.OutboxFault.{OutboxFault}
 use Rattle.outbox.specs.declared.fault.OutboxFault.TheVariants as outbox
-use Rattle.relay.specs.declared.fault.RelayFault.{RelayFault}
-use Rattle.relay.specs.declared.fault.RelayFault.TheVariants as relay
-use Rattle.databases.specs.Fault.{of_outbox, of_relay, of_table}
+use Rattle.databases.specs.Fault.{of_outbox, of_table}
 use Rattle.databases.specs.declared.fault.CommandFault.TheVariants as command
 use Rattle.databases.specs.declared.fault.CommandFault.{CommandFault}
-use Rattle.databases.specs.Held.{Holds, IsNoInbox, IsNoRows, IsUntold, KeepsRows, MayHold, MayHoldMore, TellsUpgrade}
+use Rattle.databases.specs.Held.{Holds, IsNoInbox, IsUntold, KeepsRows, MayHold, MayHoldMore, TellsUpgrade}
 use Rattle.databases.proofs.BesideLemmas.{service_gained, service_kept, service_over, service_same, service_upgraded}
 
 -- where there was no table, the one that was made has what the database held
@@ -196,15 +194,6 @@ pub outbox_untold : (fault : OutboxFault) → (fault ≡ outbox.OutOfMemory) ⊎
 outbox_untold fault (inl is) = inl (ap of_outbox is)
 outbox_untold fault (inr (inl is)) = inr (inl (ap of_outbox is))
 outbox_untold fault (inr (inr is)) = inr (inr (ap of_outbox is))
-
--- and a relay
-pub relay_untold : (fault : RelayFault) → IsNoRows (of_relay fault)
-relay_untold relay.OutOfMemory = inl (inl refl)
-relay_untold relay.RouteFailed = inr refl
-relay_untold relay.Stranger = inl (inr (inl refl))
-relay_untold relay.Store = inl (inr (inl refl))
-relay_untold relay.NoThread = inl (inr (inl refl))
-relay_untold relay.GateShut = inl (inr (inl refl))
 
 -- and keeping
 pub store_told : (fault : TableFault) → IsOfStore fault → (of_table fault ≡ command.OutOfMemory) ⊎ (of_table fault ≡ command.Store)

@@ -15,7 +15,10 @@ use std::alloc::Global;
 
 /// The table of a database with its events, made where there is none; one of version 1 gives way to
 /// one of version 2.
-pub fn load_table<S: Alter + Drop>(alloc: Global, conn: Connection<S>) -> Result<Loaded<S>, NotMade<S>>
+pub fn load_table<S: Alter + Drop>(
+    alloc: Global,
+    conn: Connection<S>,
+) -> Result<Loaded<S>, NotMade<S>>
     ensures events { IfOk result (λ l. HasCleanDisk (state S.Store l.table.conn)
         → (held : List EventValue) → Holds (state S.Store conn).now held → l.events ≡ held) }
     ensures found { IfOk result (λ l. HasCleanDisk (state S.Store l.table.conn)
