@@ -353,6 +353,13 @@ fn parts_have_the_size_that_is_asked_for() {
             assert!(all.starts_with(&had));
             assert_eq!(had.matches("specversion").count() as u64, come);
         }
+        // The page with which the texts have so many bytes is the last.
+        let page = site.delta_page(nothing, 0).unwrap().unwrap().json;
+        let texts = page.trim_end().len() as u64 - 2 - 99;
+        for (bytes, come) in [(texts, 100), (texts + 1, 200)] {
+            let part = site.delta_part(nothing, 0, 2000, bytes).unwrap().unwrap();
+            assert_eq!(part.events, come);
+        }
         assert_eq!(site.delta_part(nothing, 2500, 2000, 0).unwrap(), None);
         assert_eq!(
             site.delta_part(nothing, u64::MAX, u64::MAX, u64::MAX)
