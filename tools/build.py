@@ -6,7 +6,8 @@
 As many crates at once as there are processors and memory (2 GB each). The one for which most waits is proved by as many
 processes as there are processors, and each other by one, since several do some work twice; fewer crates than processors
 share them. Of crates side by side the system gives that the most time for which most waits, and what it leaves goes to
-the others. What is built as its sources are is left as it is, also where `rt ci` left it (crates/NAME/out/rlib). A library goes to crates/NAME/out/built, as the statements that the crates above it rest on, which is what `rt ci` makes
+the others. What is built as its sources are is left as it is, also where `rt ci` left it (crates/NAME/out/rlib). A
+library goes to crates/NAME/out/built, as the statements that the crates above it rest on, which is what `rt ci` makes
 too; the program, and a static library as libNAME.a, go to crates/NAME/out. `rt` itself lets one command at a time work
 in a crate and in those below it, so `rattle` is called as `rt` calls it.
 
