@@ -1,10 +1,11 @@
 -- A part of a list, page by page.
-use Rattle.std.proofs.Common.{◌≡◌, ◌≤◌, ◌<◌, ◌+◌, ◌-◌, ◌*◌, ◌⊎◌, ◌∙◌, ◌++◌, ◌∷◌, ℕ, zero, suc, List, [], Bool, ap, drop, filter, length, min, not, refl, sym, take, arith, inl, inr}
+use Rattle.std.proofs.Common.{◌≡◌, ◌≤◌, ◌<◌, ◌≢◌, ◌+◌, ◌-◌, ◌*◌, ◌⊎◌, ◌∙◌, ◌++◌, ◌∷◌, ℕ, zero, suc, List, [], Bool, ap, drop, filter, length, min, not, append-nil, append_assoc, refl, subst, sym, take, arith, inl, inr}
 use Rattle.std.proofs.lemmas.Bool.{cases_lt}
 use Rattle.std.proofs.lemmas.List.{drop-drop, drop_all, length-drop, length-take, take_all, take_min}
 use Rattle.std.proofs.lemmas.List.Filters.{length-filter_both}
-use Rattle.attributes.specs.Event.{EventValue}
+use Rattle.attributes.specs.Event.{EventValue, text}
 use Rattle.site.specs.Page.{page}
+use Rattle.library_calls.specs.Sets.{IsBounded, bytes_of}
 
 -- a list from two ends
 take_then : (a b : ℕ) (L : List EventValue) → take a L ++ take b (drop a L) ≡ take (a + b) L
@@ -21,6 +22,51 @@ saturated D n most limit few = elim (cases_lt most n) [
       ap (λ (l : List EventValue). take limit l) (ap (λ k. drop k D) same ∙ drop_all most D few ∙ sym (drop_all n D (omega (arith, more, few)))))
   | inr fits ↦ (let same : min n most ≡ n = omega (arith, fits) in ap (λ k. page D k limit) same)
 ]
+
+-- bytes of texts, and fronts of lists
+pub bytes_both : (A B : List EventValue) → bytes_of (A ++ B) ≡ bytes_of A + bytes_of B
+bytes_both [] B = omega arith
+bytes_both (e ∷ A) B = let rest = bytes_both A B in omega (arith, rest)
+
+take_front : (n : ℕ) (A B : List EventValue) → n ≤ length A → take n (A ++ B) ≡ take n A
+take_front zero A B le = refl
+take_front (suc n) [] B le = absurd (omega (arith, le))
+take_front (suc n) (e ∷ A) B le = ap (λ (l : List EventValue). e ∷ l) (take_front n A B (omega (arith, le)))
+
+take_whole : (n : ℕ) (A B : List EventValue) → n ≡ length A → take n (A ++ B) ≡ A
+take_whole n A B same = take_front n A B (omega (arith, same)) ∙ take_all n A (omega (arith, same))
+
+pub none_of : (L : List EventValue) → length L ≡ 0 → L ≡ []
+none_of [] none = refl
+none_of (e ∷ L) none = absurd (omega (arith, none))
+
+-- of a page a front stands behind a part, and so many bytes of it are counted
+pub record Moved (part page now rest : List EventValue) (bytes : ℕ) : Type 0 where
+  pub front : List EventValue
+  pub split : page ≡ front ++ rest
+  pub put : now ≡ part ++ front
+  pub count : bytes ≡ min (bytes_of front) 18446744073709551615
+
+pub moved_none : (part page : List EventValue) → Moved part page part page 0
+moved_none part page = record { front = []; split = refl; put = sym (append-nil part); count = refl }
+
+pub moved_on : (part page now next rest rest' : List EventValue) (e : EventValue) (bytes bytes' : ℕ) → Moved part page now rest bytes → rest ≡ e ∷ rest' → next ≡ now ++ e ∷ []
+    → bytes' ≡ min (bytes + length (text e)) 18446744073709551615 → Moved part page next rest' bytes'
+moved_on part page now next rest rest' e bytes bytes' was is put more =
+    let whole = bytes_both was.front (e ∷ []) in record {
+      front = was.front ++ e ∷ [];
+      split = was.split ∙ ap (λ (l : List EventValue). was.front ++ l) is ∙ sym (append_assoc was.front (e ∷ []) rest');
+      put = put ∙ ap (λ (l : List EventValue). l ++ e ∷ []) was.put ∙ append_assoc part was.front (e ∷ []);
+      count = omega (arith, more, was.count, whole);
+    }
+
+pub moved_all : (part page now rest : List EventValue) (bytes : ℕ) → Moved part page now rest bytes → length rest ≡ 0
+    → (now ≡ part ++ page) × (bytes ≡ min (bytes_of page) 18446744073709551615)
+moved_all part page now rest bytes was none =
+    let all : page ≡ was.front = was.split ∙ ap (λ (l : List EventValue). was.front ++ l) (none_of rest none) ∙ append-nil was.front in (
+      was.put ∙ ap (λ (l : List EventValue). part ++ l) (sym all),
+      was.count ∙ ap (λ (l : List EventValue). min (bytes_of l) 18446744073709551615) (sym all),
+    )
 
 pub few_pass : (p : EventValue → Bool) (L : List EventValue) → length (filter p L) ≤ length L
 few_pass p L = let both = length-filter_both p (λ e. not (p e)) (λ e. refl) L in omega (arith, both)
@@ -96,3 +142,21 @@ module _ (D : List EventValue) (from limit i : ℕ) (part : List EventValue) (wa
         ]
       ];
     }
+
+    full_pages : (more ≡ [] → ⊥) → length part ≡ i * 100
+    full_pages there = elim was.pages [
+      | inl so_far ↦ omega (arith, so_far, some)
+      | inr all ↦ (let same = ap (λ (l : List EventValue). length l) all ∙ length-take limit R in
+          absurd (there (none_of more (omega (arith, same, some, more_long)))))
+    ]
+
+    -- the pages before stay within the bytes that are asked for
+    pub bounded_on : (size : ℕ) → IsBounded size part → (size ≢ 0 → bytes_of part < size) → (more ≡ [] → ⊥) → IsBounded size (part ++ more)
+    bounded_on size within below there given pages before =
+        let full = full_pages there in
+        let all = both_long in
+        elim (cases_lt (pages * 100) (length part)) [
+          | inl front ↦ subst (λ (l : List EventValue). bytes_of l < size) (sym (take_front (pages * 100) part more (omega (arith, front)))) (within given pages front)
+          | inr rest ↦ (let same : pages * 100 ≡ length part = omega (arith, full, rest, before, all, count) in
+              subst (λ (l : List EventValue). bytes_of l < size) (sym (take_whole (pages * 100) part more same)) (below given))
+        ]

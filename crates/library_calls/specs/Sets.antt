@@ -1,6 +1,6 @@
 -- What a service asks of a site, beside the calls of `Calls`.
-use Rattle.std.specs.Prelude.{◌≡◌, ◌≢◌, ◌<◌, ◌≤◌, ◌==◌, ◌⊎◌, ℕ, List, [], ◌∷◌, length, min, if◌then◌else◌, IsUtf8}
-use Rattle.attributes.specs.Event.{EventValue}
+use Rattle.std.specs.Prelude.{◌≡◌, ◌≢◌, ◌<◌, ◌≤◌, ◌==◌, ◌⊎◌, ◌+◌, ◌*◌, ℕ, List, [], ◌∷◌, length, min, take, if◌then◌else◌, IsUtf8}
+use Rattle.attributes.specs.Event.{EventValue, text as event_text}
 use Rattle.coverage.specs.Digests.{Digests}
 use Rattle.coverage.specs.Summary.{Sources, entries_of, version_of}
 use Rattle.coverage.specs.SummaryText.{summary_text}
@@ -117,14 +117,26 @@ Compared bytes held kept lag = (kept.site ≡ held.site) × (kept.text ≡ held.
 abbrev pub part_limit : ℕ → ℕ
 part_limit most = if most == 0 then 100 else min most 2000
 
--- these are the next events from a place of a list on: as many as are asked for, or, where bytes
--- are bounded, at least the first page of them
+-- how many bytes the texts of events have
+abbrev pub bytes_of : List EventValue → ℕ
+bytes_of [] = 0
+bytes_of (e ∷ E) = length (event_text e) + bytes_of E
+
+-- any pages before the last one have fewer bytes than are asked for, where that isn't 0
+abbrev pub IsBounded : ℕ → List EventValue → Type 0
+IsBounded size events = size ≢ 0 → (pages : ℕ) → pages * 100 < length events
+    → bytes_of (take (pages * 100) events) < size
+
+-- these are the next events from a place of a list on, page by page: as many as are asked for, or
+-- those up to the page with which they have so many bytes
 pub record IsPart (lacking : List EventValue) (from most size : ℕ) (events : List EventValue)
     : Type 0 where
   pub next : events ≡ page lacking from (length events)
   pub few : length events ≤ part_limit most
-  pub whole : size ≡ 0 → events ≡ page lacking from (part_limit most)
-  pub some : min 100 (length (page lacking from (part_limit most))) ≤ length events
+  pub bounded : IsBounded size events
+  pub ended : (events ≡ page lacking from (part_limit most))
+      ⊎ ((size ≢ 0) × (size ≤ bytes_of events)
+      × ((pages : ℕ) × (length events ≡ pages * 100)))
 
 -- the text is the part from this place on of what the peer of the bytes lacks of the set E
 abbrev pub LacksPart : List ℕ → ℕ → ℕ → ℕ → List EventValue → List ℕ → ℕ → Type 0

@@ -1,6 +1,6 @@
 //! What a service asks of the site that lies in the room, beside the calls of `calls`.
 
-ghost use Rattle.std.specs.Prelude.{◌≡◌, ◌≢◌, ◌≤◌, ◌⊎◌, ◌++◌, [], ◌∷◌, IfErr, IfOk, IsTrue, OnErr, length};
+ghost use Rattle.std.specs.Prelude.{◌≡◌, ◌≢◌, ◌≤◌, ◌⊎◌, ◌↔◌, ◌++◌, [], ◌∷◌, IfErr, IfOk, IsTrue, OnErr, length, min};
 ghost use Rattle.coverage.specs.Digests.{Digests};
 ghost use Rattle.coverage.specs.Summary.{Sources};
 ghost use Rattle.file_reports.specs.Reports.{IsRefusal, SpellAll};
@@ -8,7 +8,7 @@ ghost use Rattle.inbox.specs.Sets.{set_of};
 ghost use Rattle.site.specs.Delta.{delta};
 ghost use Rattle.site.specs.Key.{with_key};
 ghost use Rattle.library_calls.specs.Calls.{IsPeer, IsRefusedPeer};
-ghost use Rattle.library_calls.specs.Sets.{Arrived, Compared, Copied, Found, IsApart, IsFound, IsNamed, IsLag, IsNameOf, IsPart, LacksPart, Named, PartLacked, Released, TellsLag, TellsName, Tested, WantsFound, part_limit};
+ghost use Rattle.library_calls.specs.Sets.{Arrived, Compared, Copied, Found, IsApart, IsFound, IsNamed, IsLag, IsNameOf, IsPart, LacksPart, Named, PartLacked, Released, TellsLag, TellsName, Tested, WantsFound, bytes_of, part_limit};
 
 use crate::calls::{
     Answered, DONE, MAX_PAGE, OUT_OF_MEMORY, Reply, batch_of, keep, page_line, peer_of,
@@ -192,7 +192,8 @@ fn part_limit(most: u64) -> u64
 
 /// Moves the events of a page behind those of a part, and answers how many bytes their texts have.
 fn append(part: &mut Batch, mut page: Batch) -> Result<u64, AllocError>
-    ensures { IfOk result (λ _. part.new ≡ part.old ++ page) }
+    ensures { IfOk result (λ bytes. (part.new ≡ part.old ++ page)
+        × (bytes ≡ min (bytes_of page) u64.MAX)) }
 {
     let mut bytes = 0u64;
     for i in 0..page.len() {
@@ -206,7 +207,7 @@ fn append(part: &mut Batch, mut page: Batch) -> Result<u64, AllocError>
 
 /// Whether so many bytes are as many as are asked for, where that isn't 0.
 fn is_large(bytes: u64, size: u64) -> bool
-    ensures { IsTrue result → (size ≢ 0) × (bytes ≢ 0) }
+    ensures { IsTrue result ↔ ((size ≢ 0) × (size ≤ bytes)) }
 {
     size > 0 && bytes >= size
 }
