@@ -198,7 +198,7 @@ IsNoOrders f = (f ≡ command.OutOfMemory) ⊎ ((f ≡ command.Store)
 abbrev pub IsUntold : CommandFault → Type 0
 IsUntold f = (f ≡ command.OutOfMemory) ⊎ ((f ≡ command.Store) ⊎ (f ≡ command.Foreign))
 
--- nor of the next rows of its service, which what they were sent to didn't take
+-- nothing is told of its service's rows, or what they were sent to didn't take them
 abbrev pub IsNoRows : CommandFault → Type 0
 IsNoRows f = IsUntold f ⊎ (f ≡ command.RouteFailed)
 

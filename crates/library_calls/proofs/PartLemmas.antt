@@ -1,7 +1,8 @@
 -- A part of a list, page by page.
 use Rattle.std.proofs.Common.{◌≡◌, ◌≤◌, ◌<◌, ◌≢◌, ◌+◌, ◌-◌, ◌*◌, ◌⊎◌, ◌∙◌, ◌++◌, ◌∷◌, ℕ, zero, suc, List, [], Bool, ap, drop, filter, length, min, not, append-nil, append_assoc, refl, subst, sym, take, arith, inl, inr}
 use Rattle.std.proofs.lemmas.Bool.{cases_lt}
-use Rattle.std.proofs.lemmas.List.{drop-drop, drop_all, length-drop, length-take, take_all, take_min}
+use Rattle.std.proofs.lemmas.List.Sums.{sum_by-append}
+use Rattle.std.proofs.lemmas.List.{drop-drop, drop_all, length-drop, length-take, nil_from_length, take-append-le, take_all, take_min}
 use Rattle.std.proofs.lemmas.List.Filters.{length-filter_both}
 use Rattle.attributes.specs.Event.{EventValue, text}
 use Rattle.site.specs.Page.{page}
@@ -23,22 +24,12 @@ saturated D n most limit few = elim (cases_lt most n) [
   | inr fits ↦ (let same : min n most ≡ n = omega (arith, fits) in ap (λ k. page D k limit) same)
 ]
 
--- bytes of texts, and fronts of lists
+-- bytes of texts, and a front of a list
 pub bytes_both : (A B : List EventValue) → bytes_of (A ++ B) ≡ bytes_of A + bytes_of B
-bytes_both [] B = omega arith
-bytes_both (e ∷ A) B = let rest = bytes_both A B in omega (arith, rest)
-
-take_front : (n : ℕ) (A B : List EventValue) → n ≤ length A → take n (A ++ B) ≡ take n A
-take_front zero A B le = refl
-take_front (suc n) [] B le = absurd (omega (arith, le))
-take_front (suc n) (e ∷ A) B le = ap (λ (l : List EventValue). e ∷ l) (take_front n A B (omega (arith, le)))
+bytes_both A B = sum_by-append (λ e. length (text e)) A B
 
 take_whole : (n : ℕ) (A B : List EventValue) → n ≡ length A → take n (A ++ B) ≡ A
-take_whole n A B same = take_front n A B (omega (arith, same)) ∙ take_all n A (omega (arith, same))
-
-pub none_of : (L : List EventValue) → length L ≡ 0 → L ≡ []
-none_of [] none = refl
-none_of (e ∷ L) none = absurd (omega (arith, none))
+take_whole n A B same = take-append-le n A B (omega (arith, same)) ∙ take_all n A (omega (arith, same))
 
 -- of a page a front stands behind a part, and so many bytes of it are counted
 pub record Moved (part page now rest : List EventValue) (bytes : ℕ) : Type 0 where
@@ -63,7 +54,7 @@ moved_on part page now next rest rest' e bytes bytes' was is put more =
 pub moved_all : (part page now rest : List EventValue) (bytes : ℕ) → Moved part page now rest bytes → length rest ≡ 0
     → (now ≡ part ++ page) × (bytes ≡ min (bytes_of page) 18446744073709551615)
 moved_all part page now rest bytes was none =
-    let all : page ≡ was.front = was.split ∙ ap (λ (l : List EventValue). was.front ++ l) (none_of rest none) ∙ append-nil was.front in (
+    let all : page ≡ was.front = was.split ∙ ap (λ (l : List EventValue). was.front ++ l) (nil_from_length rest none) ∙ append-nil was.front in (
       was.put ∙ ap (λ (l : List EventValue). part ++ l) (sym all),
       was.count ∙ ap (λ (l : List EventValue). min (bytes_of l) 18446744073709551615) (sym all),
     )
@@ -147,7 +138,7 @@ module _ (D : List EventValue) (from limit i : ℕ) (part : List EventValue) (wa
     full_pages there = elim was.pages [
       | inl so_far ↦ omega (arith, so_far, some)
       | inr all ↦ (let same = ap (λ (l : List EventValue). length l) all ∙ length-take limit R in
-          absurd (there (none_of more (omega (arith, same, some, more_long)))))
+          absurd (there (nil_from_length more (omega (arith, same, some, more_long)))))
     ]
 
     -- the pages before stay within the bytes that are asked for
@@ -156,7 +147,7 @@ module _ (D : List EventValue) (from limit i : ℕ) (part : List EventValue) (wa
         let full = full_pages there in
         let all = both_long in
         elim (cases_lt (pages * 100) (length part)) [
-          | inl front ↦ subst (λ (l : List EventValue). bytes_of l < size) (sym (take_front (pages * 100) part more (omega (arith, front)))) (within given pages front)
+          | inl front ↦ subst (λ (l : List EventValue). bytes_of l < size) (sym (take-append-le (pages * 100) part more (omega (arith, front)))) (within given pages front)
           | inr rest ↦ (let same : pages * 100 ≡ length part = omega (arith, full, rest, before, all, count) in
               subst (λ (l : List EventValue). bytes_of l < size) (sym (take_whole (pages * 100) part more same)) (below given))
         ]

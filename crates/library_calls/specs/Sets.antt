@@ -1,5 +1,6 @@
 -- What a service asks of a site, beside the calls of `Calls`.
-use Rattle.std.specs.Prelude.{◌≡◌, ◌≢◌, ◌<◌, ◌≤◌, ◌==◌, ◌⊎◌, ◌+◌, ◌*◌, ℕ, List, [], ◌∷◌, length, min, take, if◌then◌else◌, IsUtf8}
+use Rattle.std.specs.Prelude.{◌≡◌, ◌≢◌, ◌<◌, ◌≤◌, ◌==◌, ◌⊎◌, ◌*◌, ℕ, List, [], ◌∷◌, length, min, take, if◌then◌else◌, IsUtf8}
+use Rattle.std.specs.List.{sum_by}
 use Rattle.attributes.specs.Event.{EventValue, text as event_text}
 use Rattle.coverage.specs.Digests.{Digests}
 use Rattle.coverage.specs.Summary.{Sources, entries_of, version_of}
@@ -119,8 +120,7 @@ part_limit most = if most == 0 then 100 else min most 2000
 
 -- how many bytes the texts of events have
 abbrev pub bytes_of : List EventValue → ℕ
-bytes_of [] = 0
-bytes_of (e ∷ E) = length (event_text e) + bytes_of E
+bytes_of events = sum_by (λ e. length (event_text e)) events
 
 -- any pages before the last one have fewer bytes than are asked for, where that isn't 0
 abbrev pub IsBounded : ℕ → List EventValue → Type 0
